@@ -1,0 +1,8 @@
+//! The retransmission timer of one connection. It counts ticks down to the next retransmission of what is outstanding,
+//! waits longer each time (RFC 793 section 3.7 leaves the choice to the implementation; this is uIP's back-off from a
+//! fixed first value of three ticks), and gives up after a limit. Its beats are a list of ages.
+#![tactic(auto)]
+
+mod timer;
+
+pub use timer::{Beat, FIRST_COUNT, SYN_ACK_LIMIT, TEXT_LIMIT, Timer};
