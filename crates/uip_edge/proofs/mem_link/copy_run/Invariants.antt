@@ -1,0 +1,6 @@
+use Rattle.std.proofs.Common.{◌≡◌, map, take}
+use Rattle.uip_edge.specs.declared.item.Item.TheVariants.{Byte}
+use Rattle.uip_edge.proofs.mem_link.copy_run.Given as goal
+
+abbrev pub invariant-loop-at : goal.invariant-loop-at
+invariant-loop-at l = take l.at l.items ≡ map Byte (take l.at l.buf)

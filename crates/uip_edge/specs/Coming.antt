@@ -1,0 +1,35 @@
+-- What a call of a link takes from the items that are still to come.
+use Rattle.std.specs.Prelude.{◌≡◌, ◌<◌, ◌≤◌, ◌++◌, ℕ, List, [], ◌∷◌, take, map, Option, None, Some, Result, Ok, Err, ⊤}
+use Rattle.uip_edge.specs.declared.item.Item.{Item}
+use Rattle.uip_edge.specs.declared.item.Item.TheVariants as item
+use Rattle.uip_edge.specs.declared.got.Got.{Got}
+use Rattle.uip_edge.specs.declared.got.Got.TheVariants as got
+use Rattle.uip_edge.specs.declared.failed.Failed.{Failed}
+
+-- the items that an answer stands for, with its bytes at the front of the buffer
+abbrev pub items_of : Result Got Failed → List ℕ → List Item
+items_of (Ok (got.Bytes n)) buf = map item.Byte (take n buf)
+items_of (Ok got.Quiet) buf = item.Quiet ∷ []
+items_of (Ok got.End) buf = []
+items_of (Err e) buf = []
+
+-- bytes are at least one, and fit the buffer
+abbrev pub CountFits : Result Got Failed → ℕ → Type 0
+CountFits (Ok (got.Bytes n)) room = (0 < n) × (n ≤ room)
+CountFits (Ok got.Quiet) room = ⊤
+CountFits (Ok got.End) room = ⊤
+CountFits (Err e) room = ⊤
+
+-- the items that are told begin with these, and lose them
+abbrev pub Consumes : Option (List Item) → Option (List Item) → List Item → Type 0
+Consumes None new xs = ⊤
+Consumes (Some all) None xs = ⊥
+Consumes (Some all) (Some left) xs = all ≡ xs ++ left
+
+-- the end is answered only where no item is told to come
+abbrev pub IsAtEnd : Result Got Failed → Option (List Item) → Type 0
+IsAtEnd (Ok got.End) (Some all) = all ≡ []
+IsAtEnd (Ok got.End) None = ⊤
+IsAtEnd (Ok (got.Bytes n)) told = ⊤
+IsAtEnd (Ok got.Quiet) told = ⊤
+IsAtEnd (Err e) told = ⊤

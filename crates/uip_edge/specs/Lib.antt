@@ -1,0 +1,4 @@
+pub mod Causes
+pub mod Coming
+pub mod Memory
+pub mod Writing
