@@ -1,0 +1,81 @@
+-- Sums that differ by carries have the same folded value, and sums that differ by one byte have another.
+use Rattle.std.proofs.Common.{◌≡◌, ◌≢◌, ℕ, ◌+◌, ◌-◌, ◌*◌, ◌/◌, ◌%◌, ◌<◌, ◌≤◌, ◌⊎◌, inl, inr, List, [], ◌∷◌, ◌++◌, sym, ap, ◌∙◌, refl, arith}
+use Rattle.std.proofs.lemmas.Grind.{common_steps}
+use Rattle.uip_wire.specs.Checksum.{checksum_of, folded, word_sum, OneByteTells}
+
+pub folded_zero : folded 0 ≡ 0
+unfolding folded
+folded_zero = refl
+
+pub folded_pos : (s : ℕ) → 0 < s → folded s ≡ (s - 1) % 65535 + 1
+unfolding folded
+folded_pos s h = grind (arith, common_steps)
+
+zero_or_more : (n : ℕ) → (n ≡ 0) ⊎ (0 < n)
+zero_or_more n = grind arith
+
+-- a carry that is added back
+pub same_folded : (s t k : ℕ) → t ≡ s + 65535 * k → 0 < s → folded t ≡ folded s
+same_folded s t k e h = let p : 0 < t = omega arith in folded_pos t p ∙ omega arith ∙ sym (folded_pos s h)
+
+-- the upper 64 bits added to the lower ones
+pub folded_halves : (s : ℕ) → folded (s / 18446744073709551616 + s % 18446744073709551616) ≡ folded s
+folded_halves s =
+    elim (zero_or_more s) [
+      | inl e ↦ ap folded (omega arith)
+      | inr h ↦ sym (same_folded (s / 18446744073709551616 + s % 18446744073709551616) s (281479271743489 * (s / 18446744073709551616)) (omega arith) (omega arith))
+    ]
+
+pub folded_cases : (s : ℕ) → ((s ≡ 0) × (folded s ≡ 0)) ⊎ ((0 < s) × (folded s ≡ (s - 1) % 65535 + 1))
+folded_cases s =
+    elim (zero_or_more s) [ inl e ↦ inl (e, ap folded e ∙ folded_zero) | inr h ↦ inr (h, folded_pos s h) ]
+
+pub folded_small : (s : ℕ) → s ≤ 65535 → folded s ≡ s
+folded_small s h = elim (folded_cases s) [ inl p ↦ p.1 ∙ sym p.0 | inr p ↦ p.1 ∙ omega arith ]
+
+pub folded_most : (s : ℕ) → folded s ≤ 65535
+folded_most s = elim (folded_cases s) [ inl p ↦ omega arith | inr p ↦ omega arith ]
+
+-- folding before an addition
+pub folded_add : (s t : ℕ) → folded (folded s + t) ≡ folded (s + t)
+folded_add s t =
+    elim (folded_cases s) [
+      | inl p ↦ ap (λ n. folded (n + t)) (p.1 ∙ sym p.0)
+      | inr p ↦ sym (same_folded (folded s + t) (s + t) ((s - 1) / 65535) (omega arith) (omega arith))
+    ]
+
+-- the checksum that completes a sum
+pub folded_closes : (s : ℕ) → folded (s + (65535 - folded s)) ≡ 65535
+folded_closes s =
+    let n : 0 < s + (65535 - folded s) = elim (folded_cases s) [ inl p ↦ omega arith | inr p ↦ omega arith ] in
+    folded_pos _ n ∙ elim (folded_cases s) [ inl p ↦ omega arith | inr p ↦ omega arith ]
+
+folded_differs : (s x y : ℕ) → x < 65535 → y < 65535 → x ≢ y → folded (s + x) ≢ folded (s + y)
+folded_differs s x y p q n e =
+    elim (folded_cases (s + x)) [
+      | inl a ↦ elim (folded_cases (s + y)) [ inl b ↦ omega arith | inr b ↦ omega arith ]
+      | inr a ↦ elim (folded_cases (s + y)) [ inl b ↦ omega arith | inr b ↦ omega arith ]
+    ]
+
+-- a byte counts as it stands in its word
+place_sum : (front back : List ℕ)
+    → ((x : ℕ) → word_sum (front ++ x ∷ back) ≡ word_sum (front ++ 0 ∷ back) + x)
+    ⊎ ((x : ℕ) → word_sum (front ++ x ∷ back) ≡ word_sum (front ++ 0 ∷ back) + 256 * x)
+place_sum [] [] = inr (λ x. omega arith)
+place_sum [] (b ∷ back) = inr (λ x. omega arith)
+place_sum (a ∷ []) back = inl (λ x. omega arith)
+place_sum (a ∷ b ∷ front) back =
+    elim (place_sum front back) [ inl h ↦ inl (λ x. omega (arith, h x)) | inr h ↦ inr (λ x. omega (arith, h x)) ]
+
+same_sum : (a b : List ℕ) → checksum_of a ≡ checksum_of b → folded (word_sum a) ≡ folded (word_sum b)
+same_sum a b e = omega (arith, folded_most (word_sum a), folded_most (word_sum b))
+
+pub one_byte : OneByteTells
+one_byte front back one other p q n e =
+    let same = same_sum (front ++ one ∷ back) (front ++ other ∷ back) e in
+    let base : ℕ = word_sum (front ++ 0 ∷ back) in
+    elim (place_sum front back) [
+      | inl h ↦ folded_differs base one other (omega arith) (omega arith) n (sym (ap folded (h one)) ∙ same ∙ ap folded (h other))
+      | inr h ↦ folded_differs base (256 * one) (256 * other) (omega arith) (omega arith) (λ m. n (omega arith))
+          (sym (ap folded (h one)) ∙ same ∙ ap folded (h other))
+    ]

@@ -1,0 +1,5 @@
+pub mod Folding
+pub mod Wide
+pub mod Writing
+pub mod Pieces
+pub mod Rows

@@ -1,0 +1,21 @@
+use Rattle.std.proofs.Common.{◌≡◌, ◌+◌, ◌*◌, ◌^◌, ◌≤◌, length}
+use Rattle.uip_wire.specs.Checksum.{folded, word_sum}
+use Rattle.uip_wire.proofs.sums.wide_sum.Given as goal
+
+abbrev pub invariant-eights : goal.invariant-eights
+invariant-eights l = record {
+  fits : l.sum + 2 ^ 61 * length l.rest ≤ 2 ^ 61 * length l.bytes;
+  same : folded (l.sum + word_sum l.rest) ≡ folded (word_sum l.bytes);
+}
+
+abbrev pub decreases-eights : goal.decreases-eights
+decreases-eights l = length l.rest
+
+abbrev pub invariant-pairs : goal.invariant-pairs
+invariant-pairs l = record {
+  fits : l.sum + 2 ^ 61 * length l.rest ≤ 2 ^ 61 * length l.bytes;
+  same : folded (l.sum + word_sum l.rest) ≡ folded (word_sum l.bytes);
+}
+
+abbrev pub decreases-pairs : goal.decreases-pairs
+decreases-pairs l = length l.rest

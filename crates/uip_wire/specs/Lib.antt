@@ -1,0 +1,5 @@
+pub mod Addr
+pub mod Checksum
+pub mod Fields
+pub mod Numbers
+pub mod Sums

@@ -1,0 +1,11 @@
+-- A checksum over bytes that come in pieces.
+use Rattle.std.specs.Prelude.{ℕ, ◌%◌, ◌==◌, Bool, List, length}
+use Rattle.uip_wire.specs.Checksum.{word_sum, folded}
+
+-- what is kept of the bytes so far: their folded sum, and whether they are odd in number
+pub record PartSum : Type 0 where
+  pub sum : ℕ
+  pub is_odd : Bool
+
+abbrev pub sum_of : List ℕ → PartSum
+sum_of bytes = record { sum = folded (word_sum bytes); is_odd = length bytes % 2 == 1 }

@@ -1,0 +1,86 @@
+ghost use Rattle.std.specs.List.{position_or_len};
+ghost use Rattle.std.specs.Prelude.{◌≡◌, ◌==◌, ◌+◌, ◌≤◌, length, option_map};
+ghost use Rattle.uip_wire.specs.Addr.{address_at, cut_at_dot, number_of, quad_of};
+ghost use Rattle.uip_wire.specs.Fields.{written};
+
+/// An Internet address, its first byte first.
+#[derive(Clone, Copy, Debug, PartialEq, Eq)]
+pub struct Addr(pub [u8; 4]);
+
+impl Addr {
+    /// The address that a dotted quad spells: four numbers from 0 to 255 without leading zeros, with dots between them.
+    #[tactic(auto, unfolding(crate::specs::Addr::quad_of))]
+    pub fn parse(text: &[u8]) -> Option<Addr>
+        ensures { option_map (λ a. a.0) result ≡ quad_of text.now }
+    {
+        let (first, rest) = cut_at_dot(text)?;
+        let (second, rest) = cut_at_dot(rest)?;
+        let (third, last) = cut_at_dot(rest)?;
+        Some(Addr([
+            number(first)?,
+            number(second)?,
+            number(third)?,
+            number(last)?,
+        ]))
+    }
+
+    /// The address that stands at a place of a header.
+    pub fn get(bytes: &[u8], at: usize) -> Addr
+        requires { at + 4 ≤ length bytes.now }
+        ensures { result.0 ≡ address_at bytes.now at }
+    {
+        Addr([bytes[at], bytes[at + 1], bytes[at + 2], bytes[at + 3]])
+    }
+
+    /// Writes the address at a place of a header, and leaves all other bytes.
+    pub fn put(self, bytes: &mut [u8], at: usize)
+        requires { at + 4 ≤ length bytes.old }
+        ensures { bytes.new ≡ written bytes.old at self.0 }
+    {
+        bytes[at..at + 4].copy_from_slice(&self.0);
+    }
+}
+
+/// The part before the first dot, and the part after it.
+fn cut_at_dot(text: &[u8]) -> Option<(&[u8], &[u8])>
+    ensures { option_map (λ p. (p.0.now, p.1.now)) result ≡ cut_at_dot text.now }
+{
+    let dot = first_dot(text);
+    if dot < text.len() {
+        Some((&text[..dot], &text[dot + 1..]))
+    } else {
+        None
+    }
+}
+
+/// The place of the first dot, or the length.
+fn first_dot(text: &[u8]) -> usize
+    ensures { result ≡ position_or_len (λ c. c == 46) text.now }
+{
+    for (at, byte) in text.iter().enumerate() {
+        if *byte == b'.' {
+            return at;
+        }
+    }
+    text.len()
+}
+
+/// A number from 0 to 255 in decimal digits, without a leading zero.
+fn number(text: &[u8]) -> Option<u8>
+    ensures { result ≡ number_of text.now }
+{
+    match text {
+        [a] if a.is_ascii_digit() => Some(a - b'0'),
+        [a, b] if a.is_ascii_digit() && b.is_ascii_digit() && *a != b'0' => {
+            Some((a - b'0') * 10 + (b - b'0'))
+        }
+        [a, b, c] if a.is_ascii_digit() && b.is_ascii_digit() && c.is_ascii_digit() && *a != b'0' =>
+            {
+                let value = u32::from(a - b'0') * 100
+                    + u32::from(b - b'0') * 10
+                    + u32::from(c - b'0');
+                if value < 256 { Some(value as u8) } else { None }
+            }
+        _ => None,
+    }
+}

@@ -1,0 +1,68 @@
+ghost use Rattle.std.specs.Prelude.{◌≡◌, ◌+◌, ◌-◌, ◌*◌, ◌^◌, ◌<◌, ◌≤◌, ◌∷◌, length, if◌then◌else◌};
+ghost use Rattle.uip_wire.specs.Checksum.{OneByteTells, checksum_of, folded, word_sum};
+
+use byteorder::{BigEndian, ByteOrder};
+
+/// The checksum of RFC 791: the one's complement of the one's complement sum of the big-endian 16-bit words.
+pub fn checksum(bytes: &[u8]) -> u16
+    ensures { result ≡ checksum_of bytes.now }
+{
+    65535 - ones_sum(bytes)
+}
+
+/// Of two lists of bytes of one length that differ in exactly one byte, at most one has a given checksum.
+pub fn one_byte_tells()
+    ensures { OneByteTells }
+{}
+
+/// The one's complement sum of the words.
+pub(crate) fn ones_sum(bytes: &[u8]) -> u16
+    ensures { result ≡ folded (word_sum bytes.now) }
+{
+    fold(wide_sum(bytes))
+}
+
+/// The one's complement sum of two numbers.
+pub(crate) fn ones_add(one: u16, other: u16) -> u16
+    ensures { result ≡ folded (one + other) }
+{
+    fold(u128::from(one) + u128::from(other))
+}
+
+/// A sum whose carries are still to be added back: eight bytes are added as one number, since 2^16, 2^32 and 2^48 leave 1
+/// when divided by 65535 (RFC 1071, section 2).
+fn wide_sum(bytes: &[u8]) -> u128
+    ensures fits { result ≤ 2 ^ 61 * length bytes.now }
+    ensures same { folded result ≡ folded (word_sum bytes.now) }
+{
+    let mut sum = 0u128;
+    let mut rest = bytes;
+    'eights: while rest.len() >= 8 {
+        sum += u128::from(BigEndian::read_u64(rest));
+        rest = &rest[8..];
+    }
+    'pairs: while let [high, low, after @ ..] = rest {
+        sum += u128::from(*high) * 256 + u128::from(*low);
+        rest = after;
+    }
+    match rest {
+        [last] => sum + u128::from(*last) * 256,
+        _ => sum,
+    }
+}
+
+const WORD64: u128 = 0x1_0000_0000_0000_0000;
+
+/// Adds the carries of a sum back to it.
+fn fold(sum: u128) -> u16
+    requires { sum < 2 ^ 124 }
+    ensures { result ≡ folded sum }
+{
+    let once = sum / WORD64 + sum % WORD64;
+    let twice = (once / WORD64 + once % WORD64) as u64;
+    if twice == 0 {
+        0
+    } else {
+        ((twice - 1) % 65535 + 1) as u16
+    }
+}
