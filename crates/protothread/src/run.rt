@@ -1,0 +1,32 @@
+//! A run of bytes.
+
+ghost use Rattle.std.specs.Prelude.{◌≡◌, ℕ, ◌≤◌, length, slice_range};
+
+use crate::says::Says;
+
+/// Says the bytes of its world from place `at` up to before place `end`.
+#[derive(Clone, Copy, Drop)]
+pub struct Run {
+    pub at: u32,
+    pub end: u32,
+}
+
+impl Says for Run {
+    ghost fits = { λ s w. (s.at ≤ s.end) × (s.end ≤ length w) };
+
+    ghost text_left = { λ s w. slice_range w s.at s.end };
+
+    fn left(&self, _world: &[u8]) -> usize {
+        (self.end - self.at) as usize
+    }
+
+    fn fill(&self, world: &[u8], out: &mut [u8]) {
+        let at = self.at as usize;
+        let end = at + out.len();
+        out.copy_from_slice(&world[at..end]);
+    }
+
+    fn advance(&mut self, _world: &[u8], count: usize) {
+        self.at += count as u32;
+    }
+}

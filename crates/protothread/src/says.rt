@@ -1,0 +1,34 @@
+//! Threads that say text.
+
+ghost use Rattle.std.specs.Prelude.{◌≡◌, ℕ, ◌<◌, ◌≤◌, ◌^◌, List, length, take, drop};
+
+/// A thread that says a text, piece by piece, over the bytes of its world. Filling moves nothing, so a piece can be said
+/// again; only `advance` moves the resume point.
+pub trait Says {
+    /// Whether the value fits the world.
+    ghost fits: { Self → List ℕ → Type 0 };
+
+    /// The text that is left.
+    ghost text_left: { Self → List ℕ → List ℕ };
+
+    /// The length of the text that is left, in bytes.
+    fn left(&self, world: &[u8]) -> usize
+        requires fits { fits self.now world.now }
+        requires short { length (text_left self.now world.now) < 2 ^ 32 }
+        ensures { result ≡ length (text_left self.now world.now) };
+
+    /// Writes the front of the text that is left, as much as `out` holds.
+    fn fill(&self, world: &[u8], out: &mut [u8])
+        requires fits { fits self.now world.now }
+        requires short { length (text_left self.now world.now) < 2 ^ 32 }
+        requires enough { length out.old ≤ length (text_left self.now world.now) }
+        ensures { out.new ≡ take (length out.old) (text_left self.now world.now) };
+
+    /// Lets go of the first `count` bytes of the text that is left.
+    fn advance(&mut self, world: &[u8], count: usize)
+        requires fits { fits self.old world.now }
+        requires short { length (text_left self.old world.now) < 2 ^ 32 }
+        requires enough { count ≤ length (text_left self.old world.now) }
+        ensures fits { fits self.new world.now }
+        ensures rest { text_left self.new world.now ≡ drop count (text_left self.old world.now) };
+}
