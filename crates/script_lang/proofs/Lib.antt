@@ -1,0 +1,5 @@
+pub mod PlaceLemmas
+pub mod OpenLemmas
+pub mod StartLemmas
+pub mod PieceLemmas
+mod Rows

@@ -1,0 +1,72 @@
+-- The first place that passes a test, one place at a time: what the searching loops keep.
+use Rattle.std.proofs.Common.{◌≡◌, ℕ, zero, suc, ◌+◌, ◌-◌, ◌<◌, ◌≤◌, Bool, true, false, cond, ◌∷◌, [], List, Some, refl, ap, ◌∙◌, sym, inl, inr, arith, find, unwrap_or}
+use Rattle.std.specs.List.{range_with_len}
+use Rattle.std.proofs.lemmas.Bool.{cases_eq, cases_order, true≢false}
+use Rattle.script_lang.specs.Places.{places, first_place}
+
+pub places-first : (a b : ℕ) → a < b → places a b ≡ a ∷ places (a + 1) b
+places-first a b h =
+    let e : b - a ≡ suc (b - (a + 1)) = omega arith in
+    ap (range_with_len a) e
+
+pub places-none : (a b : ℕ) → b ≤ a → places a b ≡ []
+places-none a b h =
+    let e : b - a ≡ 0 = omega arith in
+    ap (range_with_len a) e
+
+first-of-cons : (test : ℕ → Bool) (a b : ℕ) (rest : List ℕ) → test a ≡ true → unwrap_or (find test (a ∷ rest)) b ≡ a
+first-of-cons test a b rest h = ap (λ t. unwrap_or (cond t (Some a) (find test rest)) b) h
+
+after-cons : (test : ℕ → Bool) (a b : ℕ) (rest : List ℕ) → test a ≡ false → unwrap_or (find test (a ∷ rest)) b ≡ unwrap_or (find test rest) b
+after-cons test a b rest h = ap (λ t. unwrap_or (cond t (Some a) (find test rest)) b) h
+
+pub first_place-here : (test : ℕ → Bool) (a b : ℕ) → a < b → test a ≡ true → first_place test a b ≡ a
+first_place-here test a b h t =
+    ap (λ ps. unwrap_or (find test ps) b) (places-first a b h) ∙ first-of-cons test a b (places (a + 1) b) t
+
+pub first_place-later : (test : ℕ → Bool) (a b : ℕ) → a < b → test a ≡ false → first_place test a b ≡ first_place test (a + 1) b
+first_place-later test a b h t =
+    ap (λ ps. unwrap_or (find test ps) b) (places-first a b h) ∙ after-cons test a b (places (a + 1) b) t
+
+pub first_place-end : (test : ℕ → Bool) (a b : ℕ) → b ≤ a → first_place test a b ≡ b
+first_place-end test a b h = ap (λ ps. unwrap_or (find test ps) b) (places-none a b h)
+
+-- r is the first place from a up to before b that passes, else b
+pub record IsFirst (test : ℕ → Bool) (a b r : ℕ) : Type 0 where
+  pub low : a ≤ r
+  pub high : r ≤ b
+  pub before : (k : ℕ) → a ≤ k → k < r → test k ≡ false
+  pub here : r < b → test r ≡ true
+
+IsFirst-step : (test : ℕ → Bool) (a b : ℕ) (rest : List ℕ) (t : Bool) → test a ≡ t → a < b → IsFirst test (a + 1) b (unwrap_or (find test rest) b) → IsFirst test a b (unwrap_or (cond t (Some a) (find test rest)) b)
+IsFirst-step test a b rest true e lt later =
+    record { low = omega arith; high = omega arith; before = λ k low high. absurd (omega arith); here = λ _. e }
+IsFirst-step test a b rest false e lt later =
+    record {
+      low = omega (arith, later.low);
+      high = later.high;
+      before = λ k low high. elim (cases_eq k a) [
+        | inl same ↦ ap test same ∙ e
+        | inr other ↦ later.before k (omega arith) high
+      ];
+      here = later.here;
+    }
+
+IsFirst-range : (test : ℕ → Bool) (n a b : ℕ) → a + n ≡ b → IsFirst test a b (unwrap_or (find test (range_with_len a n)) b)
+IsFirst-range test zero a b e =
+    record { low = omega arith; high = omega arith; before = λ k low high. absurd (omega arith); here = λ lt. absurd (omega arith) }
+IsFirst-range test (suc n) a b e =
+    IsFirst-step test a b (range_with_len (a + 1) n) (test a) refl (omega arith) (IsFirst-range test n (a + 1) b (omega arith))
+
+pub first_place-is : (test : ℕ → Bool) (a b : ℕ) → a ≤ b → IsFirst test a b (first_place test a b)
+first_place-is test a b h = IsFirst-range test (b - a) a b (omega arith)
+
+-- there is only one
+pub same-first : (test : ℕ → Bool) (a b r s : ℕ) → IsFirst test a b r → IsFirst test a b s → r ≡ s
+same-first test a b r s one other = elim (cases_order r s) [
+  | inl same ↦ same
+  | inr apart ↦ elim apart [
+    | inl below ↦ absurd (true≢false (sym (one.here (omega (arith, other.high))) ∙ other.before r one.low below))
+    | inr above ↦ absurd (true≢false (sym (other.here (omega (arith, one.high))) ∙ one.before s other.low above))
+  ]
+]

@@ -1,0 +1,22 @@
+-- The functions that a script can call.
+use Rattle.std.specs.Prelude.{ℕ, List, codes, if◌then◌else◌}
+use Rattle.std.specs.Str.{bytes_eq}
+use Rattle.script_lang.specs.declared.function.Function.{Function}
+use Rattle.script_lang.specs.declared.function.Function.TheVariants.{FileStats, TcpConnections, NetStats, Ticks, Unknown}
+
+-- the function of that name
+abbrev pub function_named : List ℕ → Function
+function_named name =
+    if bytes_eq name (codes "file-stats") then FileStats
+    else if bytes_eq name (codes "tcp-connections") then TcpConnections
+    else if bytes_eq name (codes "net-stats") then NetStats
+    else if bytes_eq name (codes "ticks") then Ticks
+    else Unknown
+
+-- the greatest length of its text
+abbrev pub length_at_most : Function → ℕ
+length_at_most FileStats = 10
+length_at_most TcpConnections = 1030
+length_at_most NetStats = 220
+length_at_most Ticks = 10
+length_at_most Unknown = 0

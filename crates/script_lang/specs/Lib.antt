@@ -1,0 +1,4 @@
+pub mod Functions
+pub mod Places
+pub mod Directives
+pub mod Pieces

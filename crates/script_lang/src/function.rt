@@ -1,0 +1,50 @@
+ghost use Rattle.std.specs.Prelude.{◌≡◌};
+ghost use Rattle.script_lang.specs.Functions.{function_named, length_at_most};
+
+/// A function that a script calls by its name.
+#[derive(Clone, Copy, Debug, PartialEq, Eq)]
+pub enum Function {
+    /// `file-stats`: the hit count of the file that the argument names.
+    FileStats,
+    /// `tcp-connections`: a row for each connection.
+    TcpConnections,
+    /// `net-stats`: the twenty counters.
+    NetStats,
+    /// `ticks`: the tick count.
+    Ticks,
+    /// Any other name, or none: the empty text.
+    Unknown,
+}
+
+/// The function of that name.
+pub(crate) fn function_of(name: &[u8]) -> Function
+    ensures { result ≡ function_named name.now }
+{
+    let file_stats: &[u8] = b"file-stats";
+    let tcp_connections: &[u8] = b"tcp-connections";
+    let net_stats: &[u8] = b"net-stats";
+    let ticks: &[u8] = b"ticks";
+    if name == file_stats {
+        Function::FileStats
+    } else if name == tcp_connections {
+        Function::TcpConnections
+    } else if name == net_stats {
+        Function::NetStats
+    } else if name == ticks {
+        Function::Ticks
+    } else {
+        Function::Unknown
+    }
+}
+
+/// The greatest length of the text that the function gives, in bytes.
+pub fn greatest_len(function: Function) -> usize
+    ensures { result ≡ length_at_most function }
+{
+    match function {
+        Function::FileStats | Function::Ticks => 10,
+        Function::TcpConnections => 1030,
+        Function::NetStats => 220,
+        Function::Unknown => 0,
+    }
+}

@@ -1,0 +1,90 @@
+ghost use Rattle.std.specs.Prelude.{◌≡◌, ℕ, ◌+◌, ◌<◌, ◌≤◌, ◌↔◌, ◌∷◌, [], length, IsTrue, IsNone, IfSome, MatchOption};
+ghost use Rattle.script_lang.specs.Directives.{IsPlace, is_mark, before_cr, directive_within};
+ghost use Rattle.script_lang.specs.Pieces.{piece_at, pieces_from};
+
+use crate::function::function_of;
+use crate::piece::{Found, Piece};
+use crate::search::{byte_from, is_mark_at, mark_from, other_from};
+use crate::words::word_in;
+
+/// The piece from `at` on, and `None` at the text's end. `at` is a place at or inside a text run, at the start of a
+/// directive, or the text's length; inside a text run the piece is the rest of that run.
+pub fn next_piece(text: &[u8], at: usize) -> Option<Found>
+    requires { IsPlace text.now at }
+    ensures none { IsNone result ↔ (at ≡ length text.now) }
+
+    // Read from place to place, these are the pieces of the whole text.
+    ensures pieces { MatchOption result (pieces_from text.now at ≡ [])
+        (λ found. pieces_from text.now at ≡ found ∷ pieces_from text.now found.next) }
+    ensures next { IfSome result (λ found. (at < found.next) × IsPlace text.now found.next) }
+{
+    if at == text.len() {
+        return None;
+    }
+    Some(piece_from(text, at))
+}
+
+/// The piece from `at` on.
+fn piece_from(text: &[u8], at: usize) -> Found
+    requires { at < length text.now }
+    ensures { result ≡ piece_at text.now at }
+{
+    if is_mark_at(text, at) {
+        return directive_from(text, at);
+    }
+    let next = mark_from(text, at);
+    let piece = Piece::Text { at, len: next - at };
+    Found { piece, next }
+}
+
+/// The directive that begins at `at`.
+fn directive_from(text: &[u8], at: usize) -> Found
+    requires mark { IsTrue (is_mark text.now at) }
+    requires inside { at + 2 ≤ length text.now }
+    ensures { result ≡ piece_at text.now at }
+{
+    let inner = at + 2;
+    let stop = byte_from(text, b'\n', inner, text.len());
+    let end = without_cr(text, inner, stop);
+    let piece = directive_in(text, inner, end);
+    let next = text.len().min(stop + 1);
+    Found { piece, next }
+}
+
+/// Where the inner part from `from` on ends, if its line ends at `stop`: there, or at the CR before.
+fn without_cr(text: &[u8], from: usize, stop: usize) -> usize
+    requires ordered { from ≤ stop }
+    requires inside { stop ≤ length text.now }
+    ensures end { result ≡ before_cr text.now from stop }
+    ensures low { from ≤ result }
+    ensures high { result ≤ stop }
+{
+    if from < stop && text[stop - 1] == b'\r' {
+        return stop - 1;
+    }
+    stop
+}
+
+/// The directive whose inner part goes from `from` up to before `to`.
+fn directive_in(text: &[u8], from: usize, to: usize) -> Piece
+    requires ordered { from ≤ to }
+    requires inside { to ≤ length text.now }
+    ensures { result ≡ directive_within text.now from to }
+{
+    if from < to && text[from] == b':' {
+        let name = word_in(text, from + 1, to);
+        return Piece::Include {
+            at: name.at,
+            len: name.len,
+        };
+    }
+    let start = other_from(text, b' ', from, to);
+    let end = byte_from(text, b' ', start, to);
+    let function = function_of(&text[start..end]);
+    let argument = word_in(text, end, to);
+    Piece::Call {
+        function,
+        at: argument.at,
+        len: argument.len,
+    }
+}

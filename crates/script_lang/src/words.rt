@@ -1,0 +1,28 @@
+ghost use Rattle.std.specs.Prelude.{◌≡◌, ◌≤◌, length};
+ghost use Rattle.script_lang.specs.Places.{word};
+
+use crate::search::{byte_from, other_from};
+
+/// A part of a script. Both numbers are 0 where it is empty.
+#[derive(Clone, Copy)]
+pub(crate) struct Span {
+    pub at: usize,
+    pub len: usize,
+}
+
+/// The first word of the part from `from` up to before `to`; words are parted by spaces.
+pub(crate) fn word_in(text: &[u8], from: usize, to: usize) -> Span
+    requires ordered { from ≤ to }
+    requires inside { to ≤ length text.now }
+    ensures { result ≡ word text.now from to }
+{
+    let start = other_from(text, b' ', from, to);
+    let end = byte_from(text, b' ', start, to);
+    if start == end {
+        return Span { at: 0, len: 0 };
+    }
+    Span {
+        at: start,
+        len: end - start,
+    }
+}
