@@ -1,0 +1,5 @@
+pub mod Part
+pub mod Laws
+pub mod Pages
+pub mod FixedMeaning
+pub mod FixedLaws

@@ -1,0 +1,97 @@
+ghost use Rattle.std.specs.Prelude.{◌≡◌, ◌+◌, ◌≤◌, [], length, take, drop, ◌==◌};
+ghost use Rattle.app_events.specs.FixedMeaning.{fixed_meaning, hello};
+
+use crate::app::App;
+use crate::ending::Ending;
+use crate::now::Now;
+use crate::want::Want;
+use uip_wire::Port;
+
+/// The application that answers `hello` and a line feed to the first byte that it hears, at port 80.
+#[derive(Drop)]
+pub struct Fixed {
+    pub heard: bool,
+    /// The bytes that are acknowledged.
+    pub at: u32,
+}
+
+impl App for Fixed {
+    ghost use Rattle.app_events.specs.FixedMeaning.{FixedStands};
+    ghost use Rattle.app_events.specs.FixedLaws.{fixed_lawful, fixed_starts, fixed_same_left};
+
+    type Shared = ();
+
+    ghost Kept = { Unit {0} };
+
+    ghost kept = { λ _. tt };
+
+    ghost numbers = { λ _. [] };
+
+    ghost meaning = { λ _. fixed_meaning };
+
+    ghost stands_for = { λ a _ p. FixedStands a p };
+
+    ghost served = { λ port. port == 80 };
+
+    fn serves(port: Port) -> bool {
+        port.0 == 80
+    }
+
+    fn idle() -> Fixed {
+        Fixed {
+            heard: false,
+            at: 0,
+        }
+    }
+
+    fn connected(&mut self, _shared: &mut (), _port: Port) {
+        self.heard = false;
+        self.at = 0;
+    }
+
+    fn newdata(&mut self, _shared: &mut (), piece: &[u8]) {
+        if !piece.is_empty() {
+            self.heard = true;
+        }
+    }
+
+    fn prepare(&mut self, _shared: &(), _now: &Now) {}
+
+    fn want(&self, _shared: &()) -> Want {
+        if !self.heard {
+            Want::Nothing
+        } else if self.at < 6 {
+            Want::Send((6 - self.at) as usize)
+        } else {
+            Want::Close
+        }
+    }
+
+    fn fill(&self, _shared: &(), out: &mut [u8]) {
+        copy_hello(self.at as usize, out);
+    }
+
+    fn acked(&mut self, _shared: &mut (), count: usize) {
+        self.at += count as u32;
+    }
+
+    fn polled(&mut self, _shared: &mut ()) {}
+
+    fn ended(&mut self, _shared: &mut (), _how: Ending) {}
+
+    ghost lawful = { λ a _. fixed_lawful a };
+
+    ghost starts = { λ _. fixed_starts };
+
+    ghost same_left = { λ a _ p q. fixed_same_left a p q };
+}
+
+/// Copies the text from a place on.
+fn copy_hello(at: usize, out: &mut [u8])
+    requires { at + length out.old ≤ 6 }
+    ensures { out.new ≡ take (length out.old) (drop at hello) }
+{
+    let text: &[u8] = b"hello\n";
+    let end = at + out.len();
+    out.copy_from_slice(&text[at..end]);
+}

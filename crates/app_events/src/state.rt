@@ -1,0 +1,13 @@
+/// The state of a connection (RFC 793, section 3.2).
+#[derive(Clone, Copy, Debug, PartialEq, Eq)]
+pub enum State {
+    Closed,
+    SynRcvd,
+    Established,
+    CloseWait,
+    FinWait1,
+    FinWait2,
+    Closing,
+    TimeWait,
+    LastAck,
+}
