@@ -1,0 +1,86 @@
+-- A header that was written passes every check and says what was written, whatever stands behind it.
+use Rattle.std.proofs.Common.{◌≡◌, ℕ, ◌+◌, ◌-◌, ◌*◌, ◌/◌, ◌%◌, ◌≤◌, Bool, true, false, not, ◌||◌, List, [], ◌∷◌, ◌++◌, length, take, slice_index, Some, refl, ap, ◌∙◌, arith, eqb, ltb, if◌then◌else◌, Ok, Result}
+use Rattle.std.proofs.lemmas.Grind.{common_steps}
+use Rattle.std.specs.Str.{bytes_eq}
+use Rattle.uip_wire.proofs.Folding.{folded_closes}
+use Rattle.uip_wire.specs.Checksum.{checksum_of, folded, word_sum}
+use Rattle.uip_wire.specs.Fields.{word_at}
+use Rattle.uip_ipv4.specs.declared.proto.Proto.{Proto}
+use Rattle.uip_ipv4.specs.declared.proto.Proto.TheVariants.{Icmp, Tcp}
+use Rattle.uip_ipv4.specs.declared.head.IpHead.{IpHead}
+use Rattle.uip_ipv4.specs.declared.fate.IpFate.{IpFate}
+use Rattle.uip_ipv4.specs.Head.{head_with, head_bytes, head_or_fate, head_by, proto_of, number_of, ReadsBack}
+
+pub passes : {A : Type 0} (b : Bool) (x y z : A) → b ≡ false → y ≡ z → (if b then x else y) ≡ z
+passes true x y z e h = absurd (cc)
+passes false x y z e h = h
+
+not_less : (a b : ℕ) → b ≤ a → ltb a b ≡ false
+not_less a b h = grind (arith, common_steps)
+
+equal : (a b : ℕ) → a ≡ b → not (eqb a b) ≡ false
+equal a b h = grind (arith, common_steps)
+
+neither : (a b : Bool) → a ≡ false → b ≡ false → a || b ≡ false
+neither a b e f = ap (λ x. x || b) e ∙ f
+
+same : (n : ℕ) → eqb n n ≡ true
+same n = grind (arith, common_steps)
+
+sum_of_head : (k total id : ℕ) (proto : Proto) (a b c d e f g h : ℕ)
+    → word_sum (head_with k total id proto (a ∷ b ∷ c ∷ d ∷ []) (e ∷ f ∷ g ∷ h ∷ []))
+    ≡ word_sum (head_with 0 total id proto (a ∷ b ∷ c ∷ d ∷ []) (e ∷ f ∷ g ∷ h ∷ [])) + k
+sum_of_head k total id proto a b c d e f g h = omega arith
+
+sound_sum : (total id : ℕ) (proto : Proto) (a b c d e f g h : ℕ)
+    → checksum_of (head_bytes total id proto (a ∷ b ∷ c ∷ d ∷ []) (e ∷ f ∷ g ∷ h ∷ [])) ≡ 0
+sound_sum total id proto a b c d e f g h =
+    let s : ℕ = word_sum (head_with 0 total id proto (a ∷ b ∷ c ∷ d ∷ []) (e ∷ f ∷ g ∷ h ∷ [])) in
+    ap (λ n. 65535 - folded n) (sum_of_head (65535 - folded s) total id proto a b c d e f g h) ∙ ap (λ n. 65535 - n) (folded_closes s)
+
+same_proto : (proto : Proto) (bytes : List ℕ) → head_by (proto_of ((16384 + number_of proto) % 256)) bytes ≡ head_by (Some proto) bytes
+same_proto Icmp bytes = refl
+same_proto Tcp bytes = refl
+
+same_head : (total total' : ℕ) (proto : Proto) (s t : List ℕ) → total ≡ total'
+    → ◌≡◌ {A = Result IpHead IpFate}
+    (Ok (record { total = total; proto = proto; source = record { 0 = s }; target = record { 0 = t } }))
+    (Ok (record { total = total'; proto = proto; source = record { 0 = s }; target = record { 0 = t } }))
+same_head total total' proto s t e = ap (λ (n : ℕ). Ok (record { total = n; proto = proto; source = record { 0 = s }; target = record { 0 = t } })) e
+
+two : (w : ℕ) → 256 * (w / 256) + w % 256 ≡ w
+two w = omega arith
+
+same_address : (e f g h : ℕ) → bytes_eq (e ∷ f ∷ g ∷ h ∷ []) (e ∷ f ∷ g ∷ h ∷ []) ≡ true
+same_address e f g h = rw (same e, same f, same g, same h) refl
+
+back : (total id : ℕ) (proto : Proto) (a b c d e f g h : ℕ) (rest : List ℕ) → 20 ≤ total → total ≤ 20 + length rest
+    → head_or_fate (head_bytes total id proto (a ∷ b ∷ c ∷ d ∷ []) (e ∷ f ∷ g ∷ h ∷ []) ++ rest) (e ∷ f ∷ g ∷ h ∷ [])
+    ≡ Ok (record {
+      total = total;
+      proto = proto;
+      source = record { 0 = a ∷ b ∷ c ∷ d ∷ [] };
+      target = record { 0 = e ∷ f ∷ g ∷ h ∷ [] };
+    })
+unfolding head_or_fate
+back total id proto a b c d e f g h rest least most =
+    let bytes : List ℕ = head_bytes total id proto (a ∷ b ∷ c ∷ d ∷ []) (e ∷ f ∷ g ∷ h ∷ []) ++ rest in
+    let told : word_at bytes 2 ≡ total = two total in
+    let long : length bytes ≡ 20 + length rest = omega arith in
+    passes _ _ _ _ (not_less (length bytes) 20 (omega arith))
+    (passes _ _ _ _ (neither _ _ (not_less (word_at bytes 2) 20 (omega arith)) (not_less (length bytes) (word_at bytes 2) (omega arith)))
+    (passes _ _ _ _ (equal (checksum_of (take 20 bytes)) 0 (sound_sum total id proto a b c d e f g h))
+    (passes _ _ _ _ (ap not (same_address e f g h))
+    (same_proto proto bytes ∙ same_head _ _ proto _ _ told))))
+
+four : (xs : List ℕ) → length xs ≡ 4 → xs ≡ slice_index xs 0 ∷ slice_index xs 1 ∷ slice_index xs 2 ∷ slice_index xs 3 ∷ []
+four [] h = absurd (omega arith)
+four (a ∷ []) h = absurd (omega arith)
+four (a ∷ b ∷ []) h = absurd (omega arith)
+four (a ∷ b ∷ c ∷ []) h = absurd (omega arith)
+four (a ∷ b ∷ c ∷ d ∷ []) h = refl
+four (a ∷ b ∷ c ∷ d ∷ e ∷ rest) h = absurd (omega arith)
+
+pub reads_back : ReadsBack
+reads_back total id proto source target rest s t least most =
+    rw (four source s, four target t) (back total id proto _ _ _ _ _ _ _ _ rest least most)

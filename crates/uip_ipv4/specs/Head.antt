@@ -1,0 +1,62 @@
+-- The header of IPv4 without options (RFC 791, section 3.1): what a received one says or why it is dropped, and the bytes of
+-- one that is sent.
+use Rattle.std.specs.Prelude.{◌≡◌, ◌≤◌, ℕ, ◌+◌, ◌%◌, ◌==◌, ◌||◌, nat_lt, not, if◌then◌else◌, List, [], ◌∷◌, ◌++◌, length, take, slice_index, Option, Some, None, Result, Ok, Err}
+use Rattle.std.specs.Str.{bytes_eq}
+use Rattle.uip_wire.specs.Addr.{address_at}
+use Rattle.uip_wire.specs.Checksum.{checksum_of}
+use Rattle.uip_wire.specs.Fields.{word_at, bytes_of}
+use Rattle.uip_ipv4.specs.declared.fate.IpFate.{IpFate}
+use Rattle.uip_ipv4.specs.declared.fate.IpFate.TheVariants.{Short, Version, Length, Fragment, Checksum, NotOurs, Protocol}
+use Rattle.uip_ipv4.specs.declared.head.IpHead.{IpHead}
+use Rattle.uip_ipv4.specs.declared.proto.Proto.{Proto}
+use Rattle.uip_ipv4.specs.declared.proto.Proto.TheVariants.{Icmp, Tcp}
+
+-- the protocols that are taken, by their numbers (RFC 790)
+abbrev pub proto_of : ℕ → Option Proto
+proto_of number = if number == 1 then Some Icmp else if number == 6 then Some Tcp else None
+
+abbrev pub number_of : Proto → ℕ
+number_of Icmp = 1
+number_of Tcp = 6
+
+-- the header's last check, and what it says
+abbrev pub head_by : Option Proto → List ℕ → Result IpHead IpFate
+head_by None bytes = Err Protocol
+head_by (Some proto) bytes = Ok (record {
+  total = word_at bytes 2;
+  proto = proto;
+  source = record { 0 = address_at bytes 12 };
+  target = record { 0 = address_at bytes 16 };
+})
+
+-- the header of a datagram to the address `own`, or the first check that fails
+unfoldable pub head_or_fate : List ℕ → List ℕ → Result IpHead IpFate
+head_or_fate bytes own =
+    if nat_lt (length bytes) 20 then Err Short
+    else if not (slice_index bytes 0 == 69) then Err Version
+    else if nat_lt (word_at bytes 2) 20 || nat_lt (length bytes) (word_at bytes 2) then Err Length
+    else if not (word_at bytes 6 % 16384 == 0) then Err Fragment
+    else if not (checksum_of (take 20 bytes) == 0) then Err Checksum
+    else if not (bytes_eq (address_at bytes 16) own) then Err NotOurs
+    else head_by (proto_of (slice_index bytes 9)) bytes
+
+-- the datagram passes every check at the address that its header names, and this is what its header says
+abbrev pub IsHeadOf : IpHead → List ℕ → Type 0
+IsHeadOf head bytes = head_or_fate bytes head.target.0 ≡ Ok head
+
+-- the header of a datagram that is sent, with this checksum: no options, no fragments, 64 hops to live
+abbrev pub head_with : ℕ → ℕ → ℕ → Proto → List ℕ → List ℕ → List ℕ
+head_with sum total id proto source target =
+    bytes_of (17664 ∷ total ∷ id ∷ 0 ∷ (16384 + number_of proto) ∷ sum ∷ []) ++ source ++ target
+
+-- the same with its own checksum
+abbrev pub head_bytes : ℕ → ℕ → Proto → List ℕ → List ℕ → List ℕ
+head_bytes total id proto source target =
+    head_with (checksum_of (head_with 0 total id proto source target)) total id proto source target
+
+-- a header that was written before a whole datagram passes every check and says what was written
+abbrev pub ReadsBack : Type 0
+ReadsBack = (total id : ℕ) (proto : Proto) (source target rest : List ℕ) → length source ≡ 4 → length target ≡ 4
+    → 20 ≤ total → total ≤ 20 + length rest
+    → head_or_fate (head_bytes total id proto source target ++ rest) target
+    ≡ Ok (record { total = total; proto = proto; source = record { 0 = source }; target = record { 0 = target } })
