@@ -1,0 +1,72 @@
+-- A TCP segment as a plain record, apart from its bytes, and the bytes of its datagram (RFC 793, section 3.1).
+use Rattle.std.specs.Prelude.{◌≡◌, ◌<◌, ◌≤◌, ◌≢◌, ℕ, ◌+◌, ◌*◌, ◌/◌, ◌%◌, ◌==◌, Bool, List, [], ◌∷◌, ◌++◌, length, Option, Some, None}
+use Rattle.uip_wire.specs.Checksum.{checksum_of}
+use Rattle.uip_wire.specs.Fields.{bytes_of}
+use Rattle.uip_ipv4.specs.Head.{head_bytes}
+use Rattle.uip_ipv4.specs.declared.proto.Proto.TheVariants.{Tcp}
+
+pub record PlainSegment : Type 0 where
+  pub seq : ℕ
+  pub ack : ℕ
+  pub flags : ℕ
+  pub window : ℕ
+  pub mss : Option ℕ
+  pub text : List ℕ
+
+-- the flags of a segment as one number: FIN 1, SYN 2, RST 4, PSH 8, ACK 16, URG 32
+abbrev pub has_fin : ℕ → Bool
+has_fin flags = flags % 2 == 1
+
+abbrev pub has_syn : ℕ → Bool
+has_syn flags = flags / 2 % 2 == 1
+
+abbrev pub has_rst : ℕ → Bool
+has_rst flags = flags / 4 % 2 == 1
+
+abbrev pub has_psh : ℕ → Bool
+has_psh flags = flags / 8 % 2 == 1
+
+abbrev pub has_ack : ℕ → Bool
+has_ack flags = flags / 16 % 2 == 1
+
+-- a segment between two nodes: their addresses of four bytes, their ports, and the datagram's identification
+pub record Datagram : Type 0 where
+  pub source : List ℕ
+  pub target : List ℕ
+  pub from : ℕ
+  pub to : ℕ
+  pub id : ℕ
+  pub segment : PlainSegment
+
+-- the option for the maximum segment size, as words
+abbrev pub option_words : Option ℕ → List ℕ
+option_words None = []
+option_words (Some mss) = 516 ∷ mss ∷ []
+
+-- the length of the header in words of 32 bits
+abbrev pub offset_of : Option ℕ → ℕ
+offset_of None = 5
+offset_of (Some mss) = 6
+
+-- the header as words, with this checksum
+abbrev pub header_words : ℕ → ℕ → ℕ → PlainSegment → List ℕ
+header_words sum from to s =
+    from ∷ to ∷ s.seq / 65536 ∷ s.seq % 65536 ∷ s.ack / 65536 ∷ s.ack % 65536 ∷ (offset_of s.mss * 4096 + s.flags) ∷ s.window ∷ sum ∷ 0 ∷ option_words s.mss
+
+-- the header with this checksum, and the text
+abbrev pub segment_with : ℕ → Datagram → List ℕ
+segment_with sum d = bytes_of (header_words sum d.from d.to d.segment) ++ d.segment.text
+
+-- what is summed before a segment of this length: the addresses, the protocol's number and the length
+abbrev pub pseudo_header : List ℕ → List ℕ → ℕ → List ℕ
+pseudo_header source target len = source ++ target ++ bytes_of (6 ∷ len ∷ [])
+
+abbrev pub segment_sum : Datagram → ℕ
+segment_sum d = checksum_of (pseudo_header d.source d.target (length (segment_with 0 d)) ++ segment_with 0 d)
+
+abbrev pub segment_bytes : Datagram → List ℕ
+segment_bytes d = segment_with (segment_sum d) d
+
+-- the whole datagram
+unfoldable pub datagram_bytes : Datagram → List ℕ
+datagram_bytes d = head_bytes (20 + length (segment_bytes d)) d.id Tcp d.source d.target ++ segment_bytes d
