@@ -1,4 +1,5 @@
 pub mod Causes
 pub mod Coming
 pub mod Memory
+pub mod Shelving
 pub mod Writing
