@@ -1,0 +1,88 @@
+-- Asking the application what it wants, in ESTABLISHED and CLOSE-WAIT with nothing outstanding.
+use Rattle.std.specs.Prelude.{ℕ, min, Bool, true, false, List, if◌then◌else◌}
+use Rattle.app_events.specs.Part.{Meaning}
+use Rattle.app_events.specs.declared.now.Now.{Now}
+use Rattle.app_events.specs.declared.state.State.{State}
+use Rattle.app_events.specs.declared.state.State.TheVariants.{Closed, SynRcvd, Established, CloseWait, FinWait1, FinWait2, Closing, TimeWait, LastAck}
+use Rattle.app_events.specs.declared.want.Want.{Want}
+use Rattle.app_events.specs.declared.want.Want.TheVariants.{Nothing, Send, Close, Abort}
+use Rattle.tcp_machine.specs.Connection.{Connection}
+use Rattle.tcp_machine.specs.declared.step.Step.{Step}
+
+-- what a step leaves and asks
+pub record Outcome : Type 0 where
+  pub connection : Connection
+  pub numbers : List ℕ
+  pub step : Step
+
+abbrev pub leaves : Connection → List ℕ → Step → Outcome
+leaves c numbers step = record { connection = c; numbers = numbers; step = step }
+
+abbrev pub closes : Connection → Connection
+closes c = record c { state = Closed }
+
+-- the first sending of a text, and of the FIN
+abbrev pub sends_text : ℕ → Connection → Connection
+sends_text n c = record c { len = n; age = 0 }
+
+abbrev pub sends_fin : State → Connection → Connection
+sends_fin state c = record c { state = state; len = 1; age = 0 }
+
+-- the state after an own FIN
+abbrev pub after_own_fin : State → State
+after_own_fin CloseWait = LastAck
+after_own_fin Closed = FinWait1
+after_own_fin SynRcvd = FinWait1
+after_own_fin Established = FinWait1
+after_own_fin FinWait1 = FinWait1
+after_own_fin FinWait2 = FinWait1
+after_own_fin Closing = FinWait1
+after_own_fin TimeWait = FinWait1
+after_own_fin LastAck = FinWait1
+
+abbrev pub peer_has_closed : State → Bool
+peer_has_closed CloseWait = true
+peer_has_closed Closed = false
+peer_has_closed SynRcvd = false
+peer_has_closed Established = false
+peer_has_closed FinWait1 = false
+peer_has_closed FinWait2 = false
+peer_has_closed Closing = false
+peer_has_closed TimeWait = false
+peer_has_closed LastAck = false
+
+abbrev pub resets : Connection → List ℕ → Outcome
+resets c numbers = leaves (closes c) numbers Step.Reset
+
+-- Nothing is wanted: after the peer's FIN nothing more can come, so the connection is given up.
+unfoldable pub idles : Bool → Connection → List ℕ → Outcome
+idles fresh c numbers =
+    if peer_has_closed c.state then resets c numbers
+    else if fresh then leaves c numbers Step.Ack
+    else leaves c numbers Step.Drop
+
+abbrev pub does_as_wanted : Want → Bool → Connection → List ℕ → Outcome
+does_as_wanted Abort fresh c numbers = resets c numbers
+does_as_wanted Close fresh c numbers = leaves (sends_fin (after_own_fin c.state) c) numbers (Step.Fin false)
+does_as_wanted (Send n) fresh c numbers = leaves (sends_text (min n c.mss) c) numbers (Step.Text false)
+does_as_wanted Nothing fresh c numbers = idles fresh c numbers
+
+abbrev pub prepared : Meaning → Now → Connection → List ℕ → Connection
+prepared m now c numbers = record c { part = m.prepare numbers c.part now }
+
+abbrev pub ask : Meaning → Now → Bool → Connection → List ℕ → Outcome
+ask m now fresh c numbers =
+    does_as_wanted (m.want numbers (m.prepare numbers c.part now)) fresh (prepared m now c numbers) numbers
+
+-- The application is asked where a step says so. The moment is that of the connection as the step left it.
+abbrev pub asked_for : Meaning → (Connection → Now) → Outcome → Step → Outcome
+asked_for m moment o (Step.Ask fresh) = ask m (moment o.connection) fresh o.connection o.numbers
+asked_for m moment o Step.Drop = o
+asked_for m moment o Step.Ack = o
+asked_for m moment o (Step.SynAck again) = o
+asked_for m moment o (Step.Text again) = o
+asked_for m moment o (Step.Fin again) = o
+asked_for m moment o Step.Reset = o
+
+abbrev pub asked : Meaning → (Connection → Now) → Outcome → Outcome
+asked m moment o = asked_for m moment o o.step

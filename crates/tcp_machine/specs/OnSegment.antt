@@ -1,0 +1,158 @@
+-- A segment at a connection (RFC 793, section 3.9, SEGMENT ARRIVES): four checks, and then the row of the state.
+use Rattle.std.specs.Prelude.{ℕ, ◌+◌, min, Bool, true, false, not, List, [], ◌∷◌, length, nat_lt, ◌==◌, ◌&&◌, if◌then◌else◌, Option, Some, None}
+use Rattle.uip_wire.specs.Numbers.{wrap}
+use Rattle.uip_wire.specs.declared.sizes.TheConstants.{OWN_MSS}
+use Rattle.tcp_segment.specs.Segments.{PlainSegment, has_fin, has_rst, has_ack}
+use Rattle.app_events.specs.Part.{Part, After, Meaning}
+use Rattle.app_events.specs.declared.ending.Ending.{Ending}
+use Rattle.app_events.specs.declared.ending.Ending.TheVariants.{Reset}
+use Rattle.app_events.specs.declared.state.State.{State}
+use Rattle.app_events.specs.declared.state.State.TheVariants.{Closed, SynRcvd, Established, CloseWait, FinWait1, FinWait2, Closing, TimeWait, LastAck}
+use Rattle.tcp_machine.specs.Connection.{Sockets, Connection, snd_nxt, rcv_nxt}
+use Rattle.tcp_machine.specs.Segments.{has_place}
+use Rattle.tcp_machine.specs.Ask.{Outcome, leaves, closes}
+use Rattle.tcp_machine.specs.declared.step.Step.{Step}
+
+-- The largest text that the peer takes: 536 where its SYN does not say (RFC 1122, section 4.2.2.6).
+abbrev pub first_mss : Option ℕ → ℕ
+first_mss None = 536
+first_mss (Some n) = if n == 0 then 536 else min OWN_MSS n
+
+-- A plain SYN opens a connection in SYN-RECEIVED; its text is not taken.
+abbrev pub accepted : ℕ → Sockets → PlainSegment → Connection
+accepted first sockets s = record {
+  state = SynRcvd;
+  sockets = sockets;
+  peer_first = s.seq;
+  taken = 0;
+  first = first;
+  acked = 0;
+  len = 1;
+  initial_mss = first_mss s.mss;
+  mss = first_mss s.mss;
+  age = 0;
+  part = record { port = sockets.own_port.0; heard = []; captures = []; acked = 0; polls = 0; own = 0 };
+}
+
+abbrev pub accept : ℕ → Sockets → PlainSegment → List ℕ → Outcome
+accept first sockets s numbers = leaves (accepted first sockets s) numbers (Step.SynAck false)
+
+-- the application is told of an end where it might still have spoken
+abbrev pub told_end : Meaning → Ending → State → Part → List ℕ → List ℕ
+told_end m how Established p numbers = m.ended numbers p how
+told_end m how CloseWait p numbers = m.ended numbers p how
+told_end m how Closed p numbers = numbers
+told_end m how SynRcvd p numbers = numbers
+told_end m how FinWait1 p numbers = numbers
+told_end m how FinWait2 p numbers = numbers
+told_end m how Closing p numbers = numbers
+told_end m how TimeWait p numbers = numbers
+told_end m how LastAck p numbers = numbers
+
+-- Check 2: what stands in its order stands at another number than the expected one.
+abbrev pub is_out_of_order : Connection → PlainSegment → Bool
+is_out_of_order c s = has_place s && not (s.seq == rcv_nxt c)
+
+-- Check 3: the segment acknowledges all that is outstanding.
+abbrev pub is_acked : Connection → PlainSegment → Bool
+is_acked c s = has_ack s.flags && (nat_lt 0 c.len && (s.ack == wrap (snd_nxt c + c.len)))
+
+-- nothing is outstanding any more, and the timer rests
+abbrev pub rests : Connection → Connection
+rests c = record c { acked = c.acked + c.len; len = 0; age = 0 }
+
+abbrev pub has_text : PlainSegment → Bool
+has_text s = nat_lt 0 (length s.text)
+
+-- the application hears text, where there is any
+abbrev pub hears : Meaning → List ℕ → Part → List ℕ → After
+hears m numbers p [] = record { part = p; numbers = numbers }
+hears m numbers p (x ∷ xs) = m.newdata numbers p (x ∷ xs)
+
+-- so many more of the peer's numbers are taken
+abbrev pub takes : ℕ → Connection → Connection
+takes n c = record c { taken = c.taken + n }
+
+abbrev pub with_part : Part → Connection → Connection
+with_part p c = record c { part = p }
+
+abbrev pub in_state : State → Connection → Connection
+in_state state c = record c { state = state }
+
+-- the peer's window bounds the next text; a window of 0 is taken for an open one
+abbrev pub with_window : ℕ → Connection → Connection
+with_window window c = record c { mss = (if window == 0 then c.initial_mss else min c.initial_mss window) }
+
+-- SYN-RECEIVED, acknowledged: the application is connected, and hears what the segment brings. A FIN is not taken.
+abbrev pub connects : Meaning → Connection → List ℕ → PlainSegment → Outcome
+connects m c numbers s =
+    let start : After = m.connected numbers c.sockets.own_port.0 in
+    let heard : After = hears m start.numbers start.part s.text in
+    leaves (with_part heard.part (takes (length s.text) (in_state Established (rests c)))) heard.numbers (Step.Ask (has_text s))
+
+-- ESTABLISHED, where the segment has a FIN
+unfoldable pub peer_closes : Meaning → Connection → List ℕ → PlainSegment → Outcome
+peer_closes m c numbers s =
+    let heard : After = hears m numbers c.part s.text in
+    let d : Connection = in_state CloseWait (with_window s.window (with_part heard.part (takes (length s.text + 1) c))) in
+    if nat_lt 0 c.len then leaves d heard.numbers Step.Ack else leaves d heard.numbers (Step.Ask true)
+
+-- ESTABLISHED, where it has none
+unfoldable pub goes_on : Meaning → Bool → Connection → List ℕ → PlainSegment → Outcome
+goes_on m acked c numbers s =
+    let heard : After = hears m numbers c.part s.text in
+    let d : Connection = with_window s.window (with_part heard.part (takes (length s.text) c)) in
+    if not acked && not (has_text s) then leaves d heard.numbers Step.Drop
+    else if nat_lt 0 c.len then leaves d heard.numbers Step.Ack
+    else leaves d heard.numbers (Step.Ask (has_text s))
+
+unfoldable pub in_established : Meaning → Bool → Connection → List ℕ → PlainSegment → Outcome
+in_established m acked c numbers s = if has_fin s.flags then peer_closes m c numbers s else goes_on m acked c numbers s
+
+-- FIN-WAIT-1, acknowledged: text and FIN are taken, and the text is let go
+unfoldable pub fin_acked : Connection → List ℕ → PlainSegment → Outcome
+fin_acked c numbers s =
+    if has_fin s.flags then leaves (in_state TimeWait (takes (length s.text + 1) (rests c))) numbers Step.Ack
+    else leaves (in_state FinWait2 (takes (length s.text) (rests c))) numbers Step.Drop
+
+unfoldable pub fin_waits : Connection → List ℕ → PlainSegment → Outcome
+fin_waits c numbers s =
+    if has_fin s.flags then leaves (in_state Closing (takes (length s.text + 1) c)) numbers Step.Ack
+    else if has_text s then leaves (takes (length s.text) c) numbers Step.Ack
+    else leaves c numbers Step.Drop
+
+unfoldable pub in_fin_wait_2 : Connection → List ℕ → PlainSegment → Outcome
+in_fin_wait_2 c numbers s =
+    if has_fin s.flags then leaves (record (in_state TimeWait (takes (length s.text + 1) c)) { age = 0 }) numbers Step.Ack
+    else if has_text s then leaves (takes (length s.text) c) numbers Step.Ack
+    else leaves c numbers Step.Drop
+
+-- The row of the state, where `acked` tells what check 3 found. In ESTABLISHED and CLOSE-WAIT the application hears of an
+-- acknowledgement first.
+abbrev pub by_state : Meaning → State → Bool → Connection → List ℕ → PlainSegment → Outcome
+by_state m SynRcvd true c numbers s = connects m c numbers s
+by_state m SynRcvd false c numbers s = leaves c numbers Step.Drop
+by_state m Established true c numbers s =
+    let told : After = m.acked numbers c.part c.len in
+    in_established m true (with_part told.part (rests c)) told.numbers s
+by_state m Established false c numbers s = in_established m false c numbers s
+by_state m CloseWait true c numbers s =
+    let told : After = m.acked numbers c.part c.len in
+    leaves (with_window s.window (with_part told.part (rests c))) told.numbers (Step.Ask false)
+by_state m CloseWait false c numbers s = leaves (with_window s.window c) numbers Step.Drop
+by_state m FinWait1 true c numbers s = fin_acked c numbers s
+by_state m FinWait1 false c numbers s = fin_waits c numbers s
+by_state m FinWait2 acked c numbers s = in_fin_wait_2 c numbers s
+by_state m Closing true c numbers s = leaves (in_state TimeWait (rests c)) numbers Step.Drop
+by_state m Closing false c numbers s = leaves c numbers Step.Drop
+by_state m LastAck true c numbers s = leaves (closes (rests c)) numbers Step.Drop
+by_state m LastAck false c numbers s = leaves c numbers Step.Drop
+by_state m TimeWait acked c numbers s = leaves c numbers Step.Ack
+by_state m Closed acked c numbers s = leaves c numbers Step.Drop
+
+-- Check 1 is the RST: it closes without a look at numbers.
+unfoldable pub on_segment : Meaning → Connection → List ℕ → PlainSegment → Outcome
+on_segment m c numbers s =
+    if has_rst s.flags then leaves (closes c) (told_end m Reset c.state c.part numbers) Step.Drop
+    else if is_out_of_order c s then leaves c numbers Step.Ack
+    else by_state m c.state (is_acked c s) c numbers s

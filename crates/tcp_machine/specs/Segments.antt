@@ -1,0 +1,58 @@
+-- The segments that a connection sends (RFC 793, section 3.1). Each begins at the lowest number that is not acknowledged.
+use Rattle.std.specs.Prelude.{◌+◌, ◌==◌, ◌||◌, Bool, false, [], length, take, nat_lt, Option, Some, None}
+use Rattle.uip_wire.specs.Numbers.{wrap}
+use Rattle.uip_wire.specs.declared.sizes.TheConstants.{OWN_MSS}
+use Rattle.tcp_segment.specs.declared.flags.TheConstants.{FIN, SYN, RST, PSH, ACK}
+use Rattle.tcp_segment.specs.Segments.{PlainSegment, has_syn, has_fin}
+use Rattle.app_events.specs.Part.{Meaning, text_left}
+use Rattle.tcp_machine.specs.Connection.{Connection, snd_nxt, rcv_nxt}
+use Rattle.tcp_machine.specs.declared.step.Step.{Step}
+
+-- the segment has a SYN, text or a FIN: what stands in its order, and must be acknowledged
+abbrev pub has_place : PlainSegment → Bool
+has_place s = nat_lt 0 (length s.text) || (has_syn s.flags || has_fin s.flags)
+
+-- of the six flags it has SYN alone
+abbrev pub is_plain_syn : PlainSegment → Bool
+is_plain_syn s = s.flags == SYN
+
+-- an ACK without text: what all segments of a connection have in common
+abbrev pub bare_ack : Connection → PlainSegment
+bare_ack c = record { seq = snd_nxt c; ack = rcv_nxt c; flags = ACK; window = OWN_MSS; mss = None; text = [] }
+
+abbrev pub syn_ack : Connection → PlainSegment
+syn_ack c = record (bare_ack c) { flags = SYN + ACK; mss = Some OWN_MSS }
+
+-- the text from the acknowledged offset on, as long as what is outstanding
+abbrev pub text_of : Meaning → Connection → PlainSegment
+text_of m c = record (bare_ack c) { flags = ACK + PSH; text = take c.len (text_left m c.part) }
+
+abbrev pub fin_of : Connection → PlainSegment
+fin_of c = record (bare_ack c) { flags = FIN + ACK }
+
+abbrev pub reset_of : Connection → PlainSegment
+reset_of c = record (bare_ack c) { flags = RST + ACK; window = 0 }
+
+-- the answer to a segment that belongs to no connection (RFC 793, section 3.4)
+abbrev pub reset_to_none : PlainSegment → PlainSegment
+reset_to_none s = record { seq = s.ack; ack = wrap (s.seq + 1); flags = RST + ACK; window = 0; mss = None; text = [] }
+
+-- what is sent for a step, where c is the connection after it
+abbrev pub segment_of : Meaning → Connection → Step → Option PlainSegment
+segment_of m c Step.Drop = None
+segment_of m c Step.Ack = Some (bare_ack c)
+segment_of m c (Step.SynAck again) = Some (syn_ack c)
+segment_of m c (Step.Text again) = Some (text_of m c)
+segment_of m c (Step.Fin again) = Some (fin_of c)
+segment_of m c Step.Reset = Some (reset_of c)
+segment_of m c (Step.Ask fresh) = None
+
+-- it sends again what is outstanding
+abbrev pub is_again : Step → Bool
+is_again Step.Drop = false
+is_again Step.Ack = false
+is_again (Step.SynAck again) = again
+is_again (Step.Text again) = again
+is_again (Step.Fin again) = again
+is_again Step.Reset = false
+is_again (Step.Ask fresh) = false

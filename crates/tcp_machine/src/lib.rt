@@ -1,0 +1,7 @@
+//! One connection of TCP, event by event (RFC 793, section 3.9): each event is a step of the table in docs, and what it asks
+//! of the node is a `Step`. The definitions of the abstract connection stand in `specs/`; every layer above speaks of them.
+#![tactic(auto)]
+
+mod step;
+
+pub use step::Step;
