@@ -16,6 +16,7 @@ mod null_sink;
 mod serve_end;
 mod shelf;
 mod sink;
+mod sizes;
 mod sure_link;
 
 pub use failed::Failed;
@@ -31,4 +32,5 @@ pub use null_sink::NullSink;
 pub use serve_end::ServeEnd;
 pub use shelf::Shelf;
 pub use sink::Sink;
+pub use sizes::LARGEST_DATAGRAM;
 pub use sure_link::SureLink;

@@ -1,0 +1,214 @@
+-- What a decoder knows after one more byte, or a run of them.
+use Rattle.std.proofs.Common.{◌≡◌, ℕ, ◌+◌, ◌≤◌, ◌<◌, Bool, true, false, cond, eqb, nat_lt, List, [], ◌∷◌, ◌++◌, take, length, get_or, refl, sym, ap, subst, ◌-◌, ◌∙◌, append-nil, append_assoc, arith, length-take, length-append, min, ◌||◌}
+use Rattle.std.specs.List.{list_all}
+use Rattle.std.proofs.lemmas.List.{take_all, take-append-le, take-take, length-take-le, take_more}
+use Rattle.std.proofs.Math.Seq.{take-append-add}
+use Rattle.std.proofs.lemmas.Bool.{ltb-false, ltb-true, le-ltb, lt-ltb, le-leb, lt-leb}
+use Rattle.uip_slip.specs.Frames.{Frame, meant, unescaped, frame_of, open_part, frames, Datagram, Overlong, is_plain}
+use Rattle.uip_slip.specs.declared.fed.Fed.{Fed}
+use Rattle.uip_slip.specs.declared.fed.Fed.TheVariants as fed
+use Rattle.uip_slip.specs.Decoding.{State, WasFed, waits_after, open_bytes, told_by}
+use Rattle.uip_slip.specs.Steps.{reopened, pushed, taken, joined, Closes}
+use Rattle.uip_slip.proofs.PartLaws.{frames-end, open_part-end, frames-plain, open_part-plain, parts-byte}
+use Rattle.uip_slip.proofs.PlainLaws.{adds, unescaped-push, waits_after-push, parts-plain, plain_joined}
+
+-- a state stands for the bytes u of a part
+pub record Holds (u : List ℕ) (w : Bool) (s : State) : Type 0 where
+  pub front : s.bytes ≡ take 1500 u
+  pub over : s.over ≡ nat_lt 1500 (length u)
+  pub waits : s.waits ≡ w
+  pub told : s.told ≡ false
+
+room_left : (n : ℕ) (u t : List ℕ) (c : ℕ) → t ≡ take n u → length t < n
+    → (t ++ c ∷ [] ≡ take n (u ++ c ∷ [])) × (nat_lt n (length u) ≡ nat_lt n (length (u ++ c ∷ [])))
+room_left n u t c e h =
+    let len : length t ≡ min n (length u) = ap length e ∙ length-take n u in
+    let short : length u < n = omega arith in
+    let grown : length (u ++ c ∷ []) ≤ n = omega (arith, length-append u (c ∷ [])) in
+    let whole : t ≡ u = e ∙ take_all n u (omega arith) in (
+      ap (λ l. l ++ c ∷ []) whole ∙ sym (take_all n (u ++ c ∷ []) grown),
+      le-ltb n (length u) (omega arith) ∙ sym (le-ltb n (length (u ++ c ∷ [])) grown),
+    )
+
+no_room : (n : ℕ) (u t : List ℕ) (c : ℕ) → t ≡ take n u → n ≤ length t
+    → (t ≡ take n (u ++ c ∷ [])) × (true ≡ nat_lt n (length (u ++ c ∷ [])))
+no_room n u t c e h =
+    let len : length t ≡ min n (length u) = ap length e ∙ length-take n u in
+    let long : n ≤ length u = omega arith in
+    let grown : n < length (u ++ c ∷ []) = omega (arith, length-append u (c ∷ [])) in
+    (e ∙ sym (take-append-le n u (c ∷ []) long), sym (lt-ltb n (length (u ++ c ∷ [])) grown))
+
+pushed_holds : (u : List ℕ) (w : Bool) (s : State) (c : ℕ) → Holds u w s → Holds (u ++ c ∷ []) false (pushed s c)
+pushed_holds u w s c h =
+    elim (nat_lt (length s.bytes) 1500) as (λ v. nat_lt (length s.bytes) 1500 ≡ v → Holds (u ++ c ∷ []) false
+    (cond v (record { bytes = s.bytes ++ c ∷ []; over = s.over; waits = false; told = false })
+    (record { bytes = s.bytes; over = true; waits = false; told = false }))) [
+      | true ↦ λ e. let g = room_left 1500 u s.bytes c h.front (ltb-true _ _ e) in
+          record { front = g.0; over = h.over ∙ g.1; waits = refl; told = refl }
+      | false ↦ λ e. let g = no_room 1500 u s.bytes c h.front (ltb-false _ _ e) in
+          record { front = g.0; over = g.1; waits = refl; told = refl }
+    ] refl
+
+taken_holds : (p : List ℕ) (s : State) (b : ℕ) → Holds (unescaped p) (waits_after p) s
+    → Holds (unescaped (p ++ b ∷ [])) (waits_after (p ++ b ∷ [])) (taken s b)
+taken_holds p s b h = rw (unescaped-push p b, waits_after-push p b, h.waits)
+    (elim (waits_after p) as (λ v. Holds (unescaped p ++ adds v b) (cond v false (eqb b 219))
+    (cond v (pushed s (meant b)) (cond (eqb b 219) (record { bytes = s.bytes; over = s.over; waits = true; told = false }) (pushed s b)))) [
+      | true ↦ pushed_holds (unescaped p) (waits_after p) s (meant b) h
+      | false ↦ elim (eqb b 219) as (λ v. Holds (unescaped p ++ cond v [] (b ∷ [])) v
+          (cond v (record { bytes = s.bytes; over = s.over; waits = true; told = false }) (pushed s b))) [
+            | true ↦ rw append-nil (record { front = h.front; over = h.over; waits = refl; told = refl })
+            | false ↦ pushed_holds (unescaped p) (waits_after p) s b h
+          ]
+    ])
+
+-- more bytes behind the first n of a list
+front_joined : (n : ℕ) (u t run : List ℕ) → t ≡ take n u
+    → (take n (t ++ run) ≡ take n (u ++ run)) × ((nat_lt n (length u) || nat_lt n (length t + length run)) ≡ nat_lt n (length (u ++ run)))
+front_joined n u t run e =
+    elim (nat_lt n (length u)) as (λ v. nat_lt n (length u) ≡ v
+    → (take n (t ++ run) ≡ take n (u ++ run)) × ((v || nat_lt n (length t + length run)) ≡ nat_lt n (length (u ++ run)))) [
+      | true ↦ λ q.
+          let long : n ≤ length u = omega (arith, ltb-true _ _ q) in
+          let full : length t ≡ n = ap length e ∙ length-take-le n u long in
+          let grown : n < length (u ++ run) = omega (arith, length-append u run, ltb-true _ _ q) in (
+            take-append-le n t run (omega (arith, full)) ∙ ap (λ l. take n l) e ∙ take-take n n u (omega arith) ∙ sym (take-append-le n u run long),
+            sym (lt-ltb n (length (u ++ run)) grown),
+          )
+      | false ↦ λ q.
+          let whole : t ≡ u = e ∙ take_all n u (ltb-false _ _ q) in (
+            ap (λ l. take n (l ++ run)) whole,
+            ap (λ l. nat_lt n (length l + length run)) whole ∙ ap (λ k. nat_lt n k) (sym (length-append u run)),
+          )
+    ] refl
+
+joined_holds : (u : List ℕ) (s : State) (run : List ℕ) → Holds u false s → Holds (u ++ run) false (joined s run)
+joined_holds u s run h =
+    let both = front_joined 1500 u s.bytes run h.front in
+    record { front = both.0; over = ap (λ v. v || nat_lt 1500 (length s.bytes + length run)) h.over ∙ both.1; waits = h.waits; told = h.told }
+
+open_again : (u : List ℕ) (w : Bool) (s : State) → Holds u w s → open_bytes s ≡ take 1500 u
+open_again u w s h = rw h.told h.front
+
+-- a decoder that was opened again, and was then fed to a state that holds the longer part
+held : (bytes more : List ℕ) (s new : State) → open_part (bytes ++ more) ≡ open_part bytes ++ more
+    → Holds (unescaped (open_part bytes ++ more)) (waits_after (open_part bytes ++ more)) new → WasFed (bytes ++ more) new
+held bytes more s new longer h = record {
+  front = rw longer (open_again _ _ new h);
+  over = rw longer h.over;
+  waits = rw longer h.waits;
+}
+
+reopened_holds : (bytes : List ℕ) (s : State) → WasFed bytes s → Holds (unescaped (open_part bytes)) (waits_after (open_part bytes)) (reopened s)
+reopened_holds bytes s f = record { front = f.front; over = f.over; waits = f.waits; told = refl }
+
+pub fed_byte : (bytes : List ℕ) (s : State) (b : ℕ) → eqb b 192 ≡ false → WasFed bytes s
+    → WasFed (bytes ++ b ∷ []) (taken (reopened s) b) × (frames (bytes ++ b ∷ []) ≡ frames bytes ++ [])
+fed_byte bytes s b plain f = (
+  held bytes (b ∷ []) s _ (open_part-plain bytes (b ∷ []) (parts-byte b plain)) (taken_holds (open_part bytes) (reopened s) b (reopened_holds bytes s f)),
+  frames-plain bytes (b ∷ []) (parts-byte b plain),
+)
+
+frame_of-datagram : (u : List ℕ) → (u ≡ [] → ⊥) → length u ≤ 1500 → frame_of u ≡ Datagram u ∷ []
+frame_of-datagram [] some h = absurd (some refl)
+frame_of-datagram (b ∷ u) some h = (let fits = le-leb (length (b ∷ u)) 1500 h in rw fits refl)
+
+frame_of-overlong : (u : List ℕ) → 1500 < length u → frame_of u ≡ Overlong ∷ []
+frame_of-overlong [] h = absurd (omega arith)
+frame_of-overlong (b ∷ u) h = (let long = lt-leb (length (b ∷ u)) 1500 h in rw long refl)
+
+pub fed_end : (bytes : List ℕ) (s : State) (b : ℕ) (answer : Fed) (new : State) → eqb b 192 ≡ true → WasFed bytes s
+    → Closes (reopened s) answer new
+    → WasFed (bytes ++ b ∷ []) new × (frames (bytes ++ b ∷ []) ≡ frames bytes ++ told_by answer new)
+fed_end bytes s b fed.More new end f c =
+    let shut : open_part (bytes ++ b ∷ []) ≡ [] = open_part-end bytes b end in
+    let u = unescaped (open_part bytes) in
+    let small : length u ≤ 1500 = ltb-false _ _ (sym f.over ∙ c.0) in
+    let none : u ≡ [] = sym (take_all 1500 u small) ∙ sym f.front ∙ c.1 in (
+      record { front = rw (shut, c.2) refl; over = rw (shut, c.2) refl; waits = rw (shut, c.2) refl },
+      frames-end bytes b end ∙ ap (λ l. frames bytes ++ frame_of l) none,
+    )
+fed_end bytes s b fed.Overlong new end f c =
+    let shut : open_part (bytes ++ b ∷ []) ≡ [] = open_part-end bytes b end in
+    let u = unescaped (open_part bytes) in
+    let long : 1500 < length u = ltb-true _ _ (sym f.over ∙ c.0) in (
+      record { front = rw (shut, c.1) refl; over = rw (shut, c.1) refl; waits = rw (shut, c.1) refl },
+      frames-end bytes b end ∙ ap (λ l. frames bytes ++ l) (frame_of-overlong u long),
+    )
+fed_end bytes s b (fed.Datagram n) new end f c =
+    let shut : open_part (bytes ++ b ∷ []) ≡ [] = open_part-end bytes b end in
+    let u = unescaped (open_part bytes) in
+    let small : length u ≤ 1500 = ltb-false _ _ (sym f.over ∙ c.0) in
+    let same : open_bytes s ≡ u = f.front ∙ take_all 1500 u small in
+    let whole : new.bytes ≡ u = rw c.3 same in
+    let some : u ≡ [] → ⊥ = λ e. let z : length (open_bytes s) ≡ 0 = ap (λ l. length l) (same ∙ e) in omega arith in (
+      record { front = rw (shut, c.3) refl; over = rw (shut, c.3) refl; waits = rw (shut, c.3) refl },
+      frames-end bytes b end ∙ ap (λ l. frames bytes ++ l) (frame_of-datagram u some small ∙ ap (λ l. Datagram l ∷ []) (sym whole)),
+    )
+
+-- a run of plain bytes, which is empty where an ESC waits
+pub fed_run : (before bytes : List ℕ) (n : ℕ) (s mid new : State) → mid ≡ reopened s → list_all is_plain (take n bytes) ≡ true
+    → (mid.waits ≡ true → (n ≡ 0) × (new ≡ mid)) → (mid.waits ≡ false → new ≡ joined mid (take n bytes))
+    → WasFed before s → WasFed (before ++ take n bytes) new × (frames (before ++ take n bytes) ≡ frames before ++ [])
+fed_run before bytes n s mid new opens plain waiting joins f = let run = take n bytes in (
+  elim mid.waits as (λ v. mid.waits ≡ v → WasFed (before ++ run) new) [
+    | true ↦ λ w.
+        let none = waiting w in
+        let same : before ++ run ≡ before = ap (λ k. before ++ take k bytes) none.0 ∙ append-nil before in
+        rw (same, none.1, opens) (record { front = f.front; over = f.over; waits = f.waits })
+    | false ↦ λ w.
+        let rests : waits_after (open_part before) ≡ false = sym f.waits ∙ sym (ap (λ m. m.waits) opens) ∙ w in
+        let long = plain_joined (open_part before) run plain rests in
+        let opened : Holds (unescaped (open_part before)) false mid =
+        subst (λ v. Holds (unescaped (open_part before)) v mid) rests (rw opens (reopened_holds before s f)) in
+        held before run s new (open_part-plain before run (parts-plain run plain))
+        (rw (long.0, long.1, joins w) (joined_holds (unescaped (open_part before)) mid run opened))
+  ] refl,
+  frames-plain before run (parts-plain run plain),
+)
+
+-- a run, and the byte behind it
+pub run_then_byte : (before bytes : List ℕ) (n : ℕ) (s mid new : State) (told : List Frame) → n < length bytes
+    → (WasFed before s → WasFed (before ++ take n bytes) mid × (frames (before ++ take n bytes) ≡ frames before ++ []))
+    → ((front : List ℕ) → WasFed front mid → WasFed (front ++ get_or bytes n 0 ∷ []) new × (frames (front ++ get_or bytes n 0 ∷ []) ≡ frames front ++ told))
+    → WasFed before s → WasFed (before ++ take (n + 1) bytes) new × (frames (before ++ take (n + 1) bytes) ≡ frames before ++ told)
+run_then_byte before bytes n s mid new told here run byte f =
+    let one = run f in
+    let two = byte (before ++ take n bytes) one.0 in
+    let whole : before ++ take (n + 1) bytes ≡ (before ++ take n bytes) ++ get_or bytes n 0 ∷ [] =
+    ap (λ l. before ++ l) (take_more bytes n 0 here) ∙ sym (append_assoc before (take n bytes) (get_or bytes n 0 ∷ [])) in (
+      rw whole two.0,
+      ap (λ l. frames l) whole ∙ two.1 ∙ ap (λ l. l ++ told) (one.1 ∙ append-nil (frames before)),
+    )
+
+same_state : (s : State) (xs ys : List ℕ) (a b : Bool) → xs ≡ ys → a ≡ b → record s { bytes = xs; over = a } ≡ record s { bytes = ys; over = b }
+same_state s xs ys a b e f = rw (e, f) refl
+
+min_take : (n count : ℕ) (run : List ℕ) → count ≡ min (length run) n → take count run ≡ take n run
+min_take n count run e =
+    elim (nat_lt n (length run)) as (λ v. nat_lt n (length run) ≡ v → take count run ≡ take n run) [
+      | true ↦ λ q. ap (λ k. take k run) (let less : n < length run = ltb-true _ _ q in omega (arith, e, less))
+      | false ↦ λ q. (let most : length run ≤ n = ltb-false _ _ q in let all : count ≡ length run = omega (arith, e, most) in
+          take_all count run (omega (arith, all)) ∙ sym (take_all n run most))
+    ] refl
+
+front_then : (n : ℕ) (t run : List ℕ) → length t ≤ n → take n (t ++ run) ≡ t ++ take (n - length t) run
+front_then n t run h =
+    ap (λ k. take k (t ++ run)) (let e : n ≡ length t + (n - length t) = omega arith in e) ∙ take-append-add t run (n - length t)
+
+past_room : (n a b : ℕ) → a ≤ n → nat_lt (n - a) b ≡ nat_lt n (a + b)
+past_room n a b h =
+    elim (nat_lt n (a + b)) as (λ v. nat_lt n (a + b) ≡ v → nat_lt (n - a) b ≡ v) [
+      | true ↦ λ q. (let less : n < a + b = ltb-true _ _ q in lt-ltb (n - a) b (omega (arith, less)))
+      | false ↦ λ q. (let most : a + b ≤ n = ltb-false _ _ q in le-ltb (n - a) b (omega (arith, most)))
+    ] refl
+
+-- a frame takes of a run what there is room for
+pub joined_is : (s : State) (run : List ℕ) (len count : ℕ) → length s.bytes ≡ len → len ≤ 1500 → count ≡ min (length run) (1500 - len)
+    → record s { bytes = s.bytes ++ take count run; over = s.over || nat_lt (1500 - len) (length run) } ≡ joined s run
+joined_is s run len count size h e =
+    let bytes : s.bytes ++ take count run ≡ take 1500 (s.bytes ++ run) =
+    ap (λ l. s.bytes ++ l) (min_take (1500 - len) count run e ∙ ap (λ k. take (1500 - k) run) (sym size)) ∙ sym (front_then 1500 s.bytes run (omega (arith, size))) in
+    let over : nat_lt (1500 - len) (length run) ≡ nat_lt 1500 (length s.bytes + length run) =
+    past_room 1500 len (length run) h ∙ ap (λ k. nat_lt 1500 (k + length run)) (sym size) in
+    same_state s _ _ _ _ bytes (ap (λ v. s.over || v) over)

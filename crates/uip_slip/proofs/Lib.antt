@@ -1,0 +1,6 @@
+pub mod DecoderLaws
+pub mod PartLaws
+pub mod PlainLaws
+mod Rows
+pub mod TextFrames
+pub mod TextLaws

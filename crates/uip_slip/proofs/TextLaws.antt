@@ -1,0 +1,81 @@
+-- The text of a datagram in parts.
+use Rattle.std.proofs.Common.{◌≡◌, ℕ, ◌+◌, ◌*◌, ◌-◌, ◌≤◌, ◌<◌, List, [], ◌∷◌, ◌++◌, take, drop, length, get_or, sym, ap, ◌∙◌, append_assoc, append-nil, arith, true, false, cond, eqb, length-append, length-take, length-drop, Option}
+use Rattle.std.specs.Io.KnownBytes.{Appends}
+use Rattle.uip_edge.specs.Writing.{AppendsPrefix}
+use Rattle.uip_edge.proofs.Told.{prefix_then, prefix_by}
+use Rattle.std.specs.List.{list_all}
+use Rattle.std.proofs.lemmas.List.{take_more, take-append-drop}
+use Rattle.std.proofs.lemmas.List.Concat.{flat_map-append}
+use Rattle.uip_slip.specs.Frames.{is_plain}
+use Rattle.uip_slip.specs.Text.{escaped, escaped_byte, slip_text}
+use Rattle.uip_slip.proofs.PlainLaws.{escaped-plain}
+
+byte_bound : (b : ℕ) → length (escaped_byte b) ≤ 2
+byte_bound b =
+    elim (eqb b 192) as (λ v. length (cond v (219 ∷ 220 ∷ []) (cond (eqb b 219) (219 ∷ 221 ∷ []) (b ∷ []))) ≤ 2) [
+      | true ↦ omega arith
+      | false ↦ elim (eqb b 219) as (λ v. length (cond v (219 ∷ 221 ∷ []) (b ∷ [])) ≤ 2) [ true ↦ omega arith | false ↦ omega arith ]
+    ]
+
+pub escaped-bound : (bytes : List ℕ) → length (escaped bytes) ≤ 2 * length bytes
+escaped-bound [] = omega arith
+escaped-bound (b ∷ bytes) = omega (arith, byte_bound b, escaped-bound bytes, length-append (escaped_byte b) (escaped bytes))
+
+-- a run of plain bytes goes out as it is
+pub run_text : (old new piece : List ℕ) (n : ℕ) → list_all is_plain (take n piece) ≡ true → new ≡ old ++ take n piece → new ≡ old ++ escaped (take n piece)
+run_text old new piece n plain e = e ∙ ap (λ l. old ++ l) (sym (escaped-plain (take n piece) plain))
+
+-- and the byte behind it escaped
+pub mark_text : (old mid new piece mark : List ℕ) (n : ℕ) → n < length piece → mid ≡ old ++ escaped (take n piece)
+    → mark ≡ escaped_byte (get_or piece n 0) → new ≡ mid ++ mark → new ≡ old ++ escaped (take (n + 1) piece)
+mark_text old mid new piece mark n here run m e =
+    let one : escaped (get_or piece n 0 ∷ []) ≡ mark = append-nil (escaped_byte (get_or piece n 0)) ∙ sym m in
+    let both : escaped (take (n + 1) piece) ≡ escaped (take n piece) ++ mark =
+    ap (λ l. escaped l) (take_more piece n 0 here) ∙ flat_map-append escaped_byte (take n piece) (get_or piece n 0 ∷ [])
+    ∙ ap (λ l. escaped (take n piece) ++ l) one in
+    e ∙ ap (λ l. l ++ mark) run ∙ append_assoc old (escaped (take n piece)) mark ∙ ap (λ l. old ++ l) (sym both)
+
+-- text behind the text of a front
+pub escaped_then : (start text new front part : List ℕ) → text ≡ start ++ escaped front → new ≡ text ++ escaped part → new ≡ start ++ escaped (front ++ part)
+escaped_then start text new front part made e =
+    e ∙ ap (λ l. l ++ escaped part) made ∙ append_assoc start (escaped front) (escaped part)
+    ∙ ap (λ l. start ++ l) (sym (flat_map-append escaped_byte front part))
+
+-- what is left fits, if a run took its room
+pub room_left : (old new rest : List ℕ) (n room : ℕ) → length old + 2 * length rest ≤ room → n ≤ length rest → new ≡ old ++ escaped (take n rest)
+    → length new + 2 * length (take (length rest - n) (drop n rest)) ≤ room
+room_left old new rest n room h within e =
+    let size : length new ≡ length old + length (escaped (take n rest)) = ap (λ l. length l) e ∙ length-append old (escaped (take n rest)) in
+    omega (arith, size, escaped-bound (take n rest), length-take n rest, length-take (length rest - n) (drop n rest), length-drop n rest)
+
+-- text that was sent and text that is gathered
+pub gathered : (sent text new front part : List ℕ) → sent ++ text ≡ 192 ∷ escaped front → new ≡ text ++ escaped part
+    → sent ++ new ≡ 192 ∷ escaped (front ++ part)
+gathered sent text new front part made e =
+    ap (λ l. sent ++ l) e ∙ sym (append_assoc sent text (escaped part)) ∙ ap (λ l. l ++ escaped part) made
+    ∙ ap (λ l. 192 ∷ l) (sym (flat_map-append escaped_byte front part))
+
+-- the text of a datagram in two parts
+pub text_parts : (datagram front part rest : List ℕ) → datagram ≡ (front ++ part) ++ rest
+    → (192 ∷ escaped (front ++ part)) ++ (escaped rest ++ 192 ∷ []) ≡ slip_text datagram
+text_parts datagram front part rest e =
+    sym (append_assoc (192 ∷ escaped (front ++ part)) (escaped rest) (192 ∷ []))
+    ∙ ap (λ l. (192 ∷ l) ++ 192 ∷ []) (sym (flat_map-append escaped_byte (front ++ part) rest) ∙ ap (λ l. escaped l) (sym e))
+
+pub split_pieces : (datagram front rest part others : List ℕ) (n : ℕ) → datagram ≡ front ++ rest → part ≡ take n rest → others ≡ drop n rest
+    → datagram ≡ (front ++ part) ++ others
+split_pieces datagram front rest part others n e p o =
+    e ∙ ap (λ l. front ++ l) (sym (take-append-drop n rest) ∙ ap (λ l. l ++ drop n rest) (sym p) ∙ ap (λ l. part ++ l) (sym o))
+    ∙ sym (append_assoc front part others)
+
+-- the whole text, with its last END
+pub whole_text : (datagram sent text new full front rest : List ℕ) → sent ++ text ≡ 192 ∷ escaped front → new ≡ text ++ escaped rest
+    → full ≡ new ++ 192 ∷ [] → datagram ≡ front ++ rest → sent ++ full ≡ slip_text datagram
+whole_text datagram sent text new full front rest made e f pieces =
+    ap (λ l. sent ++ l) f ∙ sym (append_assoc sent new (192 ∷ []))
+    ∙ ap (λ l. l ++ 192 ∷ []) (gathered sent text new front rest made e ∙ ap (λ l. 192 ∷ escaped l) (sym pieces))
+
+-- the last piece failed behind a front
+pub last_front : (a m b : Option (List ℕ)) (sent full piece whole : List ℕ) → Appends a m sent → piece ≡ full → sent ++ full ≡ whole
+    → AppendsPrefix m b piece → AppendsPrefix a b whole
+last_front a m b sent full piece whole w same e p = prefix_by a b (sent ++ full) whole (sym e) (prefix_then a m b sent full w (prefix_by m b piece full (sym same) p))

@@ -1,0 +1,18 @@
+use Rattle.std.proofs.Common.{◌≡◌, ◌∷◌, ◌++◌, ◌≤◌, List, ℕ, length}
+use Rattle.std.specs.Io.KnownBytes.{Appends}
+use Rattle.uip_slip.specs.Text.{escaped}
+use Rattle.uip_slip.proofs.encoding.encode.Given as goal
+
+abbrev pub invariant-loop-rest : goal.invariant-loop-rest
+invariant-loop-rest g l = record {
+  front : List ℕ;
+  sent : List ℕ;
+  pieces : l.datagram ≡ front ++ l.rest;
+  made : sent ++ l.text ≡ 192 ∷ escaped front;
+  room : length l.text ≤ 1;
+  written : Appends (g.K.Sink.written l.fn.sink) (g.K.Sink.written l.sink) sent;
+  same : g.K.Sink.faults l.sink ≡ g.K.Sink.faults l.fn.sink;
+}
+
+abbrev pub decreases-loop-rest : goal.decreases-loop-rest
+decreases-loop-rest g l = length l.rest

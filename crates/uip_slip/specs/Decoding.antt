@@ -1,0 +1,42 @@
+-- What a decoder knows of the bytes that it was fed, and what its answers say.
+use Rattle.std.specs.Prelude.{◌≡◌, ◌<◌, ◌≤◌, ℕ, ◌==◌, nat_lt, if◌then◌else◌, List, [], ◌∷◌, take, length, Bool, true, false}
+use Rattle.uip_edge.specs.declared.sizes.TheConstants.{LARGEST_DATAGRAM}
+use Rattle.uip_slip.specs.Frames.{Frame, Datagram, Overlong, unescaped, open_part}
+use Rattle.uip_slip.specs.declared.fed.Fed.{Fed}
+use Rattle.uip_slip.specs.declared.fed.Fed.TheVariants as fed
+
+-- a decoder as its callers see it: the bytes so far, whether there were more of them than the largest datagram has,
+-- whether an ESC waits, and whether the bytes are those of a datagram that was just told
+pub record State : Type 0 where
+  pub bytes : List ℕ
+  pub over : Bool
+  pub waits : Bool
+  pub told : Bool
+
+-- an ESC at the end of a part waits for its second byte
+abbrev pub waits_after : List ℕ → Bool
+waits_after [] = false
+waits_after (a ∷ []) = a == 219
+waits_after (a ∷ b ∷ rest) = if a == 219 then waits_after rest else waits_after (b ∷ rest)
+
+-- the bytes of the open part
+abbrev pub open_bytes : State → List ℕ
+open_bytes s = if s.told then [] else s.bytes
+
+-- the decoder was fed these bytes
+pub record WasFed (bytes : List ℕ) (s : State) : Type 0 where
+  pub front : open_bytes s ≡ take LARGEST_DATAGRAM (unescaped (open_part bytes))
+  pub over : s.over ≡ nat_lt LARGEST_DATAGRAM (length (unescaped (open_part bytes)))
+  pub waits : s.waits ≡ waits_after (open_part bytes)
+
+-- the frame that an answer tells
+abbrev pub told_by : Fed → State → List Frame
+told_by fed.More s = []
+told_by (fed.Datagram n) s = Datagram s.bytes ∷ []
+told_by fed.Overlong s = Overlong ∷ []
+
+-- exactly a datagram leaves its bytes to be read
+abbrev pub Leaves : Fed → State → Type 0
+Leaves (fed.Datagram n) s = (s.told ≡ true) × (n ≡ length s.bytes) × (0 < n) × (n ≤ LARGEST_DATAGRAM)
+Leaves fed.More s = s.told ≡ false
+Leaves fed.Overlong s = s.told ≡ false

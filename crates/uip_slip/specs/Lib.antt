@@ -1,0 +1,4 @@
+pub mod Decoding
+pub mod Frames
+pub mod Steps
+pub mod Text

@@ -1,0 +1,14 @@
+-- What is written for a datagram (RFC 1055).
+use Rattle.std.specs.Prelude.{ℕ, ◌==◌, if◌then◌else◌, List, [], ◌∷◌, ◌++◌}
+use Rattle.std.specs.List.{flat_map}
+
+-- END is written as ESC 220, ESC as ESC 221, and any other byte as it is
+abbrev pub escaped_byte : ℕ → List ℕ
+escaped_byte b = if b == 192 then 219 ∷ 220 ∷ [] else if b == 219 then 219 ∷ 221 ∷ [] else b ∷ []
+
+abbrev pub escaped : List ℕ → List ℕ
+escaped datagram = flat_map escaped_byte datagram
+
+-- END, the escaped bytes, END
+abbrev pub slip_text : List ℕ → List ℕ
+slip_text datagram = 192 ∷ escaped datagram ++ 192 ∷ []

@@ -1,0 +1,187 @@
+ghost use Rattle.std.specs.Prelude.{◌≡◌, ◌≤◌, ◌<◌, ◌++◌, ◌+◌, [], ◌∷◌, List, ℕ, length, take, true, false};
+ghost use Rattle.uip_slip.specs.Frames.{frames, is_plain};
+ghost use Rattle.std.specs.List.{list_all};
+
+use crate::fed::{Fed, FedRun};
+use crate::marks::{END, ESC, meant, plain_len};
+use std::marker::Model;
+use uip_edge::LARGEST_DATAGRAM;
+
+/// A decoder with a frame area of its own.
+#[derive(Drop)]
+pub struct Decoder {
+    area: [u8; LARGEST_DATAGRAM],
+    len: usize,
+    over: bool,
+    waits: bool,
+    told: bool,
+}
+
+impl Model for Decoder {
+    ghost use Rattle.std.specs.Prelude.{◌≤◌, take};
+    ghost use Rattle.uip_edge.specs.declared.sizes.TheConstants.{LARGEST_DATAGRAM};
+    ghost use Rattle.uip_slip.specs.Decoding.{State};
+
+    ghost Value = { State };
+
+    ghost view = { λ d. record { bytes = take d.len d.area; over = d.over; waits = d.waits; told = d.told } };
+
+    ghost invariant = { λ d. d.len ≤ LARGEST_DATAGRAM };
+}
+
+impl Decoder {
+    ghost use Rattle.uip_slip.specs.Decoding.{WasFed, told_by, Leaves};
+    ghost use Rattle.uip_slip.specs.Steps.{reopened, taken, pushed, joined, Closes};
+
+    /// A decoder that was fed nothing.
+    pub fn new() -> Decoder
+        ensures { WasFed [] result }
+    {
+        Decoder {
+            area: [0; LARGEST_DATAGRAM],
+            len: 0,
+            over: false,
+            waits: false,
+            told: false,
+        }
+    }
+
+    /// Takes one byte. The bytes of a datagram that it completes stay until the next call.
+    pub fn feed(&mut self, byte: u8) -> Fed
+        // Whatever was fed before, the answers tell its frames.
+        ensures frames { (bytes : List ℕ) → WasFed bytes self.old → WasFed (bytes ++ byte ∷ []) self.new
+            × (frames (bytes ++ byte ∷ []) ≡ frames bytes ++ told_by result self.new) }
+        ensures leaves { Leaves result self.new }
+    {
+        self.reopen();
+        if byte == END {
+            return self.close();
+        }
+        self.take(byte);
+        Fed::More
+    }
+
+    /// Takes the bytes in front of the next END or ESC, and the byte behind them if there is one. It is as if each of
+    /// them was fed, but the run is copied as a whole.
+    pub fn feed_run(&mut self, bytes: &[u8]) -> FedRun
+        requires { 0 < length bytes.now }
+        ensures some { 0 < result.count }
+        ensures within { result.count ≤ length bytes.now }
+        ensures frames { (before : List ℕ) → WasFed before self.old → WasFed (before ++ take result.count bytes.now) self.new
+            × (frames (before ++ take result.count bytes.now) ≡ frames before ++ told_by result.fed self.new) }
+        ensures leaves { Leaves result.fed self.new }
+    {
+        self.reopen();
+        let count = self.join_plain(bytes);
+        if count == bytes.len() {
+            return FedRun {
+                count,
+                fed: Fed::More,
+            };
+        }
+        let fed = self.feed(bytes[count]);
+        FedRun {
+            count: count + 1,
+            fed,
+        }
+    }
+
+    /// Forgets a datagram that was told.
+    fn reopen(&mut self)
+        ensures { self.new ≡ reopened self.old }
+    {
+        if self.told {
+            self.len = 0;
+            self.told = false;
+        }
+    }
+
+    /// Takes an END.
+    fn close(&mut self) -> Fed
+        ensures { Closes self.old result self.new }
+    {
+        let len = self.len;
+        let over = self.over;
+        self.over = false;
+        self.waits = false;
+        if !over && len > 0 {
+            self.told = true;
+            return Fed::Datagram(len);
+        }
+        self.told = false;
+        self.len = 0;
+        if over { Fed::Overlong } else { Fed::More }
+    }
+
+    /// Takes a byte of the part.
+    fn take(&mut self, byte: u8)
+        ensures { self.new ≡ taken self.old byte }
+    {
+        if self.waits {
+            self.push(meant(byte));
+        } else if byte == ESC {
+            self.waits = true;
+            self.told = false;
+        } else {
+            self.push(byte);
+        }
+    }
+
+    /// Adds a byte to the frame.
+    fn push(&mut self, byte: u8)
+        ensures { self.new ≡ pushed self.old byte }
+    {
+        self.waits = false;
+        self.told = false;
+        if self.len < LARGEST_DATAGRAM {
+            self.area[self.len] = byte;
+            self.len += 1;
+        } else {
+            self.over = true;
+        }
+    }
+
+    /// Adds the bytes in front of the next END or ESC to the frame, and says how many these are.
+    fn join_plain(&mut self, bytes: &[u8]) -> usize
+        ensures within { result ≤ length bytes.now }
+        ensures plain { list_all is_plain (take result bytes.now) ≡ true }
+        ensures waiting { self.old.waits ≡ true → (result ≡ 0) × (self.new ≡ self.old) }
+        ensures joined { self.old.waits ≡ false → self.new ≡ joined self.old (take result bytes.now) }
+    {
+        if self.waits {
+            return 0;
+        }
+        let count = plain_len(bytes);
+        self.join(&bytes[..count]);
+        count
+    }
+
+    /// Adds bytes to the frame, as far as there is room.
+    fn join(&mut self, bytes: &[u8])
+        ensures { self.new ≡ joined self.old bytes.now }
+    {
+        let room = LARGEST_DATAGRAM - self.len;
+        let count = bytes.len().min(room);
+        self.over |= bytes.len() > room;
+        self.append(&bytes[..count]);
+    }
+
+    /// Adds bytes to the frame.
+    fn append(&mut self, bytes: &[u8])
+        requires { length self.old.bytes + length bytes.now ≤ LARGEST_DATAGRAM }
+        ensures { self.new ≡ record self.old { bytes = self.old.bytes ++ bytes.now } }
+    {
+        let end = self.len + bytes.len();
+        self.area[self.len..end].copy_from_slice(bytes);
+        self.len = end;
+    }
+
+    /// The datagram that was just told.
+    pub fn bytes(&self, count: usize) -> &[u8]
+        requires told { self.now.told ≡ true }
+        requires count { count ≡ length self.now.bytes }
+        ensures { result.now ≡ self.now.bytes }
+    {
+        &self.area[..count]
+    }
+}

@@ -1,0 +1,51 @@
+ghost use Rattle.std.specs.Prelude.{◌≡◌, ◌≤◌, length, OnOk, OnErr};
+ghost use Rattle.std.specs.Io.KnownBytes.{Appends};
+ghost use Rattle.uip_edge.specs.Causes.{HasCause};
+ghost use Rattle.uip_edge.specs.Writing.{AppendsPrefix};
+ghost use Rattle.uip_slip.specs.Text.{slip_text};
+
+use crate::marks::{END, ESC};
+use crate::text_area::TextArea;
+use uip_edge::{Failed, LARGEST_DATAGRAM, Sink};
+
+/// The length of the text of a datagram.
+pub fn encoded_len(datagram: &[u8]) -> usize
+    requires { length datagram.now ≤ LARGEST_DATAGRAM }
+    ensures { result ≡ length (slip_text datagram.now) }
+{
+    let mut len = 2;
+    for byte in datagram {
+        len += if *byte == END || *byte == ESC { 2 } else { 1 };
+    }
+    len
+}
+
+/// Writes the text of a datagram: in one piece, unless the datagram is longer than the largest. A failed call has
+/// written a front of the text.
+pub fn encode<K: Sink>(datagram: &[u8], sink: &mut K) -> Result<(), Failed>
+    ensures whole { OnOk result (Appends (K.written sink.old) (K.written sink.new) (slip_text datagram.now)) }
+    ensures front { OnErr result (AppendsPrefix (K.written sink.old) (K.written sink.new) (slip_text datagram.now)) }
+    ensures cause { HasCause (K.faults sink.old) (K.faults sink.new) result }
+{
+    let mut text = TextArea::new();
+    text.put(&[END]);
+    let mut rest = datagram;
+    while rest.len() > LARGEST_DATAGRAM {
+        let (part, others) = rest.split_at(LARGEST_DATAGRAM);
+        text.put_escaped(part);
+        sink.write_whole(text.bytes())?;
+        text.clear();
+        rest = others;
+    }
+    text.put_escaped(rest);
+    text.put(&[END]);
+    sink.write_whole(text.bytes())
+}
+
+ghost use Rattle.std.specs.Prelude.{◌<◌, List, ℕ, [], ◌∷◌};
+ghost use Rattle.uip_slip.specs.Frames.{frames, Datagram};
+
+/// The text of a datagram is read back as just that datagram.
+pub fn text_is_one_frame()
+    ensures { (datagram : List ℕ) → 0 < length datagram → length datagram ≤ LARGEST_DATAGRAM → frames (slip_text datagram) ≡ Datagram datagram ∷ [] }
+{}

@@ -1,0 +1,89 @@
+ghost use Rattle.std.specs.Prelude.{◌≡◌, ◌≤◌, ◌<◌, ◌+◌, ◌*◌, ◌++◌, [], ◌∷◌, length, take};
+ghost use Rattle.uip_slip.specs.Text.{escaped};
+
+use crate::marks::{END, ESC, escape_of, plain_len};
+use std::marker::Model;
+use uip_edge::LARGEST_DATAGRAM;
+
+/// The most bytes of a datagram's text: each byte escaped, and an END on both sides.
+pub const LARGEST_TEXT: usize = 2 * LARGEST_DATAGRAM + 2;
+
+/// An area in which text is gathered, so that it goes out in one piece.
+#[derive(Drop)]
+pub struct TextArea {
+    area: [u8; LARGEST_TEXT],
+    len: usize,
+}
+
+impl Model for TextArea {
+    ghost use Rattle.std.specs.Prelude.{◌≤◌, List, ℕ, take};
+    ghost use Rattle.uip_slip.specs.declared.text_area.TheConstants.{LARGEST_TEXT};
+
+    ghost Value = { List ℕ };
+
+    ghost view = { λ text. take text.len text.area };
+
+    ghost invariant = { λ text. text.len ≤ LARGEST_TEXT };
+}
+
+impl TextArea {
+    pub fn new() -> TextArea
+        ensures { result ≡ [] }
+    {
+        TextArea {
+            area: [0; LARGEST_TEXT],
+            len: 0,
+        }
+    }
+
+    pub fn bytes(&self) -> &[u8]
+        ensures { result.now ≡ self.now }
+    {
+        &self.area[..self.len]
+    }
+
+    pub fn clear(&mut self)
+        ensures { self.new ≡ [] }
+    {
+        self.len = 0;
+    }
+
+    /// Adds bytes as they are.
+    pub fn put(&mut self, piece: &[u8])
+        requires { length self.old + length piece.now ≤ LARGEST_TEXT }
+        ensures { self.new ≡ self.old ++ piece.now }
+    {
+        let end = self.len + piece.len();
+        self.area[self.len..end].copy_from_slice(piece);
+        self.len = end;
+    }
+
+    /// Adds bytes of a datagram, escaped.
+    pub fn put_escaped(&mut self, piece: &[u8])
+        requires { length self.old + 2 * length piece.now ≤ LARGEST_TEXT }
+        ensures { self.new ≡ self.old ++ escaped piece.now }
+    {
+        let mut rest = piece;
+        while !rest.is_empty() {
+            let count = self.put_run(rest);
+            rest = &rest[count..];
+        }
+    }
+
+    /// Adds the bytes in front of the next END or ESC, and this one escaped if it is there. Says how many these are.
+    fn put_run(&mut self, piece: &[u8]) -> usize
+        requires some { 0 < length piece.now }
+        requires room { length self.old + 2 * length piece.now ≤ LARGEST_TEXT }
+        ensures some { 0 < result }
+        ensures within { result ≤ length piece.now }
+        ensures text { self.new ≡ self.old ++ escaped (take result piece.now) }
+    {
+        let plain = plain_len(piece);
+        self.put(&piece[..plain]);
+        if plain == piece.len() {
+            return plain;
+        }
+        self.put(&escape_of(piece[plain]));
+        plain + 1
+    }
+}
