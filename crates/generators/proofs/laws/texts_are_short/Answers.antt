@@ -1,0 +1,5 @@
+use Rattle.generators.proofs.Lengths.{texts_short}
+use Rattle.generators.proofs.laws.texts_are_short.Goals as goal
+
+pub returns : goal.returns
+returns c = texts_short

@@ -1,0 +1,8 @@
+//! What holds of all generated text.
+
+ghost use Rattle.generators.specs.Short.{TextsAreShort};
+
+/// A text is at most as long as its function's greatest length.
+pub fn texts_are_short()
+    ensures { TextsAreShort }
+{}

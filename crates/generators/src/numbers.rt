@@ -1,0 +1,49 @@
+//! Numbers as text.
+
+ghost use Rattle.std.specs.Prelude.{◌≡◌, ℕ, ◌+◌, ◌++◌, ◌<◌, ◌≤◌, ◌-◌, ◌^◌, List, decimal, length};
+ghost use Rattle.generators.specs.Parts.{HoldsPart};
+ghost use Rattle.generators.specs.Text.{in_ten_places, counter_line};
+
+use crate::parts::{Place, put};
+use crate::written::Written;
+use itoa::Buffer;
+
+/// The text goes on with a number, without leading zeros.
+pub(crate) fn put_decimal(place: Place, out: &mut [u8], number: u32) -> Place
+    requires { place.so_far < 2 ^ 63 - 10 }
+    ensures at { result.at ≡ place.at }
+    ensures so_far { result.so_far ≡ place.so_far + length (decimal number) }
+    ensures bound { length (decimal number) ≤ 10 }
+    ensures part { (text : List ℕ) → HoldsPart text place out.old → HoldsPart (text ++ decimal number) result out.new }
+{
+    let mut digits = Buffer::new();
+    put(place, out, digits.format(number).as_bytes())
+}
+
+/// The text goes on with a number in ten places, right, filled with spaces.
+pub(crate) fn put_in_ten_places(place: Place, out: &mut [u8], number: u32) -> Place
+    requires { place.so_far < 2 ^ 63 - 10 }
+    ensures at { result.at ≡ place.at }
+    ensures so_far { result.so_far ≡ place.so_far + length (in_ten_places number) }
+    ensures ten { length (in_ten_places number) ≡ 10 }
+    ensures part { (text : List ℕ) → HoldsPart text place out.old → HoldsPart (text ++ in_ten_places number) result out.new }
+{
+    let mut digits = Buffer::new();
+    let digits = digits.format(number).as_bytes();
+    let spaces: &[u8] = b"          ";
+    let padded = put(place, out, &spaces[digits.len()..]);
+    put(padded, out, digits)
+}
+
+/// A counter, on a line of its own.
+impl Written for u32 {
+    ghost text = { counter_line };
+
+    ghost longest = { 11 };
+
+    fn put(&self, place: Place, out: &mut [u8]) -> Place {
+        let numbered = put_in_ten_places(place, out, *self);
+        let line_end: &[u8] = b"\n";
+        put(numbered, out, line_end)
+    }
+}

@@ -1,0 +1,44 @@
+//! The text of a capture record, from any place of it.
+
+ghost use Rattle.std.specs.Prelude.{◌≡◌, ℕ, ◌+◌, ◌++◌, ◌≤◌, ◌<◌, ◌^◌, List, [], drop, length, take};
+ghost use Rattle.generators.specs.Parts.{HoldsPart};
+ghost use Rattle.generators.specs.Text.{capture_text};
+
+use crate::capture::Capture;
+use crate::numbers::put_in_ten_places;
+use crate::parts::Place;
+use crate::rows::rows_of;
+use crate::written::put_all;
+
+/// The length of the capture's text, in bytes.
+pub fn text_len(capture: &Capture) -> usize
+    ensures { result ≡ length (capture_text capture.now) }
+{
+    let place = Place { at: 0, so_far: 0 };
+    put_text(place, &mut [], capture).so_far
+}
+
+/// Writes the capture's text from place `at` on, as much as `out` holds.
+pub fn fill_at(capture: &Capture, at: usize, out: &mut [u8])
+    requires { at + length out.old ≤ length (capture_text capture.now) }
+    ensures { out.new ≡ take (length out.old) (drop at (capture_text capture.now)) }
+{
+    let place = Place { at, so_far: 0 };
+    put_text(place, out, capture);
+}
+
+/// An empty text goes on with the capture's text.
+fn put_text(place: Place, out: &mut [u8], capture: &Capture) -> Place
+    requires { place.so_far ≡ 0 }
+    ensures so_far { result.so_far ≡ length (capture_text capture.now) }
+    ensures at { result.at ≡ place.at }
+    ensures part { HoldsPart [] place out.old → HoldsPart (capture_text capture.now) result out.new }
+{
+    match capture {
+        Capture::Empty => place,
+        Capture::Hits(hits) => put_in_ten_places(place, out, *hits),
+        Capture::Ticks(ticks) => put_in_ten_places(place, out, *ticks),
+        Capture::Net(counters) => put_all(counters, place, out),
+        Capture::Rows(rows) => put_all(rows_of(rows), place, out),
+    }
+}

@@ -1,0 +1,38 @@
+//! Things with a text, written one after another.
+
+ghost use Rattle.std.specs.Prelude.{◌≡◌, ℕ, ◌+◌, ◌*◌, ◌++◌, ◌≤◌, ◌<◌, ◌^◌, List, flat_map, length};
+ghost use Rattle.generators.specs.Parts.{HoldsPart};
+
+use crate::parts::Place;
+
+/// A thing that has a text.
+pub(crate) trait Written {
+    /// Its text.
+    ghost text: { Self → List ℕ };
+
+    /// The greatest length of a text, in bytes.
+    ghost longest: { ℕ };
+
+    /// The text so far goes on with the thing's own.
+    fn put(&self, place: Place, out: &mut [u8]) -> Place
+        requires short { place.so_far + longest < 2 ^ 63 }
+        ensures at { result.at ≡ place.at }
+        ensures so_far { result.so_far ≡ place.so_far + length (text self.now) }
+        ensures bound { length (text self.now) ≤ longest }
+        ensures part { (before : List ℕ) → HoldsPart before place out.old → HoldsPart (before ++ text self.now) result out.new };
+}
+
+/// The text goes on with each thing in turn.
+pub(crate) fn put_all<T: Written>(items: &[T], place: Place, out: &mut [u8]) -> Place
+    requires { place.so_far + T.longest * length items.now < 2 ^ 63 }
+    ensures at { result.at ≡ place.at }
+    ensures so_far { result.so_far ≡ place.so_far + length (flat_map T.text items.now) }
+    ensures bound { length (flat_map T.text items.now) ≤ T.longest * length items.now }
+    ensures part { (before : List ℕ) → HoldsPart before place out.old → HoldsPart (before ++ flat_map T.text items.now) result out.new }
+{
+    let mut come = place;
+    for item in items {
+        come = item.put(come, out);
+    }
+    come
+}
