@@ -1,6 +1,6 @@
 -- The header of IPv4 without options (RFC 791, section 3.1): what a received one says or why it is dropped, and the bytes of
 -- one that is sent.
-use Rattle.std.specs.Prelude.{◌≡◌, ◌≤◌, ℕ, ◌+◌, ◌%◌, ◌==◌, ◌||◌, nat_lt, not, if◌then◌else◌, List, [], ◌∷◌, ◌++◌, length, take, slice_index, Option, Some, None, Result, Ok, Err}
+use Rattle.std.specs.Prelude.{◌≡◌, ◌≤◌, ℕ, ◌+◌, ◌%◌, ◌==◌, ◌||◌, nat_lt, not, if◌then◌else◌, List, [], ◌∷◌, ◌++◌, length, take, slice_index, slice_range, Option, Some, None, Result, Ok, Err}
 use Rattle.std.specs.Str.{bytes_eq}
 use Rattle.uip_wire.specs.Addr.{address_at}
 use Rattle.uip_wire.specs.Checksum.{checksum_of}
@@ -43,6 +43,10 @@ head_or_fate bytes own =
 -- the datagram passes every check at the address that its header names, and this is what its header says
 abbrev pub IsHeadOf : IpHead → List ℕ → Type 0
 IsHeadOf head bytes = head_or_fate bytes head.target.0 ≡ Ok head
+
+-- what the datagram carries; bytes past its total length are no part of it
+abbrev pub payload_of : IpHead → List ℕ → List ℕ
+payload_of head bytes = slice_range bytes 20 head.total
 
 -- the header of a datagram that is sent, with this checksum: no options, no fragments, 64 hops to live
 abbrev pub head_with : ℕ → ℕ → ℕ → Proto → List ℕ → List ℕ → List ℕ

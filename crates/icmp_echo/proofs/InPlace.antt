@@ -1,0 +1,34 @@
+-- A reply that is made in place.
+use Rattle.std.proofs.Common.{◌≡◌, ℕ, ◌-◌, ◌≤◌, List, [], ◌++◌, length, take, drop, slice_range, refl, ap, ◌∙◌, arith, append-nil, length-append, length-take, length-drop}
+use Rattle.std.proofs.lemmas.List.{take_rest, drop_all, drop-drop, take_at, drop_at}
+use borrow.Rule.Slice.PartMut.{put_mid}
+use Rattle.icmp_echo.specs.Echo.{echo_message, echo_reply}
+
+abbrev pub exchanged : List ℕ → List ℕ
+exchanged d = take 12 d ++ slice_range d 16 20 ++ slice_range d 12 16
+
+length-exchanged : (d : List ℕ) → 28 ≤ length d → length (exchanged d) ≡ 20
+length-exchanged d h =
+    omega (
+      arith,
+      length-append (take 12 d ++ slice_range d 16 20) (slice_range d 12 16),
+      length-append (take 12 d) (slice_range d 16 20),
+      length-take 12 d,
+      length-take 4 (drop 16 d),
+      length-take 4 (drop 12 d),
+      length-drop 16 d,
+      length-drop 12 d,
+    )
+
+pub made_in_place : (d ex message : List ℕ) → 28 ≤ length d → ex ≡ exchanged d ++ drop 20 d
+    → message ≡ echo_message (drop 4 (take (length ex - 20) (drop 20 ex)))
+    → put_mid 20 (length ex - 20) ex message ≡ echo_reply d
+made_in_place d ex message long e m =
+    let head : length (exchanged d) ≡ 20 = length-exchanged d long in
+    let tail : drop 20 ex ≡ drop 20 d = ap (λ l. drop 20 l) e ∙ drop_at (exchanged d) (drop 20 d) 20 head in
+    let front : take 20 ex ≡ exchanged d = ap (λ l. take 20 l) e ∙ take_at (exchanged d) (drop 20 d) 20 head in
+    let part : take (length ex - 20) (drop 20 ex) ≡ drop 20 d = take_rest ex 20 ∙ tail in
+    let none : drop (length ex - 20) (drop 20 ex) ≡ [] = drop_all (length ex - 20) (drop 20 ex) (omega (arith, length-drop 20 ex)) in
+    let message_is : message ≡ echo_message (drop 24 d) =
+    m ∙ ap (λ l. echo_message (drop 4 l)) part ∙ ap echo_message (drop-drop 4 20 d) in
+    rw (front, none, append-nil, message_is) refl

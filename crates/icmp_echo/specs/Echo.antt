@@ -1,0 +1,28 @@
+-- The answer to an echo request (RFC 792, page 14).
+use Rattle.std.specs.Prelude.{ℕ, ◌==◌, ◌||◌, not, nat_lt, if◌then◌else◌, List, ◌∷◌, ◌++◌, Option, None, Some, length, take, drop, slice_index, slice_range}
+use Rattle.packet_buffer.specs.Buffer.{Buffer}
+use Rattle.uip_ipv4.specs.declared.head.IpHead.{IpHead}
+use Rattle.uip_wire.specs.Checksum.{checksum_of}
+use Rattle.uip_wire.specs.Fields.{word_bytes}
+use Rattle.icmp_echo.specs.declared.fate.IcmpFate.{IcmpFate}
+use Rattle.icmp_echo.specs.declared.fate.IcmpFate.TheVariants.{Short, Checksum, NotEcho}
+
+-- the first check that a message fails, if it fails one
+abbrev pub echo_fate : List ℕ → Option IcmpFate
+echo_fate message =
+    if nat_lt (length message) 8 then Some Short
+    else if not (checksum_of message == 0) then Some Checksum
+    else if not (slice_index message 0 == 8) || not (slice_index message 1 == 0) then Some NotEcho
+    else None
+
+-- the message of a reply: type 0, code 0, its checksum, and the identifier, number and data of the request
+abbrev pub echo_message : List ℕ → List ℕ
+echo_message rest = 0 ∷ 0 ∷ word_bytes (checksum_of (0 ∷ 0 ∷ 0 ∷ 0 ∷ rest)) ++ rest
+
+-- the reply to a whole request: its header with the two addresses exchanged, and the message
+abbrev pub echo_reply : List ℕ → List ℕ
+echo_reply request = take 12 request ++ slice_range request 16 20 ++ slice_range request 12 16 ++ echo_message (drop 24 request)
+
+-- the packet in which the request was answered
+abbrev pub answered : IpHead → Buffer → Buffer
+answered head packet = record { area = echo_reply (take head.total packet.area) ++ drop head.total packet.area; len = head.total }

@@ -1,0 +1,42 @@
+ghost use Rattle.std.specs.Prelude.{◌≡◌, ◌≤◌, MatchResult, OnErr, OnOk, None, Some, drop, length, take};
+ghost use Rattle.icmp_echo.specs.Echo.{answered, echo_fate};
+ghost use Rattle.packet_buffer.specs.Buffer.{datagram_in};
+ghost use Rattle.uip_ipv4.specs.Head.{IsHeadOf, payload_of};
+
+use crate::answer::answer;
+use crate::fate::IcmpFate;
+use packet_buffer::Packet;
+use uip_ipv4::IpHead;
+use uip_wire::checksum;
+
+/// Makes the echo request in the packet its reply, of the datagram's total length; bytes behind that are cut off.
+pub fn reply(packet: &mut Packet, head: &IpHead) -> Result<(), IcmpFate>
+    requires { IsHeadOf head.now (datagram_in packet.old) }
+    ensures fate { MatchResult result (λ _. echo_fate (payload_of head.now (datagram_in packet.old)) ≡ None) (λ fate. echo_fate (payload_of head.now (datagram_in packet.old)) ≡ Some fate) }
+    ensures reply { OnOk result (packet.new ≡ answered head.now packet.old) }
+    ensures unchanged { OnErr result (packet.new ≡ packet.old) }
+{
+    let total = usize::from(head.total);
+    let datagram = packet.bytes();
+    if let Some(fate) = fate_of(&datagram[20..total]) {
+        return Err(fate);
+    }
+    answer(packet.area_mut(), total);
+    packet.set_len(total);
+    Ok(())
+}
+
+/// The first check that a message fails.
+fn fate_of(message: &[u8]) -> Option<IcmpFate>
+    ensures { result ≡ echo_fate message.now }
+{
+    if message.len() < 8 {
+        Some(IcmpFate::Short)
+    } else if checksum(message) != 0 {
+        Some(IcmpFate::Checksum)
+    } else if message[0] != 8 || message[1] != 0 {
+        Some(IcmpFate::NotEcho)
+    } else {
+        None
+    }
+}

@@ -1,0 +1,7 @@
+//! The one packet of the stack: an area that a datagram is received into, answered in and sent from, with the length of the
+//! datagram that stands in it. Its room is taken once, when it is made, and stays.
+#![tactic(auto)]
+
+mod packet;
+
+pub use packet::{LEAST_AREA, Packet};
