@@ -1,0 +1,23 @@
+-- A site is a list of files with distinct names.
+use Rattle.std.specs.Prelude.{ℕ, ◌==◌, Bool, List, length, if◌then◌else◌, Option, find}
+use Rattle.std.specs.List.{list_any}
+use Rattle.std.specs.Str.{bytes_eq}
+use Rattle.site_image.specs.Names.{kind_by_name}
+
+-- a file: its name, its content type and its bytes
+pub record File : Type 0 where
+  pub name : List ℕ
+  pub kind : List ℕ
+  pub content : List ℕ
+
+-- some file has the name
+abbrev pub has_name : List File → List ℕ → Bool
+has_name files name = list_any (λ file. bytes_eq file.name name) files
+
+-- the file of that name
+abbrev pub file_named : List File → List ℕ → Option File
+file_named files name = find (λ file. bytes_eq file.name name) files
+
+-- the content type of a file's page: its own, or where that is empty the one by the name
+abbrev pub kind_of : File → List ℕ
+kind_of file = if length file.kind == 0 then kind_by_name file.name else file.kind

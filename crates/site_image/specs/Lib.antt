@@ -1,0 +1,7 @@
+pub mod Names
+pub mod Files
+pub mod Pages
+pub mod Grammar
+pub mod Parts
+pub mod Faults
+pub mod Places

@@ -1,0 +1,47 @@
+ghost use Rattle.std.specs.Prelude.{◌≡◌};
+ghost use Rattle.site_image.specs.Faults.{version_of, head_of};
+
+use crate::site_error::{SiteError, SiteWhy};
+use crate::version::Version;
+use crate::{LONGEST_IMAGE, MOST_FILES};
+
+/// The fault of the whole.
+fn whole(why: SiteWhy) -> SiteError
+    ensures { result ≡ record { why = why; entry = 0 } }
+{
+    SiteError { why, entry: 0 }
+}
+
+/// The version that the first eight bytes tell.
+fn version_at(bytes: &[u8]) -> Result<Version, SiteError>
+    ensures { result ≡ version_of bytes.now }
+{
+    let one: &[u8] = b"UIPSITE1";
+    let two: &[u8] = b"UIPSITE2";
+    if bytes.starts_with(one) {
+        return Ok(Version::One);
+    }
+    if bytes.starts_with(two) {
+        return Ok(Version::Two);
+    }
+    Err(whole(SiteWhy::Magic))
+}
+
+/// The version of an image and the count of its entries, or the first fault that is no entry's.
+#[tactic(auto, unfolding(crate::specs::Faults::head_of))]
+pub fn read_head(bytes: &[u8]) -> Result<(Version, usize), SiteError>
+    ensures { result ≡ head_of bytes.now }
+{
+    if bytes.len() > LONGEST_IMAGE {
+        return Err(whole(SiteWhy::TooLong));
+    }
+    let version = version_at(bytes)?;
+    if bytes.len() < 10 {
+        return Err(whole(SiteWhy::Cut));
+    }
+    let count = u16::from_be_bytes([bytes[8], bytes[9]]) as usize;
+    if count > MOST_FILES {
+        return Err(whole(SiteWhy::TooMany));
+    }
+    Ok((version, count))
+}

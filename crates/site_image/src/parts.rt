@@ -1,0 +1,138 @@
+ghost use Rattle.std.specs.Prelude.{◌≡◌, ◌+◌, ◌≤◌, ◌^◌, ◌<◌, drop, length, IfOk, IfErr, Some, None};
+ghost use Rattle.site_image.specs.Parts.{name_fault, kind_fault, content_fault, byte_length, long_length, text, after_text, kind_text, after_kind, content, after_content};
+ghost use Rattle.site_image.specs.Places.{IsPart};
+ghost use Rattle.site_image.specs.declared.version.Version.TheVariants.{Two};
+
+use crate::names::{is_kind, is_name};
+use crate::part::Part;
+use crate::site_error::SiteWhy;
+use crate::version::Version;
+use crate::{LONGEST_KIND, LONGEST_NAME};
+
+/// The length of the name in front, whose length byte comes first.
+fn name_len(bytes: &[u8]) -> Result<usize, SiteWhy>
+    ensures ok { IfOk result (λ n. (name_fault bytes.now ≡ None) × (n ≡ byte_length bytes.now)) }
+    ensures within { IfOk result (λ n. (n ≤ LONGEST_NAME) × (n + 1 ≤ length bytes.now)) }
+    ensures err { IfErr result (λ why. name_fault bytes.now ≡ Some why) }
+{
+    if bytes.is_empty() {
+        return Err(SiteWhy::Cut);
+    }
+    let len = bytes[0] as usize;
+    if len == 0 || len > LONGEST_NAME {
+        return Err(SiteWhy::Name);
+    }
+    if bytes.len() <= len {
+        return Err(SiteWhy::Cut);
+    }
+    if !is_name(&bytes[1..][..len]) {
+        return Err(SiteWhy::Name);
+    }
+    Ok(len)
+}
+
+/// The length of the content type in front, whose length byte comes first.
+fn kind_len(bytes: &[u8]) -> Result<usize, SiteWhy>
+    ensures ok { IfOk result (λ n. (kind_fault Two bytes.now ≡ None) × (n ≡ byte_length bytes.now)) }
+    ensures within { IfOk result (λ n. (n ≤ LONGEST_KIND) × (n + 1 ≤ length bytes.now)) }
+    ensures err { IfErr result (λ why. kind_fault Two bytes.now ≡ Some why) }
+{
+    if bytes.is_empty() {
+        return Err(SiteWhy::Cut);
+    }
+    let len = bytes[0] as usize;
+    if len > LONGEST_KIND {
+        return Err(SiteWhy::Kind);
+    }
+    if bytes.len() <= len {
+        return Err(SiteWhy::Cut);
+    }
+    if !is_kind(&bytes[1..][..len]) {
+        return Err(SiteWhy::Kind);
+    }
+    Ok(len)
+}
+
+/// The length of the content in front, whose length comes first in four bytes.
+fn content_len(bytes: &[u8]) -> Result<usize, SiteWhy>
+    ensures ok { IfOk result (λ n. (content_fault bytes.now ≡ None) × (n ≡ long_length bytes.now)) }
+    ensures within { IfOk result (λ n. n + 4 ≤ length bytes.now) }
+    ensures err { IfErr result (λ why. content_fault bytes.now ≡ Some why) }
+{
+    if bytes.len() < 4 {
+        return Err(SiteWhy::Cut);
+    }
+    let len = u32::from_be_bytes([bytes[0], bytes[1], bytes[2], bytes[3]]) as usize;
+    if bytes.len() - 4 < len {
+        return Err(SiteWhy::Cut);
+    }
+    Ok(len)
+}
+
+/// The name of the entry at `at`.
+pub fn name_part(image: &[u8], at: usize) -> Result<Part, SiteWhy>
+    requires { at ≤ length image.now }
+    ensures ok { IfOk result (λ part. (name_fault (drop at image.now) ≡ None)
+        × IsPart image.now part (text (drop at image.now)) (after_text (drop at image.now))) }
+    ensures err { IfErr result (λ why. name_fault (drop at image.now) ≡ Some why) }
+{
+    let len = name_len(&image[at..])?;
+    Ok(short_part(image, at, len))
+}
+
+/// The content type at `at`, which version 1 does not have.
+pub fn kind_part(image: &[u8], at: usize, version: Version) -> Result<Part, SiteWhy>
+    requires { at ≤ length image.now }
+    ensures ok { IfOk result (λ part. (kind_fault version (drop at image.now) ≡ None)
+        × IsPart image.now part (kind_text version (drop at image.now)) (after_kind version (drop at image.now))) }
+    ensures err { IfErr result (λ why. kind_fault version (drop at image.now) ≡ Some why) }
+{
+    match version {
+        Version::One => Ok(Part {
+            at,
+            len: 0,
+            next: at,
+        }),
+        Version::Two => {
+            let len = kind_len(&image[at..])?;
+            Ok(short_part(image, at, len))
+        }
+    }
+}
+
+/// The content at `at`.
+pub fn content_part(image: &[u8], at: usize) -> Result<Part, SiteWhy>
+    requires { at ≤ length image.now }
+    ensures ok { IfOk result (λ part. (content_fault (drop at image.now) ≡ None)
+        × IsPart image.now part (content (drop at image.now)) (after_content (drop at image.now))) }
+    ensures err { IfErr result (λ why. content_fault (drop at image.now) ≡ Some why) }
+{
+    let len = content_len(&image[at..])?;
+    Ok(long_part(image, at, len))
+}
+
+/// The text at `at`, behind its length in one byte.
+fn short_part(image: &[u8], at: usize, len: usize) -> Part
+    requires within { at + len + 1 ≤ length image.now }
+    requires is_len { len ≡ byte_length (drop at image.now) }
+    ensures { IsPart image.now result (text (drop at image.now)) (after_text (drop at image.now)) }
+{
+    Part {
+        at: at + 1,
+        len,
+        next: at + 1 + len,
+    }
+}
+
+/// The content at `at`, behind its length in four bytes.
+fn long_part(image: &[u8], at: usize, len: usize) -> Part
+    requires within { at + len + 4 ≤ length image.now }
+    requires is_len { len ≡ long_length (drop at image.now) }
+    ensures { IsPart image.now result (content (drop at image.now)) (after_content (drop at image.now)) }
+{
+    Part {
+        at: at + 4,
+        len,
+        next: at + 4 + len,
+    }
+}
