@@ -1,8 +1,9 @@
 -- The pieces of a script. A piece starts at the text's front, where a directive begins, and after a directive, and goes
 -- to where the next one starts.
-use Rattle.std.specs.Prelude.{ℕ, ◌+◌, ◌-◌, ◌==◌, Bool, ◌||◌, List, length, min, map, filter, if◌then◌else◌}
+use Rattle.std.specs.Prelude.{◌≤◌, ℕ, ◌+◌, ◌-◌, ◌==◌, Bool, ◌||◌, List, length, min, map, filter, if◌then◌else◌}
 use Rattle.script_lang.specs.declared.piece.Found.{Found}
-use Rattle.script_lang.specs.declared.piece.Piece.TheVariants.{Text}
+use Rattle.script_lang.specs.declared.piece.Piece.{Piece}
+use Rattle.script_lang.specs.declared.piece.Piece.TheVariants.{Text, Include, Call}
 use Rattle.script_lang.specs.Places.{places, first_place}
 use Rattle.script_lang.specs.Directives.{is_mark, begins, ends, line_end, directive}
 
@@ -19,6 +20,12 @@ abbrev pub piece_at : List ℕ → ℕ → Found
 piece_at text p =
     if is_mark text p then record { piece = directive text p; next = min (line_end text (p + 2) + 1) (length text) }
     else record { piece = Text p (run_end text p - p); next = run_end text p }
+
+-- the part that a piece names lies within the first n bytes
+abbrev pub LiesWithin : ℕ → Piece → Type 0
+LiesWithin n (Text at len) = at + len ≤ n
+LiesWithin n (Include at len) = at + len ≤ n
+LiesWithin n (Call function at len) = at + len ≤ n
 
 -- the pieces from place p on, of which the first is what is left of the piece in which p lies
 abbrev pub pieces_from : List ℕ → ℕ → List Found

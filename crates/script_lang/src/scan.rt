@@ -1,6 +1,6 @@
 ghost use Rattle.std.specs.Prelude.{◌≡◌, ℕ, ◌+◌, ◌<◌, ◌≤◌, ◌↔◌, ◌∷◌, [], length, IsTrue, IsNone, IfSome, MatchOption};
 ghost use Rattle.script_lang.specs.Directives.{IsPlace, is_mark, before_cr, directive_within};
-ghost use Rattle.script_lang.specs.Pieces.{piece_at, pieces_from};
+ghost use Rattle.script_lang.specs.Pieces.{piece_at, pieces_from, LiesWithin};
 
 use crate::function::function_of;
 use crate::piece::{Found, Piece};
@@ -16,6 +16,7 @@ pub fn next_piece(text: &[u8], at: usize) -> Option<Found>
     // Read from place to place, these are the pieces of the whole text.
     ensures pieces { MatchOption result (pieces_from text.now at ≡ [])
         (λ found. pieces_from text.now at ≡ found ∷ pieces_from text.now found.next) }
+    ensures within { IfSome result (λ found. LiesWithin (length text.now) found.piece) }
     ensures next { IfSome result (λ found. (at < found.next) × IsPlace text.now found.next) }
 {
     if at == text.len() {
@@ -27,7 +28,8 @@ pub fn next_piece(text: &[u8], at: usize) -> Option<Found>
 /// The piece from `at` on.
 fn piece_from(text: &[u8], at: usize) -> Found
     requires { at < length text.now }
-    ensures { result ≡ piece_at text.now at }
+    ensures piece { result ≡ piece_at text.now at }
+    ensures within { LiesWithin (length text.now) result.piece }
 {
     if is_mark_at(text, at) {
         return directive_from(text, at);
@@ -41,7 +43,8 @@ fn piece_from(text: &[u8], at: usize) -> Found
 fn directive_from(text: &[u8], at: usize) -> Found
     requires mark { IsTrue (is_mark text.now at) }
     requires inside { at + 2 ≤ length text.now }
-    ensures { result ≡ piece_at text.now at }
+    ensures piece { result ≡ piece_at text.now at }
+    ensures within { LiesWithin (length text.now) result.piece }
 {
     let inner = at + 2;
     let stop = byte_from(text, b'\n', inner, text.len());
@@ -69,7 +72,8 @@ fn without_cr(text: &[u8], from: usize, stop: usize) -> usize
 fn directive_in(text: &[u8], from: usize, to: usize) -> Piece
     requires ordered { from ≤ to }
     requires inside { to ≤ length text.now }
-    ensures { result ≡ directive_within text.now from to }
+    ensures piece { result ≡ directive_within text.now from to }
+    ensures within { LiesWithin (length text.now) result }
 {
     if from < to && text[from] == b':' {
         let name = word_in(text, from + 1, to);

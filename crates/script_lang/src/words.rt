@@ -1,4 +1,4 @@
-ghost use Rattle.std.specs.Prelude.{◌≡◌, ◌≤◌, length};
+ghost use Rattle.std.specs.Prelude.{◌≡◌, ◌+◌, ◌≤◌, length};
 ghost use Rattle.script_lang.specs.Places.{word};
 
 use crate::search::{byte_from, other_from};
@@ -14,7 +14,8 @@ pub(crate) struct Span {
 pub(crate) fn word_in(text: &[u8], from: usize, to: usize) -> Span
     requires ordered { from ≤ to }
     requires inside { to ≤ length text.now }
-    ensures { result ≡ word text.now from to }
+    ensures word { result ≡ word text.now from to }
+    ensures within { result.at + result.len ≤ to }
 {
     let start = other_from(text, b' ', from, to);
     let end = byte_from(text, b' ', start, to);
