@@ -1,0 +1,156 @@
+-- The abstract node, and its step at each event.
+use Rattle.std.specs.Prelude.{ℕ, ◌==◌, ◌&&◌, Bool, true, false, not, max, List, [], ◌∷◌, replicate, position, slice_set, slice_index_or, Option, Some, None, if◌then◌else◌}
+use Rattle.uip_wire.specs.declared.addr.Addr.{Addr}
+use Rattle.tcp_segment.specs.Segments.{PlainSegment, has_rst}
+use Rattle.app_events.specs.Part.{Meaning}
+use Rattle.app_events.specs.declared.now.Now.{Now}
+use Rattle.app_events.specs.declared.state.State.{State}
+use Rattle.app_events.specs.declared.state.State.TheVariants.{TimeWait}
+use Rattle.tcp_machine.specs.Connection.{Sockets, Connection, closed, is_live, serves, rows_from}
+use Rattle.tcp_machine.specs.Segments.{is_plain_syn, reset_to_none, segment_of, is_again}
+use Rattle.tcp_machine.specs.Ask.{Outcome, asked}
+use Rattle.tcp_machine.specs.OnSegment.{accept, on_segment}
+use Rattle.tcp_machine.specs.OnTick.{on_tick}
+use Rattle.uip_node.specs.Events.{Event, Answer, Past, Reply}
+use Rattle.uip_node.specs.Events.Event.{IpRefused, IcmpRefused, TcpRefused, EchoAsked, Arrived, Overlong, Periodic}
+use Rattle.uip_node.specs.Events.Answer.{Silent, NoSlot, EchoReplied, Spoke}
+use Rattle.uip_node.specs.Events.Reply.{Echo, Tcp}
+use Rattle.uip_node.specs.Counters.{counters, ticks_of, initial_number, ident_of}
+
+pub record AbstractNode : Type 0 where
+  pub addr : Addr
+  pub numbers : List ℕ  -- what its application counts in
+  pub connections : List Connection  -- ten, by their slots
+  pub past : List Past  -- the newest first
+
+-- ten CLOSED connections and no past
+abbrev pub opening : Addr → List ℕ → AbstractNode
+opening addr numbers = record { addr = addr; numbers = numbers; connections = replicate 10 closed; past = [] }
+
+-- What an event leaves and sends, and the connection that became CLOSED by it, as it was at last.
+pub record NodeStep : Type 0 where
+  pub node : AbstractNode
+  pub sent : Option Reply
+  pub gone : Option Connection
+
+abbrev pub remembers : AbstractNode → Event → Answer → AbstractNode
+remembers n event answer = record n { past = record { event = event; answer = answer } ∷ n.past }
+
+-- nothing is sent, and nothing but the past changes
+abbrev pub passes : AbstractNode → Event → Answer → NodeStep
+passes n event answer = record { node = remembers n event answer; sent = None; gone = None }
+
+-- The moment of an event, at which the connection in a slot is asked: it counts the event, and not its answer.
+abbrev pub moment : AbstractNode → Event → ℕ → Connection → Now
+moment n event slot c =
+    let seen : List Past = record { event = event; answer = Silent } ∷ n.past in
+    record { ticks = ticks_of seen; net = counters seen; rows = rows_from 0 (slice_set n.connections slot c) }
+
+abbrev pub answer_of : Option PlainSegment → Bool → Answer
+answer_of None again = Silent
+answer_of (Some s) again = Spoke again
+
+abbrev pub reply_of : Option PlainSegment → Sockets → ℕ → Bool → Option Reply
+reply_of None sockets id again = None
+reply_of (Some s) sockets id again = Some (Tcp sockets id again s)
+
+-- the connection that was in a slot is CLOSED now
+abbrev pub gone_by : Connection → Connection → Option Connection
+gone_by old new = if is_live old.state && not (is_live new.state) then Some new else None
+
+-- the connection in a slot took a step
+unfoldable pub happened : Meaning → AbstractNode → Event → ℕ → Connection → Outcome → NodeStep
+happened m n event slot old o =
+    let said : Option PlainSegment = segment_of m o.connection o.step in
+    let past : List Past = record { event = event; answer = answer_of said (is_again o.step) } ∷ n.past in
+    record {
+      node = record n { numbers = o.numbers; connections = slice_set n.connections slot o.connection; past = past };
+      sent = reply_of said o.connection.sockets (ident_of past) (is_again o.step);
+      gone = gone_by old o.connection;
+    }
+
+abbrev pub connection_in : ℕ → AbstractNode → Connection
+connection_in slot n = slice_index_or n.connections slot closed
+
+-- A plain SYN takes the first CLOSED slot, else the slot that has been in TIME-WAIT the longest, the first among equals.
+abbrev pub is_time_wait : State → Bool
+is_time_wait TimeWait = true
+is_time_wait _ = false
+
+abbrev pub is_waiting : Connection → Bool
+is_waiting c = is_time_wait c.state
+
+abbrev pub longest_wait : List Connection → ℕ
+longest_wait [] = 0
+longest_wait (c ∷ cs) = if is_waiting c then max c.age (longest_wait cs) else longest_wait cs
+
+abbrev pub or_else : Option ℕ → Option ℕ → Option ℕ
+or_else (Some i) other = Some i
+or_else None other = other
+
+abbrev pub slot_for_syn : List Connection → Option ℕ
+slot_for_syn cs = or_else (position (λ c. not (is_live c.state)) cs) (position (λ c. is_waiting c && (c.age == longest_wait cs)) cs)
+
+-- a connection is opened in a slot; the one that waited there is gone
+unfoldable pub opens_in : Meaning → AbstractNode → Sockets → PlainSegment → ℕ → NodeStep
+opens_in m n sockets s slot =
+    let old : Connection = connection_in slot n in
+    let step : NodeStep = happened m n (Arrived sockets s) slot old (accept (initial_number n.past) sockets s n.numbers) in
+    record step { gone = (if is_live old.state then Some old else None) }
+
+abbrev pub opens : Meaning → AbstractNode → Sockets → PlainSegment → Option ℕ → NodeStep
+opens m n sockets s None = passes n (Arrived sockets s) NoSlot
+opens m n sockets s (Some slot) = opens_in m n sockets s slot
+
+abbrev pub refuses : AbstractNode → Sockets → PlainSegment → NodeStep
+refuses n sockets s =
+    let past : List Past = record { event = Arrived sockets s; answer = Spoke false } ∷ n.past in
+    record { node = record n { past = past }; sent = Some (Tcp sockets (ident_of past) false (reset_to_none s)); gone = None }
+
+-- a segment that belongs to no connection
+unfoldable pub from_stranger : Meaning → (ℕ → Bool) → AbstractNode → Sockets → PlainSegment → NodeStep
+from_stranger m served n sockets s =
+    if is_plain_syn s && served sockets.own_port.0 then opens m n sockets s (slot_for_syn n.connections)
+    else if has_rst s.flags then passes n (Arrived sockets s) Silent
+    else refuses n sockets s
+
+abbrev pub arrives_at : Meaning → (ℕ → Bool) → AbstractNode → Sockets → PlainSegment → Option ℕ → NodeStep
+arrives_at m served n sockets s None = from_stranger m served n sockets s
+arrives_at m served n sockets s (Some slot) =
+    let c : Connection = connection_in slot n in
+    happened m n (Arrived sockets s) slot c (asked m (moment n (Arrived sockets s) slot) (on_segment m c n.numbers s))
+
+-- A segment belongs to the connection that is not CLOSED and has its sockets.
+abbrev pub arrives : Meaning → (ℕ → Bool) → AbstractNode → Sockets → PlainSegment → NodeStep
+arrives m served n sockets s = arrives_at m served n sockets s (position (serves sockets) n.connections)
+
+-- the periodic call of a slot
+abbrev pub periodic : Meaning → AbstractNode → ℕ → NodeStep
+periodic m n slot =
+    let c : Connection = connection_in slot n in
+    happened m n (Periodic slot) slot c (asked m (moment n (Periodic slot) slot) (on_tick m c n.numbers))
+
+abbrev pub step : Meaning → (ℕ → Bool) → AbstractNode → Event → NodeStep
+step m served n (IpRefused fate) = passes n (IpRefused fate) Silent
+step m served n (IcmpRefused fate) = passes n (IcmpRefused fate) Silent
+step m served n (TcpRefused fate) = passes n (TcpRefused fate) Silent
+step m served n (EchoAsked datagram) = record { node = remembers n (EchoAsked datagram) EchoReplied; sent = Some (Echo datagram); gone = None }
+step m served n (Arrived sockets s) = arrives m served n sockets s
+step m served n Overlong = passes n Overlong Silent
+step m served n (Periodic slot) = periodic m n slot
+
+abbrev pub joined : {X : Type 0} → Option X → List X → List X
+joined None xs = xs
+joined (Some x) xs = x ∷ xs
+
+-- The events in turn: what is left, and all that was sent, the oldest first.
+pub record Ran : Type 0 where
+  pub node : AbstractNode
+  pub sent : List Reply
+
+abbrev pub run : Meaning → (ℕ → Bool) → List Event → AbstractNode → Ran
+run m served [] n = record { node = n; sent = [] }
+run m served (e ∷ es) n =
+    let first : NodeStep = step m served n e in
+    let rest : Ran = run m served es first.node in
+    record { node = rest.node; sent = joined first.sent rest.sent }

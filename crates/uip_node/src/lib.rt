@@ -1,0 +1,3 @@
+//! The node: ten connections over one packet buffer. What a node is and how each event changes it is told in `specs/` over
+//! plain data, with all of its numbers as counts over its past.
+#![tactic(auto)]
