@@ -3,3 +3,4 @@ pub mod Laws
 pub mod Pages
 pub mod FixedMeaning
 pub mod FixedLaws
+pub mod States

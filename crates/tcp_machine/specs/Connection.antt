@@ -7,6 +7,7 @@ use Rattle.uip_wire.specs.declared.addr.Addr.{Addr}
 use Rattle.uip_wire.specs.declared.port.Port.{Port}
 use Rattle.rexmit_timer.specs.Ages.{count_at, tries_at}
 use Rattle.app_events.specs.Part.{Part}
+pub use Rattle.app_events.specs.States.{is_live}
 use Rattle.app_events.specs.declared.row.Row.{Row}
 use Rattle.app_events.specs.declared.state.State.{State}
 use Rattle.app_events.specs.declared.state.State.TheVariants.{Closed, SynRcvd, Established, CloseWait, FinWait1, FinWait2, Closing, TimeWait, LastAck}
@@ -33,17 +34,6 @@ pub record Connection : Type 0 where
   pub mss : ℕ  -- the longest text that may be sent
   pub age : ℕ  -- the ticks since what is outstanding was first sent, or since FIN-WAIT-2 or TIME-WAIT was entered
   pub part : Part  -- its application's part
-
-abbrev pub is_live : State → Bool
-is_live Closed = false
-is_live SynRcvd = true
-is_live Established = true
-is_live CloseWait = true
-is_live FinWait1 = true
-is_live FinWait2 = true
-is_live Closing = true
-is_live TimeWait = true
-is_live LastAck = true
 
 -- a connection before its first use
 abbrev pub closed : Connection

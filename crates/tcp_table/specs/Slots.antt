@@ -1,0 +1,23 @@
+-- The slot that a plain SYN takes: the first CLOSED one, else the one that has been in TIME-WAIT the longest, the first
+-- among equals.
+use Rattle.std.specs.Prelude.{ℕ, ◌==◌, ◌&&◌, Bool, not, max, List, [], ◌∷◌, Option, Some, None, position, if◌then◌else◌}
+use Rattle.app_events.specs.States.{is_live, is_time_wait}
+use Rattle.tcp_table.specs.declared.conn.Conn.{Conn}
+
+-- a TIME-WAIT connection's timer counts the ticks that it waited
+abbrev pub waited : {A : Type 0} → Conn A → ℕ
+waited c = if is_time_wait c.state then c.timer.count else 0
+
+abbrev pub longest_wait : {A : Type 0} → List (Conn A) → ℕ
+longest_wait [] = 0
+longest_wait (c ∷ cs) = max (waited c) (longest_wait cs)
+
+abbrev pub has_waited : {A : Type 0} → ℕ → Conn A → Bool
+has_waited ticks c = is_time_wait c.state && (c.timer.count == ticks)
+
+abbrev pub or_else : Option ℕ → Option ℕ → Option ℕ
+or_else (Some i) other = Some i
+or_else None other = other
+
+abbrev pub slot_for_syn : {A : Type 0} → List (Conn A) → Option ℕ
+slot_for_syn cs = or_else (position (λ c. not (is_live c.state)) cs) (position (has_waited (longest_wait cs)) cs)

@@ -1,0 +1,57 @@
+//! Searches of the ten slots.
+
+ghost use Rattle.std.specs.Prelude.{◌≡◌, position, not};
+ghost use Rattle.app_events.specs.States.{is_live};
+ghost use Rattle.tcp_table.specs.Connections.{is_at};
+ghost use Rattle.tcp_table.specs.Slots.{longest_wait, has_waited, slot_for_syn};
+
+use crate::conn::Conn;
+use uip_wire::{Addr, Port};
+
+/// The first slot with this peer and these ports.
+pub(crate) fn find_in<A>(
+    conns: &[Conn<A>],
+    peer: Addr,
+    peer_port: Port,
+    own_port: Port,
+) -> Option<usize>
+    ensures { result ≡ position (is_at peer peer_port own_port) conns.now }
+{
+    conns
+        .iter()
+        .position(|conn| conn.is_at(peer, peer_port, own_port))
+}
+
+/// The first CLOSED slot.
+fn closed_in<A>(conns: &[Conn<A>]) -> Option<usize>
+    ensures { result ≡ position (λ c. not (is_live c.state)) conns.now }
+{
+    conns.iter().position(|conn| !conn.is_live())
+}
+
+/// How many ticks the TIME-WAIT connection has waited that waited longest, 0 where there is none.
+fn longest_in<A>(conns: &[Conn<A>]) -> u8
+    ensures { result ≡ longest_wait conns.now }
+{
+    match conns {
+        [] => 0,
+        [first, rest @ ..] => first.waited().max(longest_in(rest)),
+    }
+}
+
+/// The first slot whose connection has been in TIME-WAIT for so many ticks.
+fn waited_in<A>(conns: &[Conn<A>], ticks: u8) -> Option<usize>
+    ensures { result ≡ position (has_waited ticks) conns.now }
+{
+    conns.iter().position(|conn| conn.has_waited(ticks))
+}
+
+/// The slot that a plain SYN takes.
+pub(crate) fn slot_in<A>(conns: &[Conn<A>]) -> Option<usize>
+    ensures { result ≡ slot_for_syn conns.now }
+{
+    match closed_in(conns) {
+        Some(slot) => Some(slot),
+        None => waited_in(conns, longest_in(conns)),
+    }
+}
