@@ -1,6 +1,6 @@
 ghost use Rattle.std.specs.Borrow.{sem};
 ghost use Rattle.std.specs.Prelude.{◌≡◌, ◌≤◌, ◌++◌, length, take, drop, replicate, IfOk};
-ghost use Rattle.packet_buffer.specs.Buffer.{datagram_in};
+ghost use Rattle.packet_buffer.specs.Buffer.{HasSize, datagram_in};
 ghost use Rattle.packet_buffer.specs.Lending.{LendsArea};
 ghost use Rattle.uip_edge.specs.declared.no_memory.NoMemory.{NoMemory};
 
@@ -47,7 +47,8 @@ impl Packet {
 
     /// The size of the area in bytes.
     pub fn size(&self) -> usize
-        ensures { result ≡ length self.now.area }
+        ensures exact { result ≡ length self.now.area }
+        ensures bounds { HasSize result }
     {
         self.area.len()
     }
@@ -80,6 +81,7 @@ impl Packet {
     pub fn area_mut(&mut self) -> &mut [u8]
         ensures* writes_back { sem 𝓛 (LendsArea self.entry result) }
         ensures value { result.now ≡ self.old.area }
+        ensures size { HasSize (length self.old.area) }
     {
         self.area.as_mut_slice()
     }

@@ -1,1 +1,4 @@
+pub mod Options
+pub mod Received
 pub mod Segments
+pub mod Sent

@@ -48,14 +48,14 @@ abbrev pub offset_of : Option ℕ → ℕ
 offset_of None = 5
 offset_of (Some mss) = 6
 
--- the header as words, with this checksum
-abbrev pub header_words : ℕ → ℕ → ℕ → PlainSegment → List ℕ
-header_words sum from to s =
-    from ∷ to ∷ s.seq / 65536 ∷ s.seq % 65536 ∷ s.ack / 65536 ∷ s.ack % 65536 ∷ (offset_of s.mss * 4096 + s.flags) ∷ s.window ∷ sum ∷ 0 ∷ option_words s.mss
+-- the ten words that each header has, with this checksum
+abbrev pub fixed_words : ℕ → ℕ → ℕ → PlainSegment → List ℕ
+fixed_words sum from to s =
+    from ∷ to ∷ s.seq / 65536 ∷ s.seq % 65536 ∷ s.ack / 65536 ∷ s.ack % 65536 ∷ (offset_of s.mss * 4096 + s.flags) ∷ s.window ∷ sum ∷ 0 ∷ []
 
 -- the header with this checksum, and the text
 abbrev pub segment_with : ℕ → Datagram → List ℕ
-segment_with sum d = bytes_of (header_words sum d.from d.to d.segment) ++ d.segment.text
+segment_with sum d = bytes_of (fixed_words sum d.from d.to d.segment ++ option_words d.segment.mss) ++ d.segment.text
 
 -- what is summed before a segment of this length: the addresses, the protocol's number and the length
 abbrev pub pseudo_header : List ℕ → List ℕ → ℕ → List ℕ

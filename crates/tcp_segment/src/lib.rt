@@ -5,10 +5,17 @@
 
 mod fate;
 mod flags;
+mod headers;
+mod options;
 mod out;
+mod received;
 mod segment;
+mod sent;
+mod sums;
 
 pub use fate::TcpFate;
 pub use flags::{ACK, FIN, PSH, RST, SYN};
 pub use out::Out;
+pub use received::check;
 pub use segment::Segment;
+pub use sent::{put, put_in};

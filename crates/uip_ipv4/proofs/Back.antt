@@ -34,6 +34,7 @@ sum_of_head k total id proto a b c d e f g h = omega arith
 
 sound_sum : (total id : ℕ) (proto : Proto) (a b c d e f g h : ℕ)
     → checksum_of (head_bytes total id proto (a ∷ b ∷ c ∷ d ∷ []) (e ∷ f ∷ g ∷ h ∷ [])) ≡ 0
+unfolding head_bytes
 sound_sum total id proto a b c d e f g h =
     let s : ℕ = word_sum (head_with 0 total id proto (a ∷ b ∷ c ∷ d ∷ []) (e ∷ f ∷ g ∷ h ∷ [])) in
     ap (λ n. 65535 - folded n) (sum_of_head (65535 - folded s) total id proto a b c d e f g h) ∙ ap (λ n. 65535 - n) (folded_closes s)
@@ -62,7 +63,7 @@ back : (total id : ℕ) (proto : Proto) (a b c d e f g h : ℕ) (rest : List ℕ
       source = record { 0 = a ∷ b ∷ c ∷ d ∷ [] };
       target = record { 0 = e ∷ f ∷ g ∷ h ∷ [] };
     })
-unfolding head_or_fate
+unfolding head_or_fate head_bytes
 back total id proto a b c d e f g h rest least most =
     let bytes : List ℕ = head_bytes total id proto (a ∷ b ∷ c ∷ d ∷ []) (e ∷ f ∷ g ∷ h ∷ []) ++ rest in
     let told : word_at bytes 2 ≡ total = two total in
@@ -73,7 +74,7 @@ back total id proto a b c d e f g h rest least most =
     (passes _ _ _ _ (ap not (same_address e f g h))
     (same_proto proto bytes ∙ same_head _ _ proto _ _ told))))
 
-four : (xs : List ℕ) → length xs ≡ 4 → xs ≡ slice_index xs 0 ∷ slice_index xs 1 ∷ slice_index xs 2 ∷ slice_index xs 3 ∷ []
+pub four : (xs : List ℕ) → length xs ≡ 4 → xs ≡ slice_index xs 0 ∷ slice_index xs 1 ∷ slice_index xs 2 ∷ slice_index xs 3 ∷ []
 four [] h = absurd (omega arith)
 four (a ∷ []) h = absurd (omega arith)
 four (a ∷ b ∷ []) h = absurd (omega arith)

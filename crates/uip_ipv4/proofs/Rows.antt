@@ -93,5 +93,5 @@ unfolding head_or_fate folded
 address_before_protocol = refl
 
 written_head : head_bytes 28 1 Icmp peer own ≡ 0x45 ∷ 0 ∷ 0 ∷ 0x1c ∷ 0 ∷ 1 ∷ 0 ∷ 0 ∷ 0x40 ∷ 1 ∷ 0x66 ∷ 0xde ∷ 0x0a ∷ 0 ∷ 0 ∷ 2 ∷ 0x0a ∷ 0 ∷ 0 ∷ 1 ∷ []
-unfolding folded
+unfolding folded head_bytes
 written_head = refl

@@ -54,7 +54,7 @@ head_with sum total id proto source target =
     bytes_of (17664 ∷ total ∷ id ∷ 0 ∷ (16384 + number_of proto) ∷ sum ∷ []) ++ source ++ target
 
 -- the same with its own checksum
-abbrev pub head_bytes : ℕ → ℕ → Proto → List ℕ → List ℕ → List ℕ
+unfoldable pub head_bytes : ℕ → ℕ → Proto → List ℕ → List ℕ → List ℕ
 head_bytes total id proto source target =
     head_with (checksum_of (head_with 0 total id proto source target)) total id proto source target
 

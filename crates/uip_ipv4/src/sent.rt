@@ -5,6 +5,7 @@ use crate::proto::Proto;
 use uip_wire::{Addr, checksum, put16};
 
 /// Writes a header before a datagram that is sent, with no options, 64 hops to live and its checksum.
+#[tactic(auto, unfolding(crate::specs::Head::head_bytes))]
 pub fn put_head(out: &mut [u8], total: u16, id: u16, proto: Proto, source: Addr, target: Addr)
     requires { 20 ≤ length out.old }
     ensures { out.new ≡ head_bytes total id proto source.0 target.0 ++ drop 20 out.old }

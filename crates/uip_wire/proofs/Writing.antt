@@ -22,7 +22,7 @@ put_part at n part xs ys size fits e =
 pub word_is : (v : ℕ) (rest : List ℕ) → v < 65536 → v / 256 % 256 ∷ v % 256 ∷ rest ≡ word_bytes v ++ rest
 word_is v rest h = ap (λ n. n ∷ v % 256 ∷ rest) (omega arith)
 
-same_four : (a a' b b' c c' d d' : ℕ) (rest : List ℕ) → a ≡ a' → b ≡ b' → c ≡ c' → d ≡ d' → a ∷ b ∷ c ∷ d ∷ rest ≡ a' ∷ b' ∷ c' ∷ d' ∷ rest
+pub same_four : (a a' b b' c c' d d' : ℕ) (rest : List ℕ) → a ≡ a' → b ≡ b' → c ≡ c' → d ≡ d' → a ∷ b ∷ c ∷ d ∷ rest ≡ a' ∷ b' ∷ c' ∷ d' ∷ rest
 same_four a a' b b' c c' d d' rest e f g h = cc
 
 pub long_is : (v : ℕ) (rest : List ℕ) → v < 4294967296

@@ -1,0 +1,139 @@
+-- Options, received segments and sent datagrams worked by hand: options in every order and cut, each fate at its first and last
+-- length, and the datagrams of a reset, a SYN with ACK and a text.
+use Rattle.std.proofs.Common.{◌≡◌, ℕ, List, [], ◌∷◌, ◌++◌, Ok, Err, Some, None, refl}
+use Rattle.std.specs.Prelude.{codes}
+use Rattle.uip_ipv4.specs.Head.{head_bytes}
+use Rattle.uip_wire.specs.Checksum.{folded}
+use Rattle.tcp_segment.specs.Options.{mss_in}
+use Rattle.tcp_segment.specs.Received.{segment_in}
+use Rattle.tcp_segment.specs.Segments.{datagram_bytes}
+use Rattle.tcp_segment.specs.declared.fate.TcpFate.TheVariants.{Short, Offset, Checksum}
+
+abbrev own : List ℕ
+own = 10 ∷ 0 ∷ 0 ∷ 1 ∷ []
+
+abbrev peer : List ℕ
+peer = 10 ∷ 0 ∷ 0 ∷ 2 ∷ []
+
+no_option : mss_in ([]) ≡ None
+no_option = refl
+
+alone : mss_in (2 ∷ 4 ∷ 5 ∷ 0xb4 ∷ []) ≡ Some 1460
+alone = refl
+
+behind_fillers : mss_in (1 ∷ 1 ∷ 2 ∷ 4 ∷ 5 ∷ 0xb4 ∷ []) ≡ Some 1460
+behind_fillers = refl
+
+behind_another : mss_in (4 ∷ 2 ∷ 2 ∷ 4 ∷ 5 ∷ 0xb4 ∷ []) ≡ Some 1460
+behind_another = refl
+
+before_another : mss_in (2 ∷ 4 ∷ 5 ∷ 0xb4 ∷ 4 ∷ 2 ∷ []) ≡ Some 1460
+before_another = refl
+
+behind_a_long_one : mss_in (8 ∷ 0x0a ∷ 0 ∷ 0 ∷ 0 ∷ 1 ∷ 0 ∷ 0 ∷ 0 ∷ 0 ∷ 2 ∷ 4 ∷ 5 ∷ 0xb4 ∷ []) ≡ Some 1460
+behind_a_long_one = refl
+
+first_of_two : mss_in (2 ∷ 4 ∷ 5 ∷ 0xb4 ∷ 2 ∷ 4 ∷ 0 ∷ 1 ∷ []) ≡ Some 1460
+first_of_two = refl
+
+behind_the_end : mss_in (0 ∷ 2 ∷ 4 ∷ 5 ∷ 0xb4 ∷ []) ≡ None
+behind_the_end = refl
+
+kind_alone : mss_in (2 ∷ []) ≡ None
+kind_alone = refl
+
+cut_in_length : mss_in (2 ∷ 4 ∷ []) ≡ None
+cut_in_length = refl
+
+cut_in_value : mss_in (2 ∷ 4 ∷ 5 ∷ []) ≡ None
+cut_in_value = refl
+
+length_missing : mss_in (1 ∷ 5 ∷ []) ≡ None
+length_missing = refl
+
+length_0 : mss_in (5 ∷ 0 ∷ 2 ∷ 4 ∷ 5 ∷ 0xb4 ∷ []) ≡ None
+length_0 = refl
+
+length_1 : mss_in (5 ∷ 1 ∷ 2 ∷ 4 ∷ 5 ∷ 0xb4 ∷ []) ≡ None
+length_1 = refl
+
+length_2 : mss_in (5 ∷ 2 ∷ 2 ∷ 4 ∷ 5 ∷ 0xb4 ∷ []) ≡ Some 1460
+length_2 = refl
+
+ends_at_the_end : mss_in (5 ∷ 5 ∷ 1 ∷ 1 ∷ 1 ∷ []) ≡ None
+ends_at_the_end = refl
+
+past_the_end : mss_in (5 ∷ 6 ∷ 2 ∷ 4 ∷ 5 ∷ []) ≡ None
+past_the_end = refl
+
+value_0 : mss_in (2 ∷ 4 ∷ 0 ∷ 0 ∷ []) ≡ None
+value_0 = refl
+
+value_0_ends : mss_in (2 ∷ 4 ∷ 0 ∷ 0 ∷ 2 ∷ 4 ∷ 5 ∷ 0xb4 ∷ []) ≡ None
+value_0_ends = refl
+
+kind_2_of_length_3 : mss_in (2 ∷ 3 ∷ 0 ∷ 2 ∷ 4 ∷ 5 ∷ 0xb4 ∷ []) ≡ Some 1460
+kind_2_of_length_3 = refl
+
+kind_2_of_length_6 : mss_in (2 ∷ 6 ∷ 0 ∷ 0 ∷ 0 ∷ 0 ∷ 2 ∷ 4 ∷ 5 ∷ 0xb4 ∷ []) ≡ Some 1460
+kind_2_of_length_6 = refl
+
+plain_syn : segment_in peer own (4 ∷ 1 ∷ 0 ∷ 0x51 ∷ 0 ∷ 0 ∷ 3 ∷ 0xe8 ∷ 0 ∷ 0 ∷ 0 ∷ 0 ∷ 0x50 ∷ 2 ∷ 0x20 ∷ 0 ∷ 0x73 ∷ 0xa6 ∷ 0 ∷ 0 ∷ []) ≡ Ok (record { from = record { 0 = 1025 }; to = record { 0 = 81 }; seq = record { 0 = 1000 }; ack = record { 0 = 0 }; flags = 2; window = 8192; mss = None; text_at = 40; text_len = 0 })
+unfolding segment_in folded
+plain_syn = refl
+
+usual_syn : segment_in peer own (4 ∷ 1 ∷ 0 ∷ 0x50 ∷ 0 ∷ 0 ∷ 3 ∷ 0xe8 ∷ 0 ∷ 0 ∷ 0 ∷ 0 ∷ 0xa0 ∷ 2 ∷ 0xfa ∷ 0xf0 ∷ 0x32 ∷ 0xc1 ∷ 0 ∷ 0 ∷ 2 ∷ 4 ∷ 3 ∷ 0xc6 ∷ 4 ∷ 2 ∷ 8 ∷ 0x0a ∷ 0 ∷ 0 ∷ 0 ∷ 1 ∷ 0 ∷ 0 ∷ 0 ∷ 0 ∷ 1 ∷ 3 ∷ 3 ∷ 7 ∷ []) ≡ Ok (record { from = record { 0 = 1025 }; to = record { 0 = 80 }; seq = record { 0 = 1000 }; ack = record { 0 = 0 }; flags = 2; window = 64240; mss = Some 966; text_at = 60; text_len = 0 })
+unfolding segment_in folded
+usual_syn = refl
+
+odd_text : segment_in peer own (4 ∷ 1 ∷ 0 ∷ 0x50 ∷ 0 ∷ 0 ∷ 3 ∷ 0xe9 ∷ 0 ∷ 0 ∷ 0 ∷ 1 ∷ 0x50 ∷ 0x18 ∷ 0x20 ∷ 0 ∷ 0xfb ∷ 0x8d ∷ 0 ∷ 0 ∷ 0x78 ∷ []) ≡ Ok (record { from = record { 0 = 1025 }; to = record { 0 = 80 }; seq = record { 0 = 1001 }; ack = record { 0 = 1 }; flags = 24; window = 8192; mss = None; text_at = 40; text_len = 1 })
+unfolding segment_in folded
+odd_text = refl
+
+six_flags_alone : segment_in peer own (4 ∷ 1 ∷ 0 ∷ 0x51 ∷ 0 ∷ 0 ∷ 3 ∷ 0xe8 ∷ 0 ∷ 0 ∷ 0 ∷ 0 ∷ 0x50 ∷ 0xe2 ∷ 0x20 ∷ 0 ∷ 0x72 ∷ 0xc6 ∷ 0 ∷ 0 ∷ []) ≡ Ok (record { from = record { 0 = 1025 }; to = record { 0 = 81 }; seq = record { 0 = 1000 }; ack = record { 0 = 0 }; flags = 34; window = 8192; mss = None; text_at = 40; text_len = 0 })
+unfolding segment_in folded
+six_flags_alone = refl
+
+short_empty : segment_in peer own ([]) ≡ Err Short
+unfolding segment_in folded
+short_empty = refl
+
+short_at_19 : segment_in peer own (4 ∷ 1 ∷ 0 ∷ 0x51 ∷ 0 ∷ 0 ∷ 3 ∷ 0xe8 ∷ 0 ∷ 0 ∷ 0 ∷ 0 ∷ 0x50 ∷ 2 ∷ 0x20 ∷ 0 ∷ 0x73 ∷ 0xa6 ∷ 0 ∷ []) ≡ Err Short
+unfolding segment_in folded
+short_at_19 = refl
+
+offset_4 : segment_in peer own (4 ∷ 1 ∷ 0 ∷ 0x51 ∷ 0 ∷ 0 ∷ 3 ∷ 0xe8 ∷ 0 ∷ 0 ∷ 0 ∷ 0 ∷ 0x40 ∷ 2 ∷ 0x20 ∷ 0 ∷ 0x83 ∷ 0xa6 ∷ 0 ∷ 0 ∷ []) ≡ Err Offset
+unfolding segment_in folded
+offset_4 = refl
+
+offset_6_of_20 : segment_in peer own (4 ∷ 1 ∷ 0 ∷ 0x51 ∷ 0 ∷ 0 ∷ 3 ∷ 0xe8 ∷ 0 ∷ 0 ∷ 0 ∷ 0 ∷ 0x60 ∷ 2 ∷ 0x20 ∷ 0 ∷ 0x63 ∷ 0xa6 ∷ 0 ∷ 0 ∷ []) ≡ Err Offset
+unfolding segment_in folded
+offset_6_of_20 = refl
+
+offset_6_of_23 : segment_in peer own (4 ∷ 1 ∷ 0 ∷ 0x51 ∷ 0 ∷ 0 ∷ 3 ∷ 0xe8 ∷ 0 ∷ 0 ∷ 0 ∷ 0 ∷ 0x60 ∷ 2 ∷ 0x20 ∷ 0 ∷ 0x63 ∷ 0xa3 ∷ 0 ∷ 0 ∷ 0 ∷ 0 ∷ 0 ∷ []) ≡ Err Offset
+unfolding segment_in folded
+offset_6_of_23 = refl
+
+offset_6_of_24 : segment_in peer own (4 ∷ 1 ∷ 0 ∷ 0x51 ∷ 0 ∷ 0 ∷ 3 ∷ 0xe8 ∷ 0 ∷ 0 ∷ 0 ∷ 0 ∷ 0x60 ∷ 2 ∷ 0x20 ∷ 0 ∷ 0x63 ∷ 0xa2 ∷ 0 ∷ 0 ∷ 0 ∷ 0 ∷ 0 ∷ 0 ∷ []) ≡ Ok (record { from = record { 0 = 1025 }; to = record { 0 = 81 }; seq = record { 0 = 1000 }; ack = record { 0 = 0 }; flags = 2; window = 8192; mss = None; text_at = 44; text_len = 0 })
+unfolding segment_in folded
+offset_6_of_24 = refl
+
+sum_off_by_one : segment_in peer own (4 ∷ 1 ∷ 0 ∷ 0x51 ∷ 0 ∷ 0 ∷ 3 ∷ 0xe8 ∷ 0 ∷ 0 ∷ 0 ∷ 0 ∷ 0x50 ∷ 2 ∷ 0x20 ∷ 0 ∷ 0x73 ∷ 0xa6 ∷ 0 ∷ 1 ∷ []) ≡ Err Checksum
+unfolding segment_in folded
+sum_off_by_one = refl
+
+offset_before_sum : segment_in peer own (4 ∷ 1 ∷ 0 ∷ 0x51 ∷ 0 ∷ 0 ∷ 3 ∷ 0xe8 ∷ 0 ∷ 0 ∷ 0 ∷ 0 ∷ 0x40 ∷ 2 ∷ 0x20 ∷ 0 ∷ 0x73 ∷ 0xa6 ∷ 0 ∷ 0 ∷ []) ≡ Err Offset
+unfolding segment_in folded
+offset_before_sum = refl
+
+reset : datagram_bytes (record { source = own; target = peer; from = 81; to = 1025; id = 1; segment = record { seq = 0; ack = 1001; flags = 20; window = 0; mss = None; text = [] } }) ≡ 0x45 ∷ 0 ∷ 0 ∷ 0x28 ∷ 0 ∷ 1 ∷ 0 ∷ 0 ∷ 0x40 ∷ 6 ∷ 0x66 ∷ 0xcd ∷ 0x0a ∷ 0 ∷ 0 ∷ 1 ∷ 0x0a ∷ 0 ∷ 0 ∷ 2 ∷ 0 ∷ 0x51 ∷ 4 ∷ 1 ∷ 0 ∷ 0 ∷ 0 ∷ 0 ∷ 0 ∷ 0 ∷ 3 ∷ 0xe9 ∷ 0x50 ∷ 0x14 ∷ 0 ∷ 0 ∷ 0x93 ∷ 0x93 ∷ 0 ∷ 0 ∷ []
+unfolding datagram_bytes head_bytes folded
+reset = refl
+
+syn_ack : datagram_bytes (record { source = own; target = peer; from = 80; to = 1025; id = 1; segment = record { seq = 0; ack = 1001; flags = 18; window = 1460; mss = Some 1460; text = [] } }) ≡ 0x45 ∷ 0 ∷ 0 ∷ 0x2c ∷ 0 ∷ 1 ∷ 0 ∷ 0 ∷ 0x40 ∷ 6 ∷ 0x66 ∷ 0xc9 ∷ 0x0a ∷ 0 ∷ 0 ∷ 1 ∷ 0x0a ∷ 0 ∷ 0 ∷ 2 ∷ 0 ∷ 0x50 ∷ 4 ∷ 1 ∷ 0 ∷ 0 ∷ 0 ∷ 0 ∷ 0 ∷ 0 ∷ 3 ∷ 0xe9 ∷ 0x60 ∷ 0x12 ∷ 5 ∷ 0xb4 ∷ 0x76 ∷ 0x26 ∷ 0 ∷ 0 ∷ 2 ∷ 4 ∷ 5 ∷ 0xb4 ∷ []
+unfolding datagram_bytes head_bytes folded
+syn_ack = refl
+
+hello : datagram_bytes (record { source = own; target = peer; from = 80; to = 1025; id = 2; segment = record { seq = 1; ack = 1002; flags = 24; window = 1460; mss = None; text = codes "hello" ++ 10 ∷ [] } }) ≡ 0x45 ∷ 0 ∷ 0 ∷ 0x2e ∷ 0 ∷ 2 ∷ 0 ∷ 0 ∷ 0x40 ∷ 6 ∷ 0x66 ∷ 0xc6 ∷ 0x0a ∷ 0 ∷ 0 ∷ 1 ∷ 0x0a ∷ 0 ∷ 0 ∷ 2 ∷ 0 ∷ 0x50 ∷ 4 ∷ 1 ∷ 0 ∷ 0 ∷ 0 ∷ 1 ∷ 0 ∷ 0 ∷ 3 ∷ 0xea ∷ 0x50 ∷ 0x18 ∷ 5 ∷ 0xb4 ∷ 0x49 ∷ 0xf8 ∷ 0 ∷ 0 ∷ 0x68 ∷ 0x65 ∷ 0x6c ∷ 0x6c ∷ 0x6f ∷ 0x0a ∷ []
+unfolding datagram_bytes head_bytes folded
+hello = refl

@@ -1,0 +1,48 @@
+-- The datagram that the fields of a segment to be sent stand for.
+use Rattle.std.specs.Prelude.{ℕ, ◌+◌, ◌*◌, List, [], ◌++◌, length}
+use Rattle.uip_ipv4.specs.Head.{head_bytes}
+use Rattle.uip_ipv4.specs.declared.proto.Proto.TheVariants.{Tcp}
+use Rattle.uip_wire.specs.Checksum.{checksum_of}
+use Rattle.uip_wire.specs.Fields.{bytes_of}
+use Rattle.tcp_segment.specs.Segments.{Datagram, PlainSegment, fixed_words, offset_of, pseudo_header}
+use Rattle.tcp_segment.specs.declared.out.Out.{Out}
+
+-- with this text
+abbrev pub plain_out : Out → List ℕ → PlainSegment
+plain_out out text = record {
+  seq = out.seq.0;
+  ack = out.ack.0;
+  flags = out.flags;
+  window = out.window;
+  mss = out.mss;
+  text = text;
+}
+
+abbrev pub datagram_of : Out → List ℕ → Datagram
+datagram_of out text = record {
+  source = out.source.0;
+  target = out.target.0;
+  from = out.from.0;
+  to = out.to.0;
+  id = out.id;
+  segment = plain_out out text;
+}
+
+-- its length with both headers
+abbrev pub datagram_len : Out → ℕ
+datagram_len out = 20 + 4 * offset_of out.mss + out.len
+
+-- the first 20 bytes of the header with this checksum; `rest` is the option and the text behind them
+unfoldable pub fixed_bytes : ℕ → Out → List ℕ
+fixed_bytes sum out = bytes_of (fixed_words sum out.from.0 out.to.0 (plain_out out []))
+
+unfoldable pub sum_around : Out → List ℕ → ℕ
+sum_around out rest =
+    checksum_of (pseudo_header out.source.0 out.target.0 (20 + length rest) ++ (fixed_bytes 0 out ++ rest))
+
+unfoldable pub header_around : Out → List ℕ → List ℕ
+header_around out rest = fixed_bytes (sum_around out rest) out
+
+-- the datagram whose option and text are these bytes
+unfoldable pub around : Out → List ℕ → List ℕ
+around out rest = head_bytes (40 + length rest) out.id Tcp out.source.0 out.target.0 ++ (header_around out rest ++ rest)

@@ -1,0 +1,64 @@
+ghost use Rattle.std.specs.Prelude.{◌≡◌, ◌+◌, ◌^◌, ◌<◌, ◌≤◌, IfOk, length};
+ghost use Rattle.tcp_segment.specs.Received.{segment_in, segment_or_fate};
+ghost use Rattle.uip_ipv4.specs.Head.{IsHeadOf};
+
+use crate::fate::TcpFate;
+use crate::options::read_mss;
+use crate::segment::Segment;
+use crate::sums::pseudo_sum;
+use uip_ipv4::IpHead;
+use uip_wire::{Addr, Port, Seq, get16, get32};
+
+/// The segment of a datagram whose header was checked, or the first check that fails.
+pub fn check(bytes: &[u8], head: &IpHead) -> Result<Segment, TcpFate>
+    requires { IsHeadOf head.now bytes.now }
+    ensures exact { result ≡ segment_or_fate head.now bytes.now }
+    ensures inside { IfOk result (λ segment. segment.text_at + segment.text_len ≡ head.now.total) }
+{
+    let payload = &bytes[20..usize::from(head.total)];
+    read(payload, head.source, head.target)
+}
+
+/// The segment that these bytes are between two addresses, or the first check that fails.
+#[tactic(auto, unfolding(crate::specs::Received::segment_in))]
+fn read(payload: &[u8], source: Addr, target: Addr) -> Result<Segment, TcpFate>
+    requires { length payload.now < 2 ^ 16 }
+    ensures exact { result ≡ segment_in source.0 target.0 payload.now }
+    ensures inside { IfOk result (λ segment. segment.text_at + segment.text_len ≡ 20 + length payload.now) }
+{
+    if payload.len() < 20 {
+        return Err(TcpFate::Short);
+    }
+    let header_len = 4 * usize::from(payload[12] / 16);
+    if header_len < 20 || payload.len() < header_len {
+        return Err(TcpFate::Offset);
+    }
+    if checksum(payload, source, target) != 0 {
+        return Err(TcpFate::Checksum);
+    }
+    Ok(Segment {
+        from: Port(get16(payload, 0)),
+        to: Port(get16(payload, 2)),
+        seq: Seq(get32(payload, 4)),
+        ack: Seq(get32(payload, 8)),
+        flags: payload[13] % 64,
+        window: get16(payload, 14),
+        mss: read_mss(&payload[20..header_len]),
+        text_at: 20 + header_len,
+        text_len: payload.len() - header_len,
+    })
+}
+
+ghost use Rattle.std.specs.Prelude.{◌++◌};
+ghost use Rattle.tcp_segment.specs.Segments.{pseudo_header};
+ghost use Rattle.uip_wire.specs.Checksum.{checksum_of};
+
+/// The checksum over the pseudo header and a segment.
+fn checksum(payload: &[u8], source: Addr, target: Addr) -> u16
+    requires { length payload.now < 2 ^ 16 }
+    ensures { result ≡ checksum_of (pseudo_header source.0 target.0 (length payload.now) ++ payload.now) }
+{
+    let mut sum = pseudo_sum(source, target, payload.len() as u16);
+    sum.add(payload);
+    sum.finish()
+}
