@@ -1,4 +1,4 @@
-ghost use Rattle.std.specs.Prelude.{◌≡◌};
+ghost use Rattle.std.specs.Prelude.{◌≡◌, ◌≤◌, length, IfOk};
 ghost use Rattle.site_image.specs.Faults.{version_of, head_of};
 
 use crate::site_error::{SiteError, SiteWhy};
@@ -30,7 +30,9 @@ fn version_at(bytes: &[u8]) -> Result<Version, SiteError>
 /// The version of an image and the count of its entries, or the first fault that is no entry's.
 #[tactic(auto, unfolding(crate::specs::Faults::head_of))]
 pub fn read_head(bytes: &[u8]) -> Result<(Version, usize), SiteError>
-    ensures { result ≡ head_of bytes.now }
+    ensures head { result ≡ head_of bytes.now }
+    ensures size { IfOk result (λ head. (10 ≤ length bytes.now) × (length bytes.now ≤ LONGEST_IMAGE)) }
+    ensures few { IfOk result (λ head. head.1 ≤ MOST_FILES) }
 {
     if bytes.len() > LONGEST_IMAGE {
         return Err(whole(SiteWhy::TooLong));

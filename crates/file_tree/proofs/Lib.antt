@@ -1,0 +1,10 @@
+pub mod NameLemmas
+pub mod SearchLemmas
+pub mod OrderLemmas
+pub mod EntryLemmas
+pub mod TableLemmas
+pub mod NamedLemmas
+pub mod ScriptLemmas
+pub mod KindLemmas
+pub mod MeasureLemmas
+pub mod ReadLemmas

@@ -1,0 +1,59 @@
+-- The order of names, and the name of a file by its place in an image.
+use Rattle.std.proofs.Common.{◌≡◌, ℕ, ◌<◌, List, [], length, get_or, ◌∷◌, refl, sym, ap, subst, ◌∙◌}
+use Rattle.std.specs.Ordering.{nat_cmp, ordering_reverse, ordering_then, MatchOrdering}
+use Rattle.std.specs.Cmp.Lexicographic.{slice_cmp}
+use Rattle.std.specs.declared.cmp.Ordering.{Ordering}
+use Rattle.std.specs.declared.cmp.Ordering.TheVariants.{Less, Equal, Greater}
+use Rattle.std.proofs.lemmas.Cmp.{nat_list_cmp_total, tied_itself, ranked}
+use Rattle.std.proofs.lemmas.List.{get_or-map}
+use Rattle.std.proofs.lemmas.Option.{slice_get_read}
+use Rattle.site_image.specs.declared.place.Place.{Place}
+use Rattle.site_image.specs.Files.{File}
+use Rattle.site_image.specs.Places.{IsWithin, file_in, files_in}
+use Rattle.file_tree.specs.Index.{IsBefore, name_of, AreWithin}
+
+pub before-trans : (a b c : List ℕ) → IsBefore a b → IsBefore b c → IsBefore a c
+before-trans a b c p q = nat_list_cmp_total.trans a b c p q
+
+reverse-greater : (r s : Ordering) → s ≡ ordering_reverse r → r ≡ Greater → s ≡ Less
+reverse-greater r s e g = e ∙ ap ordering_reverse g
+
+pub before-from-greater : (a b : List ℕ) → slice_cmp nat_cmp a b ≡ Greater → IsBefore b a
+before-from-greater a b g = reverse-greater (slice_cmp nat_cmp a b) (slice_cmp nat_cmp b a) (nat_list_cmp_total.antisymm b a) g
+
+-- a name is not before itself
+pub not-before-itself : (a b : List ℕ) → a ≡ b → IsBefore a b → ⊥
+not-before-itself a b e less =
+    let tied = tied_itself nat_list_cmp_total a in
+    let same : slice_cmp nat_cmp a b ≡ Equal = ap (slice_cmp nat_cmp a) (sym e) ∙ tied in
+    absurd (clash (slice_cmp nat_cmp a b) less same)
+  where
+    clash : (r : Ordering) → r ≡ Less → r ≡ Equal → ⊥
+    clash r p q = absurd cc
+
+-- two names of which the comparison ties are one
+both-equal : (r s : Ordering) → ordering_then r s ≡ Equal → (r ≡ Equal) × (s ≡ Equal)
+both-equal Less s e = absurd cc
+both-equal Equal s e = (refl, e)
+both-equal Greater s e = absurd cc
+
+same-number : (x y : ℕ) → nat_cmp x y ≡ Equal → x ≡ y
+same-number x y e = subst (λ r. MatchOrdering r (x < y) (x ≡ y) (y < x)) e (ranked x y (nat_cmp x y) refl)
+
+pub same-from-equal : (a b : List ℕ) → slice_cmp nat_cmp a b ≡ Equal → a ≡ b
+same-from-equal [] [] e = refl
+same-from-equal [] (y ∷ ys) e = absurd cc
+same-from-equal (x ∷ xs) [] e = absurd cc
+same-from-equal (x ∷ xs) (y ∷ ys) e =
+    let both = both-equal (nat_cmp x y) (slice_cmp nat_cmp xs ys) e in
+    ap (λ z. z ∷ xs) (same-number x y both.0) ∙ ap (λ zs. y ∷ zs) (same-from-equal xs ys both.1)
+
+-- the name of a file by its place
+pub name-of-place : (image : List ℕ) (places : List Place) (id : ℕ) (place : Place) → id < length places → place ≡ get_or places id place
+    → name_of (files_in image places) id ≡ (file_in image place).name
+name-of-place image places id place lt is =
+    ap (λ (f : File). f.name) (get_or-map (file_in image) places id place (record { name = []; kind = []; content = [] }) lt ∙ ap (file_in image) (sym is))
+
+-- a place that was read lies within the image
+pub place-within : (image : List ℕ) (places : List Place) (id : ℕ) (place : Place) → AreWithin image places → id < length places → place ≡ get_or places id place → IsWithin image place
+place-within image places id place within lt is = within id place (slice_get_read places (length places) id place refl lt is)

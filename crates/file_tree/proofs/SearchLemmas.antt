@@ -1,0 +1,55 @@
+-- What the search keeps: ranks below the low one have smaller names, ranks from the high one on have greater names.
+use Rattle.std.proofs.Common.{◌≡◌, ℕ, ◌+◌, ◌<◌, ◌≤◌, List, length, subst, inl, inr, arith}
+use Rattle.std.proofs.lemmas.Bool.{cases_lt, cases_eq}
+use Rattle.site_image.specs.Files.{File}
+use Rattle.file_tree.specs.declared.file_id.FileId.{FileId}
+use Rattle.file_tree.specs.Index.{IsBefore, name_at, IsOrder, IsSlot}
+use Rattle.file_tree.proofs.NameLemmas.{before-trans}
+
+pub record Searches (files : List File) (order : List FileId) (name : List ℕ) (low high : ℕ) : Type 0 where
+  pub ordered : low ≤ high
+  pub within : high ≤ length order
+  pub below : (rank : ℕ) → rank < low → IsBefore (name_at files order rank) name
+  pub above : (rank : ℕ) → high ≤ rank → rank < length order → IsBefore name (name_at files order rank)
+
+pub search-starts : (files : List File) (order : List FileId) (name : List ℕ) → Searches files order name 0 (length order)
+search-starts files order name = record {
+  ordered = omega arith;
+  within = omega arith;
+  below = λ rank lt. absurd (omega arith);
+  above = λ rank from lt. absurd (omega arith);
+}
+
+pub search-above : (files : List File) (order : List FileId) (name : List ℕ) (low high middle : ℕ) → IsOrder files order → Searches files order name low high
+    → low ≤ middle → middle < high → IsBefore (name_at files order middle) name → Searches files order name (middle + 1) high
+search-above files order name low high middle is s from lt before =
+    let within = s.within in
+    record {
+      ordered = omega arith;
+      within = s.within;
+      below = λ rank less. elim (cases_lt rank middle) [
+        | inl earlier ↦ before-trans (name_at files order rank) (name_at files order middle) name (is.rising rank middle earlier (omega arith)) before
+        | inr later ↦ let here : middle ≡ rank = omega arith in subst (λ k. IsBefore (name_at files order k) name) here before
+      ];
+      above = s.above;
+    }
+
+pub search-below : (files : List File) (order : List FileId) (name : List ℕ) (low high middle : ℕ) → IsOrder files order → Searches files order name low high
+    → low ≤ middle → middle < high → IsBefore name (name_at files order middle) → Searches files order name low middle
+search-below files order name low high middle is s from lt after =
+    let within = s.within in
+    record {
+      ordered = from;
+      within = omega arith;
+      below = s.below;
+      above = λ rank higher less. elim (cases_eq middle rank) [
+        | inl here ↦ subst (λ k. IsBefore name (name_at files order k)) here after
+        | inr other ↦ before-trans name (name_at files order middle) (name_at files order rank) after (is.rising middle rank (omega arith) less)
+      ];
+    }
+
+pub search-ends : (files : List File) (order : List FileId) (name : List ℕ) (low high : ℕ) → Searches files order name low high → high ≤ low → IsSlot files order name low
+search-ends files order name low high s done =
+    let ordered = s.ordered in
+    let within = s.within in
+    record { within = omega arith; below = s.below; above = λ rank from lt. s.above rank (omega arith) lt }

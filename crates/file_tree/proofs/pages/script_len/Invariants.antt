@@ -1,0 +1,10 @@
+use Rattle.std.proofs.Common.{◌-◌, length}
+use Rattle.site_image.specs.Places.{files_in}
+use Rattle.file_tree.proofs.ScriptLemmas.{Measures}
+use Rattle.file_tree.proofs.pages.script_len.Given as goal
+
+abbrev pub invariant-loop-found : goal.invariant-loop-found
+invariant-loop-found l = Measures (files_in l.image l.files) l.script l.at l.sum
+
+abbrev pub decreases-loop-found : goal.decreases-loop-found
+decreases-loop-found l = length l.script - l.at

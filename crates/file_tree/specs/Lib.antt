@@ -1,0 +1,4 @@
+pub mod Answers
+pub mod Index
+pub mod Reading
+pub mod Site

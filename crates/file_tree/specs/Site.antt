@@ -1,0 +1,33 @@
+-- A site, and what it stands for.
+use Rattle.std.specs.Prelude.{◌≡◌, ◌≤◌, ℕ, List, [], ◌∷◌, length, Result, Ok}
+use Rattle.site_image.specs.declared.TheConstants.{LONGEST_IMAGE, MOST_FILES}
+use Rattle.site_image.specs.declared.place.Place.{Place}
+use Rattle.site_image.specs.declared.site_error.SiteError.{SiteError}
+use Rattle.site_image.specs.Files.{File}
+use Rattle.site_image.specs.Faults.{read_image}
+use Rattle.site_image.specs.Places.{files_in}
+use Rattle.file_tree.specs.declared.file_id.FileId.{FileId}
+use Rattle.file_tree.specs.Index.{IsTable, AreMeasured}
+
+-- the image, where its files lie, and their ids in the order of their names
+pub record SiteContent : Type 0 where
+  pub image : List ℕ
+  pub files : List Place
+  pub order : List FileId
+
+-- the files that the site stands for
+abbrev pub files_of : SiteContent → List File
+files_of site = files_in site.image site.files
+
+-- the files of an image; no bytes stand for the site without files
+abbrev pub image_files : List ℕ → Result (List File) SiteError
+image_files [] = Ok []
+image_files (byte ∷ bytes) = read_image (byte ∷ bytes)
+
+-- the three parts are those of one good image, or of the site without files
+pub record IsLoaded (site : SiteContent) : Type 0 where
+  pub read : image_files site.image ≡ Ok (files_of site)
+  pub size : length site.image ≤ LONGEST_IMAGE
+  pub few : length site.files ≤ MOST_FILES
+  pub table : IsTable site.image site.files site.order
+  pub measured : AreMeasured site.image site.files

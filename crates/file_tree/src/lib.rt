@@ -1,0 +1,18 @@
+//! A site: one image of files, held as one list of bytes, with the place of each file and the order of their names. It is
+//! loaded from a shelf or read from bytes, and finds a file by its name in a sorted index. Lists of files are packed into
+//! an image here, and an image is upgraded to the version that gives each file a content type.
+#![tactic(auto)]
+
+mod entry_place;
+mod file_id;
+mod index;
+mod load_fault;
+mod pages;
+mod reading;
+mod site;
+mod table;
+
+pub use file_id::FileId;
+pub use load_fault::LoadFault;
+pub use site::Site;
+pub use site_image::{Place, SiteError, SiteWhy, content_kind};

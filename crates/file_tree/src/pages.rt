@@ -1,0 +1,142 @@
+ghost use Rattle.std.specs.Prelude.{◌≡◌, ◌≤◌, ◌<◌, ◌+◌, ◌*◌, true, false, [], length, IfOk, IfErr, OnOk, IfSome, MatchOption, Some, None, sum_by, slice_range};
+ghost use Rattle.std.specs.List.{list_any};
+ghost use Rattle.script_lang.specs.Pieces.{pieces, LiesWithin};
+ghost use Rattle.site_image.specs.declared.TheConstants.{LONGEST_IMAGE, MOST_FILES};
+ghost use Rattle.site_image.specs.Faults.{scripts};
+ghost use Rattle.site_image.specs.Files.{has_name, file_named, kind_of};
+ghost use Rattle.site_image.specs.Pages.{misses, piece_length, page_length, script_fault, size_of};
+ghost use Rattle.site_image.specs.Places.{IsWithin, file_in, files_in};
+ghost use Rattle.file_tree.specs.Index.{AreMeasured, IsTable};
+
+use crate::file_id::FileId;
+use crate::index::search;
+use script_lang::{Piece, greatest_len, next_piece};
+use site_image::{
+    HEAD_LEN, KIND_LINE_LEN, PAGE_LIMIT, Place, SiteError, SiteWhy, content_kind, is_script,
+};
+
+/// The greatest length of what a piece of a script gives, and `None` where it is an include that names no file.
+fn piece_len(
+    image: &[u8],
+    files: &[Place],
+    order: &[FileId],
+    script: &[u8],
+    piece: Piece,
+) -> Option<usize>
+    requires table { IsTable image.now files.now order.now }
+    requires image_fits { length image.now ≤ LONGEST_IMAGE }
+    requires script_fits { length script.now ≤ LONGEST_IMAGE }
+    requires within { LiesWithin (length script.now) piece }
+    ensures missing { MatchOption result (misses (files_in image.now files.now) script.now piece ≡ true) (λ _. misses (files_in image.now files.now) script.now piece ≡ false) }
+    ensures len { IfSome result (λ n. n ≡ piece_length (files_in image.now files.now) script.now piece) }
+    ensures bound { IfSome result (λ n. n ≤ LONGEST_IMAGE) }
+{
+    match piece {
+        Piece::Text { len, .. } => Some(len),
+        Piece::Call { function, .. } => Some(greatest_len(function)),
+        Piece::Include { at, len } => included_len(image, files, order, &script[at..at + len]),
+    }
+}
+
+/// The length of the file of that name.
+fn included_len(image: &[u8], files: &[Place], order: &[FileId], name: &[u8]) -> Option<usize>
+    requires table { IsTable image.now files.now order.now }
+    requires image_fits { length image.now ≤ LONGEST_IMAGE }
+    ensures missing { MatchOption result (has_name (files_in image.now files.now) name.now ≡ false) (λ _. has_name (files_in image.now files.now) name.now ≡ true) }
+    ensures len { IfSome result (λ n. n ≡ size_of (file_named (files_in image.now files.now) name.now)) }
+    ensures bound { IfSome result (λ n. n ≤ LONGEST_IMAGE) }
+{
+    match search(image, files, order, name) {
+        Ok(rank) => Some(files[order[rank].0 as usize].len as usize),
+        Err(_) => None,
+    }
+}
+
+/// The greatest length of what a script gives, and `None` where one of its includes names no file.
+fn script_len(image: &[u8], files: &[Place], order: &[FileId], script: &[u8]) -> Option<usize>
+    requires table { IsTable image.now files.now order.now }
+    requires image_fits { length image.now ≤ LONGEST_IMAGE }
+    requires script_fits { length script.now ≤ LONGEST_IMAGE }
+    ensures missing { MatchOption result (list_any (λ found. misses (files_in image.now files.now) script.now found.piece) (pieces script.now) ≡ true)
+        (λ _. list_any (λ found. misses (files_in image.now files.now) script.now found.piece) (pieces script.now) ≡ false) }
+    ensures len { IfSome result (λ n. n ≡ sum_by (λ found. piece_length (files_in image.now files.now) script.now found.piece) (pieces script.now)) }
+    ensures bound { IfSome result (λ n. n ≤ LONGEST_IMAGE * LONGEST_IMAGE) }
+{
+    let mut at = 0;
+    let mut sum = 0usize;
+    while let Some(found) = next_piece(script, at) {
+        sum += piece_len(image, files, order, script, found.piece)?;
+        at = found.next;
+    }
+    Some(sum)
+}
+
+/// The content type of a file's page: its own, or where that is empty the one by the name.
+pub(crate) fn page_kind<'a>(name: &[u8], kind: &'a [u8]) -> &'a [u8]
+    requires { length kind.now ≤ LONGEST_IMAGE }
+    ensures kind { result.now ≡ kind_of (record { name = name.now; kind = kind.now; content = [] }) }
+    ensures bound { length result.now ≤ LONGEST_IMAGE }
+{
+    if kind.is_empty() {
+        return content_kind(name);
+    }
+    kind
+}
+
+/// The greatest length of a file's page, or what is wrong with the file as a script.
+fn page_len(image: &[u8], files: &[Place], order: &[FileId], place: Place) -> Result<u32, SiteWhy>
+    requires table { IsTable image.now files.now order.now }
+    requires image_fits { length image.now ≤ LONGEST_IMAGE }
+    requires within { IsWithin image.now place }
+    ensures sound { IfOk result (λ _. script_fault (files_in image.now files.now) (file_in image.now place) ≡ None) }
+    ensures len { IfOk result (λ n. n ≡ page_length (files_in image.now files.now) (file_in image.now place)) }
+    ensures err { IfErr result (λ why. script_fault (files_in image.now files.now) (file_in image.now place) ≡ Some why) }
+{
+    let name = bytes_at(image, place.name_at, place.name_len);
+    let kind = bytes_at(image, place.kind_at, place.kind_len);
+    let content = bytes_at(image, place.at, place.len);
+    let front = HEAD_LEN + KIND_LINE_LEN + page_kind(name, kind).len();
+    if !is_script(name) {
+        return Ok((front + content.len()) as u32);
+    }
+    let Some(body) = script_len(image, files, order, content) else {
+        return Err(SiteWhy::Include);
+    };
+    if front + body >= PAGE_LIMIT {
+        return Err(SiteWhy::PageTooLong);
+    }
+    Ok((front + body) as u32)
+}
+
+/// A part of an image.
+pub(crate) fn bytes_at(image: &[u8], at: u32, len: u32) -> &[u8]
+    requires { at + len ≤ length image.now }
+    ensures bytes { result.now ≡ slice_range image.now at (at + len) }
+    ensures len { length result.now ≡ len }
+{
+    &image[at as usize..at as usize + len as usize]
+}
+
+/// Writes the greatest length of each file's page into its place, up to the first script with a fault.
+pub(crate) fn measure(image: &[u8], files: &mut [Place], order: &[FileId]) -> Result<(), SiteError>
+    requires table { IsTable image.now files.old order.now }
+    requires image_fits { length image.now ≤ LONGEST_IMAGE }
+    requires few { length files.old ≤ MOST_FILES }
+    ensures scripts { result ≡ scripts (files_in image.now files.old) 0 (files_in image.now files.old) }
+    ensures same { files_in image.now files.new ≡ files_in image.now files.old }
+    ensures table { IsTable image.now files.new order.now }
+    ensures measured { OnOk result (AreMeasured image.now files.new) }
+{
+    for index in 0..files.len() {
+        match page_len(image, files, order, files[index]) {
+            Ok(greatest) => files[index].greatest = greatest,
+            Err(why) => {
+                return Err(SiteError {
+                    why,
+                    entry: index as u32 + 1,
+                });
+            }
+        }
+    }
+    Ok(())
+}

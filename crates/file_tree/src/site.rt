@@ -1,0 +1,129 @@
+ghost use Rattle.std.specs.Prelude.{◌≡◌, ◌<◌, ◌+◌, [], List, Some, Ok, length, is_some, IfOk, IfSome, option_and_then, option_map, slice_get};
+ghost use Rattle.site_image.specs.Files.{File, file_named, kind_of, has_name};
+ghost use Rattle.site_image.specs.Grammar.{IsImage};
+ghost use Rattle.site_image.specs.Faults.{read_image};
+ghost use Rattle.site_image.specs.Pages.{page_length};
+ghost use Rattle.file_tree.specs.Answers.{Gives};
+ghost use Rattle.file_tree.specs.Site.{files_of};
+
+use crate::file_id::FileId;
+use crate::index::find_id;
+use crate::load_fault::LoadFault;
+use crate::pages::{bytes_at, page_kind};
+use crate::reading::read_table;
+use crate::table::Table;
+use site_image::Place;
+use std::alloc::Global;
+use std::marker::Model;
+
+/// A read-only file tree: one image, the place of each file in it, and the ids of the files in the order of their names.
+#[derive(Drop)]
+pub struct Site {
+    pub image: Vec<u8>,
+    pub files: Vec<Place>,
+    pub order: Vec<FileId>,
+}
+
+impl Model for Site {
+    ghost use Rattle.file_tree.specs.Site.{SiteContent, IsLoaded};
+
+    ghost Value = { SiteContent };
+
+    ghost view = { λ site. record { image = site.image.items; files = site.files.items; order = site.order.items } };
+
+    ghost invariant = { λ site. IsLoaded (record { image = site.image.items; files = site.files.items; order = site.order.items }) };
+}
+
+impl Site {
+    /// The site without files. It takes no memory.
+    pub fn empty(alloc: Global) -> Site
+        ensures { result ≡ record { image = []; files = []; order = [] } }
+    {
+        Site {
+            image: Vec::new(alloc),
+            files: Vec::new(alloc),
+            order: Vec::new(alloc),
+        }
+    }
+
+    /// The site of an image, or the image's first fault.
+    pub fn read(alloc: Global, image: &[u8]) -> Result<Site, LoadFault>
+        ensures exact { Gives files_of result (read_image image.now) }
+        ensures image { IfOk result (λ site. site.image ≡ image.now) }
+
+        // A good image stands for one list of files by the grammar, and it is read as that list.
+        ensures spelled { IfOk result (λ site. IsImage image.now (files_of site)) }
+        ensures only { (files : List File) → IsImage image.now files → Gives files_of result (Ok files) }
+    {
+        Site::from_image(Vec::from_slice(alloc, image)?, alloc)
+    }
+
+    /// The same of an image that is already in memory.
+    pub(crate) fn from_image(image: Vec<u8>, alloc: Global) -> Result<Site, LoadFault>
+        ensures exact { Gives files_of result (read_image image.items) }
+        ensures image { IfOk result (λ site. site.image ≡ image.items) }
+    {
+        let table = read_table(alloc, &image)?;
+        let Table { files, order, .. } = table;
+        Ok(Site {
+            image,
+            files,
+            order,
+        })
+    }
+}
+
+/// What a site holds.
+impl Site {
+    /// How many files there are.
+    pub fn count(&self) -> usize
+        ensures { result ≡ length (files_of self.now) }
+    {
+        self.files.len()
+    }
+
+    /// The file of that name, and `None` exactly where no file has it.
+    pub fn find(&self, name: &[u8]) -> Option<FileId>
+        ensures found { IfSome result (λ id. option_map (λ file. file.name) (slice_get (files_of self.now) id.0) ≡ Some name.now) }
+        ensures there { is_some result ≡ has_name (files_of self.now) name.now }
+        ensures file { option_and_then (λ id. slice_get (files_of self.now) id.0) result ≡ file_named (files_of self.now) name.now }
+    {
+        find_id(&self.image, &self.files, &self.order, name)
+    }
+
+    /// The name of a file.
+    pub fn name(&self, id: FileId) -> &[u8]
+        requires { id.0 < length (files_of self.now) }
+        ensures { option_map (λ file. file.name) (slice_get (files_of self.now) id.0) ≡ Some result.now }
+    {
+        let place = &self.files[id.0 as usize];
+        bytes_at(&self.image, place.name_at, place.name_len)
+    }
+
+    /// The bytes of a file.
+    pub fn bytes(&self, id: FileId) -> &[u8]
+        requires { id.0 < length (files_of self.now) }
+        ensures { option_map (λ file. file.content) (slice_get (files_of self.now) id.0) ≡ Some result.now }
+    {
+        let place = &self.files[id.0 as usize];
+        bytes_at(&self.image, place.at, place.len)
+    }
+
+    /// The content type of a file's page.
+    pub fn kind(&self, id: FileId) -> &[u8]
+        requires { id.0 < length (files_of self.now) }
+        ensures { option_map kind_of (slice_get (files_of self.now) id.0) ≡ Some result.now }
+    {
+        let place = &self.files[id.0 as usize];
+        let name = bytes_at(&self.image, place.name_at, place.name_len);
+        page_kind(name, bytes_at(&self.image, place.kind_at, place.kind_len))
+    }
+
+    /// The greatest length of a file's page.
+    pub fn greatest_page(&self, id: FileId) -> usize
+        requires { id.0 < length (files_of self.now) }
+        ensures { option_map (page_length (files_of self.now)) (slice_get (files_of self.now) id.0) ≡ Some result }
+    {
+        self.files[id.0 as usize].greatest as usize
+    }
+}
