@@ -1,3 +1,4 @@
 pub mod Events
 pub mod Counters
 pub mod Node
+pub mod Edge

@@ -1,0 +1,244 @@
+-- The abstract client of a replay, and its step (RFC 793, section 3.9, with one segment outstanding).
+use Rattle.std.specs.Prelude.{ℕ, ◌+◌, ◌-◌, min, Bool, true, false, not, List, [], ◌++◌, length, take, drop, nat_lt, ◌==◌, ◌&&◌, ◌||◌, if◌then◌else◌, Option, Some, None}
+use Rattle.uip_wire.specs.Numbers.{wrap}
+use Rattle.tcp_segment.specs.declared.flags.TheConstants.{FIN, SYN, RST, PSH, ACK}
+use Rattle.tcp_segment.specs.Segments.{PlainSegment, has_syn, has_fin, has_rst, has_ack}
+use Rattle.tcp_machine.specs.Segments.{has_place}
+use Rattle.link_client.specs.declared.client_state.ClientState.{ClientState}
+use Rattle.link_client.specs.declared.client_state.ClientState.TheVariants.{Idle, Opening, Opened, Closing, Closed, Ended, Reset}
+use Rattle.link_client.specs.declared.fin_at.FinAt.{FinAt}
+use Rattle.link_client.specs.declared.setup.Setup.{Setup}
+
+pub record AbstractClient : Type 0 where
+  pub setup : Setup
+  pub request : List ℕ
+  pub state : ClientState
+  pub received : List ℕ  -- the bytes of its page that it took
+  pub acked : ℕ  -- acknowledged request bytes
+  pub out : ℕ  -- request bytes outstanding
+  pub fin : FinAt
+  pub expected : ℕ  -- the number that it expects next
+  pub window : ℕ
+
+-- a client before its first act
+abbrev pub idle : Setup → List ℕ → AbstractClient
+idle setup request = record {
+  setup = setup;
+  request = request;
+  state = Idle;
+  received = [];
+  acked = 0;
+  out = 0;
+  fin = FinAt.NotSent;
+  expected = 0;
+  window = 65535;
+}
+
+-- the client after a call, and what it sends
+pub record ClientStep : Type 0 where
+  pub client : AbstractClient
+  pub sent : Option PlainSegment
+
+abbrev pub keeps : AbstractClient → ClientStep
+keeps c = record { client = c; sent = None }
+
+abbrev pub gives : AbstractClient → PlainSegment → ClientStep
+gives c s = record { client = c; sent = Some s }
+
+-- Its plain close: it took the server's FIN in sequence.
+abbrev pub has_closed : ClientState → Bool
+has_closed Closed = true
+has_closed Ended = true
+has_closed Idle = false
+has_closed Opening = false
+has_closed Opened = false
+has_closed Closing = false
+has_closed Reset = false
+
+-- it takes text
+abbrev pub is_receiving : ClientState → Bool
+is_receiving Opened = true
+is_receiving Closing = true
+is_receiving Idle = false
+is_receiving Opening = false
+is_receiving Closed = false
+is_receiving Ended = false
+is_receiving Reset = false
+
+-- it has nothing more to ask for
+abbrev pub may_finish : ClientState → Bool
+may_finish Closing = true
+may_finish Closed = true
+may_finish Ended = true
+may_finish Idle = false
+may_finish Opening = false
+may_finish Opened = false
+may_finish Reset = false
+
+abbrev pub fin_sent : FinAt → Bool
+fin_sent FinAt.NotSent = false
+fin_sent FinAt.Out = true
+fin_sent FinAt.Acked = true
+
+abbrev pub fin_out : FinAt → Bool
+fin_out FinAt.Out = true
+fin_out FinAt.NotSent = false
+fin_out FinAt.Acked = false
+
+abbrev pub one_if : Bool → ℕ
+one_if true = 1
+one_if false = 0
+
+abbrev pub first_of : AbstractClient → ℕ
+first_of c = c.setup.iss.0
+
+-- the number after all that it sent
+abbrev pub next_own : AbstractClient → ℕ
+next_own c = wrap (first_of c + 1 + c.acked + c.out + one_if (fin_sent c.fin))
+
+-- something of its own is outstanding
+abbrev pub waits_for_ack : AbstractClient → Bool
+waits_for_ack c = nat_lt 0 c.out || fin_out c.fin
+
+-- The segments that it sends.
+abbrev pub offered : ℕ → Option ℕ
+offered mss = if mss == 0 then None else Some mss
+
+abbrev pub syn_of : AbstractClient → PlainSegment
+syn_of c = record { seq = first_of c; ack = 0; flags = SYN; window = c.window; mss = offered c.setup.mss; text = [] }
+
+abbrev pub ack_of : AbstractClient → PlainSegment
+ack_of c = record { seq = next_own c; ack = c.expected; flags = ACK; window = c.window; mss = None; text = [] }
+
+abbrev pub request_of : AbstractClient → PlainSegment
+request_of c = record {
+  seq = wrap (first_of c + 1 + c.acked);
+  ack = c.expected;
+  flags = ACK + PSH;
+  window = c.window;
+  mss = None;
+  text = take c.out (drop c.acked c.request);
+}
+
+abbrev pub fin_of : AbstractClient → PlainSegment
+fin_of c = record { seq = wrap (first_of c + 1 + c.acked + c.out); ack = c.expected; flags = FIN + ACK; window = c.window; mss = None; text = [] }
+
+abbrev pub reset_of : AbstractClient → PlainSegment
+reset_of c = record { seq = next_own c; ack = c.expected; flags = RST + ACK; window = c.window; mss = None; text = [] }
+
+-- What it sends next: request bytes, its FIN, or a bare ACK where one is owed. One thing is outstanding at a time.
+unfoldable pub sends_next : Bool → AbstractClient → ClientStep
+sends_next owed c =
+    if not (waits_for_ack c) && (is_receiving c.state && nat_lt c.acked (length c.request)) then
+    (let d : AbstractClient = record c { out = min c.setup.seg (length c.request - c.acked) } in gives d (request_of d))
+    else if not (waits_for_ack c) && (may_finish c.state && not (fin_sent c.fin)) then
+    gives (record c { fin = FinAt.Out }) (fin_of c)
+    else if owed then gives c (ack_of c)
+    else keeps c
+
+-- what was out of the FIN is acknowledged
+abbrev pub fin_heard : FinAt → FinAt
+fin_heard FinAt.NotSent = FinAt.NotSent
+fin_heard FinAt.Out = FinAt.Acked
+fin_heard FinAt.Acked = FinAt.Acked
+
+-- what is outstanding is acknowledged where the number is its next own one
+abbrev pub hears_ack : AbstractClient → PlainSegment → AbstractClient
+hears_ack c s =
+    if has_ack s.flags && (waits_for_ack c && (s.ack == next_own c))
+    then record c { acked = c.acked + c.out; out = 0; fin = fin_heard c.fin }
+    else c
+
+-- the state after the server's FIN
+abbrev pub after_fin : ClientState → ClientState
+after_fin Opened = Closed
+after_fin Closing = Ended
+after_fin Idle = Idle
+after_fin Opening = Opening
+after_fin Closed = Closed
+after_fin Ended = Ended
+after_fin Reset = Reset
+
+-- the text of a segment at the expected number, and then its FIN
+abbrev pub takes_text : AbstractClient → PlainSegment → AbstractClient
+takes_text c s = record c {
+  received = c.received ++ s.text;
+  expected = wrap (c.expected + length s.text + one_if (has_fin s.flags));
+  state = (if has_fin s.flags then after_fin c.state else c.state);
+}
+
+unfoldable pub takes_in_order : AbstractClient → PlainSegment → ClientStep
+takes_in_order c s =
+    if has_syn s.flags then sends_next true c
+    else if not (has_place s) then sends_next false c
+    else if (s.seq == c.expected) && is_receiving c.state then sends_next true (takes_text c s)
+    else sends_next true c
+
+abbrev pub opened_by : AbstractClient → PlainSegment → AbstractClient
+opened_by c s = record c { state = Opened; expected = wrap (s.seq + 1) }
+
+-- a RST counts where it answers the SYN, and afterwards at the expected number
+abbrev pub is_reset_by : ClientState → AbstractClient → PlainSegment → Bool
+is_reset_by Opening c s = has_ack s.flags && (s.ack == wrap (first_of c + 1))
+is_reset_by Opened c s = s.seq == c.expected
+is_reset_by Closing c s = s.seq == c.expected
+is_reset_by Idle c s = false
+is_reset_by Closed c s = false
+is_reset_by Ended c s = false
+is_reset_by Reset c s = false
+
+unfoldable pub takes_by : ClientState → AbstractClient → PlainSegment → ClientStep
+takes_by Idle c s = keeps c
+takes_by Reset c s = keeps c
+takes_by Opening c s =
+    if has_syn s.flags && (has_ack s.flags && (s.ack == wrap (first_of c + 1))) then sends_next true (opened_by c s)
+    else keeps c
+takes_by Opened c s = takes_in_order (hears_ack c s) s
+takes_by Closing c s = takes_in_order (hears_ack c s) s
+takes_by Closed c s = takes_in_order (hears_ack c s) s
+takes_by Ended c s = takes_in_order (hears_ack c s) s
+
+-- the step on a segment of the server
+unfoldable pub client_takes : AbstractClient → PlainSegment → ClientStep
+client_takes c s =
+    if has_rst s.flags then keeps (if is_reset_by c.state c s then record c { state = Reset } else c)
+    else takes_by c.state c s
+
+-- Its own acts.
+unfoldable pub opens_by : ClientState → AbstractClient → ClientStep
+opens_by Idle c = let d : AbstractClient = record c { state = Opening } in gives d (syn_of d)
+opens_by _ c = keeps c
+
+unfoldable pub again_by : ClientState → AbstractClient → ClientStep
+again_by Idle c = keeps c
+again_by Reset c = keeps c
+again_by Opening c = gives c (syn_of c)
+again_by _ c =
+    if nat_lt 0 c.out then gives c (request_of c)
+    else if fin_out c.fin then gives c (fin_of c)
+    else gives c (ack_of c)
+
+unfoldable pub closes_by : ClientState → AbstractClient → ClientStep
+closes_by Opened c = sends_next false (record c { state = Closing })
+closes_by _ c = keeps c
+
+unfoldable pub aborts_by : ClientState → AbstractClient → ClientStep
+aborts_by Opening c = gives (record c { state = Reset }) (reset_of c)
+aborts_by Opened c = gives (record c { state = Reset }) (reset_of c)
+aborts_by Closing c = gives (record c { state = Reset }) (reset_of c)
+aborts_by _ c = keeps c
+
+abbrev pub client_opens : AbstractClient → ClientStep
+client_opens c = opens_by c.state c
+
+abbrev pub client_again : AbstractClient → ClientStep
+client_again c = again_by c.state c
+
+abbrev pub client_closes : AbstractClient → ClientStep
+client_closes c = closes_by c.state c
+
+abbrev pub client_aborts : AbstractClient → ClientStep
+client_aborts c = aborts_by c.state c
+
+abbrev pub tells_window : ℕ → AbstractClient → ClientStep
+tells_window window c = keeps (record c { window = window })

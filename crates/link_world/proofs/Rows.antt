@@ -1,0 +1,363 @@
+-- Whole schedules, computed from the definitions alone.
+use Rattle.std.proofs.Common.{◌≡◌, ◌+◌, ◌==◌, ℕ, Bool, true, false, List, [], ◌∷◌, ◌++◌, map, length, replicate, flat_map, if◌then◌else◌, refl, Option, Some, None, Result, Ok, Err}
+use Rattle.tcp_segment.specs.declared.flags.TheConstants.{FIN, SYN, RST, PSH, ACK}
+use Rattle.app_events.specs.declared.row.Row.{Row}
+use Rattle.app_events.specs.Part.{Moment}
+use Rattle.tcp_machine.specs.Ask.{idles}
+use Rattle.tcp_machine.specs.OnSegment.{peer_closes, goes_on, in_established, fin_acked, fin_waits, in_fin_wait_2, on_segment}
+use Rattle.tcp_machine.specs.OnTick.{rests_on, ticks_established}
+use Rattle.uip_node.specs.Counters.{ticks_of}
+use Rattle.uip_node.specs.Node.{happened, opens_in, from_stranger}
+use Rattle.link_client.specs.Client.{sends_next, takes_in_order, takes_by, client_takes, opens_by, again_by, closes_by, aborts_by}
+use Rattle.link_client.specs.declared.client_state.ClientState.{ClientState}
+use Rattle.link_client.specs.declared.client_state.ClientState.TheVariants as Is
+use Rattle.link_world.specs.World.{World, Side, Sent, Content, numbered}
+use Rattle.link_world.specs.World.Content.{OfSegment, OfPing, OfEcho}
+use Rattle.uip_wire.specs.Checksum.{folded}
+use Rattle.uip_ipv4.specs.Head.{head_or_fate, head_bytes}
+use Rattle.tcp_segment.specs.Segments.{datagram_bytes}
+use Rattle.tcp_segment.specs.Received.{segment_in}
+use Rattle.link_world.specs.declared.step_fault.StepFault.TheVariants.{NoDatagram, NoByte, AlreadyOpen}
+use Rattle.link_world.specs.Bytes.{ping_from}
+use Rattle.link_world.specs.Schedule.{plays, BadLine}
+use Rattle.link_world.specs.History.{Planned, opening_world}
+use Rattle.link_world.specs.declared.event.Event.{Event}
+use Rattle.link_world.specs.declared.event.Event.TheVariants.{Opens, Again, Closes, Aborts, Window, Ping, Give, Damage, Tick, Round, Lose}
+use Rattle.link_world.specs.declared.who.Who.{Who}
+use Rattle.link_world.specs.declared.who.Who.TheVariants.{FromClient, FromNode}
+use Rattle.link_world.proofs.Sample.{Piece, sample}
+use Rattle.link_world.proofs.Sample.Piece.{Plain, Made}
+
+abbrev web : ℕ → Bool
+web port = port == 80
+
+-- `GET / HTTP/1.0` and an empty line
+abbrev get : List ℕ
+get = 71 ∷ 69 ∷ 84 ∷ 32 ∷ 47 ∷ 32 ∷ 72 ∷ 84 ∷ 84 ∷ 80 ∷ 47 ∷ 49 ∷ 46 ∷ 48 ∷ 13 ∷ 10 ∷ 13 ∷ 10 ∷ []
+
+abbrev client : ℕ → ℕ → ℕ → ℕ → List ℕ → Planned
+client number host port mss request = record {
+  setup = record {
+    addr = record { 0 = 10 ∷ 0 ∷ 0 ∷ host ∷ [] };
+    port = record { 0 = port };
+    mss = mss;
+    seg = 536;
+    iss = record { 0 = number };
+    server = record { 0 = 10 ∷ 0 ∷ 0 ∷ 1 ∷ [] };
+    server_port = record { 0 = 80 };
+  };
+  request = request;
+}
+
+abbrev usual : List Planned
+usual = client 1000 2 1025 0 get ∷ []
+
+abbrev text_of : ℕ → List Piece
+text_of n = Plain (replicate n 7) ∷ []
+
+abbrev played : List Piece → List Planned → List Event → Result World BadLine
+played pieces plan events = plays (sample pieces) web events (opening_world (record { 0 = 10 ∷ 0 ∷ 0 ∷ 1 ∷ [] }) [] plan)
+
+-- What is reported: for each client its state, the bytes that it received and its first stale datagram; ticks; datagrams.
+pub record ClientLine : Type 0 where
+  state : ClientState
+  received : ℕ
+  first_stale : Option ℕ
+
+pub record Report : Type 0 where
+  clients : List ClientLine
+  ticks : ℕ
+  datagrams : ℕ
+
+abbrev line_of : Side → ClientLine
+line_of side = record { state = side.client.state; received = length side.client.received; first_stale = side.first_stale }
+
+abbrev reported : World → Report
+reported w = record { clients = map line_of w.sides; ticks = ticks_of w.node.past; datagrams = length w.sent }
+
+abbrev report_of : Result World BadLine → Result Report BadLine
+report_of (Ok w) = Ok (reported w)
+report_of (Err bad) = Err bad
+
+-- A datagram as it is shown: tick, who, flags, number, length, again.
+pub record Shown : Type 0 where
+  tick : ℕ
+  who : Who
+  flags : ℕ
+  seq : ℕ
+  len : ℕ
+  again : Bool
+
+abbrev shown_as : Sent → Content → Shown
+shown_as e (OfSegment id s) = record { tick = e.tick; who = e.who; flags = s.flags; seq = s.seq; len = length s.text; again = e.again }
+shown_as e (OfPing datagram) = record { tick = e.tick; who = e.who; flags = 0; seq = 0; len = 0; again = false }
+shown_as e (OfEcho request) = record { tick = e.tick; who = e.who; flags = 0; seq = 0; len = 0; again = false }
+
+abbrev shown_at : Option Sent → Option Shown
+shown_at None = None
+shown_at (Some e) = Some (shown_as e e.content)
+
+abbrev shown : ℕ → Result World BadLine → Option Shown
+shown k (Ok w) = shown_at (numbered w.sent k)
+shown k (Err bad) = None
+
+abbrev all_shown : Result World BadLine → List Shown
+all_shown (Ok w) = map (λ e. shown_as e e.content) w.sent
+all_shown (Err bad) = []
+
+abbrev one : ClientState → ℕ → Option ℕ → List ClientLine
+one state received first_stale = record { state = state; received = received; first_stale = first_stale } ∷ []
+
+abbrev rounds : ℕ → List Event
+rounds n = replicate n Round
+
+abbrev node_says : ℕ → ℕ → ℕ → ℕ → Bool → Shown
+node_says tick flags seq len again = record { tick = tick; who = FromNode 1; flags = flags; seq = seq; len = len; again = again }
+
+abbrev client_says : ℕ → ℕ → ℕ → Shown
+client_says flags seq len = record { tick = 0; who = FromClient 1; flags = flags; seq = seq; len = len; again = false }
+
+-- a page
+a_page : report_of (played (text_of 86) usual (Opens 1 ∷ rounds 12)) ≡ Ok (record { clients = one Is.Closed 86 None; ticks = 0; datagrams = 8 })
+unfolding idles peer_closes goes_on in_established fin_acked fin_waits in_fin_wait_2 on_segment rests_on ticks_established happened opens_in from_stranger sends_next takes_in_order takes_by client_takes opens_by again_by closes_by aborts_by
+a_page = refl
+
+a_page_shown : all_shown (played (text_of 86) usual (Opens 1 ∷ rounds 12))
+    ≡ client_says SYN 1000 0 ∷ node_says 0 (SYN + ACK) 0 0 false ∷ client_says (ACK + PSH) 1001 18 ∷ node_says 0 (ACK + PSH) 1 86 false
+    ∷ client_says ACK 1019 0 ∷ node_says 0 (FIN + ACK) 87 0 false ∷ client_says (FIN + ACK) 1019 0 ∷ node_says 0 ACK 88 0 false ∷ []
+unfolding idles peer_closes goes_on in_established fin_acked fin_waits in_fin_wait_2 on_segment rests_on ticks_established happened opens_in from_stranger sends_next takes_in_order takes_by client_takes opens_by again_by closes_by aborts_by
+a_page_shown = refl
+
+abbrev lost_segment_run : Result World BadLine
+lost_segment_run = played (text_of 86) usual (Opens 1 ∷ rounds 3 ++ Tick 249 ∷ Give 13 ∷ [])
+
+abbrev lost_syn_acks_run : Result World BadLine
+lost_syn_acks_run = played (text_of 86) usual (Opens 1 ∷ Round ∷ Tick 102 ∷ Lose ∷ Again 1 ∷ rounds 12)
+
+abbrev shrunk_window_run : Result World BadLine
+shrunk_window_run = played (text_of 1080) usual (Opens 1 ∷ rounds 5 ++ Lose ∷ Window 1 40 ∷ Again 1 ∷ Round ∷ Tick 4 ∷ rounds 7)
+
+abbrev repeats_run : Result World BadLine
+repeats_run = played (text_of 1080) usual (Opens 1 ∷ rounds 4 ++ Give 4 ∷ rounds 3 ++ Give 5 ∷ rounds 5)
+
+abbrev client_first_run : Result World BadLine
+client_first_run = played (text_of 1080) usual (Opens 1 ∷ rounds 4 ++ Closes 1 ∷ Give 6 ∷ Give 7 ∷ Give 8 ∷ Give 9 ∷ Give 10 ∷ Give 11 ∷ Give 12 ∷ [])
+
+abbrev aborted_run : Result World BadLine
+aborted_run = played (text_of 86) usual (Opens 1 ∷ rounds 3 ++ Aborts 1 ∷ Give 5 ∷ Give 4 ∷ [])
+
+abbrev undecided_run : Result World BadLine
+undecided_run = played (text_of 86) (client 1000 2 1025 0 (71 ∷ 69 ∷ 84 ∷ []) ∷ []) (Opens 1 ∷ rounds 4 ++ Closes 1 ∷ rounds 2)
+
+abbrev large_mss_run : Result World BadLine
+large_mss_run = played (text_of 2080) (client 1000 2 1025 1460 get ∷ []) (Opens 1 ∷ rounds 12)
+
+abbrev honest_run : Result World BadLine
+honest_run = played (text_of 1080) usual (Opens 1 ∷ rounds 16)
+
+abbrev late_syn_run : Result World BadLine
+late_syn_run = played (text_of 86) (client 1000 2 1025 0 get ∷ client 2000 3 1025 0 get ∷ []) (Opens 1 ∷ rounds 12 ++ Tick 120 ∷ Give 1 ∷ [])
+
+abbrev eleven : List Planned
+eleven =
+    client 1000 2 1025 0 get ∷ client 2000 2 1026 0 get ∷ client 3000 2 1027 0 get ∷ client 4000 2 1028 0 get ∷ client 5000 2 1029 0 get ∷ client 6000 2 1030 0 get ∷ client 7000 2 1031 0 get ∷ client 8000 2 1032 0 get ∷ client 9000 2 1033 0 get ∷ client 10000 2 1034 0 get ∷ client 11000 2 1035 0 get ∷ []
+
+abbrev evicted_run : Result World BadLine
+evicted_run = played (text_of 86) eleven (Opens 1 ∷ Opens 2 ∷ Opens 3 ∷ Opens 4 ∷ Opens 5 ∷ Opens 6 ∷ Opens 7 ∷ Opens 8 ∷ Opens 9 ∷ Opens 10 ∷ rounds 8 ++ Opens 11 ∷ Round ∷ Give 41 ∷ rounds 7)
+
+abbrev row_text : Row → List ℕ
+row_text row = if row.waiting then replicate 90 (row.count) else replicate 93 row.slot
+
+abbrev table_page : List Piece
+table_page = Plain (replicate 80 7) ∷ Made (λ m. flat_map row_text m.now.rows) ∷ []
+
+abbrev full_table_run : Result World BadLine
+full_table_run = played table_page eleven (Opens 1 ∷ Opens 2 ∷ Opens 3 ∷ Opens 4 ∷ Opens 5 ∷ Opens 6 ∷ Opens 7 ∷ Opens 8 ∷ Opens 9 ∷ Opens 10 ∷ Opens 11 ∷ rounds 2 ++ Give 22 ∷ Give 32 ∷ Give 33 ∷ Give 34 ∷ Give 35 ∷ Give 36 ∷ Give 37 ∷ Give 38 ∷ Give 39 ∷ Give 40 ∷ [])
+
+abbrev counts_text : Moment → List ℕ
+counts_text m = flat_map (λ n. replicate 11 n) m.now.net
+
+abbrev counts_page : List Piece
+counts_page = Plain (replicate 80 7) ∷ Made counts_text ∷ Made counts_text ∷ []
+
+abbrev generator_again_run : Result World BadLine
+generator_again_run = played counts_page usual (Opens 1 ∷ rounds 5 ++ Lose ∷ Ping (record { 0 = 10 ∷ 0 ∷ 0 ∷ 9 ∷ [] }) ∷ Ping (record { 0 = 10 ∷ 0 ∷ 0 ∷ 9 ∷ [] }) ∷ Round ∷ Tick 4 ∷ rounds 7)
+
+abbrev content_text : Content → List ℕ
+content_text (OfSegment id s) = s.text
+content_text (OfPing datagram) = []
+content_text (OfEcho request) = []
+
+abbrev text_at : Option Sent → List ℕ
+text_at None = []
+text_at (Some e) = content_text e.content
+
+abbrev said_in : ℕ → Result World BadLine → List ℕ
+said_in k (Ok w) = text_at (numbered w.sent k)
+said_in k (Err bad) = []
+
+-- a segment is lost each time: it is sent again at eight ages and given up at tick 249
+lost_segment : report_of lost_segment_run ≡ Ok (record { clients = one Is.Reset 0 None; ticks = 249; datagrams = 13 })
+unfolding idles peer_closes goes_on in_established fin_acked fin_waits in_fin_wait_2 on_segment rests_on ticks_established happened opens_in from_stranger sends_next takes_in_order takes_by client_takes opens_by again_by closes_by aborts_by
+lost_segment = refl
+
+-- its datagram 5
+lost_segment_5 : shown 5 lost_segment_run ≡ Some (node_says 4 (ACK + PSH) 1 86 true)
+unfolding idles peer_closes goes_on in_established fin_acked fin_waits in_fin_wait_2 on_segment rests_on ticks_established happened opens_in from_stranger sends_next takes_in_order takes_by client_takes opens_by again_by closes_by aborts_by
+lost_segment_5 = refl
+
+-- its datagram 12
+lost_segment_12 : shown 12 lost_segment_run ≡ Some (node_says 200 (ACK + PSH) 1 86 true)
+unfolding idles peer_closes goes_on in_established fin_acked fin_waits in_fin_wait_2 on_segment rests_on ticks_established happened opens_in from_stranger sends_next takes_in_order takes_by client_takes opens_by again_by closes_by aborts_by
+lost_segment_12 = refl
+
+-- its datagram 13
+lost_segment_13 : shown 13 lost_segment_run ≡ Some (node_says 249 (RST + ACK) 1 0 false)
+unfolding idles peer_closes goes_on in_established fin_acked fin_waits in_fin_wait_2 on_segment rests_on ticks_established happened opens_in from_stranger sends_next takes_in_order takes_by client_takes opens_by again_by closes_by aborts_by
+lost_segment_13 = refl
+
+-- SYN-ACKs are lost until the server gives up; the SYN sent again opens the next connection
+lost_syn_acks : report_of lost_syn_acks_run ≡ Ok (record { clients = one Is.Closed 86 None; ticks = 102; datagrams = 16 })
+unfolding idles peer_closes goes_on in_established fin_acked fin_waits in_fin_wait_2 on_segment rests_on ticks_established happened opens_in from_stranger sends_next takes_in_order takes_by client_takes opens_by again_by closes_by aborts_by
+lost_syn_acks = refl
+
+-- its datagram 8
+lost_syn_acks_8 : shown 8 lost_syn_acks_run ≡ Some (node_says 102 (RST + ACK) 0 0 false)
+unfolding idles peer_closes goes_on in_established fin_acked fin_waits in_fin_wait_2 on_segment rests_on ticks_established happened opens_in from_stranger sends_next takes_in_order takes_by client_takes opens_by again_by closes_by aborts_by
+lost_syn_acks_8 = refl
+
+-- its datagram 10
+lost_syn_acks_10 : shown 10 lost_syn_acks_run ≡ Some (node_says 102 (SYN + ACK) 1020 0 false)
+unfolding idles peer_closes goes_on in_established fin_acked fin_waits in_fin_wait_2 on_segment rests_on ticks_established happened opens_in from_stranger sends_next takes_in_order takes_by client_takes opens_by again_by closes_by aborts_by
+lost_syn_acks_10 = refl
+
+-- the window shrinks while a segment is outstanding: it is sent again at its first length
+shrunk_window : report_of shrunk_window_run ≡ Ok (record { clients = one Is.Closed 1080 None; ticks = 4; datagrams = 14 })
+unfolding idles peer_closes goes_on in_established fin_acked fin_waits in_fin_wait_2 on_segment rests_on ticks_established happened opens_in from_stranger sends_next takes_in_order takes_by client_takes opens_by again_by closes_by aborts_by
+shrunk_window = refl
+
+-- its datagram 6
+shrunk_window_6 : shown 6 shrunk_window_run ≡ Some (node_says 0 (ACK + PSH) 537 536 false)
+unfolding idles peer_closes goes_on in_established fin_acked fin_waits in_fin_wait_2 on_segment rests_on ticks_established happened opens_in from_stranger sends_next takes_in_order takes_by client_takes opens_by again_by closes_by aborts_by
+shrunk_window_6 = refl
+
+-- its datagram 8
+shrunk_window_8 : shown 8 shrunk_window_run ≡ Some (node_says 4 (ACK + PSH) 537 536 true)
+unfolding idles peer_closes goes_on in_established fin_acked fin_waits in_fin_wait_2 on_segment rests_on ticks_established happened opens_in from_stranger sends_next takes_in_order takes_by client_takes opens_by again_by closes_by aborts_by
+shrunk_window_8 = refl
+
+-- its datagram 10
+shrunk_window_10 : shown 10 shrunk_window_run ≡ Some (node_says 4 (ACK + PSH) 1073 8 false)
+unfolding idles peer_closes goes_on in_established fin_acked fin_waits in_fin_wait_2 on_segment rests_on ticks_established happened opens_in from_stranger sends_next takes_in_order takes_by client_takes opens_by again_by closes_by aborts_by
+shrunk_window_10 = refl
+
+-- repeats and old acknowledgements
+repeats : report_of repeats_run ≡ Ok (record { clients = one Is.Closed 1080 None; ticks = 0; datagrams = 13 })
+unfolding idles peer_closes goes_on in_established fin_acked fin_waits in_fin_wait_2 on_segment rests_on ticks_established happened opens_in from_stranger sends_next takes_in_order takes_by client_takes opens_by again_by closes_by aborts_by
+repeats = refl
+
+-- the client closes first and still gets its whole page
+client_first : report_of client_first_run ≡ Ok (record { clients = one Is.Ended 1080 None; ticks = 0; datagrams = 12 })
+unfolding idles peer_closes goes_on in_established fin_acked fin_waits in_fin_wait_2 on_segment rests_on ticks_established happened opens_in from_stranger sends_next takes_in_order takes_by client_takes opens_by again_by closes_by aborts_by
+client_first = refl
+
+-- the client aborts, and an older datagram reaches it afterwards
+aborted : report_of aborted_run ≡ Ok (record { clients = one Is.Reset 0 (Some 4); ticks = 0; datagrams = 5 })
+unfolding idles peer_closes goes_on in_established fin_acked fin_waits in_fin_wait_2 on_segment rests_on ticks_established happened opens_in from_stranger sends_next takes_in_order takes_by client_takes opens_by again_by closes_by aborts_by
+aborted = refl
+
+-- the client closes before its request is decided
+undecided : report_of undecided_run ≡ Ok (record { clients = one Is.Reset 0 None; ticks = 0; datagrams = 6 })
+unfolding idles peer_closes goes_on in_established fin_acked fin_waits in_fin_wait_2 on_segment rests_on ticks_established happened opens_in from_stranger sends_next takes_in_order takes_by client_takes opens_by again_by closes_by aborts_by
+undecided = refl
+
+-- its datagram 6
+undecided_6 : shown 6 undecided_run ≡ Some (node_says 0 (RST + ACK) 1 0 false)
+unfolding idles peer_closes goes_on in_established fin_acked fin_waits in_fin_wait_2 on_segment rests_on ticks_established happened opens_in from_stranger sends_next takes_in_order takes_by client_takes opens_by again_by closes_by aborts_by
+undecided_6 = refl
+
+-- two segments of the largest size
+large_mss : report_of large_mss_run ≡ Ok (record { clients = one Is.Closed 2080 None; ticks = 0; datagrams = 10 })
+unfolding idles peer_closes goes_on in_established fin_acked fin_waits in_fin_wait_2 on_segment rests_on ticks_established happened opens_in from_stranger sends_next takes_in_order takes_by client_takes opens_by again_by closes_by aborts_by
+large_mss = refl
+
+-- its datagram 4
+large_mss_4 : shown 4 large_mss_run ≡ Some (node_says 0 (ACK + PSH) 1 1460 false)
+unfolding idles peer_closes goes_on in_established fin_acked fin_waits in_fin_wait_2 on_segment rests_on ticks_established happened opens_in from_stranger sends_next takes_in_order takes_by client_takes opens_by again_by closes_by aborts_by
+large_mss_4 = refl
+
+-- its datagram 6
+large_mss_6 : shown 6 large_mss_run ≡ Some (node_says 0 (ACK + PSH) 1461 620 false)
+unfolding idles peer_closes goes_on in_established fin_acked fin_waits in_fin_wait_2 on_segment rests_on ticks_established happened opens_in from_stranger sends_next takes_in_order takes_by client_takes opens_by again_by closes_by aborts_by
+large_mss_6 = refl
+
+-- an honest link
+honest : report_of honest_run ≡ Ok (record { clients = one Is.Closed 1080 None; ticks = 0; datagrams = 12 })
+unfolding idles peer_closes goes_on in_established fin_acked fin_waits in_fin_wait_2 on_segment rests_on ticks_established happened opens_in from_stranger sends_next takes_in_order takes_by client_takes opens_by again_by closes_by aborts_by
+honest = refl
+
+-- a late SYN makes a finished client stale
+late_syn : report_of late_syn_run ≡ Ok (record { clients = record { state = Is.Closed; received = 86; first_stale = Some 1 } ∷ record { state = Is.Idle; received = 0; first_stale = None } ∷ []; ticks = 120; datagrams = 9 })
+unfolding idles peer_closes goes_on in_established fin_acked fin_waits in_fin_wait_2 on_segment rests_on ticks_established happened opens_in from_stranger sends_next takes_in_order takes_by client_takes opens_by again_by closes_by aborts_by
+late_syn = refl
+
+-- a SYN takes a slot from TIME-WAIT; a late ACK of the client that had it makes that client stale
+evicted : report_of evicted_run ≡ Ok (record { clients = record { state = Is.Closed; received = 86; first_stale = Some 41 } ∷ replicate 10 (record { state = Is.Closed; received = 86; first_stale = None }); ticks = 0; datagrams = 89 })
+unfolding idles peer_closes goes_on in_established fin_acked fin_waits in_fin_wait_2 on_segment rests_on ticks_established happened opens_in from_stranger sends_next takes_in_order takes_by client_takes opens_by again_by closes_by aborts_by
+evicted = refl
+
+-- its datagram 83
+evicted_83 : shown 83 evicted_run ≡ Some (node_says 0 (RST + ACK) 87 0 false)
+unfolding idles peer_closes goes_on in_established fin_acked fin_waits in_fin_wait_2 on_segment rests_on ticks_established happened opens_in from_stranger sends_next takes_in_order takes_by client_takes opens_by again_by closes_by aborts_by
+evicted_83 = refl
+
+-- a full table: the eleventh SYN is dropped, and a page shows ten connections as they are when it is asked for
+full_table : report_of full_table_run ≡ Ok (record { clients = record { state = Is.Closed; received = 983; first_stale = None } ∷ replicate 9 (record { state = Is.Opened; received = 0; first_stale = None }) ++ record { state = Is.Opening; received = 0; first_stale = None } ∷ []; ticks = 0; datagrams = 40 })
+unfolding idles peer_closes goes_on in_established fin_acked fin_waits in_fin_wait_2 on_segment rests_on ticks_established happened opens_in from_stranger sends_next takes_in_order takes_by client_takes opens_by again_by closes_by aborts_by
+full_table = refl
+
+-- a generated text is sent again as it was captured
+generator_again : report_of generator_again_run ≡ Ok (record { clients = one Is.Closed 520 None; ticks = 4; datagrams = 17 })
+unfolding idles peer_closes goes_on in_established fin_acked fin_waits in_fin_wait_2 on_segment rests_on ticks_established happened opens_in from_stranger sends_next takes_in_order takes_by client_takes opens_by again_by closes_by aborts_by ping_from
+generator_again = refl
+
+-- its datagrams 6 and 11 show the counters of the moment of the first
+generator_again_6 : said_in 6 generator_again_run ≡ flat_map (λ n. replicate 11 n) (3 ∷ 2 ∷ 0 ∷ 0 ∷ 0 ∷ 0 ∷ 0 ∷ 0 ∷ 0 ∷ 0 ∷ 0 ∷ 0 ∷ 0 ∷ 0 ∷ 3 ∷ 2 ∷ 0 ∷ 0 ∷ 0 ∷ 0 ∷ [])
+unfolding idles peer_closes goes_on in_established fin_acked fin_waits in_fin_wait_2 on_segment rests_on ticks_established happened opens_in from_stranger sends_next takes_in_order takes_by client_takes opens_by again_by closes_by aborts_by ping_from
+generator_again_6 = refl
+
+-- the same, sent again
+generator_again_11 : said_in 11 generator_again_run ≡ flat_map (λ n. replicate 11 n) (3 ∷ 2 ∷ 0 ∷ 0 ∷ 0 ∷ 0 ∷ 0 ∷ 0 ∷ 0 ∷ 0 ∷ 0 ∷ 0 ∷ 0 ∷ 0 ∷ 3 ∷ 2 ∷ 0 ∷ 0 ∷ 0 ∷ 0 ∷ [])
+unfolding idles peer_closes goes_on in_established fin_acked fin_waits in_fin_wait_2 on_segment rests_on ticks_established happened opens_in from_stranger sends_next takes_in_order takes_by client_takes opens_by again_by closes_by aborts_by ping_from
+generator_again_11 = refl
+
+-- the second generator shows those of its own moment
+generator_again_13 : said_in 13 generator_again_run ≡ flat_map (λ n. replicate 11 n) (6 ∷ 6 ∷ 0 ∷ 0 ∷ 0 ∷ 0 ∷ 0 ∷ 0 ∷ 0 ∷ 0 ∷ 2 ∷ 2 ∷ 0 ∷ 0 ∷ 4 ∷ 4 ∷ 0 ∷ 0 ∷ 1 ∷ 0 ∷ [])
+unfolding idles peer_closes goes_on in_established fin_acked fin_waits in_fin_wait_2 on_segment rests_on ticks_established happened opens_in from_stranger sends_next takes_in_order takes_by client_takes opens_by again_by closes_by aborts_by ping_from
+generator_again_13 = refl
+
+abbrev damaged_run : ℕ → Result World BadLine
+damaged_run at = played (text_of 86) usual (Opens 1 ∷ rounds 3 ++ Damage 4 at 1 ∷ Lose ∷ Tick 4 ∷ rounds 5)
+
+-- a damaged byte is a loss
+damaged : report_of (damaged_run 45) ≡ Ok (record { clients = one Is.Closed 86 None; ticks = 4; datagrams = 9 })
+unfolding idles peer_closes goes_on in_established fin_acked fin_waits in_fin_wait_2 on_segment rests_on ticks_established happened opens_in from_stranger sends_next takes_in_order takes_by client_takes opens_by again_by closes_by aborts_by folded head_or_fate head_bytes datagram_bytes segment_in
+damaged = refl
+
+damaged_5 : shown 5 (damaged_run 45) ≡ Some (node_says 4 (ACK + PSH) 1 86 true)
+unfolding idles peer_closes goes_on in_established fin_acked fin_waits in_fin_wait_2 on_segment rests_on ticks_established happened opens_in from_stranger sends_next takes_in_order takes_by client_takes opens_by again_by closes_by aborts_by folded head_or_fate head_bytes datagram_bytes segment_in
+damaged_5 = refl
+
+-- a byte past the datagram
+no_byte : report_of (damaged_run 126) ≡ Err (record { place = 4; why = NoByte })
+unfolding idles peer_closes goes_on in_established fin_acked fin_waits in_fin_wait_2 on_segment rests_on ticks_established happened opens_in from_stranger sends_next takes_in_order takes_by client_takes opens_by again_by closes_by aborts_by folded head_or_fate head_bytes datagram_bytes segment_in
+no_byte = refl
+
+-- a datagram that was not sent yet, and a client that is not idle
+no_datagram : report_of (played (text_of 86) usual (Opens 1 ∷ Give 2 ∷ [])) ≡ Err (record { place = 1; why = NoDatagram })
+unfolding idles peer_closes goes_on in_established fin_acked fin_waits in_fin_wait_2 on_segment rests_on ticks_established happened opens_in from_stranger sends_next takes_in_order takes_by client_takes opens_by again_by closes_by aborts_by folded head_or_fate head_bytes datagram_bytes segment_in
+no_datagram = refl
+
+already_open : report_of (played (text_of 86) usual (Opens 1 ∷ Opens 1 ∷ [])) ≡ Err (record { place = 1; why = AlreadyOpen })
+unfolding idles peer_closes goes_on in_established fin_acked fin_waits in_fin_wait_2 on_segment rests_on ticks_established happened opens_in from_stranger sends_next takes_in_order takes_by client_takes opens_by again_by closes_by aborts_by folded head_or_fate head_bytes datagram_bytes segment_in
+already_open = refl

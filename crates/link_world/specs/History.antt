@@ -1,0 +1,67 @@
+-- What the history of a world tells of a client: its captures and its page.
+use Rattle.std.specs.Prelude.{ℕ, ◌≡◌, ◌<◌, ◌≤◌, List, [], ◌∷◌, length, map, nat_lt, if◌then◌else◌, Bool, Option, Some, None, slice_get, slice_index_or}
+use Rattle.uip_wire.specs.declared.addr.Addr.{Addr}
+use Rattle.app_events.specs.Part.{Moment}
+use Rattle.app_events.specs.Pages.{Pages, IsAddr, IsWord}
+use Rattle.tcp_machine.specs.Connection.{Sockets, Connection, closed, serves}
+use Rattle.uip_node.specs.Node.{opening}
+use Rattle.link_client.specs.Client.{idle}
+use Rattle.link_client.specs.declared.setup.Setup.{Setup}
+use Rattle.link_world.specs.World.{World, Side, Era, sockets_of}
+
+-- the first connection that serves these sockets; one that is CLOSED where none does
+abbrev pub serving : Sockets → List Connection → Connection
+serving sockets [] = closed
+serving sockets (c ∷ cs) = if serves sockets c then c else serving sockets cs
+
+abbrev pub no_era : Era
+no_era = record { first = 0; captures = [] }
+
+abbrev pub era_of : Connection → Era
+era_of c = record { first = c.first; captures = c.part.captures }
+
+-- the first number and the captures of the connection of an epoch; of the present epoch they are those of the one that lives
+abbrev pub era : List Era → Connection → ℕ → Era
+era past c o = if nat_lt o (length past) then slice_index_or past o no_era else era_of c
+
+abbrev pub captures_in : Option ℕ → List Era → Connection → List Moment
+captures_in None past c = []
+captures_in (Some o) past c = (era past c o).captures
+
+-- the captures of a client: those of the server's connection of the epoch in which it opened
+abbrev pub captures_of : World → Side → List Moment
+captures_of w side = captures_in side.opened side.past (serving (sockets_of side) w.node.connections)
+
+-- the page of a client: that of its whole request and its captures
+abbrev pub page_of : Pages → World → Side → List ℕ
+page_of pages w side = pages.text side.client.request (captures_of w side)
+
+abbrev pub is_whole : Pages → World → Side → Bool
+is_whole pages w side = pages.whole side.client.request (captures_of w side)
+
+-- A client that a plan names.
+pub record Planned : Type 0 where
+  pub setup : Setup
+  pub request : List ℕ
+
+abbrev pub fresh_side : Planned → Side
+fresh_side p = record { client = idle p.setup p.request; past = []; opened = None; first_stale = None }
+
+-- the world before the first act
+abbrev pub opening_world : Addr → List ℕ → List Planned → World
+opening_world addr numbers plan = record { node = opening addr numbers; sides = map fresh_side plan; sent = []; mark = 0 }
+
+pub record IsPlanned (p : Planned) : Type 0 where
+  pub addr : IsAddr p.setup.addr
+  pub port : p.setup.port.0 < 65536
+  pub first : IsWord p.setup.iss.0
+  pub short : length p.request ≤ 4096
+  pub seg : 1 ≤ p.setup.seg
+
+abbrev pub sockets_in : Planned → Sockets
+sockets_in p = record { peer = p.setup.addr; peer_port = p.setup.port; own_port = p.setup.server_port }
+
+-- Clients that a world can have: no two have the same sockets.
+pub record IsPlan (plan : List Planned) : Type 0 where
+  pub each : (k : ℕ) (p : Planned) → slice_get plan k ≡ Some p → IsPlanned p
+  pub apart : (j k : ℕ) (p q : Planned) → slice_get plan j ≡ Some p → slice_get plan k ≡ Some q → sockets_in p ≡ sockets_in q → j ≡ k

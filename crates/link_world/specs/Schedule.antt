@@ -1,0 +1,66 @@
+-- The lines of a schedule as lists of acts, and the mark.
+use Rattle.std.specs.Prelude.{ℕ, zero, suc, ◌+◌, ◌-◌, ◌%◌, ◌==◌, List, [], ◌∷◌, length, map, filter, flat_map, replicate, reverse, max, Bool, Result, Ok, Err}
+use Rattle.app_events.specs.Part.{Meaning}
+use Rattle.link_world.specs.World.{World}
+use Rattle.link_world.specs.Acts.{runs}
+use Rattle.link_world.specs.declared.act.Act.{Act}
+use Rattle.link_world.specs.declared.event.Event.{Event}
+use Rattle.link_world.specs.declared.event.Event.TheVariants.{Opens, Again, Closes, Aborts, Window, Ping, Give, Damage, Tick, Round, Twice, Reverse, Half, Lose}
+use Rattle.link_world.specs.declared.step_fault.StepFault.{StepFault}
+
+-- so many numbers from one on
+abbrev pub numbers_from : ℕ → ℕ → List ℕ
+numbers_from start zero = []
+numbers_from start (suc n) = start ∷ numbers_from (start + 1) n
+
+-- the numbers above the mark that are sent
+abbrev pub past_mark : World → List ℕ
+past_mark w = numbers_from (w.mark + 1) (length w.sent - w.mark)
+
+abbrev pub acts_of : World → Event → List Act
+acts_of w (Opens number) = Act.Opens number ∷ []
+acts_of w (Again number) = Act.Again number ∷ []
+acts_of w (Closes number) = Act.Closes number ∷ []
+acts_of w (Aborts number) = Act.Aborts number ∷ []
+acts_of w (Window number window) = Act.Window number window ∷ []
+acts_of w (Ping source) = Act.Ping source ∷ []
+acts_of w (Give k) = Act.Give k ∷ []
+acts_of w (Damage k at mask) = Act.Damage k at mask ∷ []
+acts_of w (Tick n) = replicate n Act.Tick
+acts_of w Round = map Act.Give (past_mark w)
+acts_of w Twice = flat_map (λ k. Act.Give k ∷ Act.Give k ∷ []) (past_mark w)
+acts_of w Reverse = map Act.Give (reverse (past_mark w))
+acts_of w Half = map Act.Give (filter (λ k. k % 2 == 1) (past_mark w))
+acts_of w Lose = []
+
+-- the mark after a line: a round goes past all that was sent before it, delivered or not
+abbrev pub mark_after : World → Event → ℕ
+mark_after w Round = max w.mark (length w.sent)
+mark_after w Twice = max w.mark (length w.sent)
+mark_after w Reverse = max w.mark (length w.sent)
+mark_after w Half = max w.mark (length w.sent)
+mark_after w Lose = max w.mark (length w.sent)
+mark_after w _ = w.mark
+
+abbrev pub with_mark : ℕ → Result World StepFault → Result World StepFault
+with_mark mark (Ok w) = Ok (record w { mark = mark })
+with_mark mark (Err fault) = Err fault
+
+abbrev pub plays_line : Meaning → (ℕ → Bool) → World → Event → Result World StepFault
+plays_line m served w event = with_mark (mark_after w event) (runs m served (acts_of w event) w)
+
+-- the lines in turn: the world, or the place of the first line that is refused, counted from 0, and why
+pub record BadLine : Type 0 where
+  pub place : ℕ
+  pub why : StepFault
+
+abbrev pub goes_on_with : ℕ → (World → Result World BadLine) → Result World StepFault → Result World BadLine
+goes_on_with place next (Ok w) = next w
+goes_on_with place next (Err fault) = Err (record { place = place; why = fault })
+
+abbrev pub plays_from : Meaning → (ℕ → Bool) → ℕ → List Event → World → Result World BadLine
+plays_from m served place [] w = Ok w
+plays_from m served place (event ∷ more) w = goes_on_with place (plays_from m served (place + 1) more) (plays_line m served w event)
+
+abbrev pub plays : Meaning → (ℕ → Bool) → List Event → World → Result World BadLine
+plays m served events w = plays_from m served 0 events w

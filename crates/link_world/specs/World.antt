@@ -1,0 +1,165 @@
+-- The world of a replay: the node, the clients, and the list of all datagrams that were ever sent.
+use Rattle.std.specs.Prelude.{ℕ, zero, suc, ◌+◌, ◌==◌, Bool, true, false, List, [], ◌∷◌, ◌++◌, length, map, Option, Some, None, if◌then◌else◌, is_none, slice_get, slice_set}
+use Rattle.tcp_segment.specs.Segments.{PlainSegment}
+use Rattle.app_events.specs.Part.{Moment, Meaning}
+use Rattle.tcp_machine.specs.Connection.{Sockets, Connection, same_sockets}
+use Rattle.uip_node.specs.Events.{Event, Reply}
+use Rattle.uip_node.specs.Events.Event.{EchoAsked, Arrived}
+use Rattle.uip_node.specs.Events.Reply.{Echo, Tcp}
+use Rattle.uip_node.specs.Counters.{ticks_of}
+use Rattle.uip_node.specs.Node.{AbstractNode, NodeStep, step}
+use Rattle.link_client.specs.Client.{AbstractClient, ClientStep, client_takes}
+use Rattle.link_client.specs.declared.client_state.ClientState.{ClientState}
+use Rattle.link_client.specs.declared.client_state.ClientState.TheVariants.{Opening, Opened}
+use Rattle.link_world.specs.declared.who.Who.{Who}
+use Rattle.link_world.specs.declared.who.Who.TheVariants.{FromClient, FromNode, Pinger}
+
+-- What a connection leaves behind when it becomes CLOSED.
+pub record Era : Type 0 where
+  pub first : ℕ  -- its first number
+  pub captures : List Moment
+
+-- A client, and what the world keeps of it.
+pub record Side : Type 0 where
+  pub client : AbstractClient
+  pub past : List Era  -- the connections with its sockets that became CLOSED, the oldest first
+  pub opened : Option ℕ  -- the epoch in which it became Opened
+  pub first_stale : Option ℕ  -- the number of the first stale datagram that was delivered from or to it
+
+-- The epoch of a client: how often the server's connection with its sockets has become CLOSED.
+abbrev pub epoch : Side → ℕ
+epoch side = length side.past
+
+-- no stale datagram was delivered from it or to it
+abbrev pub is_clean : Side → Bool
+is_clean side = is_none side.first_stale
+
+-- the sockets of the server's connection with a client
+abbrev pub sockets_of : Side → Sockets
+sockets_of side = record { peer = side.client.setup.addr; peer_port = side.client.setup.port; own_port = side.client.setup.server_port }
+
+-- What a datagram is, apart from its addresses.
+pub data Content : Type 0 where
+  OfSegment : (id : ℕ) (segment : PlainSegment) → Content
+  OfPing : (datagram : List ℕ) → Content  -- an echo request
+  OfEcho : (request : List ℕ) → Content  -- the reply to an echo request
+
+-- A datagram that was sent.
+pub record Sent : Type 0 where
+  pub who : Who
+  pub tick : ℕ  -- the tick count at sending
+  pub epoch : ℕ  -- the client's epoch at the end of the step that sent it, 0 where no client is meant
+  pub again : Bool  -- the node sent it again while it was outstanding
+  pub content : Content
+
+pub record World : Type 0 where
+  pub node : AbstractNode
+  pub sides : List Side
+  pub sent : List Sent  -- numbered from 1
+  pub mark : ℕ  -- the highest number that a round has gone past
+
+-- what stands at a number, counted from 1
+abbrev pub numbered : {X : Type 0} → List X → ℕ → Option X
+numbered xs zero = None
+numbered xs (suc n) = slice_get xs n
+
+abbrev pub set_numbered : {X : Type 0} → List X → ℕ → X → List X
+set_numbered xs zero x = xs
+set_numbered xs (suc n) x = slice_set xs n x
+
+-- the client whose connection became CLOSED is one epoch on
+abbrev pub buries_in : Connection → Side → Side
+buries_in gone side =
+    if same_sockets gone.sockets (sockets_of side)
+    then record side { past = side.past ++ record { first = gone.first; captures = gone.part.captures } ∷ [] }
+    else side
+
+abbrev pub buries : Option Connection → List Side → List Side
+buries None sides = sides
+buries (Some gone) sides = map (buries_in gone) sides
+
+-- the client, by its number, whose sockets a datagram of the node has; 0 where there is none
+abbrev pub addressed : ℕ → Sockets → List Side → ℕ
+addressed number sockets [] = 0
+addressed number sockets (side ∷ sides) = if same_sockets sockets (sockets_of side) then number else addressed (number + 1) sockets sides
+
+abbrev pub epoch_at : Option Side → ℕ
+epoch_at None = 0
+epoch_at (Some side) = epoch side
+
+abbrev pub epoch_of : Who → List Side → ℕ
+epoch_of (FromClient number) sides = epoch_at (numbered sides number)
+epoch_of (FromNode number) sides = epoch_at (numbered sides number)
+epoch_of Pinger sides = 0
+
+-- one more datagram
+abbrev pub posts : World → Who → Bool → Content → World
+posts w who again content = record w {
+  sent = w.sent ++ record { who = who; tick = ticks_of w.node.past; epoch = epoch_of who w.sides; again = again; content = content } ∷ [];
+}
+
+abbrev pub posts_reply : World → Option Reply → World
+posts_reply w None = w
+posts_reply w (Some (Echo request)) = posts w (FromNode 0) false (OfEcho request)
+posts_reply w (Some (Tcp sockets id again s)) = posts w (FromNode (addressed 1 sockets w.sides)) again (OfSegment id s)
+
+-- The node took a step: first the CLOSED connection is buried, then the answer is posted, with the epoch after that.
+abbrev pub node_stepped : World → NodeStep → World
+node_stepped w r = posts_reply (record w { node = r.node; sides = buries r.gone w.sides }) r.sent
+
+abbrev pub node_handles : Meaning → (ℕ → Bool) → World → Event → World
+node_handles m served w event = node_stepped w (step m served w.node event)
+
+abbrev pub becomes_opened : ClientState → ClientState → Bool
+becomes_opened Opening Opened = true
+becomes_opened _ _ = false
+
+-- the side after a step of its client
+abbrev pub with_client : Side → AbstractClient → Side
+with_client side client = record side {
+  client = client;
+  opened = (if becomes_opened side.client.state client.state then Some (epoch side) else side.opened);
+}
+
+abbrev pub with_side : World → ℕ → Side → World
+with_side w number side = record w { sides = set_numbered w.sides number side }
+
+abbrev pub posts_of_client : World → ℕ → Option PlainSegment → World
+posts_of_client w number None = w
+posts_of_client w number (Some s) = posts w (FromClient number) false (OfSegment 0 s)
+
+-- client `number`, which was `side`, took a step
+abbrev pub client_stepped : World → ℕ → Side → ClientStep → World
+client_stepped w number side took = posts_of_client (with_side w number (with_client side took.client)) number took.sent
+
+-- A datagram is stale where its client's epoch is another one when it is delivered. The first such is kept.
+abbrev pub first_of_both : Option ℕ → Option ℕ → Option ℕ
+first_of_both (Some n) other = Some n
+first_of_both None other = other
+
+abbrev pub marked : Side → ℕ → Sent → Side
+marked side number e = record side {
+  first_stale = first_of_both side.first_stale (if e.epoch == epoch side then None else Some number);
+}
+
+-- datagram k, sent by client `number`, is delivered to the node
+abbrev pub gives_node : Meaning → (ℕ → Bool) → World → ℕ → ℕ → Sent → PlainSegment → Option Side → World
+gives_node m served w number k e s None = w
+gives_node m served w number k e s (Some side) =
+    node_handles m served (with_side w number (marked side k e)) (Arrived (sockets_of side) s)
+
+-- datagram k, sent to client `number`, is delivered to it
+abbrev pub gives_client : World → ℕ → ℕ → Sent → PlainSegment → Option Side → World
+gives_client w number k e s None = w
+gives_client w number k e s (Some side) = client_stepped w number (marked side k e) (client_takes side.client s)
+
+-- A client's datagram and a ping go to the node, a TCP datagram of the node to its client, an echo reply to nobody.
+abbrev pub delivers : Meaning → (ℕ → Bool) → World → ℕ → Sent → Who → Content → World
+delivers m served w k e (FromClient number) (OfSegment id s) = gives_node m served w number k e s (numbered w.sides number)
+delivers m served w k e (FromNode number) (OfSegment id s) = gives_client w number k e s (numbered w.sides number)
+delivers m served w k e Pinger (OfPing datagram) = node_handles m served w (EchoAsked datagram)
+delivers m served w k e _ _ = w
+
+abbrev pub gives : Meaning → (ℕ → Bool) → World → ℕ → Option Sent → World
+gives m served w k None = w
+gives m served w k (Some e) = delivers m served w k e e.who e.content
