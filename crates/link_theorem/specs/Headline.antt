@@ -1,0 +1,130 @@
+-- What every schedule keeps.
+use Rattle.std.specs.List.{All}
+use Rattle.std.specs.Prelude.{◌≡◌, ℕ, suc, ◌<◌, Bool, true, false, List, Option, Some, Ok, slice_get}
+use Rattle.uip_wire.specs.declared.addr.Addr.{Addr}
+use Rattle.tcp_segment.specs.Segments.{PlainSegment}
+use Rattle.app_events.specs.Part.{Meaning}
+use Rattle.app_events.specs.Laws.{IsPrefixOf}
+use Rattle.app_events.specs.Pages.{Pages, IsPaged, IsWord}
+use Rattle.link_client.specs.Client.{has_closed}
+use Rattle.app_events.specs.declared.state.State.{State}
+use Rattle.app_events.specs.declared.state.State.TheVariants.{Closed, SynRcvd, Established, CloseWait, FinWait1, FinWait2, Closing, TimeWait, LastAck}
+use Rattle.tcp_machine.specs.Connection.{Connection, count_of, tries_of}
+use Rattle.tcp_machine.specs.Segments.{has_place, segment_of}
+use Rattle.tcp_machine.specs.OnTick.{limit_of, outstanding, grows_older}
+use Rattle.uip_node.specs.Events.{Reply}
+use Rattle.uip_node.specs.Events.Event.{Periodic}
+use Rattle.uip_node.specs.Events.Reply.{Tcp}
+use Rattle.uip_node.specs.Node.{AbstractNode, step}
+use Rattle.link_world.specs.World.{World, Side, Sent, is_clean}
+use Rattle.link_world.specs.World.Content.{OfSegment}
+use Rattle.link_world.specs.declared.who.Who.TheVariants.{FromNode}
+use Rattle.link_world.specs.Acts.{runs}
+use Rattle.link_world.specs.History.{Planned, IsPlan, opening_world, page_of, is_whole}
+use Rattle.link_world.specs.declared.act.Act.{Act}
+
+-- an act that damages nothing
+abbrev pub IsPlainAct : Act → Type 0
+IsPlainAct (Act.Damage number at mask) = ⊥
+IsPlainAct (Act.Opens number) = Unit {0}
+IsPlainAct (Act.Again number) = Unit {0}
+IsPlainAct (Act.Closes number) = Unit {0}
+IsPlainAct (Act.Aborts number) = Unit {0}
+IsPlainAct (Act.Window number window) = Unit {0}
+IsPlainAct (Act.Ping source) = Unit {0}
+IsPlainAct (Act.Give number) = Unit {0}
+IsPlainAct Act.Tick = Unit {0}
+
+-- The world that a list of acts reaches from the opening one, each of them accepted.
+pub record IsReached (m : Meaning) (w : World) : Type 0 where
+  pub served : ℕ → Bool
+  pub addr : Addr
+  pub numbers : List ℕ
+  pub in_range : All IsWord numbers
+  pub plan : List Planned
+  pub is_plan : IsPlan plan
+  pub schedule : List Act
+  pub plain : All IsPlainAct schedule
+  pub accepted : runs m served schedule (opening_world addr numbers plan) ≡ Ok w
+
+-- A client has received a prefix of its page, and the whole page where it saw a plain close.
+pub record IsServed (pages : Pages) (w : World) (side : Side) : Type 0 where
+  pub prefix : IsPrefixOf side.client.received (page_of pages w side)
+  pub all : has_closed side.client.state ≡ true → side.client.received ≡ page_of pages w side
+  pub whole : has_closed side.client.state ≡ true → is_whole pages w side ≡ true
+
+-- Prefix and whole: so is every clean client.
+abbrev pub PrefixAndWhole : Type 0
+PrefixAndWhole =
+    (m : Meaning) (pages : Pages) → IsPaged m pages → (w : World) → IsReached m w →
+    (k : ℕ) (side : Side) → slice_get w.sides k ≡ Some side → is_clean side ≡ true → IsServed pages w side
+
+-- the same flags and the same text
+pub record Alike (s t : PlainSegment) : Type 0 where
+  pub flags : s.flags ≡ t.flags
+  pub text : s.text ≡ t.text
+
+-- Datagram j was sent earlier than datagram i by the same connection, in the same epoch of the same client, at the same number,
+-- with the same flags and text.
+pub record IsRepeatOf (w : World) (e : Sent) (s : PlainSegment) (i j : ℕ) : Type 0 where
+  pub earlier : j < i
+  pub sent : Sent
+  pub there : slice_get w.sent j ≡ Some sent
+  pub who : sent.who ≡ e.who
+  pub epoch : sent.epoch ≡ e.epoch
+  pub id : ℕ
+  pub segment : PlainSegment
+  pub content : sent.content ≡ OfSegment id segment
+  pub seq : segment.seq ≡ s.seq
+  pub alike : Alike segment s
+
+-- Same bytes: what the node marks as sent again was sent before, with the same number, flags and text. This holds of clients
+-- that are not clean too.
+abbrev pub SameBytes : Type 0
+SameBytes =
+    (m : Meaning) (pages : Pages) → IsPaged m pages → (w : World) → IsReached m w →
+    (k : ℕ) (side : Side) → slice_get w.sides k ≡ Some side →
+    (i : ℕ) (e : Sent) (id : ℕ) (s : PlainSegment) → slice_get w.sent i ≡ Some e → e.who ≡ FromNode (suc k) → e.content ≡ OfSegment id s → e.again ≡ true →
+    (j : ℕ) × IsRepeatOf w e s i j
+
+-- And it is marked exactly so: of two datagrams to a client in one epoch that carry SYN, text or FIN at one number, the later one
+-- is marked, and they have the same flags and text.
+abbrev pub AgainExactly : Type 0
+AgainExactly =
+    (m : Meaning) (pages : Pages) → IsPaged m pages → (w : World) → IsReached m w →
+    (k : ℕ) (side : Side) → slice_get w.sides k ≡ Some side →
+    (i j : ℕ) (e f : Sent) (id id' : ℕ) (s t : PlainSegment) → slice_get w.sent i ≡ Some e → slice_get w.sent j ≡ Some f → j < i → e.who ≡ FromNode (suc k) → f.who ≡ FromNode (suc k) →
+    e.content ≡ OfSegment id s → f.content ≡ OfSegment id' t → e.epoch ≡ f.epoch → s.seq ≡ t.seq → has_place s ≡ true → has_place t ≡ true →
+    (e.again ≡ true) × Alike t s
+
+-- the states in which something may be outstanding
+abbrev pub may_wait : State → Bool
+may_wait SynRcvd = true
+may_wait Established = true
+may_wait CloseWait = true
+may_wait FinWait1 = true
+may_wait Closing = true
+may_wait LastAck = true
+may_wait Closed = false
+may_wait FinWait2 = false
+may_wait TimeWait = false
+
+-- Something is outstanding, the timer has run out, and retransmissions are left.
+pub record IsExpired (c : Connection) : Type 0 where
+  pub waits : may_wait c.state ≡ true
+  pub some : 0 < c.len
+  pub count : count_of c ≡ 0
+  pub tries : tries_of c < limit_of c.state
+
+-- the periodic call of a slot sends what is outstanding there, and marks it
+pub record SendsAgain (m : Meaning) (c : Connection) (sent : Option Reply) : Type 0 where
+  pub id : ℕ
+  pub segment : PlainSegment
+  pub sends : sent ≡ Some (Tcp c.sockets id true segment)
+  pub is : segment_of m (grows_older c) (outstanding true c.state) ≡ Some segment
+
+-- Tick: an expired timer below its limit sends in that tick, at every node.
+abbrev pub Tick : Type 0
+Tick =
+    (m : Meaning) (served : ℕ → Bool) (n : AbstractNode) (slot : ℕ) (c : Connection) → slice_get n.connections slot ≡ Some c → IsExpired c →
+    SendsAgain m c (step m served n (Periodic slot)).sent

@@ -1,0 +1,26 @@
+//! The headline of the link world: whatever a schedule loses, repeats or reorders, a clean client has received a prefix of its
+//! page, and the whole of it where it saw a plain close. Each law is the clause of a function without parameters; how the
+//! proof goes is told in docs/LINK_THEOREM.md.
+#![tactic(auto)]
+
+ghost use Rattle.link_theorem.specs.Headline.{PrefixAndWhole, SameBytes, AgainExactly, Tick};
+
+/// A clean client has received a prefix of its page, and the whole page where it took the server's FIN in sequence.
+pub fn prefix_and_whole()
+    ensures { PrefixAndWhole }
+{}
+
+/// What is sent again while it is outstanding has the same number, flags and text as before.
+pub fn same_bytes()
+    ensures { SameBytes }
+{}
+
+/// A datagram is marked as sent again exactly where an earlier one of the same connection stands at its number.
+pub fn again_exactly()
+    ensures { AgainExactly }
+{}
+
+/// An expired timer below its limit sends what is outstanding in that tick.
+pub fn tick()
+    ensures { Tick }
+{}
