@@ -17,3 +17,5 @@ pub mod Prefix
 pub mod Told
 pub mod Same
 pub mod Ticks
+pub mod Damage
+pub mod Loss

@@ -1,11 +1,11 @@
 -- What every schedule keeps.
 use Rattle.std.specs.List.{All}
-use Rattle.std.specs.Prelude.{◌≡◌, ℕ, suc, ◌<◌, Bool, true, false, List, Option, Some, Ok, slice_get}
+use Rattle.std.specs.Prelude.{◌≡◌, ℕ, suc, ◌<◌, ◌≤◌, Bool, true, false, List, length, Option, Some, None, Ok, slice_get}
 use Rattle.uip_wire.specs.declared.addr.Addr.{Addr}
 use Rattle.tcp_segment.specs.Segments.{PlainSegment}
 use Rattle.app_events.specs.Part.{Meaning}
 use Rattle.app_events.specs.Laws.{IsPrefixOf}
-use Rattle.app_events.specs.Pages.{Pages, IsPaged, IsWord}
+use Rattle.app_events.specs.Pages.{Pages, IsPaged, IsWord, IsByte}
 use Rattle.link_client.specs.Client.{has_closed}
 use Rattle.app_events.specs.declared.state.State.{State}
 use Rattle.app_events.specs.declared.state.State.TheVariants.{Closed, SynRcvd, Established, CloseWait, FinWait1, FinWait2, Closing, TimeWait, LastAck}
@@ -15,11 +15,20 @@ use Rattle.tcp_machine.specs.OnTick.{limit_of, outstanding, grows_older}
 use Rattle.uip_node.specs.Events.{Reply}
 use Rattle.uip_node.specs.Events.Event.{Periodic}
 use Rattle.uip_node.specs.Events.Reply.{Tcp}
+use Rattle.uip_node.specs.Counters.{ticks_of, initial_number, ident_of}
 use Rattle.uip_node.specs.Node.{AbstractNode, step}
-use Rattle.link_world.specs.World.{World, Side, Sent, is_clean}
+use Rattle.uip_ipv4.specs.Head.{IsHeadOf, payload_of}
+use Rattle.uip_ipv4.specs.declared.head.IpHead.{IpHead}
+use Rattle.uip_ipv4.specs.declared.proto.Proto.{Proto}
+use Rattle.uip_ipv4.specs.declared.proto.Proto.TheVariants.{Icmp, Tcp as TcpProto}
+use Rattle.icmp_echo.specs.Echo.{echo_fate}
+use Rattle.tcp_segment.specs.Received.{segment_or_fate}
+use Rattle.tcp_segment.specs.declared.segment.Segment.{Segment}
+use Rattle.link_world.specs.Bytes.{bytes_of}
+use Rattle.link_world.specs.World.{World, Side, Sent, numbered, is_clean}
 use Rattle.link_world.specs.World.Content.{OfSegment}
 use Rattle.link_world.specs.declared.who.Who.TheVariants.{FromNode}
-use Rattle.link_world.specs.Acts.{runs}
+use Rattle.link_world.specs.Acts.{does, runs}
 use Rattle.link_world.specs.History.{Planned, IsPlan, opening_world, page_of, is_whole}
 use Rattle.link_world.specs.declared.act.Act.{Act}
 
@@ -128,3 +137,34 @@ abbrev pub Tick : Type 0
 Tick =
     (m : Meaning) (served : ℕ → Bool) (n : AbstractNode) (slot : ℕ) (c : Connection) → slice_get n.connections slot ≡ Some c → IsExpired c →
     SendsAgain m c (step m served n (Periodic slot)).sent
+
+-- What a datagram has that passes every check at the address of its header, and has no bytes past its length.
+abbrev pub PassesBy : Proto → IpHead → List ℕ → Type 0
+PassesBy TcpProto head bytes = (s : Segment) × (segment_or_fate head bytes ≡ Ok s)
+PassesBy Icmp head bytes = echo_fate (payload_of head bytes) ≡ None
+
+pub record IsWhole (bytes : List ℕ) : Type 0 where
+  pub head : IpHead
+  pub is : IsHeadOf head bytes
+  pub total : head.total ≡ length bytes
+  pub passes : PassesBy head.proto head bytes
+  pub all_bytes : All IsByte bytes
+
+-- nothing differs but the node's past, and in it no tick, no periodic call and no datagram that was sent
+pub record IsLoss (w v : World) : Type 0 where
+  pub sides : v.sides ≡ w.sides
+  pub sent : v.sent ≡ w.sent
+  pub mark : v.mark ≡ w.mark
+  pub addr : v.node.addr ≡ w.node.addr
+  pub numbers : v.node.numbers ≡ w.node.numbers
+  pub connections : v.node.connections ≡ w.node.connections
+  pub ticks : ticks_of v.node.past ≡ ticks_of w.node.past
+  pub initial : initial_number v.node.past ≡ initial_number w.node.past
+  pub ident : ident_of v.node.past ≡ ident_of w.node.past
+
+-- Damage is a loss: a datagram that would have passed every check, handed over with one byte changed, changes no client, no
+-- connection and no list.
+abbrev pub DamageIsLoss : Type 0
+DamageIsLoss =
+    (m : Meaning) (served : ℕ → Bool) (w : World) (k at mask : ℕ) (e : Sent) → numbered w.sent k ≡ Some e → IsWhole (bytes_of w e) → at < length (bytes_of w e) → 1 ≤ mask → mask < 256 →
+    IsLoss w (does m served w (Act.Damage k at mask))

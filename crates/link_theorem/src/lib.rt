@@ -3,7 +3,7 @@
 //! proof goes is told in docs/LINK_THEOREM.md.
 #![tactic(auto)]
 
-ghost use Rattle.link_theorem.specs.Headline.{PrefixAndWhole, SameBytes, AgainExactly, Tick};
+ghost use Rattle.link_theorem.specs.Headline.{PrefixAndWhole, SameBytes, AgainExactly, Tick, DamageIsLoss};
 
 /// A clean client has received a prefix of its page, and the whole page where it took the server's FIN in sequence.
 pub fn prefix_and_whole()
@@ -23,4 +23,9 @@ pub fn again_exactly()
 /// An expired timer below its limit sends what is outstanding in that tick.
 pub fn tick()
     ensures { Tick }
+{}
+
+/// A whole datagram that is handed over with one byte changed changes no client, no connection, no number and no list.
+pub fn damage_is_loss()
+    ensures { DamageIsLoss }
 {}
