@@ -1,3 +1,4 @@
+pub mod Back
 pub mod Passing
 pub mod Putting
 pub mod Rows

@@ -1,4 +1,5 @@
 pub mod Options
+pub mod ReadBack
 pub mod Received
 pub mod Segments
 pub mod Sent

@@ -18,4 +18,4 @@ pub use flags::{ACK, FIN, PSH, RST, SYN};
 pub use out::Out;
 pub use received::check;
 pub use segment::Segment;
-pub use sent::{put, put_in};
+pub use sent::{put, put_in, reads_back};

@@ -1,4 +1,5 @@
 ghost use Rattle.std.specs.Prelude.{◌≡◌, ◌+◌, ◌≤◌, [], ◌∷◌, ◌++◌, IsSome, drop, length, slice_range, take};
+ghost use Rattle.tcp_segment.specs.ReadBack.{ReadsBack};
 ghost use Rattle.tcp_segment.specs.Segments.{datagram_bytes};
 ghost use Rattle.tcp_segment.specs.Sent.{datagram_len, datagram_of};
 ghost use Rattle.uip_wire.specs.Fields.{bytes_of};
@@ -36,6 +37,11 @@ pub fn put_in(area: &mut [u8], out: &Out) -> usize
     put_headers(area, out, 44);
     44
 }
+
+/// The datagram of a sound segment passes every check and is read back as that segment.
+pub fn reads_back()
+    ensures { ReadsBack }
+{}
 
 /// Writes the option for the maximum segment size behind the header.
 fn put_option(area: &mut [u8], mss: u16)

@@ -1,8 +1,9 @@
 -- A header that was written passes every check and says what was written, whatever stands behind it.
-use Rattle.std.proofs.Common.{◌≡◌, ℕ, ◌+◌, ◌-◌, ◌*◌, ◌/◌, ◌%◌, ◌≤◌, Bool, true, false, not, ◌||◌, List, [], ◌∷◌, ◌++◌, length, take, slice_index, Some, refl, ap, ◌∙◌, arith, eqb, ltb, if◌then◌else◌, Ok, Result}
+use Rattle.std.proofs.Common.{◌≡◌, ℕ, ◌+◌, ◌-◌, ◌*◌, ◌/◌, ◌%◌, ◌≤◌, Bool, true, false, not, ◌||◌, List, [], ◌∷◌, ◌++◌, length, length-append, take, slice_index, Some, refl, ap, ◌∙◌, arith, eqb, ltb, if◌then◌else◌, Ok, Result}
 use Rattle.std.proofs.lemmas.Grind.{common_steps}
 use Rattle.std.specs.Str.{bytes_eq}
 use Rattle.uip_wire.proofs.Folding.{folded_closes}
+use Rattle.uip_wire.proofs.Words.{same_word}
 use Rattle.uip_wire.specs.Checksum.{checksum_of, folded, word_sum}
 use Rattle.uip_wire.specs.Fields.{word_at}
 use Rattle.uip_ipv4.specs.declared.proto.Proto.{Proto}
@@ -15,13 +16,13 @@ pub passes : {A : Type 0} (b : Bool) (x y z : A) → b ≡ false → y ≡ z →
 passes true x y z e h = absurd (cc)
 passes false x y z e h = h
 
-not_less : (a b : ℕ) → b ≤ a → ltb a b ≡ false
+pub not_less : (a b : ℕ) → b ≤ a → ltb a b ≡ false
 not_less a b h = grind (arith, common_steps)
 
-equal : (a b : ℕ) → a ≡ b → not (eqb a b) ≡ false
+pub equal : (a b : ℕ) → a ≡ b → not (eqb a b) ≡ false
 equal a b h = grind (arith, common_steps)
 
-neither : (a b : Bool) → a ≡ false → b ≡ false → a || b ≡ false
+pub neither : (a b : Bool) → a ≡ false → b ≡ false → a || b ≡ false
 neither a b e f = ap (λ x. x || b) e ∙ f
 
 same : (n : ℕ) → eqb n n ≡ true
@@ -49,9 +50,6 @@ same_head : (total total' : ℕ) (proto : Proto) (s t : List ℕ) → total ≡ 
     (Ok (record { total = total'; proto = proto; source = record { 0 = s }; target = record { 0 = t } }))
 same_head total total' proto s t e = ap (λ (n : ℕ). Ok (record { total = n; proto = proto; source = record { 0 = s }; target = record { 0 = t } })) e
 
-two : (w : ℕ) → 256 * (w / 256) + w % 256 ≡ w
-two w = omega arith
-
 same_address : (e f g h : ℕ) → bytes_eq (e ∷ f ∷ g ∷ h ∷ []) (e ∷ f ∷ g ∷ h ∷ []) ≡ true
 same_address e f g h = rw (same e, same f, same g, same h) refl
 
@@ -66,7 +64,7 @@ back : (total id : ℕ) (proto : Proto) (a b c d e f g h : ℕ) (rest : List ℕ
 unfolding head_or_fate head_bytes
 back total id proto a b c d e f g h rest least most =
     let bytes : List ℕ = head_bytes total id proto (a ∷ b ∷ c ∷ d ∷ []) (e ∷ f ∷ g ∷ h ∷ []) ++ rest in
-    let told : word_at bytes 2 ≡ total = two total in
+    let told : word_at bytes 2 ≡ total = same_word total in
     let long : length bytes ≡ 20 + length rest = omega arith in
     passes _ _ _ _ (not_less (length bytes) 20 (omega arith))
     (passes _ _ _ _ (neither _ _ (not_less (word_at bytes 2) 20 (omega arith)) (not_less (length bytes) (word_at bytes 2) (omega arith)))
@@ -81,6 +79,12 @@ four (a ∷ b ∷ []) h = absurd (omega arith)
 four (a ∷ b ∷ c ∷ []) h = absurd (omega arith)
 four (a ∷ b ∷ c ∷ d ∷ []) h = refl
 four (a ∷ b ∷ c ∷ d ∷ e ∷ rest) h = absurd (omega arith)
+
+-- the header's length
+pub length-head_bytes : (total id : ℕ) (proto : Proto) (source target : List ℕ) → length source ≡ 4 → length target ≡ 4
+    → length (head_bytes total id proto source target) ≡ 20
+unfolding head_bytes
+length-head_bytes total id proto source target s t = simp length-append (omega arith)
 
 pub reads_back : ReadsBack
 reads_back total id proto source target rest s t least most =

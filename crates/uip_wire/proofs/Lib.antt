@@ -1,5 +1,6 @@
 pub mod Folding
-pub mod Wide
-pub mod Writing
 pub mod Pieces
 pub mod Rows
+pub mod Wide
+pub mod Words
+pub mod Writing

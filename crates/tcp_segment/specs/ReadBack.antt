@@ -1,0 +1,55 @@
+-- What was sent is received: a sound datagram passes every check and is read back as it was.
+use Rattle.std.specs.Prelude.{◌≡◌, ◌<◌, ◌≤◌, ℕ, ◌+◌, ◌*◌, IfSome, List, length, Result, Ok}
+use Rattle.uip_ipv4.specs.Head.{head_or_fate}
+use Rattle.uip_ipv4.specs.declared.head.IpHead.{IpHead}
+use Rattle.uip_ipv4.specs.declared.proto.Proto.TheVariants.{Tcp}
+use Rattle.uip_wire.specs.declared.sizes.TheConstants.{LARGEST_DATAGRAM}
+use Rattle.tcp_segment.specs.Received.{plain_of, segment_or_fate}
+use Rattle.tcp_segment.specs.Segments.{Datagram, datagram_bytes, offset_of, segment_bytes}
+use Rattle.tcp_segment.specs.declared.segment.Segment.{Segment}
+
+-- Each number fits its field, the option's value is not 0, and the whole is no longer than the largest datagram.
+pub record IsSound (d : Datagram) : Type 0 where
+  pub source : length d.source ≡ 4
+  pub target : length d.target ≡ 4
+  pub from : d.from < 65536
+  pub to : d.to < 65536
+  pub id : d.id < 65536
+  pub seq : d.segment.seq < 4294967296
+  pub ack : d.segment.ack < 4294967296
+  pub flags : d.segment.flags < 64
+  pub window : d.segment.window < 65536
+  pub mss : IfSome d.segment.mss (λ mss. (0 < mss) × (mss < 65536))
+  pub size : 20 + length (segment_bytes d) ≤ LARGEST_DATAGRAM
+
+-- what its header says
+abbrev pub head_of : Datagram → IpHead
+head_of d = record {
+  total = 20 + length (segment_bytes d);
+  proto = Tcp;
+  source = record { 0 = d.source };
+  target = record { 0 = d.target };
+}
+
+-- the fields of its segment
+abbrev pub fields_sent : Datagram → Segment
+fields_sent d = record {
+  from = record { 0 = d.from };
+  to = record { 0 = d.to };
+  seq = record { 0 = d.segment.seq };
+  ack = record { 0 = d.segment.ack };
+  flags = d.segment.flags;
+  window = d.segment.window;
+  mss = d.segment.mss;
+  text_at = 20 + 4 * offset_of d.segment.mss;
+  text_len = length d.segment.text;
+}
+
+-- The datagram passes the checks of its header and of its segment, and they say what was sent.
+pub record IsReadBack (d : Datagram) : Type 0 where
+  pub head : head_or_fate (datagram_bytes d) d.target ≡ Ok (head_of d)
+  pub fields : segment_or_fate (head_of d) (datagram_bytes d) ≡ Ok (fields_sent d)
+  pub segment : plain_of (fields_sent d) (datagram_bytes d) ≡ d.segment
+
+abbrev pub ReadsBack : Type 0
+ReadsBack = (d : Datagram) → IsSound d → IsReadBack d
