@@ -26,7 +26,12 @@ pub(crate) fn ones_sum(bytes: &[u8]) -> u16
 pub(crate) fn ones_add(one: u16, other: u16) -> u16
     ensures { result ≡ folded (one + other) }
 {
-    fold(u128::from(one) + u128::from(other))
+    let sum = u32::from(one) + u32::from(other);
+    if sum > 65535 {
+        (sum - 65535) as u16
+    } else {
+        sum as u16
+    }
 }
 
 /// A sum whose carries are still to be added back: eight bytes are added as one number, since 2^16, 2^32 and 2^48 leave 1
