@@ -1,5 +1,5 @@
 -- Echo requests worked by hand with their replies, and each fate of a message at its edge.
-use Rattle.std.proofs.Common.{◌≡◌, ℕ, [], ◌∷◌, ◌++◌, Some, None, refl}
+use Rattle.std.proofs.Common.{◌≡◌, [], ◌∷◌, Some, None, refl}
 use Rattle.std.specs.Prelude.{replicate}
 use Rattle.uip_wire.specs.Checksum.{folded}
 use Rattle.icmp_echo.specs.declared.fate.IcmpFate.TheVariants.{Short, Checksum, NotEcho}

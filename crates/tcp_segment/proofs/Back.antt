@@ -1,5 +1,5 @@
 -- What was sent is received.
-use Rattle.std.proofs.Common.{◌≡◌, ℕ, ◌+◌, ◌-◌, ◌*◌, ◌/◌, ◌%◌, ◌<◌, ◌≤◌, Bool, true, false, not, ◌||◌, List, [], ◌∷◌, ◌++◌, length, take, drop, slice_index, slice_range, refl, sym, ap, ◌∙◌, subst, arith, eqb, ltb, if◌then◌else◌, Ok, Err, Result, Option, Some, None, append_assoc, length-append, length-take, length-drop}
+use Rattle.std.proofs.Common.{◌≡◌, ℕ, ◌+◌, ◌-◌, ◌*◌, ◌/◌, ◌%◌, ◌<◌, ◌≤◌, List, [], ◌∷◌, ◌++◌, length, take, drop, slice_range, refl, sym, ap, ◌∙◌, arith, Ok, Result, Option, Some, None, length-append}
 use Rattle.std.proofs.lemmas.Grind.{common_steps}
 use Rattle.std.proofs.lemmas.List.{drop-drop, drop_at}
 use Rattle.std.proofs.Math.Seq.{take-length}
@@ -7,14 +7,14 @@ use Rattle.uip_wire.proofs.Folding.{folded_closes}
 use Rattle.uip_wire.proofs.Pieces.{join_even}
 use Rattle.uip_wire.proofs.Words.{total, sum_of_words, length-bytes_of, same_word, same_long}
 use Rattle.uip_wire.specs.Checksum.{checksum_of, folded, word_sum}
-use Rattle.uip_wire.specs.Fields.{bytes_of, word_at, long_at}
+use Rattle.uip_wire.specs.Fields.{bytes_of}
 use Rattle.uip_ipv4.proofs.Back.{passes, not_less, equal, neither, length-head_bytes, reads_back}
 use Rattle.uip_ipv4.specs.Head.{head_bytes, head_or_fate, payload_of}
 use Rattle.uip_ipv4.specs.declared.proto.Proto.TheVariants.{Tcp}
 use Rattle.tcp_segment.specs.Options.{mss_in, value_of}
-use Rattle.tcp_segment.specs.ReadBack.{IsSound, IsReadBack, ReadsBack, head_of, fields_sent}
-use Rattle.tcp_segment.specs.Received.{fields_of, header_len, plain_of, segment_in, segment_or_fate}
-use Rattle.tcp_segment.specs.Segments.{Datagram, PlainSegment, datagram_bytes, offset_of, option_words, pseudo_header, segment_bytes, segment_sum, segment_with}
+use Rattle.tcp_segment.specs.ReadBack.{IsSound, IsReadBack, ReadsBack, head_of}
+use Rattle.tcp_segment.specs.Received.{header_len, segment_in}
+use Rattle.tcp_segment.specs.Segments.{Datagram, datagram_bytes, pseudo_header, segment_bytes}
 use Rattle.tcp_segment.specs.declared.fate.TcpFate.{TcpFate}
 use Rattle.tcp_segment.specs.declared.segment.Segment.{Segment}
 

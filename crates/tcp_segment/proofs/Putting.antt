@@ -1,13 +1,13 @@
 -- A datagram that is written around its text.
-use Rattle.std.proofs.Common.{◌≡◌, ℕ, ◌+◌, ◌-◌, ◌*◌, ◌/◌, ◌%◌, ◌<◌, ◌≤◌, List, [], ◌∷◌, ◌++◌, length, take, drop, slice_range, Option, Some, None, refl, sym, ap, ◌∙◌, subst, arith, append_assoc, length-append, length-take, length-drop}
-use Rattle.std.proofs.lemmas.List.{take_rest, drop-drop, take_at, drop_at, take-append-drop, length-take-le}
+use Rattle.std.proofs.Common.{◌≡◌, ℕ, ◌+◌, ◌-◌, ◌/◌, ◌%◌, ◌<◌, ◌≤◌, List, [], ◌∷◌, ◌++◌, length, take, drop, slice_range, Option, Some, None, refl, sym, ap, ◌∙◌, subst, arith, append_assoc, length-append, length-take, length-drop}
+use Rattle.std.proofs.lemmas.List.{drop-drop, drop_at, take-append-drop, length-take-le}
 use borrow.Rule.Slice.PartMut.{put_mid}
 use Rattle.uip_wire.proofs.Writing.{same_four}
 use Rattle.uip_wire.specs.Checksum.{checksum_of}
-use Rattle.uip_wire.specs.Fields.{bytes_of, word_bytes, written}
+use Rattle.uip_wire.specs.Fields.{word_bytes, written}
 use Rattle.uip_ipv4.specs.Head.{head_bytes}
 use Rattle.uip_ipv4.specs.declared.proto.Proto.TheVariants.{Tcp}
-use Rattle.tcp_segment.specs.Segments.{datagram_bytes, pseudo_header, segment_bytes, segment_sum, segment_with}
+use Rattle.tcp_segment.specs.Segments.{datagram_bytes, pseudo_header, segment_bytes, segment_with}
 use Rattle.tcp_segment.specs.Sent.{around, datagram_of, fixed_bytes, header_around, sum_around}
 use Rattle.tcp_segment.specs.declared.out.Out.{Out}
 

@@ -1,5 +1,5 @@
 -- What was sent is received: a sound datagram passes every check and is read back as it was.
-use Rattle.std.specs.Prelude.{◌≡◌, ◌<◌, ◌≤◌, ℕ, ◌+◌, ◌*◌, IfSome, List, length, Result, Ok}
+use Rattle.std.specs.Prelude.{◌≡◌, ◌<◌, ◌≤◌, ◌+◌, ◌*◌, IfSome, length, Ok}
 use Rattle.uip_ipv4.specs.Head.{head_or_fate}
 use Rattle.uip_ipv4.specs.declared.head.IpHead.{IpHead}
 use Rattle.uip_ipv4.specs.declared.proto.Proto.TheVariants.{Tcp}

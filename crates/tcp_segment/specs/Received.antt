@@ -1,12 +1,11 @@
 -- What a received segment says or why it is dropped (RFC 793, section 3.1).
-use Rattle.std.specs.Prelude.{◌≡◌, ◌<◌, ◌≤◌, ℕ, ◌+◌, ◌-◌, ◌*◌, ◌/◌, ◌%◌, ◌==◌, ◌||◌, nat_lt, not, if◌then◌else◌, IfSome, List, ◌++◌, length, slice_index, slice_range, Option, Result, Ok, Err}
+use Rattle.std.specs.Prelude.{ℕ, ◌+◌, ◌-◌, ◌*◌, ◌/◌, ◌%◌, ◌==◌, ◌||◌, nat_lt, not, if◌then◌else◌, List, ◌++◌, length, slice_index, slice_range, Result, Ok, Err}
 use Rattle.uip_wire.specs.Checksum.{checksum_of}
 use Rattle.uip_wire.specs.Fields.{word_at, long_at}
-use Rattle.uip_ipv4.specs.Head.{head_or_fate, payload_of}
+use Rattle.uip_ipv4.specs.Head.{payload_of}
 use Rattle.uip_ipv4.specs.declared.head.IpHead.{IpHead}
-use Rattle.uip_ipv4.specs.declared.proto.Proto.TheVariants.{Tcp}
 use Rattle.tcp_segment.specs.Options.{mss_in}
-use Rattle.tcp_segment.specs.Segments.{Datagram, PlainSegment, datagram_bytes, offset_of, pseudo_header, segment_bytes}
+use Rattle.tcp_segment.specs.Segments.{PlainSegment, pseudo_header}
 use Rattle.tcp_segment.specs.declared.fate.TcpFate.{TcpFate}
 use Rattle.tcp_segment.specs.declared.fate.TcpFate.TheVariants.{Short, Offset, Checksum}
 use Rattle.tcp_segment.specs.declared.segment.Segment.{Segment}

@@ -1,3 +1,8 @@
+ghost use Rattle.std.specs.Prelude.{◌≡◌, ◌+◌, ◌≤◌, length};
+ghost use Rattle.tcp_segment.specs.Received.{plain_of};
+ghost use Rattle.tcp_segment.specs.Segments.{has_ack, has_fin, has_psh, has_rst, has_syn};
+
+use crate::flags::{ACK, PSH, RST, SYN};
 use uip_wire::{Port, Seq};
 
 /// What a checked segment says, and where its text stands.
@@ -16,4 +21,49 @@ pub struct Segment {
     pub text_at: usize,
     /// The length of the text in bytes.
     pub text_len: usize,
+}
+
+impl Segment {
+    /// No more text comes from the sender.
+    pub fn has_fin(&self) -> bool
+        ensures { result ≡ has_fin self.now.flags }
+    {
+        self.flags % 2 == 1
+    }
+
+    /// The sequence number is the sender's first.
+    pub fn has_syn(&self) -> bool
+        ensures { result ≡ has_syn self.now.flags }
+    {
+        self.flags / SYN % 2 == 1
+    }
+
+    /// The connection is reset.
+    pub fn has_rst(&self) -> bool
+        ensures { result ≡ has_rst self.now.flags }
+    {
+        self.flags / RST % 2 == 1
+    }
+
+    /// The text is to be handed on at once.
+    pub fn has_psh(&self) -> bool
+        ensures { result ≡ has_psh self.now.flags }
+    {
+        self.flags / PSH % 2 == 1
+    }
+
+    /// The acknowledgement number counts.
+    pub fn has_ack(&self) -> bool
+        ensures { result ≡ has_ack self.now.flags }
+    {
+        self.flags / ACK % 2 == 1
+    }
+
+    /// The text, in the datagram that the segment was read from.
+    pub fn text<'a>(&self, bytes: &'a [u8]) -> &'a [u8]
+        requires { self.now.text_at + self.now.text_len ≤ length bytes.now }
+        ensures { result.now ≡ (plain_of self.now bytes.now).text }
+    {
+        &bytes[self.text_at..self.text_at + self.text_len]
+    }
 }

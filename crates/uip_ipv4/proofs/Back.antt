@@ -1,5 +1,5 @@
 -- A header that was written passes every check and says what was written, whatever stands behind it.
-use Rattle.std.proofs.Common.{◌≡◌, ℕ, ◌+◌, ◌-◌, ◌*◌, ◌/◌, ◌%◌, ◌≤◌, Bool, true, false, not, ◌||◌, List, [], ◌∷◌, ◌++◌, length, length-append, take, slice_index, Some, refl, ap, ◌∙◌, arith, eqb, ltb, if◌then◌else◌, Ok, Result}
+use Rattle.std.proofs.Common.{◌≡◌, ℕ, ◌+◌, ◌-◌, ◌%◌, ◌≤◌, Bool, true, false, not, ◌||◌, List, [], ◌∷◌, ◌++◌, length, length-append, take, slice_index, Some, refl, ap, ◌∙◌, arith, eqb, ltb, if◌then◌else◌, Ok, Result}
 use Rattle.std.proofs.lemmas.Grind.{common_steps}
 use Rattle.std.specs.Str.{bytes_eq}
 use Rattle.uip_wire.proofs.Folding.{folded_closes}

@@ -1,6 +1,6 @@
 use Rattle.std.proofs.Common.{◌≡◌, ◌+◌, ◌-◌, ◌∙◌, length, take, drop, arith, length-take, length-drop}
 use Rattle.std.proofs.lemmas.Result.{IfOk-weaker}
-use Rattle.uip_ipv4.proofs.Facts.{HeadFacts, head_facts}
+use Rattle.uip_ipv4.proofs.Facts.{head_facts}
 use Rattle.tcp_segment.specs.declared.segment.Segment.{Segment}
 use Rattle.tcp_segment.proofs.received.check.Goals as goal
 

@@ -1,4 +1,4 @@
-use Rattle.std.proofs.Common.{◌+◌, ◌++◌, ◌∙◌, ap, sym, subst, drop, slice_range, arith, List, ℕ, Option}
+use Rattle.std.proofs.Common.{◌+◌, ◌++◌, ◌∙◌, ap, drop, slice_range, arith, List, ℕ, Option}
 use Rattle.std.specs.Prelude.{IsSome, is_some}
 use Rattle.tcp_segment.specs.Segments.{offset_of}
 use Rattle.tcp_segment.proofs.Putting.{no_option, option_put}
