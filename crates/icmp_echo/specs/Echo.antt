@@ -1,6 +1,7 @@
 -- The answer to an echo request (RFC 792, page 14).
 use Rattle.std.specs.Prelude.{ℕ, ◌==◌, ◌||◌, not, nat_lt, if◌then◌else◌, List, ◌∷◌, ◌++◌, Option, None, Some, length, take, drop, slice_index, slice_range}
-use Rattle.packet_buffer.specs.Buffer.{Buffer}
+use Rattle.packet_buffer.specs.Buffer.{Buffer, datagram_in}
+use Rattle.uip_ipv4.specs.Head.{payload_of}
 use Rattle.uip_ipv4.specs.declared.head.IpHead.{IpHead}
 use Rattle.uip_wire.specs.Checksum.{checksum_of}
 use Rattle.uip_wire.specs.Fields.{word_bytes}
@@ -14,6 +15,10 @@ echo_fate message =
     else if not (checksum_of message == 0) then Some Checksum
     else if not (slice_index message 0 == 8) || not (slice_index message 1 == 0) then Some NotEcho
     else None
+
+-- that of the message in a packet with this header
+abbrev pub fate_in : IpHead → Buffer → Option IcmpFate
+fate_in head packet = echo_fate (payload_of head (datagram_in packet))
 
 -- the message of a reply: type 0, code 0, its checksum, and the identifier, number and data of the request
 abbrev pub echo_message : List ℕ → List ℕ

@@ -1,7 +1,7 @@
 ghost use Rattle.std.specs.Prelude.{◌≡◌, ◌≤◌, MatchResult, OnErr, OnOk, None, Some, drop, length, take};
-ghost use Rattle.icmp_echo.specs.Echo.{answered, echo_fate};
+ghost use Rattle.icmp_echo.specs.Echo.{answered, echo_fate, fate_in};
 ghost use Rattle.packet_buffer.specs.Buffer.{datagram_in};
-ghost use Rattle.uip_ipv4.specs.Head.{IsHeadOf, payload_of};
+ghost use Rattle.uip_ipv4.specs.Head.{IsHeadOf};
 
 use crate::answer::answer;
 use crate::fate::IcmpFate;
@@ -12,7 +12,7 @@ use uip_wire::checksum;
 /// Makes the echo request in the packet its reply, of the datagram's total length; bytes behind that are cut off.
 pub fn reply(packet: &mut Packet, head: &IpHead) -> Result<(), IcmpFate>
     requires { IsHeadOf head.now (datagram_in packet.old) }
-    ensures fate { MatchResult result (λ _. echo_fate (payload_of head.now (datagram_in packet.old)) ≡ None) (λ fate. echo_fate (payload_of head.now (datagram_in packet.old)) ≡ Some fate) }
+    ensures fate { MatchResult result (λ _. fate_in head.now packet.old ≡ None) (λ fate. fate_in head.now packet.old ≡ Some fate) }
     ensures reply { OnOk result (packet.new ≡ answered head.now packet.old) }
     ensures unchanged { OnErr result (packet.new ≡ packet.old) }
 {

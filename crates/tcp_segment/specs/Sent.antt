@@ -1,10 +1,10 @@
 -- The datagram that the fields of a segment to be sent stand for.
-use Rattle.std.specs.Prelude.{ℕ, ◌+◌, ◌*◌, List, [], ◌++◌, length}
+use Rattle.std.specs.Prelude.{ℕ, ◌+◌, ◌*◌, List, [], ◌++◌, length, drop, slice_range}
 use Rattle.uip_ipv4.specs.Head.{head_bytes}
 use Rattle.uip_ipv4.specs.declared.proto.Proto.TheVariants.{Tcp}
 use Rattle.uip_wire.specs.Checksum.{checksum_of}
 use Rattle.uip_wire.specs.Fields.{bytes_of}
-use Rattle.tcp_segment.specs.Segments.{Datagram, PlainSegment, fixed_words, offset_of, pseudo_header}
+use Rattle.tcp_segment.specs.Segments.{Datagram, PlainSegment, datagram_bytes, fixed_words, offset_of, pseudo_header}
 use Rattle.tcp_segment.specs.declared.out.Out.{Out}
 
 -- with this text
@@ -31,6 +31,10 @@ datagram_of out text = record {
 -- its length with both headers
 abbrev pub datagram_len : Out → ℕ
 datagram_len out = 20 + 4 * offset_of out.mss + out.len
+
+-- the area with the datagram at its front, around the text that stands at place 40
+abbrev pub sent_in : Out → List ℕ → List ℕ
+sent_in out area = datagram_bytes (datagram_of out (slice_range area 40 (40 + out.len))) ++ drop (datagram_len out) area
 
 -- the first 20 bytes of the header with this checksum; `rest` is the option and the text behind them
 unfoldable pub fixed_bytes : ℕ → Out → List ℕ

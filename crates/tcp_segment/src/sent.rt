@@ -1,7 +1,6 @@
-ghost use Rattle.std.specs.Prelude.{◌≡◌, ◌+◌, ◌≤◌, [], ◌∷◌, ◌++◌, IsSome, drop, length, slice_range, take};
+ghost use Rattle.std.specs.Prelude.{◌≡◌, ◌+◌, ◌≤◌, [], ◌∷◌, ◌++◌, IsSome, drop, length, take};
 ghost use Rattle.tcp_segment.specs.ReadBack.{ReadsBack};
-ghost use Rattle.tcp_segment.specs.Segments.{datagram_bytes};
-ghost use Rattle.tcp_segment.specs.Sent.{datagram_len, datagram_of};
+ghost use Rattle.tcp_segment.specs.Sent.{datagram_len, sent_in};
 ghost use Rattle.uip_wire.specs.Fields.{bytes_of};
 
 use crate::headers::put_headers;
@@ -13,7 +12,7 @@ use uip_wire::{LARGEST_DATAGRAM, put32};
 pub fn put(packet: &mut Packet, out: &Out)
     requires fits { datagram_len out.now ≤ length packet.old.area }
     requires no_text { IsSome out.now.mss → out.now.len ≡ 0 }
-    ensures area { packet.new.area ≡ datagram_bytes (datagram_of out.now (slice_range packet.old.area 40 (40 + out.now.len))) ++ drop (datagram_len out.now) packet.old.area }
+    ensures area { packet.new.area ≡ sent_in out.now packet.old.area }
     ensures len { packet.new.len ≡ datagram_len out.now }
 {
     let len = put_in(packet.area_mut(), out);
@@ -27,7 +26,7 @@ pub fn put_in(area: &mut [u8], out: &Out) -> usize
     requires largest { datagram_len out.now ≤ LARGEST_DATAGRAM }
     requires no_text { IsSome out.now.mss → out.now.len ≡ 0 }
     ensures length { result ≡ datagram_len out.now }
-    ensures written { area.new ≡ datagram_bytes (datagram_of out.now (slice_range area.old 40 (40 + out.now.len))) ++ drop result area.old }
+    ensures written { area.new ≡ sent_in out.now area.old }
 {
     let Some(mss) = out.mss else {
         put_headers(area, out, 40 + out.len);
