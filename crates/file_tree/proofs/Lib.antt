@@ -8,3 +8,4 @@ pub mod ScriptLemmas
 pub mod KindLemmas
 pub mod MeasureLemmas
 pub mod ReadLemmas
+pub mod LoadLemmas

@@ -2,3 +2,4 @@ pub mod Answers
 pub mod Index
 pub mod Reading
 pub mod Site
+pub mod Loading

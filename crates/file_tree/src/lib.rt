@@ -7,6 +7,7 @@ mod entry_place;
 mod file_id;
 mod index;
 mod load_fault;
+mod loading;
 mod pages;
 mod reading;
 mod site;

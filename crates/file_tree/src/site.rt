@@ -4,17 +4,20 @@ ghost use Rattle.site_image.specs.Grammar.{IsImage};
 ghost use Rattle.site_image.specs.Faults.{read_image};
 ghost use Rattle.site_image.specs.Pages.{page_length};
 ghost use Rattle.file_tree.specs.Answers.{Gives};
+ghost use Rattle.file_tree.specs.Loading.{Loads, HasLoadCause};
 ghost use Rattle.file_tree.specs.Site.{files_of};
 
 use crate::file_id::FileId;
 use crate::index::find_id;
 use crate::load_fault::LoadFault;
+use crate::loading::read_file;
 use crate::pages::{bytes_at, page_kind};
 use crate::reading::read_table;
 use crate::table::Table;
 use site_image::Place;
 use std::alloc::Global;
 use std::marker::Model;
+use uip_edge::Shelf;
 
 /// A read-only file tree: one image, the place of each file in it, and the ids of the files in the order of their names.
 #[derive(Drop)]
@@ -56,6 +59,20 @@ impl Site {
         ensures only { (files : List File) → IsImage image.now files → Gives files_of result (Ok files) }
     {
         Site::from_image(Vec::from_slice(alloc, image)?, alloc)
+    }
+
+    /// The site of the image that the shelf holds under the name.
+    pub fn load<H: Shelf>(
+        alloc: Global,
+        shelf: &mut H,
+        name: &[u8],
+    ) -> Result<Site, LoadFault>
+        ensures image { Loads files_of (H.held shelf.old) name.now result }
+        ensures kept { H.held shelf.new ≡ H.held shelf.old }
+        ensures cause { HasLoadCause (H.faults shelf.old) (H.faults shelf.new) (H.held shelf.old) name.now result }
+    {
+        let image = read_file(alloc, shelf, name)?;
+        Site::from_image(image, alloc)
     }
 
     /// The same of an image that is already in memory.

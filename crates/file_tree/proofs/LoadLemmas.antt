@@ -1,0 +1,132 @@
+-- What was read of a file so far is a front of it.
+use Rattle.std.proofs.Common.{◌≡◌, ℕ, ◌+◌, ◌-◌, ◌<◌, ◌≤◌, List, [], ◌++◌, length, take, drop, ltb, Option, Some, None, Result, Ok, Err, refl, sym, ap, subst, inl, inr, ◌∙◌, arith}
+use Rattle.std.specs.Prelude.{⊤}
+use Rattle.std.proofs.lemmas.Bool.{cases_lt, le-ltb, lt-ltb}
+use Rattle.std.proofs.lemmas.List.{take-append-drop, take-take, drop-take, take_all, length-take, length-take-le, take-append-le, length-append}
+use Rattle.uip_edge.specs.declared.failed.Failed.{Failed}
+use Rattle.uip_edge.specs.Causes.{Rose}
+use Rattle.uip_edge.specs.Shelving.{Files, ReadsFile, Reads, IsMissing, HasShelfCause}
+use Rattle.site_image.specs.declared.TheConstants.{LONGEST_IMAGE}
+use Rattle.file_tree.specs.declared.load_fault.LoadFault.{LoadFault}
+use Rattle.file_tree.specs.declared.load_fault.LoadFault.TheVariants.{Shelf, Bad, NoMemory}
+use Rattle.file_tree.specs.Loading.{HoldsContent, HoldsFile, Loads, HasLoadCause, IsOutside}
+use Rattle.file_tree.specs.Answers.{Gives}
+use Rattle.site_image.specs.declared.TheConstants.{MOST_FILES}
+use Rattle.site_image.specs.declared.site_error.SiteError.{SiteError}
+use Rattle.site_image.specs.declared.site_error.SiteWhy.TheVariants.{TooLong, Cut, TooMany}
+use Rattle.site_image.specs.Files.{File}
+use Rattle.site_image.specs.Faults.{◌>>=◌, refuse, fault, version_of, count_of, head_of, read_image}
+use Rattle.file_tree.proofs.ReadLemmas.{read-at-head}
+
+abbrev pub IsFrontIn : Option (List ℕ) → List ℕ → Type 0
+IsFrontIn None bytes = bytes ≡ []
+IsFrontIn (Some content) bytes = bytes ≡ take (length bytes) content
+
+abbrev pub IsFrontOf : Option Files → List ℕ → List ℕ → Type 0
+IsFrontOf None name bytes = ⊤
+IsFrontOf (Some files) name bytes = IsFrontIn (files name) bytes
+
+pub record Loading (start now : Option Files) (before faults : ℕ) (name bytes : List ℕ) : Type 0 where
+  pub held : now ≡ start
+  pub same : faults ≡ before
+  pub front : IsFrontOf start name bytes
+  pub short : length bytes ≤ LONGEST_IMAGE + 1
+
+take-add : (k n : ℕ) (xs : List ℕ) → take k xs ++ take n (drop k xs) ≡ take (k + n) xs
+take-add k n xs =
+    ap (λ x. x ++ take n (drop k xs)) (sym (take-take k (k + n) xs (omega arith)))
+    ∙ ap (λ x. take k (take (k + n) xs) ++ x) (sym (drop-take k n xs))
+    ∙ take-append-drop k (take (k + n) xs)
+
+front-in-more : (o : Option (List ℕ)) (bytes buf : List ℕ) (n : ℕ) → IsFrontIn o bytes → ReadsFile o (length bytes) (Ok n) buf → n ≤ length buf → IsFrontIn o (bytes ++ take n buf)
+front-in-more None bytes buf n front reads within = absurd reads
+front-in-more (Some content) bytes buf n front reads within =
+    let more : length (take n buf) ≡ n = omega (arith, length-take n buf) in
+    let len : length (bytes ++ take n buf) ≡ length bytes + n = length-append bytes (take n buf) ∙ ap (λ k. length bytes + k) more in
+    ap (λ x. x ++ take n buf) front ∙ ap (λ x. take (length bytes) content ++ x) reads.0 ∙ take-add (length bytes) n content
+    ∙ ap (λ k. take k content) (sym len)
+
+pub front-more : (held : Option Files) (name bytes buf : List ℕ) (n : ℕ) → IsFrontOf held name bytes → Reads held name (length bytes) (Ok n) buf → n ≤ length buf → IsFrontOf held name (bytes ++ take n buf)
+front-more None name bytes buf n front reads within = tt
+front-more (Some files) name bytes buf n front reads within = front-in-more (files name) bytes buf n front reads within
+
+-- as much of a file as an image can have, and one byte more
+abbrev pub IsWhole : List ℕ → List ℕ → Type 0
+IsWhole bytes content = bytes ≡ take (LONGEST_IMAGE + 1) content
+
+-- at the file's end, and where enough was read
+ended-in : (o : Option (List ℕ)) (bytes buf : List ℕ) → IsFrontIn o bytes → ReadsFile o (length bytes) (Ok 0) buf → length bytes ≤ LONGEST_IMAGE + 1 → HoldsContent o (IsWhole bytes)
+ended-in None bytes buf front reads short = absurd reads
+ended-in (Some content) bytes buf front reads short =
+    let ended = reads.1.0 refl in
+    front ∙ take_all (length bytes) content ended ∙ sym (take_all (LONGEST_IMAGE + 1) content (omega arith))
+
+full-in : (o : Option (List ℕ)) (bytes : List ℕ) → IsFrontIn o bytes → length bytes ≡ LONGEST_IMAGE + 1 → HoldsContent o (IsWhole bytes)
+full-in None bytes front full = let none = ap length front in absurd (omega arith)
+full-in (Some content) bytes front full = front ∙ ap (λ n. take n content) full
+
+pub loading-ended : (held : Option Files) (name bytes buf : List ℕ) → IsFrontOf held name bytes → Reads held name (length bytes) (Ok 0) buf → length bytes ≤ LONGEST_IMAGE + 1 → HoldsFile held name (IsWhole bytes)
+loading-ended None name bytes buf front reads short = tt
+loading-ended (Some files) name bytes buf front reads short = ended-in (files name) bytes buf front reads short
+
+pub loading-full : (held : Option Files) (name bytes : List ℕ) → IsFrontOf held name bytes → length bytes ≡ LONGEST_IMAGE + 1 → HoldsFile held name (IsWhole bytes)
+loading-full None name bytes front full = tt
+loading-full (Some files) name bytes front full = full-in (files name) bytes front full
+
+pub loading-stops : (start now : Option Files) (before faults : ℕ) (name bytes buf : List ℕ) (at n : ℕ) → Loading start now before faults name bytes
+    → Reads now name at (Ok n) buf → at ≡ length bytes → n ≡ 0 → HoldsFile start name (IsWhole bytes)
+loading-stops start now before faults name bytes buf at n l reads at_is none =
+    loading-ended start name bytes buf l.front
+      (subst (λ k. Reads start name (length bytes) (Ok k) buf) none
+        (subst (λ k. Reads start name k (Ok n) buf) at_is (subst (λ h. Reads h name at (Ok n) buf) l.held reads)))
+      l.short
+
+pub loading-more : (start now next : Option Files) (before faults raised : ℕ) (name bytes buf rest more : List ℕ) (at n : ℕ) → Loading start now before faults name bytes
+    → Reads now name at (Ok n) buf → at ≡ length bytes → n ≤ length buf → length bytes + n ≤ LONGEST_IMAGE + 1 → next ≡ now → raised ≡ faults → more ≡ bytes ++ take n (buf ++ rest)
+    → Loading start next before raised name more
+loading-more start now next before faults raised name bytes buf rest more at n l reads at_is within room kept same is =
+    let taken : take n (buf ++ rest) ≡ take n buf = take-append-le n buf rest within in
+    let items : more ≡ bytes ++ take n buf = is ∙ ap (λ x. bytes ++ x) taken in
+    let size : length more ≡ length bytes + n = ap length items ∙ length-append bytes (take n buf) ∙ ap (λ k. length bytes + k) (length-take-le n buf within) in
+    record {
+      held = kept ∙ l.held;
+      same = same ∙ l.same;
+      front = subst (IsFrontOf start name) (sym items)
+        (front-more start name bytes buf n l.front (subst (λ k. Reads start name k (Ok n) buf) at_is (subst (λ h. Reads h name at (Ok n) buf) l.held reads)) within);
+      short = omega arith;
+    }
+
+-- an image that is too long, however much of it is read
+long-head : (bytes : List ℕ) → LONGEST_IMAGE < length bytes → head_of bytes ≡ Err (fault TooLong 0)
+unfolding head_of
+long-head bytes lt = ap (λ t. refuse t TooLong >>= λ _. (version_of bytes >>= λ version. (refuse (ltb (length bytes) 10) Cut >>= λ _. (refuse (ltb MOST_FILES (count_of bytes)) TooMany >>= λ _. Ok (version, count_of bytes))))) (lt-ltb LONGEST_IMAGE (length bytes) lt)
+
+pub read-front : (content : List ℕ) → read_image (take (LONGEST_IMAGE + 1) content) ≡ read_image content
+read-front content =
+    elim (cases_lt LONGEST_IMAGE (length content)) [
+      inl long ↦
+        let front : length (take (LONGEST_IMAGE + 1) content) ≡ LONGEST_IMAGE + 1 = length-take-le (LONGEST_IMAGE + 1) content (omega arith) in
+        read-at-head (take (LONGEST_IMAGE + 1) content) (fault TooLong 0) (long-head (take (LONGEST_IMAGE + 1) content) (omega arith))
+        ∙ sym (read-at-head content (fault TooLong 0) (long-head content long))
+    | inr short ↦ ap read_image (take_all (LONGEST_IMAGE + 1) content (omega arith))
+    ]
+
+whole-reads : (bytes content : List ℕ) (read : Result (List File) SiteError) → IsWhole bytes content → read_image bytes ≡ read → read_image content ≡ read
+whole-reads bytes content read whole e = sym (read-front content) ∙ ap read_image (sym whole) ∙ e
+
+content-map : (o : Option (List ℕ)) (P Q : List ℕ → Type 0) → ((content : List ℕ) → P content → Q content) → HoldsContent o P → HoldsContent o Q
+content-map None P Q along h = h
+content-map (Some content) P Q along h = along content h
+
+file-map : (held : Option Files) (name : List ℕ) (P Q : List ℕ → Type 0) → ((content : List ℕ) → P content → Q content) → HoldsFile held name P → HoldsFile held name Q
+file-map None name P Q along h = tt
+file-map (Some files) name P Q along h = content-map (files name) P Q along h
+
+pub loads-by : {X : Type 0} (view : X → List File) (held : Option Files) (name bytes : List ℕ) (r : Result X LoadFault) → HoldsFile held name (IsWhole bytes) → Gives view r (read_image bytes)
+    → Loads view held name r
+loads-by view held name bytes (Ok x) whole g =
+    file-map held name (IsWhole bytes) (λ content. read_image content ≡ Ok (view x)) (λ content w. whole-reads bytes content (Ok (view x)) w g) whole
+loads-by view held name bytes (Err Shelf) whole g = tt
+loads-by view held name bytes (Err NoMemory) whole g = tt
+loads-by view held name bytes (Err (Bad e)) whole g =
+    file-map held name (IsWhole bytes) (λ content. read_image content ≡ Err e) (λ content w. whole-reads bytes content (Err e) w g) whole

@@ -1,0 +1,40 @@
+-- What is loaded of a shelf, and when that may fail.
+use Rattle.std.specs.Prelude.{◌≡◌, ◌≤◌, ◌+◌, ◌⊎◌, ℕ, List, [], take, length, Option, None, Some, Result, Ok, Err, ⊤}
+use Rattle.site_image.specs.declared.TheConstants.{LONGEST_IMAGE}
+use Rattle.site_image.specs.Files.{File}
+use Rattle.site_image.specs.Faults.{read_image}
+use Rattle.uip_edge.specs.Causes.{Rose}
+use Rattle.uip_edge.specs.Shelving.{Files, IsMissing}
+use Rattle.file_tree.specs.declared.load_fault.LoadFault.{LoadFault}
+use Rattle.file_tree.specs.declared.load_fault.LoadFault.TheVariants.{Shelf, Bad, NoMemory}
+
+-- there is a content, and the fact holds of it
+abbrev pub HoldsContent : Option (List ℕ) → (List ℕ → Type 0) → Type 0
+HoldsContent None fact = ⊥
+HoldsContent (Some content) fact = fact content
+
+-- where the shelf tells its files, it holds one of that name, and the fact holds of its content
+abbrev pub HoldsFile : Option Files → List ℕ → (List ℕ → Type 0) → Type 0
+HoldsFile None name fact = ⊤
+HoldsFile (Some files) name fact = HoldsContent (files name) fact
+
+-- the answer is what reading the file's bytes gives, seen by the function; the shelf's failing and want of memory say
+-- nothing of the bytes
+abbrev pub Loads : {X : Type 0} → (X → List File) → Option Files → List ℕ → Result X LoadFault → Type 0
+Loads view held name (Ok x) = HoldsFile held name (λ content. read_image content ≡ Ok (view x))
+Loads view held name (Err (Bad error)) = HoldsFile held name (λ content. read_image content ≡ Err error)
+Loads view held name (Err Shelf) = ⊤
+Loads view held name (Err NoMemory) = ⊤
+
+-- the count rose or the file is missing where the answer is that the shelf failed; else the count stays
+abbrev pub HasLoadCause : {X : Type 0} → ℕ → ℕ → Option Files → List ℕ → Result X LoadFault → Type 0
+HasLoadCause before now held name (Err Shelf) = (before ≤ now) × (Rose before now ⊎ IsMissing held name)
+HasLoadCause before now held name (Err (Bad error)) = now ≡ before
+HasLoadCause before now held name (Err NoMemory) = now ≡ before
+HasLoadCause before now held name (Ok x) = now ≡ before
+
+-- the shelf failed or memory was short, which says nothing of the bytes
+abbrev pub IsOutside : LoadFault → Type 0
+IsOutside Shelf = ⊤
+IsOutside NoMemory = ⊤
+IsOutside (Bad error) = ⊥
