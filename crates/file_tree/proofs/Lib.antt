@@ -9,3 +9,9 @@ pub mod KindLemmas
 pub mod MeasureLemmas
 pub mod ReadLemmas
 pub mod LoadLemmas
+pub mod WriteLemmas
+pub mod GrowLemmas
+pub mod ListLemmas
+pub mod SizeLemmas
+pub mod PackLemmas
+pub mod PackedLemmas

@@ -1,15 +1,13 @@
 -- What was read of a file so far is a front of it.
-use Rattle.std.proofs.Common.{◌≡◌, ℕ, ◌+◌, ◌-◌, ◌<◌, ◌≤◌, List, [], ◌++◌, length, take, drop, ltb, Option, Some, None, Result, Ok, Err, refl, sym, ap, subst, inl, inr, ◌∙◌, arith}
+use Rattle.std.proofs.Common.{◌≡◌, ℕ, ◌+◌, ◌<◌, ◌≤◌, List, [], ◌++◌, length, take, drop, ltb, Option, Some, None, Result, Ok, Err, refl, sym, ap, subst, inl, inr, ◌∙◌, arith}
 use Rattle.std.specs.Prelude.{⊤}
-use Rattle.std.proofs.lemmas.Bool.{cases_lt, le-ltb, lt-ltb}
+use Rattle.std.proofs.lemmas.Bool.{cases_lt, lt-ltb}
 use Rattle.std.proofs.lemmas.List.{take-append-drop, take-take, drop-take, take_all, length-take, length-take-le, take-append-le, length-append}
-use Rattle.uip_edge.specs.declared.failed.Failed.{Failed}
-use Rattle.uip_edge.specs.Causes.{Rose}
-use Rattle.uip_edge.specs.Shelving.{Files, ReadsFile, Reads, IsMissing, HasShelfCause}
+use Rattle.uip_edge.specs.Shelving.{Files, ReadsFile, Reads}
 use Rattle.site_image.specs.declared.TheConstants.{LONGEST_IMAGE}
 use Rattle.file_tree.specs.declared.load_fault.LoadFault.{LoadFault}
 use Rattle.file_tree.specs.declared.load_fault.LoadFault.TheVariants.{Shelf, Bad, NoMemory}
-use Rattle.file_tree.specs.Loading.{HoldsContent, HoldsFile, Loads, HasLoadCause, IsOutside}
+use Rattle.file_tree.specs.Loading.{HoldsContent, HoldsFile, Loads}
 use Rattle.file_tree.specs.Answers.{Gives}
 use Rattle.site_image.specs.declared.TheConstants.{MOST_FILES}
 use Rattle.site_image.specs.declared.site_error.SiteError.{SiteError}
@@ -77,9 +75,9 @@ pub loading-stops : (start now : Option Files) (before faults : ℕ) (name bytes
     → Reads now name at (Ok n) buf → at ≡ length bytes → n ≡ 0 → HoldsFile start name (IsWhole bytes)
 loading-stops start now before faults name bytes buf at n l reads at_is none =
     loading-ended start name bytes buf l.front
-      (subst (λ k. Reads start name (length bytes) (Ok k) buf) none
-        (subst (λ k. Reads start name k (Ok n) buf) at_is (subst (λ h. Reads h name at (Ok n) buf) l.held reads)))
-      l.short
+    (subst (λ k. Reads start name (length bytes) (Ok k) buf) none
+    (subst (λ k. Reads start name k (Ok n) buf) at_is (subst (λ h. Reads h name at (Ok n) buf) l.held reads)))
+    l.short
 
 pub loading-more : (start now next : Option Files) (before faults raised : ℕ) (name bytes buf rest more : List ℕ) (at n : ℕ) → Loading start now before faults name bytes
     → Reads now name at (Ok n) buf → at ≡ length bytes → n ≤ length buf → length bytes + n ≤ LONGEST_IMAGE + 1 → next ≡ now → raised ≡ faults → more ≡ bytes ++ take n (buf ++ rest)
@@ -92,7 +90,7 @@ loading-more start now next before faults raised name bytes buf rest more at n l
       held = kept ∙ l.held;
       same = same ∙ l.same;
       front = subst (IsFrontOf start name) (sym items)
-        (front-more start name bytes buf n l.front (subst (λ k. Reads start name k (Ok n) buf) at_is (subst (λ h. Reads h name at (Ok n) buf) l.held reads)) within);
+          (front-more start name bytes buf n l.front (subst (λ k. Reads start name k (Ok n) buf) at_is (subst (λ h. Reads h name at (Ok n) buf) l.held reads)) within);
       short = omega arith;
     }
 
@@ -104,11 +102,11 @@ long-head bytes lt = ap (λ t. refuse t TooLong >>= λ _. (version_of bytes >>= 
 pub read-front : (content : List ℕ) → read_image (take (LONGEST_IMAGE + 1) content) ≡ read_image content
 read-front content =
     elim (cases_lt LONGEST_IMAGE (length content)) [
-      inl long ↦
-        let front : length (take (LONGEST_IMAGE + 1) content) ≡ LONGEST_IMAGE + 1 = length-take-le (LONGEST_IMAGE + 1) content (omega arith) in
-        read-at-head (take (LONGEST_IMAGE + 1) content) (fault TooLong 0) (long-head (take (LONGEST_IMAGE + 1) content) (omega arith))
-        ∙ sym (read-at-head content (fault TooLong 0) (long-head content long))
-    | inr short ↦ ap read_image (take_all (LONGEST_IMAGE + 1) content (omega arith))
+      | inl long ↦
+          let front : length (take (LONGEST_IMAGE + 1) content) ≡ LONGEST_IMAGE + 1 = length-take-le (LONGEST_IMAGE + 1) content (omega arith) in
+          read-at-head (take (LONGEST_IMAGE + 1) content) (fault TooLong 0) (long-head (take (LONGEST_IMAGE + 1) content) (omega arith))
+          ∙ sym (read-at-head content (fault TooLong 0) (long-head content long))
+      | inr short ↦ ap read_image (take_all (LONGEST_IMAGE + 1) content (omega arith))
     ]
 
 whole-reads : (bytes content : List ℕ) (read : Result (List File) SiteError) → IsWhole bytes content → read_image bytes ≡ read → read_image content ≡ read

@@ -3,3 +3,4 @@ pub mod Index
 pub mod Reading
 pub mod Site
 pub mod Loading
+pub mod Packing

@@ -1,6 +1,5 @@
 -- What is loaded of a shelf, and when that may fail.
-use Rattle.std.specs.Prelude.{◌≡◌, ◌≤◌, ◌+◌, ◌⊎◌, ℕ, List, [], take, length, Option, None, Some, Result, Ok, Err, ⊤}
-use Rattle.site_image.specs.declared.TheConstants.{LONGEST_IMAGE}
+use Rattle.std.specs.Prelude.{◌≡◌, ◌≤◌, ◌⊎◌, ℕ, List, Option, None, Some, Result, Ok, Err, ⊤}
 use Rattle.site_image.specs.Files.{File}
 use Rattle.site_image.specs.Faults.{read_image}
 use Rattle.uip_edge.specs.Causes.{Rose}

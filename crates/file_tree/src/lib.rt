@@ -3,17 +3,22 @@
 //! an image here, and an image is upgraded to the version that gives each file a content type.
 #![tactic(auto)]
 
+mod entry;
 mod entry_place;
 mod file_id;
 mod index;
 mod load_fault;
 mod loading;
+mod packing;
 mod pages;
 mod reading;
 mod site;
 mod table;
+mod writing;
 
+pub use entry::Entry;
 pub use file_id::FileId;
 pub use load_fault::LoadFault;
+pub use packing::pack;
 pub use site::Site;
 pub use site_image::{Place, SiteError, SiteWhy, content_kind};

@@ -62,11 +62,7 @@ impl Site {
     }
 
     /// The site of the image that the shelf holds under the name.
-    pub fn load<H: Shelf>(
-        alloc: Global,
-        shelf: &mut H,
-        name: &[u8],
-    ) -> Result<Site, LoadFault>
+    pub fn load<H: Shelf>(alloc: Global, shelf: &mut H, name: &[u8]) -> Result<Site, LoadFault>
         ensures image { Loads files_of (H.held shelf.old) name.now result }
         ensures kept { H.held shelf.new ≡ H.held shelf.old }
         ensures cause { HasLoadCause (H.faults shelf.old) (H.faults shelf.new) (H.held shelf.old) name.now result }

@@ -330,22 +330,23 @@ drop-head v n rest =
     ap (drop 10) (sym (append_assoc (magic v) (to_be_bytes w16 n) rest))
     ∙ drop_at (magic v ++ to_be_bytes w16 n) rest 10 (length-append (magic v) (to_be_bytes w16 n) ∙ ap (λ k. k + 2) (magic-length v))
 
--- the grammar's image of good files is read as these files
-pub image-again : (bytes : List ℕ) (files : List File) → IsImage bytes files → read_image bytes ≡ Ok files
+-- the image of files with fresh names and sound scripts is read as these files
+pub fresh-again : (v : Version) (files : List File) → AreFresh v [] files → length files ≤ MOST_FILES → length (image v files) ≤ LONGEST_IMAGE → AreSound files files
+    → read_image (image v files) ≡ Ok files
 unfolding after_head after_entries after_rest
-image-again bytes files is =
-    let v = is.0 in
-    let site = is.1 in
+fresh-again v files fresh few size sound =
     let flat = flat_map (entry v) files in
     let spelled = image v files in
-    let few = site.count in
-    let size = site.size in
     let whole = entries-in v files in
     let short = short-from v files (omega (arith, whole, size)) in
-    let fresh = fresh-from v files [] site.each site.distinct in
-    ap read_image is.2
-    ∙ read-is spelled
+    read-is spelled
     ∙ ap (λ r. r >>= after_head spelled) (head-again v (length files) flat few size)
     ∙ ap (λ x. entries v (length files) [] x >>= after_entries) (drop-head v (length files) flat ∙ sym (append-nil flat))
     ∙ ap (λ r. r >>= after_entries) (entries-again v files [] [] fresh short)
-    ∙ ap (λ r. r >>= λ _. Ok files) (scripts-again files 0 files site.scripts)
+    ∙ ap (λ r. r >>= λ _. Ok files) (scripts-again files 0 files sound)
+
+-- the grammar's image of good files is read as these files
+pub image-again : (bytes : List ℕ) (files : List File) → IsImage bytes files → read_image bytes ≡ Ok files
+image-again bytes files is =
+    let site = is.1 in
+    ap read_image is.2 ∙ fresh-again is.0 files (fresh-from is.0 files [] site.each site.distinct) site.count site.size site.scripts

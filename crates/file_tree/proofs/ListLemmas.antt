@@ -1,0 +1,24 @@
+-- The names of a list in turn.
+use Rattle.std.proofs.Common.{◌≡◌, ℕ, Bool, true, false, not, List, [], ◌∷◌, Some, None, refl}
+use Rattle.std.proofs.lemmas.Bool.{not_from_true}
+use Rattle.site_image.specs.declared.site_error.SiteWhy.TheVariants.{Name, Twice}
+use Rattle.site_image.specs.Names.{is_name}
+use Rattle.site_image.specs.Files.{File, has_name}
+use Rattle.site_image.specs.Parts.{row, first_of}
+use Rattle.file_tree.specs.Packing.{listed_fault}
+
+second-row : (a b : Bool) → a ≡ false → b ≡ true → first_of (row a Name ∷ row b Twice ∷ []) ≡ Some Twice
+second-row true b p q = absurd cc
+second-row false true p q = refl
+second-row false false p q = absurd cc
+
+no-rows : (a b : Bool) → a ≡ false → b ≡ false → first_of (row a Name ∷ row b Twice ∷ []) ≡ None
+no-rows true b p q = absurd cc
+no-rows false true p q = absurd cc
+no-rows false false p q = refl
+
+pub name-twice : (earlier : List File) (name : List ℕ) → is_name name ≡ true → has_name earlier name ≡ true → listed_fault earlier name ≡ Some Twice
+name-twice earlier name is there = second-row (not (is_name name)) (has_name earlier name) (not_from_true (is_name name) is) there
+
+pub name-sound : (earlier : List File) (name : List ℕ) → is_name name ≡ true → has_name earlier name ≡ false → listed_fault earlier name ≡ None
+name-sound earlier name is fresh = no-rows (not (is_name name)) (has_name earlier name) (not_from_true (is_name name) is) fresh
