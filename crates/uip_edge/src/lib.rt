@@ -16,7 +16,6 @@ mod null_sink;
 mod serve_end;
 mod shelf;
 mod sink;
-mod sizes;
 mod sure_link;
 
 pub use failed::Failed;
@@ -32,5 +31,4 @@ pub use null_sink::NullSink;
 pub use serve_end::ServeEnd;
 pub use shelf::Shelf;
 pub use sink::Sink;
-pub use sizes::LARGEST_DATAGRAM;
 pub use sure_link::SureLink;

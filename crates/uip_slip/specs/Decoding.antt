@@ -1,6 +1,6 @@
 -- What a decoder knows of the bytes that it was fed, and what its answers say.
 use Rattle.std.specs.Prelude.{◌≡◌, ◌<◌, ◌≤◌, ℕ, ◌==◌, nat_lt, if◌then◌else◌, List, [], ◌∷◌, take, length, Bool, true, false}
-use Rattle.uip_edge.specs.declared.sizes.TheConstants.{LARGEST_DATAGRAM}
+use Rattle.uip_wire.specs.declared.sizes.TheConstants.{LARGEST_DATAGRAM}
 use Rattle.uip_slip.specs.Frames.{Frame, Datagram, Overlong, unescaped, open_part}
 use Rattle.uip_slip.specs.declared.fed.Fed.{Fed}
 use Rattle.uip_slip.specs.declared.fed.Fed.TheVariants as fed

@@ -1,7 +1,7 @@
 -- The frames of a serial line (RFC 1055). END is 192 and ESC is 219.
 use Rattle.std.specs.List.{flat_map, slice_split}
 use Rattle.std.specs.Prelude.{ℕ, Bool, true, false, ◌==◌, ◌||◌, nat_le, if◌then◌else◌, List, [], ◌∷◌, length}
-use Rattle.uip_edge.specs.declared.sizes.TheConstants.{LARGEST_DATAGRAM}
+use Rattle.uip_wire.specs.declared.sizes.TheConstants.{LARGEST_DATAGRAM}
 
 -- the bytes that are escaped inside a datagram
 abbrev pub is_mark : ℕ → Bool

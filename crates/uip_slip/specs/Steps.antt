@@ -1,6 +1,6 @@
 -- What one byte, or a run of bytes, does to a decoder: the clauses of the decoder's own steps.
 use Rattle.std.specs.Prelude.{◌≡◌, ◌<◌, ◌≤◌, ◌+◌, ℕ, ◌==◌, ◌||◌, nat_lt, if◌then◌else◌, List, [], ◌∷◌, ◌++◌, take, length, true, false}
-use Rattle.uip_edge.specs.declared.sizes.TheConstants.{LARGEST_DATAGRAM}
+use Rattle.uip_wire.specs.declared.sizes.TheConstants.{LARGEST_DATAGRAM}
 use Rattle.uip_slip.specs.Frames.{meant}
 use Rattle.uip_slip.specs.Decoding.{State, open_bytes}
 use Rattle.uip_slip.specs.declared.fed.Fed.{Fed}

@@ -5,7 +5,7 @@ ghost use Rattle.std.specs.List.{list_all};
 use crate::fed::{Fed, FedRun};
 use crate::marks::{END, ESC, meant, plain_len};
 use std::marker::Model;
-use uip_edge::LARGEST_DATAGRAM;
+use uip_wire::LARGEST_DATAGRAM;
 
 /// A decoder with a frame area of its own.
 #[derive(Drop)]
@@ -19,7 +19,7 @@ pub struct Decoder {
 
 impl Model for Decoder {
     ghost use Rattle.std.specs.Prelude.{◌≤◌, take};
-    ghost use Rattle.uip_edge.specs.declared.sizes.TheConstants.{LARGEST_DATAGRAM};
+    ghost use Rattle.uip_wire.specs.declared.sizes.TheConstants.{LARGEST_DATAGRAM};
     ghost use Rattle.uip_slip.specs.Decoding.{State};
 
     ghost Value = { State };

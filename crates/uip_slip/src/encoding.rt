@@ -6,7 +6,8 @@ ghost use Rattle.uip_slip.specs.Text.{slip_text};
 
 use crate::marks::{END, ESC};
 use crate::text_area::TextArea;
-use uip_edge::{Failed, LARGEST_DATAGRAM, Sink};
+use uip_edge::{Failed, Sink};
+use uip_wire::LARGEST_DATAGRAM;
 
 /// The length of the text of a datagram.
 pub fn encoded_len(datagram: &[u8]) -> usize

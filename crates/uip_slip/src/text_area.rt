@@ -3,7 +3,7 @@ ghost use Rattle.uip_slip.specs.Text.{escaped};
 
 use crate::marks::{END, ESC, escape_of, plain_len};
 use std::marker::Model;
-use uip_edge::LARGEST_DATAGRAM;
+use uip_wire::LARGEST_DATAGRAM;
 
 /// The most bytes of a datagram's text: each byte escaped, and an END on both sides.
 pub const LARGEST_TEXT: usize = 2 * LARGEST_DATAGRAM + 2;
