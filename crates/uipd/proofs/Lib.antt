@@ -1,0 +1,4 @@
+pub mod AnswerLaws
+pub mod OutputLaws
+pub mod ServeLaws
+pub mod WordLaws

@@ -1,0 +1,7 @@
+pub mod Answering
+pub mod Output
+pub mod Serving
+pub mod Stack
+pub mod Telling
+pub mod Turns
+pub mod Words

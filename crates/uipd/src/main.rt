@@ -1,0 +1,36 @@
+//! The program `uipd`: it serves a serial line, and reads its words, its line and its output through the traits of
+//! `uip_edge` alone, so that everything it does is said of `run`. This file only makes the real adapters and turns the
+//! answer of `run` into the process's status.
+#![tactic(auto)]
+
+mod adapters;
+mod run;
+mod serve;
+mod server;
+mod stack;
+mod status;
+#[cfg(test)]
+mod tests;
+mod words;
+
+use adapters::{ReaderLink, WriterSink};
+use run::run;
+use status::Status;
+use std::process::ExitCode;
+use std::{env, io};
+
+/// Reads the words behind the program's name and does what they say.
+fn run_words(rt: HostRuntime) -> io::Result<Status> {
+    let mut words = Vec::new(rt.alloc());
+    for word in env::args(&rt)?.skip(1) {
+        words.push(word)?;
+    }
+    let mut link = ReaderLink::new(rt.stdin());
+    let mut out = WriterSink::new(rt.stdout());
+    Ok(run(rt.alloc(), &words, &mut link, &mut out))
+}
+
+/// Words that are not text are no words of the program.
+fn main(rt: HostRuntime) -> ExitCode {
+    ExitCode::from(run_words(rt).unwrap_or(Status::BadWords).exit_code())
+}

@@ -1,0 +1,203 @@
+// The worked exchanges, over a link and a sink in memory, with the items cut in every way.
+use crate::run::run;
+use crate::status::Status;
+use std::alloc::{AllocError, Global};
+use std::process::Abort;
+use std::test::Fail;
+use uip_edge::{Item, MemLink, MemSink};
+
+const SERVE: [&str; 3] = ["serve", "-", "10.0.0.1"];
+
+const PING: [u8; 30] = [
+    0xC0, 0x45, 0, 0, 0x1C, 0, 1, 0, 0, 0x40, 1, 0x66, 0xDE, 10, 0, 0, 2, 10, 0, 0, 1, 8, 0, 0xF7,
+    0xFD, 0, 1, 0, 1, 0xC0,
+];
+
+const PONG: [u8; 30] = [
+    0xC0, 0x45, 0, 0, 0x1C, 0, 1, 0, 0, 0x40, 1, 0x66, 0xDE, 10, 0, 0, 1, 10, 0, 0, 2, 0, 0, 0xFF,
+    0xFD, 0, 1, 0, 1, 0xC0,
+];
+
+// With an END and an ESC in the payload.
+const ESCAPED_PING: [u8; 34] = [
+    0xC0, 0x45, 0, 0, 0x1E, 0, 1, 0, 0, 0x40, 1, 0x66, 0xDC, 10, 0, 0, 2, 10, 0, 0, 1, 8, 0, 0x37,
+    0x22, 0, 1, 0, 1, 0xDB, 0xDC, 0xDB, 0xDD, 0xC0,
+];
+
+const ESCAPED_PONG: [u8; 34] = [
+    0xC0, 0x45, 0, 0, 0x1E, 0, 1, 0, 0, 0x40, 1, 0x66, 0xDC, 10, 0, 0, 1, 10, 0, 0, 2, 0, 0, 0x3F,
+    0x22, 0, 1, 0, 1, 0xDB, 0xDC, 0xDB, 0xDD, 0xC0,
+];
+
+// Of odd length, with an ESC before a byte that needs none.
+const STRAY_PING: [u8; 32] = [
+    0xC0, 0x45, 0, 0, 0x1D, 0, 1, 0, 0, 0x40, 1, 0x66, 0xDD, 10, 0, 0, 2, 10, 0, 0, 1, 8, 0, 0xB6,
+    0xFD, 0, 1, 0, 1, 0xDB, 0x41, 0xC0,
+];
+
+const STRAY_PONG: [u8; 31] = [
+    0xC0, 0x45, 0, 0, 0x1D, 0, 1, 0, 0, 0x40, 1, 0x66, 0xDD, 10, 0, 0, 1, 10, 0, 0, 2, 0, 0, 0xBE,
+    0xFD, 0, 1, 0, 1, 0x41, 0xC0,
+];
+
+// Two bytes behind the datagram's total length.
+const PADDED_PING: [u8; 32] = [
+    0xC0, 0x45, 0, 0, 0x1C, 0, 1, 0, 0, 0x40, 1, 0x66, 0xDE, 10, 0, 0, 2, 10, 0, 0, 1, 8, 0, 0xF7,
+    0xFD, 0, 1, 0, 1, 0x99, 0x99, 0xC0,
+];
+
+const LARGEST_PING_HEAD: [u8; 28] = [
+    0x45, 0, 5, 0xDC, 0, 1, 0, 0, 0x40, 1, 0x61, 0x1E, 10, 0, 0, 2, 10, 0, 0, 1, 8, 0, 0xF7, 0xFD,
+    0, 1, 0, 1,
+];
+
+const LARGEST_PONG_HEAD: [u8; 29] = [
+    0xC0, 0x45, 0, 5, 0xDC, 0, 1, 0, 0, 0x40, 1, 0x61, 0x1E, 10, 0, 0, 1, 10, 0, 0, 2, 0, 0, 0xFF,
+    0xFD, 0, 1, 0, 1,
+];
+
+/// A run: its words, its link and sink, and what it has to write and answer.
+#[derive(Drop)]
+struct Row<'a> {
+    words: &'a [&'a str],
+    input: &'a [u8],
+    link_fails: &'a [u64],
+    room: usize,
+    output: &'a [u8],
+    status: Status,
+}
+
+impl<'a> Row<'a> {
+    fn new(input: &'a [u8], output: &'a [u8]) -> Row<'a> {
+        Row {
+            words: &SERVE,
+            input,
+            link_fails: &[],
+            room: 4096,
+            output,
+            status: Status::Done,
+        }
+    }
+}
+
+fn words_of(alloc: Global, words: &[&str]) -> Result<Vec<String>, AllocError> {
+    let mut list = Vec::new(alloc);
+    for word in words {
+        list.push(String::from_str(alloc, word)?)?;
+    }
+    Ok(list)
+}
+
+fn items_of(alloc: Global, bytes: &[u8]) -> Result<Vec<Item>, AllocError> {
+    let mut items = Vec::new(alloc);
+    for byte in bytes {
+        items.push(Item::Byte(*byte))?;
+    }
+    Ok(items)
+}
+
+/// Does a row with so many bytes a call of the link.
+fn check(rt: &impl Abort, alloc: Global, row: &Row, most: usize) -> Result<(), Fail> {
+    let words = words_of(alloc, row.words)?;
+    let fails = row.link_fails.to_vec(alloc)?;
+    let mut link = MemLink::new(items_of(alloc, row.input)?, most.max(1), fails);
+    let Ok(mut out) = MemSink::new(alloc, row.room, Vec::new(alloc)) else {
+        return Err("no memory".into());
+    };
+    let status = run(alloc, &words, &mut link, &mut out);
+    assert_eq!(rt; status, row.status);
+    assert_eq!(rt; out.written(), row.output);
+    Ok(())
+}
+
+/// Does a row with its items cut in every way.
+fn check_cuts(rt: &impl Abort, alloc: Global, row: &Row) -> Result<(), Fail> {
+    for most in 1..=row.input.len().max(1) {
+        check(rt, alloc, row, most)?;
+    }
+    Ok(())
+}
+
+#[test]
+fn answers_echo_requests(rt: HostRuntime) -> Result<(), Fail> {
+    let rows = [
+        Row::new(&PING, &PONG),
+        Row::new(&[], &[]),
+        Row::new(&[0xC0], &[]),
+        Row::new(&[0xDB, 0xC0], &[]),
+        Row::new(&PING[..29], &[]),
+        Row::new(&ESCAPED_PING, &ESCAPED_PONG),
+        Row::new(&STRAY_PING, &STRAY_PONG),
+        Row::new(&PADDED_PING, &PONG),
+    ];
+    for row in &rows {
+        check_cuts(&rt, rt.alloc(), row)?;
+    }
+    Ok(())
+}
+
+#[test]
+fn takes_the_largest_frame(rt: HostRuntime) -> Result<(), Fail> {
+    let alloc = rt.alloc();
+    let mut input = LARGEST_PING_HEAD.to_vec(alloc)?;
+    let mut output = LARGEST_PONG_HEAD.to_vec(alloc)?;
+    let zeros = [0; 1472];
+    input.extend_from_slice(&zeros)?;
+    output.extend_from_slice(&zeros)?;
+    let mut longer = input.clone()?;
+    input.push(0xC0)?;
+    output.push(0xC0)?;
+    check_cuts(&rt, alloc, &Row::new(&input, &output))?;
+    longer.push(0)?;
+    longer.extend_from_slice(&PING)?;
+    check_cuts(&rt, alloc, &Row::new(&longer, &PONG))
+}
+
+#[test]
+fn stops_as_asked(rt: HostRuntime) -> Result<(), Fail> {
+    let rows = [
+        Row {
+            words: &["serve", "-", "10.0.0.1", "items", "29"],
+            status: Status::Budget,
+            ..Row::new(&PING, &[])
+        },
+        Row {
+            words: &["serve", "-", "10.0.0.1", "items", "30"],
+            status: Status::Budget,
+            ..Row::new(&PING, &PONG)
+        },
+        Row {
+            words: &["serve", "-", "10.0.0.1", "items", "31"],
+            ..Row::new(&PING, &PONG)
+        },
+        Row {
+            words: &["serve", "-", "10.0.0.1", "items", "0"],
+            status: Status::Budget,
+            ..Row::new(&PING, &[])
+        },
+        Row {
+            words: &["serve", "-", "10.0.0.256"],
+            status: Status::BadWords,
+            ..Row::new(&PING, &[])
+        },
+        Row {
+            words: &["serve", "-", "10.0.0.1", "items", "01"],
+            status: Status::BadWords,
+            ..Row::new(&PING, &[])
+        },
+        Row {
+            room: 10,
+            status: Status::WriteFault,
+            ..Row::new(&PING, &PONG[..10])
+        },
+    ];
+    for row in &rows {
+        check_cuts(&rt, rt.alloc(), row)?;
+    }
+    let failing = Row {
+        link_fails: &[3],
+        status: Status::LinkFault,
+        ..Row::new(&PING, &[])
+    };
+    check(&rt, rt.alloc(), &failing, 1)
+}
