@@ -21,14 +21,50 @@ pub fn encoded_len(datagram: &[u8]) -> usize
     len
 }
 
-/// Writes the text of a datagram: in one piece, unless the datagram is longer than the largest. A failed call has
-/// written a front of the text.
+/// An encoder with an area of its own for the text, so that each datagram goes out in one piece.
+#[derive(Drop)]
+pub struct Encoder {
+    text: TextArea,
+}
+
+impl Encoder {
+    pub fn new() -> Encoder {
+        Encoder {
+            text: TextArea::new(),
+        }
+    }
+
+    /// Writes the text of a datagram: in one piece, unless the datagram is longer than the largest. A failed call has
+    /// written a front of the text.
+    pub fn encode<K: Sink>(&mut self, datagram: &[u8], sink: &mut K) -> Result<(), Failed>
+        ensures whole { OnOk result (Appends (K.written sink.old) (K.written sink.new) (slip_text datagram.now)) }
+        ensures front { OnErr result (AppendsPrefix (K.written sink.old) (K.written sink.new) (slip_text datagram.now)) }
+        ensures cause { HasCause (K.faults sink.old) (K.faults sink.new) result }
+    {
+        encode_over(&mut self.text, datagram, sink)
+    }
+}
+
+/// Writes the text of one datagram, as an encoder does.
 pub fn encode<K: Sink>(datagram: &[u8], sink: &mut K) -> Result<(), Failed>
     ensures whole { OnOk result (Appends (K.written sink.old) (K.written sink.new) (slip_text datagram.now)) }
     ensures front { OnErr result (AppendsPrefix (K.written sink.old) (K.written sink.new) (slip_text datagram.now)) }
     ensures cause { HasCause (K.faults sink.old) (K.faults sink.new) result }
 {
-    let mut text = TextArea::new();
+    Encoder::new().encode(datagram, sink)
+}
+
+/// Writes the text of a datagram over a text area.
+fn encode_over<K: Sink>(
+    text: &mut TextArea,
+    datagram: &[u8],
+    sink: &mut K,
+) -> Result<(), Failed>
+    ensures whole { OnOk result (Appends (K.written sink.old) (K.written sink.new) (slip_text datagram.now)) }
+    ensures front { OnErr result (AppendsPrefix (K.written sink.old) (K.written sink.new) (slip_text datagram.now)) }
+    ensures cause { HasCause (K.faults sink.old) (K.faults sink.new) result }
+{
+    text.clear();
     text.put(&[END]);
     let mut rest = datagram;
     while rest.len() > LARGEST_DATAGRAM {

@@ -10,5 +10,5 @@ mod marks;
 mod text_area;
 
 pub use decoder::Decoder;
-pub use encoding::{encode, encoded_len, text_is_one_frame};
+pub use encoding::{Encoder, encode, encoded_len, text_is_one_frame};
 pub use fed::{Fed, FedRun};

@@ -11,7 +11,7 @@ use Rattle.uip_ipv4.proofs.Facts.{head_facts}
 use Rattle.packet_buffer.specs.Buffer.{Buffer, datagram_in}
 use Rattle.icmp_echo.specs.declared.fate.IcmpFate.{IcmpFate}
 use Rattle.icmp_echo.specs.Echo.{echo_fate, echo_message, echo_reply, answered}
-use Rattle.uipd.specs.Answering.{answer_by, answer_of, answer_to, tcp_answers}
+use Rattle.uipd.specs.Answering.{answer_by, answer_of, answer_to, count_by, count_of, tcp_answers}
 
 length-echo_reply : (d : List ℕ) → 28 ≤ length d → length (echo_reply d) ≡ length d
 length-echo_reply d h =
@@ -97,7 +97,17 @@ taken_in own own' d bytes n head r same loaded exact e =
     ap (λ o. answer_of (head_or_fate d o) n d) (sym same) ∙ ap (λ b. answer_of (head_or_fate b own) n d) (sym loaded)
     ∙ ap (λ r. answer_of r n d) (sym exact ∙ e) ∙ ap (λ b. answer_by head.proto head n b) (sym loaded)
 
--- so far no answer is a TCP datagram
-pub no_number : (own d : List ℕ) (n ident : ℕ) → n % 65536 ≡ ident → (n + tcp_answers own d) % 65536 ≡ ident
+-- the same for the number of TCP datagrams
+pub refused_count : (own own' d bytes : List ℕ) (f : IpFate) (r : Result IpHead IpFate) → own ≡ own' → bytes ≡ d
+    → r ≡ head_or_fate bytes own → r ≡ Err f → tcp_answers own' d ≡ 0
 unfolding tcp_answers
-no_number own d n ident e = ap (λ m. m % 65536) (add-zero n) ∙ e
+refused_count own own' d bytes f r same loaded exact e =
+    ap (λ o. count_of (head_or_fate d o) d) (sym same) ∙ ap (λ b. count_of (head_or_fate b own) d) (sym loaded)
+    ∙ ap (λ r. count_of r d) (sym exact ∙ e)
+
+pub taken_count : (own own' d bytes : List ℕ) (head : IpHead) (r : Result IpHead IpFate) → own ≡ own' → bytes ≡ d
+    → r ≡ head_or_fate bytes own → r ≡ Ok head → tcp_answers own' d ≡ count_by head.proto head bytes
+unfolding tcp_answers
+taken_count own own' d bytes head r same loaded exact e =
+    ap (λ o. count_of (head_or_fate d o) d) (sym same) ∙ ap (λ b. count_of (head_or_fate b own) d) (sym loaded)
+    ∙ ap (λ r. count_of r d) (sym exact ∙ e) ∙ ap (λ b. count_by head.proto head b) (sym loaded)

@@ -1,4 +1,5 @@
 pub mod AnswerLaws
 pub mod OutputLaws
+pub mod RefusalLaws
 pub mod ServeLaws
 pub mod WordLaws

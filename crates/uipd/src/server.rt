@@ -10,7 +10,7 @@ ghost use Rattle.uipd.specs.Turns.{HasTaken, added, CountFits, Turns};
 use crate::stack::Stack;
 use std::alloc::Global;
 use uip_edge::{Failed, Got, Link, NoMemory, ServeEnd, Sink};
-use uip_slip::{Decoder, Fed, encode};
+use uip_slip::{Decoder, Encoder, Fed};
 use uip_wire::Addr;
 
 /// What became of one turn: so many items were taken, or the serving ends.
@@ -24,6 +24,7 @@ pub enum Turn {
 pub struct Server {
     pub decoder: Decoder,
     pub stack: Stack,
+    encoder: Encoder,
 }
 
 impl Server {
@@ -34,6 +35,7 @@ impl Server {
         Ok(Server {
             decoder: Decoder::new(),
             stack: Stack::new(alloc, own)?,
+            encoder: Encoder::new(),
         })
     }
 
@@ -93,7 +95,12 @@ impl Server {
             Fed::More => Ok(run.count),
             Fed::Overlong => Ok(run.count),
             Fed::Datagram(count) => {
-                write_answer(&mut self.stack, self.decoder.bytes(count), out)?;
+                write_answer(
+                    &mut self.stack,
+                    &mut self.encoder,
+                    self.decoder.bytes(count),
+                    out,
+                )?;
                 Ok(run.count)
             }
         }
@@ -105,7 +112,12 @@ ghost use Rattle.uipd.specs.Answering.{answer_to, tcp_answers};
 ghost use Rattle.uipd.specs.Output.{text_for};
 
 /// Writes the answer to a datagram, if it has one.
-fn write_answer<K: Sink>(stack: &mut Stack, datagram: &[u8], out: &mut K) -> Result<(), Failed>
+fn write_answer<K: Sink>(
+    stack: &mut Stack,
+    encoder: &mut Encoder,
+    datagram: &[u8],
+    out: &mut K,
+) -> Result<(), Failed>
     requires { length datagram.now ≤ 1500 }
     ensures own { stack.new.own ≡ stack.old.own }
     ensures ident { (n : ℕ) → n % 65536 ≡ stack.old.ident → (n + tcp_answers stack.old.own datagram.now) % 65536 ≡ stack.new.ident }
@@ -116,7 +128,7 @@ fn write_answer<K: Sink>(stack: &mut Stack, datagram: &[u8], out: &mut K) -> Res
     ensures cause { HasCause (K.faults out.old) (K.faults out.new) result }
 {
     if stack.input(datagram) {
-        return encode(stack.datagram(), out);
+        return encoder.encode(stack.datagram(), out);
     }
     Ok(())
 }

@@ -1,12 +1,15 @@
 ghost use Rattle.std.specs.Prelude.{◌≡◌, ◌≤◌, ◌+◌, ◌%◌, ℕ, if◌then◌else◌, Some, None, IfOk, length};
 ghost use Rattle.packet_buffer.specs.Buffer.{datagram_in};
 ghost use Rattle.uip_ipv4.specs.Head.{IsHeadOf};
-ghost use Rattle.uipd.specs.Answering.{answer_to, answer_by, tcp_answers};
+ghost use Rattle.uipd.specs.Answering.{answer_to, answer_by, count_by, refusals, reset_out, segment_answer, tcp_answers};
+ghost use Rattle.tcp_segment.specs.Received.{segment_or_fate};
 
 use icmp_echo::reply;
 use packet_buffer::Packet;
 use std::alloc::Global;
 use std::marker::Model;
+use tcp_segment as segment;
+use tcp_segment::{ACK, Out, RST, Segment, put};
 use uip_edge::NoMemory;
 use uip_ipv4::{IpHead, Proto, check};
 use uip_wire::{Addr, LARGEST_DATAGRAM};
@@ -58,7 +61,7 @@ impl Stack {
     {
         self.packet.load(datagram);
         match check(self.packet.bytes(), self.own) {
-            Ok(head) => answer(&mut self.packet, &head),
+            Ok(head) => answer(&mut self.packet, &head, &mut self.ident),
             Err(_) => false,
         }
     }
@@ -71,14 +74,59 @@ impl Stack {
     }
 }
 
-/// Answers the datagram in the packet, whose checked header this is, and says whether it has an answer.
-fn answer(packet: &mut Packet, head: &IpHead) -> bool
-    requires { IsHeadOf head.now (datagram_in packet.old) }
-    ensures answer { (n : ℕ) → answer_by head.now.proto head.now n (datagram_in packet.old) ≡ (if result then Some (datagram_in packet.new) else None) }
+/// Answers the datagram in the packet, whose checked header this is, and says whether it has an answer. `ident` is the
+/// identification of the last TCP datagram.
+fn answer(packet: &mut Packet, head: &IpHead, ident: &mut u16) -> bool
+    requires checked { IsHeadOf head.now (datagram_in packet.old) }
+    requires size { length packet.old.area ≡ 1500 }
+    ensures answer { (n : ℕ) → n % 65536 ≡ ident.old
+        → answer_by head.now.proto head.now n (datagram_in packet.old) ≡ (if result then Some (datagram_in packet.new) else None) }
+    ensures ident { (n : ℕ) → n % 65536 ≡ ident.old → (n + count_by head.now.proto head.now (datagram_in packet.old)) % 65536 ≡ ident.new }
     ensures size { length packet.new.area ≡ length packet.old.area }
 {
     match head.proto {
         Proto::Icmp => reply(packet, head).is_ok(),
-        Proto::Tcp => false,
+        Proto::Tcp => refuse(packet, head, ident),
+    }
+}
+
+/// Refuses the segment in the packet, and says whether it was one to refuse.
+fn refuse(packet: &mut Packet, head: &IpHead, ident: &mut u16) -> bool
+    requires checked { IsHeadOf head.now (datagram_in packet.old) }
+    requires size { length packet.old.area ≡ 1500 }
+    ensures answer { (n : ℕ) → n % 65536 ≡ ident.old
+        → segment_answer (segment_or_fate head.now (datagram_in packet.old)) head.now n ≡ (if result then Some (datagram_in packet.new) else None) }
+    ensures ident { (n : ℕ) → n % 65536 ≡ ident.old → (n + refusals (segment_or_fate head.now (datagram_in packet.old))) % 65536 ≡ ident.new }
+    ensures size { length packet.new.area ≡ length packet.old.area }
+{
+    match segment::check(packet.bytes(), head) {
+        Err(_) => false,
+        Ok(segment) => {
+            if segment.flags / RST % 2 == 1 {
+                return false;
+            }
+            *ident = ident.wrapping_add(1);
+            put(packet, &reset(head, &segment, *ident));
+            true
+        }
+    }
+}
+
+/// The segment that refuses a segment to no connection.
+fn reset(head: &IpHead, segment: &Segment, id: u16) -> Out
+    ensures { result ≡ reset_out head.now segment.now id }
+{
+    Out {
+        source: head.target,
+        target: head.source,
+        from: segment.to,
+        to: segment.from,
+        seq: segment.ack,
+        ack: segment.seq.add(1),
+        flags: RST + ACK,
+        window: 0,
+        mss: None,
+        len: 0,
+        id,
     }
 }

@@ -56,6 +56,22 @@ const LARGEST_PONG_HEAD: [u8; 29] = [
     0xFD, 0, 1, 0, 1,
 ];
 
+// A SYN to a port that nothing serves.
+const SYN: [u8; 42] = [
+    0xC0, 0x45, 0, 0, 0x28, 0, 1, 0, 0, 0x40, 6, 0x66, 0xCD, 10, 0, 0, 2, 10, 0, 0, 1, 4, 1, 0,
+    0x51, 0, 0, 3, 0xE8, 0, 0, 0, 0, 0x50, 2, 0x20, 0, 0x73, 0xA6, 0, 0, 0xC0,
+];
+
+const REFUSAL: [u8; 42] = [
+    0xC0, 0x45, 0, 0, 0x28, 0, 1, 0, 0, 0x40, 6, 0x66, 0xCD, 10, 0, 0, 1, 10, 0, 0, 2, 0, 0x51, 4,
+    1, 0, 0, 0, 0, 0, 0, 3, 0xE9, 0x50, 0x14, 0, 0, 0x93, 0x93, 0, 0, 0xC0,
+];
+
+const RESET: [u8; 42] = [
+    0xC0, 0x45, 0, 0, 0x28, 0, 1, 0, 0, 0x40, 6, 0x66, 0xCD, 10, 0, 0, 2, 10, 0, 0, 1, 4, 1, 0,
+    0x51, 0, 0, 3, 0xE8, 0, 0, 0, 0, 0x50, 4, 0x20, 0, 0x73, 0xA4, 0, 0, 0xC0,
+];
+
 /// A run: its words, its link and sink, and what it has to write and answer.
 #[derive(Drop)]
 struct Row<'a> {
@@ -119,7 +135,7 @@ fn check_cuts(rt: &impl Abort, alloc: Global, row: &Row) -> Result<(), Fail> {
 }
 
 #[test]
-fn answers_echo_requests(rt: HostRuntime) -> Result<(), Fail> {
+fn answers_each_datagram(rt: HostRuntime) -> Result<(), Fail> {
     let rows = [
         Row::new(&PING, &PONG),
         Row::new(&[], &[]),
@@ -129,6 +145,8 @@ fn answers_echo_requests(rt: HostRuntime) -> Result<(), Fail> {
         Row::new(&ESCAPED_PING, &ESCAPED_PONG),
         Row::new(&STRAY_PING, &STRAY_PONG),
         Row::new(&PADDED_PING, &PONG),
+        Row::new(&SYN, &REFUSAL),
+        Row::new(&RESET, &[]),
     ];
     for row in &rows {
         check_cuts(&rt, rt.alloc(), row)?;

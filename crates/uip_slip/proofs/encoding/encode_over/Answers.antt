@@ -1,9 +1,9 @@
-use Rattle.std.proofs.Common.{◌≡◌, ◌++◌, ◌∷◌, [], ◌∙◌, sym, ap, arith, length, append-nil, length-append}
+use Rattle.std.proofs.Common.{◌≡◌, ◌++◌, ◌∷◌, [], ◌∙◌, refl, sym, ap, arith, length, append-nil, length-append}
 use Rattle.std.proofs.lemmas.Result.{on_err_weaker}
 use Rattle.uip_slip.specs.Text.{escaped, slip_text}
-use Rattle.uip_edge.proofs.Told.{Appends-then, prefix_more, prefix_then, on_err, prefix_by, appends_by}
+use Rattle.uip_edge.proofs.Told.{Appends-none, Appends-then, prefix_more, prefix_then, on_err, prefix_by, appends_by}
 use Rattle.uip_slip.proofs.TextLaws.{gathered, text_parts, split_pieces, whole_text, last_front, escaped-bound}
-use Rattle.uip_slip.proofs.encoding.encode.Goals as goal
+use Rattle.uip_slip.proofs.encoding.encode_over.Goals as goal
 
 pub returns-in_err-write_whole-clause-front : goal.returns-in_err-write_whole-clause-front
 returns-in_err-write_whole-clause-front g c =
@@ -18,6 +18,19 @@ returns-in_err-write_whole-clause-front g c =
     on_err _ (prefix_more _ _ (inv.sent ++ text) (escaped others ++ 192 ∷ []) _ whole
     (prefix_then _ _ _ inv.sent text inv.written (prefix_by _ _ _ text (sym c.bytes.ensures) c.in_err-write_whole.ensures.front)))
 
+pub loop-rest-init : goal.loop-rest-init
+loop-rest-init g c =
+    let made : c.put.new.self ≡ 192 ∷ [] = c.put.ensures ∙ ap (λ l. l ++ 192 ∷ []) c.clear.ensures in
+    record {
+      front = [];
+      sent = [];
+      pieces = refl;
+      made = made;
+      room = (let one : length c.put.new.self ≡ 1 = ap (λ l. length l) made in omega (arith, one));
+      written = Appends-none _;
+      same = refl;
+    }
+
 pub loop-rest-preserved : goal.loop-rest-preserved
 loop-rest-preserved g c =
     let inv = c.loop-rest.invariant in
@@ -29,9 +42,9 @@ loop-rest-preserved g c =
       front = inv.front ++ part;
       sent = inv.sent ++ text;
       pieces = split_pieces c.args.datagram.now inv.front c.loop-rest.rest.now part others 1500 inv.pieces c.split_at.ensures.front c.split_at.ensures.back;
-      made = ap (λ l. (inv.sent ++ text) ++ l) c.clear.ensures ∙ append-nil (inv.sent ++ text)
+      made = ap (λ l. (inv.sent ++ text) ++ l) c.clear-in-loop-rest.ensures ∙ append-nil (inv.sent ++ text)
           ∙ gathered inv.sent c.loop-rest.text text inv.front part inv.made c.put_escaped.ensures;
-      room = (let none : length c.clear.new.self ≡ 0 = ap (λ l. length l) c.clear.ensures in omega (arith, none));
+      room = (let none : length c.clear-in-loop-rest.new.self ≡ 0 = ap (λ l. length l) c.clear-in-loop-rest.ensures in omega (arith, none));
       written = Appends-then _ _ _ inv.sent text inv.written (appends_by _ _ _ text (sym c.bytes.ensures) told.whole);
       same = told.cause.same ∙ inv.same;
     }

@@ -1,7 +1,7 @@
 use Rattle.std.proofs.Common.{◌≡◌, ◌∷◌, ◌++◌, ◌≤◌, List, ℕ, length}
 use Rattle.std.specs.Io.KnownBytes.{Appends}
 use Rattle.uip_slip.specs.Text.{escaped}
-use Rattle.uip_slip.proofs.encoding.encode.Given as goal
+use Rattle.uip_slip.proofs.encoding.encode_over.Given as goal
 
 abbrev pub invariant-loop-rest : goal.invariant-loop-rest
 invariant-loop-rest g l = record {
