@@ -1,2 +1,3 @@
+pub mod Exchange
 pub mod InPlace
 pub mod Rows

@@ -1,7 +1,7 @@
 ghost use Rattle.std.specs.Prelude.{◌≡◌, ◌≤◌, ◌++◌, length, take, drop, slice_range};
 ghost use Rattle.icmp_echo.specs.Echo.{echo_message, echo_reply};
 
-use uip_wire::{checksum, put16};
+use uip_wire::{Addr, checksum, put16};
 
 /// Makes the echo request at the front of an area its reply.
 pub(crate) fn answer(area: &mut [u8], total: usize)
@@ -26,7 +26,10 @@ fn exchange(datagram: &mut [u8])
     requires { 20 ≤ length datagram.old }
     ensures { datagram.new ≡ take 12 datagram.old ++ slice_range datagram.old 16 20 ++ slice_range datagram.old 12 16 ++ drop 20 datagram.old }
 {
-    datagram[12..20].rotate_left(4);
+    let source = Addr::get(datagram, 12);
+    let target = Addr::get(datagram, 16);
+    target.put(datagram, 12);
+    source.put(datagram, 16);
 }
 
 /// Makes an echo message its reply.

@@ -55,11 +55,7 @@ pub fn encode<K: Sink>(datagram: &[u8], sink: &mut K) -> Result<(), Failed>
 }
 
 /// Writes the text of a datagram over a text area.
-fn encode_over<K: Sink>(
-    text: &mut TextArea,
-    datagram: &[u8],
-    sink: &mut K,
-) -> Result<(), Failed>
+fn encode_over<K: Sink>(text: &mut TextArea, datagram: &[u8], sink: &mut K) -> Result<(), Failed>
     ensures whole { OnOk result (Appends (K.written sink.old) (K.written sink.new) (slip_text datagram.now)) }
     ensures front { OnErr result (AppendsPrefix (K.written sink.old) (K.written sink.new) (slip_text datagram.now)) }
     ensures cause { HasCause (K.faults sink.old) (K.faults sink.new) result }
