@@ -1,5 +1,5 @@
 -- The answer that is made in the packet.
-use Rattle.std.proofs.Common.{◌≡◌, ℕ, ◌+◌, ◌-◌, ◌%◌, ◌≤◌, true, false, cond, nat_lt, None, Some, Result, Ok, Err, List, ◌++◌, length, take, drop, slice_range, refl, sym, ap, ◌∙◌, arith, add-zero, length-append, length-take, length-drop, is_ok, MatchResult, OnOk, OnErr}
+use Rattle.std.proofs.Common.{◌≡◌, ℕ, ◌-◌, ◌≤◌, true, false, cond, nat_lt, None, Some, Result, Ok, Err, List, ◌++◌, length, take, drop, slice_range, refl, sym, ap, ◌∙◌, arith, length-append, length-take, length-drop, is_ok, MatchResult, OnOk, OnErr}
 use Rattle.std.proofs.lemmas.List.{take_at, take-take}
 use Rattle.std.proofs.Math.Seq.{take-append_seam}
 use Rattle.std.proofs.lemmas.Bool.{ltb-false}

@@ -1,19 +1,19 @@
 -- The refusal of a segment, and the number that it takes.
-use Rattle.std.proofs.Common.{◌≡◌, ℕ, ◌+◌, ◌%◌, Bool, true, false, cond, None, Some, Option, Result, Ok, Err, List, [], ◌∷◌, ◌++◌, length, take, drop, slice_range, refl, sym, ap, ◌∙◌, arith, add-zero, length-append, length-drop}
+use Rattle.std.proofs.Common.{◌≡◌, ℕ, ◌+◌, ◌%◌, Bool, cond, None, Some, Result, Ok, Err, List, [], ◌∷◌, ◌++◌, length, take, drop, slice_range, refl, sym, ap, ◌∙◌, arith, add-zero, length-append, length-drop}
 use Rattle.std.proofs.Math.Nat.{mod-add-mod}
 use Rattle.std.proofs.lemmas.List.{take_at}
 use Rattle.uip_wire.specs.Checksum.{checksum_of}
 use Rattle.uip_wire.specs.Fields.{bytes_of}
 use Rattle.uip_ipv4.specs.declared.head.IpHead.{IpHead}
 use Rattle.uip_ipv4.specs.declared.proto.Proto.{Proto}
-use Rattle.uip_ipv4.specs.declared.proto.Proto.TheVariants.{Icmp, Tcp}
+use Rattle.uip_ipv4.specs.declared.proto.Proto.TheVariants.{Tcp}
 use Rattle.uip_ipv4.specs.Head.{IsHeadOf, head_bytes, head_with, number_of}
 use Rattle.uip_ipv4.proofs.Facts.{head_facts}
 use Rattle.packet_buffer.specs.Buffer.{Buffer, datagram_in}
 use Rattle.tcp_segment.specs.declared.fate.TcpFate.{TcpFate}
 use Rattle.tcp_segment.specs.declared.segment.Segment.{Segment}
 use Rattle.tcp_segment.specs.declared.out.Out.{Out}
-use Rattle.tcp_segment.specs.Segments.{Datagram, datagram_bytes, segment_bytes, has_rst}
+use Rattle.tcp_segment.specs.Segments.{datagram_bytes, segment_bytes, has_rst}
 use Rattle.tcp_segment.specs.Sent.{datagram_of, datagram_len}
 use Rattle.uipd.specs.Answering.{reset_out, segment_answer, refusals}
 

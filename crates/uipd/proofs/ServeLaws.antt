@@ -1,5 +1,5 @@
 -- The turns of a run, put together.
-use Rattle.std.proofs.Common.{◌≡◌, ℕ, ◌+◌, ◌<◌, ◌≤◌, List, [], ◌++◌, Option, None, Some, length, ◌∙◌, append-nil, arith, length-append}
+use Rattle.std.proofs.Common.{ap, refl, sym, ◌≡◌, ℕ, ◌+◌, ◌<◌, ◌≤◌, List, [], ◌++◌, Option, None, Some, length, ◌∙◌, append-nil, arith, length-append}
 use Rattle.uip_edge.specs.declared.item.Item.{Item}
 use Rattle.uip_edge.specs.declared.serve_end.ServeEnd.{ServeEnd}
 use Rattle.uip_edge.specs.declared.serve_end.ServeEnd.TheVariants as ends
@@ -9,7 +9,7 @@ use Rattle.uip_edge.proofs.Told.{Appends-then, Consumes-then, prefix_by, prefix_
 use Rattle.uip_slip.specs.Decoding.{State}
 use Rattle.uipd.specs.declared.server.Turn.TheVariants.{Stopped}
 use Rattle.uipd.specs.Output.{output_of, bytes_of}
-use Rattle.uipd.specs.Serving.{Outside, IsDry, TookAll, Serves, ServeRuns, status_of}
+use Rattle.uipd.specs.Serving.{Outside, IsDry, TookAll, Serves, ServeRuns, Ends, Unfailed, status_of}
 use Rattle.uipd.specs.Stack.{StackState}
 use Rattle.uipd.specs.Turns.{Turns, added}
 use Rattle.uipd.proofs.OutputLaws.{output_of-then}
@@ -66,3 +66,20 @@ runs own n old new ends.End s = s
 runs own n old new ends.LinkFault s = s
 runs own n old new ends.WriteFault s = s
 runs own n old new ends.Budget s = s
+
+taken_within : (old new : Option (List Item)) (all taken : List Item) → old ≡ Some all → Consumes old new taken → length taken ≤ length all
+taken_within None new all taken e c = absurd (cc e)
+taken_within (Some told) None all taken e c = absurd c
+taken_within (Some told) (Some left) all taken e c =
+    let same : told ≡ all = cc e in
+    let size : length all ≡ length (taken ++ left) = ap (λ l. length l) (sym same ∙ c) in
+    omega (arith, size, length-append taken left)
+
+-- an end that no fault brought is the link's, where fewer items are told than are allowed
+pub done_told : (own : List ℕ) (n : ℕ) (old new : Outside) (all taken : List Item) (end : ServeEnd) → old.coming ≡ Some all → length all < n
+    → Consumes old.coming new.coming taken → Ends own n old new taken end → Unfailed old new → end ≡ ends.End
+done_told own n old new all taken ends.End told short c e calm = refl
+done_told own n old new all taken ends.Budget told short c e calm =
+    absurd (omega (arith, taken_within old.coming new.coming all taken told c, e.1, short))
+done_told own n old new all taken ends.LinkFault told short c e calm = absurd (omega (arith, e.2, calm.link, calm.link_below))
+done_told own n old new all taken ends.WriteFault told short c e calm = absurd (omega (arith, e.3, calm.sink, calm.sink_below))

@@ -1,9 +1,10 @@
-ghost use Rattle.std.specs.Prelude.{◌≡◌, List, ℕ, length, map, string_bytes};
+ghost use Rattle.std.specs.Prelude.{◌≡◌, ◌<◌, List, ℕ, Some, length, map, string_bytes};
+ghost use Rattle.uip_edge.specs.Coming.{Consumes};
 ghost use Rattle.uip_edge.specs.declared.item.Item.{Item};
 ghost use Rattle.uip_edge.specs.declared.serve_end.ServeEnd.{ServeEnd as AnyEnd};
-ghost use Rattle.uip_edge.specs.declared.serve_end.ServeEnd.TheVariants.{Budget};
+ghost use Rattle.uip_edge.specs.declared.serve_end.ServeEnd.TheVariants.{Budget, End};
 ghost use Rattle.uipd.specs.Serving.{outside, Outside, Ends, Runs, Unfailed};
-ghost use Rattle.uipd.specs.declared.status.Status.TheVariants.{BadWords, NoMemory};
+ghost use Rattle.uipd.specs.declared.status.Status.TheVariants.{BadWords};
 
 use crate::serve::serve;
 use crate::status::Status;
@@ -27,4 +28,10 @@ pub fn run<L: Link, K: Sink>(alloc: Global, words: &[String], link: &mut L, out:
 pub fn budget_is_told()
     ensures { (own : List ℕ) (n : ℕ) (old new : Outside) (taken : List Item) (end : AnyEnd) → Ends own n old new taken end
         → length taken ≡ n → Unfailed old new → end ≡ Budget }
+{}
+
+/// The end is told wherever the link tells fewer items than are allowed and nothing failed.
+pub fn done_is_told()
+    ensures { (own : List ℕ) (n : ℕ) (old new : Outside) (all taken : List Item) (end : AnyEnd) → old.coming ≡ Some all → length all < n
+        → Consumes old.coming new.coming taken → Ends own n old new taken end → Unfailed old new → end ≡ End }
 {}

@@ -11,7 +11,7 @@ use crate::stack::Stack;
 use std::alloc::Global;
 use uip_edge::{Failed, Got, Link, NoMemory, ServeEnd, Sink};
 use uip_slip::{Decoder, Encoder, Fed};
-use uip_wire::Addr;
+use uip_wire::{Addr, LARGEST_DATAGRAM};
 
 /// What became of one turn: so many items were taken, or the serving ends.
 pub enum Turn {
@@ -118,7 +118,7 @@ fn write_answer<K: Sink>(
     datagram: &[u8],
     out: &mut K,
 ) -> Result<(), Failed>
-    requires { length datagram.now ≤ 1500 }
+    requires { length datagram.now ≤ LARGEST_DATAGRAM }
     ensures own { stack.new.own ≡ stack.old.own }
     ensures ident { (n : ℕ) → n % 65536 ≡ stack.old.ident → (n + tcp_answers stack.old.own datagram.now) % 65536 ≡ stack.new.ident }
     ensures ok { OnOk result ((n : ℕ) → n % 65536 ≡ stack.old.ident

@@ -78,7 +78,7 @@ impl Stack {
 /// identification of the last TCP datagram.
 fn answer(packet: &mut Packet, head: &IpHead, ident: &mut u16) -> bool
     requires checked { IsHeadOf head.now (datagram_in packet.old) }
-    requires size { length packet.old.area ≡ 1500 }
+    requires size { length packet.old.area ≡ LARGEST_DATAGRAM }
     ensures answer { (n : ℕ) → n % 65536 ≡ ident.old
         → answer_by head.now.proto head.now n (datagram_in packet.old) ≡ (if result then Some (datagram_in packet.new) else None) }
     ensures ident { (n : ℕ) → n % 65536 ≡ ident.old → (n + count_by head.now.proto head.now (datagram_in packet.old)) % 65536 ≡ ident.new }
@@ -93,7 +93,7 @@ fn answer(packet: &mut Packet, head: &IpHead, ident: &mut u16) -> bool
 /// Refuses the segment in the packet, and says whether it was one to refuse.
 fn refuse(packet: &mut Packet, head: &IpHead, ident: &mut u16) -> bool
     requires checked { IsHeadOf head.now (datagram_in packet.old) }
-    requires size { length packet.old.area ≡ 1500 }
+    requires size { length packet.old.area ≡ LARGEST_DATAGRAM }
     ensures answer { (n : ℕ) → n % 65536 ≡ ident.old
         → segment_answer (segment_or_fate head.now (datagram_in packet.old)) head.now n ≡ (if result then Some (datagram_in packet.new) else None) }
     ensures ident { (n : ℕ) → n % 65536 ≡ ident.old → (n + refusals (segment_or_fate head.now (datagram_in packet.old))) % 65536 ≡ ident.new }
