@@ -26,7 +26,7 @@ use Rattle.link_world.specs.declared.act.Act.{Act}
 use Rattle.link_world.specs.declared.who.Who.{Who}
 use Rattle.link_world.specs.declared.who.Who.TheVariants.{FromClient, FromNode, Pinger}
 use Rattle.link_world.specs.History.{era, era_of, serving}
-use Rattle.link_theorem.specs.Headline.{IsPlainAct}
+use Rattle.link_theorem.specs.Headline.{IsLoss}
 use Rattle.link_theorem.proofs.Basics.{both_ways, choose, and_true, only_some}
 use Rattle.link_theorem.proofs.Good.{seg, segment_in, from, to}
 use Rattle.link_theorem.proofs.SocketPairs.{same_is, flip, apart, serves_not, serves_dead, serves_yes, not_peer}
@@ -37,6 +37,7 @@ use Rattle.link_theorem.proofs.Fits.{FitConn, accepted_fits}
 use Rattle.link_theorem.proofs.FitWorlds.{FitWorld, node_moment, era_fits, serving_fits, position_in, Inside, put_fits, periodic_fits}
 use Rattle.link_theorem.proofs.Setups.{SameSetup, takes_setup, opens_setup, again_setup, closes_setup, aborts_setup}
 use Rattle.link_theorem.proofs.Peers.{on_segment_keeps, asked_keeps, on_tick_keeps, on_tick_closed}
+use Rattle.link_theorem.proofs.Harmless.{Harmless}
 use Rattle.link_theorem.proofs.Sides.{Apart, buried, get_buried, buried_sockets, addressed_is, addressed_finds, gone_is, buried_here, buried_elsewhere, put_apart, clean_before}
 
 -- a side whose connection c is gone
@@ -524,7 +525,16 @@ module _ (m : Meaning) (G : ℕ → Side → Connection → List Sent → Type 0
     slots_framed [] w g fw = g
     slots_framed (i ∷ slots) w g fw = slots_framed slots (node_handles m served w (Periodic i)) (slot_ticks w i (slice_get w.node.connections i) refl g fw) (periodic_fits m pages lawful served w i fw)
 
-    pub does_framed : (w : World) (act : Act) → IsPlainAct act → Framed w → FitWorld w → Framed (does m served w act)
+    loss_framed : (w v : World) → IsLoss w v → Framed w → Framed v
+    loss_framed w v l g = record {
+      apart = subst (λ x. Apart x) (sym l.sides) g.apart;
+      single = subst (λ x. Single x) (sym l.connections) g.single;
+      each = λ k side x. (let y : slice_get w.sides k ≡ Some side = ap (λ (s : List Side). slice_get s k) (sym l.sides) ∙ x in
+          subst (λ t. G k side (serving (sockets_of side) t) v.sent) (sym l.connections)
+          (subst (λ s. G k side (serving (sockets_of side) w.node.connections) s) (sym l.sent) (g.each k side y)));
+    }
+
+    pub does_framed : (w : World) (act : Act) → Harmless m served w act → Framed w → FitWorld w → Framed (does m served w act)
     does_framed w (Act.Opens n) pl g fw = act_framed w n client_opens own_open (λ c. opens_setup c.state c) g fw
     does_framed w (Act.Again n) pl g fw = act_framed w n client_again own_again (λ c. again_setup c.state c) g fw
     does_framed w (Act.Closes n) pl g fw = act_framed w n client_closes own_close (λ c. closes_setup c.state c) g fw
@@ -532,5 +542,5 @@ module _ (m : Meaning) (G : ℕ → Side → Connection → List Sent → Type 0
     does_framed w (Act.Window n x) pl g fw = act_framed w n (tells_window x) (own_window x) (λ c. refl) g fw
     does_framed w (Act.Ping source) pl g fw = posts_aside w Pinger false _ g (λ k z. absurd (cc)) (λ k z. absurd (cc))
     does_framed w (Act.Give k) pl g fw = number_framed w k g fw
-    does_framed w (Act.Damage k at mask) pl g fw = absurd pl
+    does_framed w (Act.Damage k at mask) pl g fw = loss_framed w (does m served w (Act.Damage k at mask)) pl g
     does_framed w Act.Tick pl g fw = slots_framed (0 ∷ 1 ∷ 2 ∷ 3 ∷ 4 ∷ 5 ∷ 6 ∷ 7 ∷ 8 ∷ 9 ∷ []) w g fw

@@ -1,11 +1,10 @@
 -- One changed byte: a datagram that passed every check is refused at every address.
 use Rattle.std.specs.List.{All}
-use Rattle.std.proofs.Common.{◌≡◌, ◌≢◌, ℕ, zero, suc, ◌+◌, ◌-◌, ◌*◌, ◌/◌, ◌%◌, ◌^◌, ◌<◌, ◌≤◌, Bool, true, false, not, ◌||◌, ◌⊎◌, inl, inr, List, [], ◌∷◌, ◌++◌, length, take, drop, set, get_or, refl, sym, ap, ◌∙◌, subst, arith, Option, Some, None, Result, Ok, Err, slice_index, slice_range, length-append, length-drop, eqb, ltb, bytes_eq, bit_xor, append_assoc, if◌then◌else◌}
-use Rattle.std.proofs.lemmas.Bool.{eq-eqb, eqb-true, ne_eqb}
+use Rattle.std.proofs.Common.{◌≡◌, ◌≢◌, ℕ, zero, suc, ◌+◌, ◌-◌, ◌*◌, ◌%◌, ◌<◌, ◌≤◌, Bool, true, false, not, ◌||◌, ◌⊎◌, inl, inr, List, [], ◌∷◌, ◌++◌, length, take, drop, set, refl, sym, ap, ◌∙◌, subst, arith, Option, Some, None, Result, Ok, Err, slice_index, length-append, length-drop, eqb, ltb, bytes_eq, bit_xor, append_assoc, if◌then◌else◌}
+use Rattle.std.proofs.lemmas.Bool.{eqb-true, ne_eqb}
 use Rattle.std.proofs.lemmas.Slice.Eq.{bytes_eq-Decides}
 use Rattle.std.proofs.lemmas.Nat.{xor_of_8}
 use Rattle.std.specs.Int.Bits.{xor_assoc, xor_self, xor_zero_l}
-use Rattle.std.proofs.lemmas.Grind.{common_steps}
 use Rattle.uip_wire.specs.Addr.{address_at}
 use Rattle.uip_wire.specs.Checksum.{checksum_of}
 use Rattle.uip_wire.specs.Fields.{word_at}
@@ -17,7 +16,7 @@ use Rattle.uip_ipv4.specs.declared.fate.IpFate.{IpFate}
 use Rattle.uip_ipv4.specs.declared.fate.IpFate.TheVariants as Ip
 use Rattle.uip_ipv4.specs.declared.proto.Proto.{Proto}
 use Rattle.uip_ipv4.specs.declared.proto.Proto.TheVariants.{Icmp, Tcp}
-use Rattle.uip_ipv4.proofs.Facts.{HeadFacts, head_facts}
+use Rattle.uip_ipv4.proofs.Facts.{head_facts}
 use Rattle.icmp_echo.specs.Echo.{echo_fate}
 use Rattle.icmp_echo.specs.declared.fate.IcmpFate.TheVariants as IcmpFate
 use Rattle.tcp_segment.specs.Received.{segment_in, segment_or_fate, header_len}

@@ -1,8 +1,10 @@
 -- The acts keep what holds of all connections and clients.
-use Rattle.std.proofs.Common.{◌≡◌, ℕ, zero, suc, Bool, List, [], ◌∷◌, map, refl, Option, Some, None, slice_get}
+use Rattle.std.specs.List.{All}
+use Rattle.std.proofs.Common.{◌≡◌, ◌≤◌, ℕ, zero, suc, Bool, List, [], ◌∷◌, length, map, refl, sym, subst, Option, Some, None, slice_get}
 use Rattle.tcp_segment.specs.Segments.{PlainSegment}
 use Rattle.app_events.specs.Part.{Meaning}
-use Rattle.app_events.specs.Pages.{Pages, IsPaged}
+use Rattle.app_events.specs.Pages.{Pages, IsPaged, IsWord}
+use Rattle.tcp_machine.specs.Connection.{Connection}
 use Rattle.uip_node.specs.Events.Event.{EchoAsked, Periodic}
 use Rattle.uip_node.specs.Events.Answer.{EchoReplied}
 use Rattle.uip_node.specs.Events.Reply.{Echo}
@@ -14,9 +16,20 @@ use Rattle.link_world.specs.Acts.{client_acts, handles_all, does}
 use Rattle.link_world.specs.declared.act.Act.{Act}
 use Rattle.link_world.specs.declared.who.Who.{Who}
 use Rattle.link_world.specs.declared.who.Who.TheVariants.{FromClient, FromNode, Pinger}
-use Rattle.link_theorem.specs.Headline.{IsPlainAct}
+use Rattle.link_theorem.specs.Headline.{IsLoss}
+use Rattle.link_theorem.proofs.Harmless.{Harmless}
 use Rattle.link_theorem.proofs.Setups.{SameSetup, takes_setup, opens_setup, again_setup, closes_setup, aborts_setup}
-use Rattle.link_theorem.proofs.FitWorlds.{FitWorld, put_fits, client_fits, arrival_fits, periodic_fits, still_world}
+use Rattle.link_theorem.proofs.FitWorlds.{FitWorld, FitConns, FitSides, put_fits, client_fits, arrival_fits, periodic_fits, still_world}
+
+pub loss_fits : (w v : World) → IsLoss w v → FitWorld w → FitWorld v
+loss_fits w v l f = record {
+  node = record {
+    size = subst (λ (x : List Connection). length x ≤ 10) (sym l.connections) f.node.size;
+    conns = subst FitConns (sym l.connections) f.node.conns;
+    numbers = subst (λ x. All IsWord x) (sym l.numbers) f.node.numbers;
+  };
+  sides = subst FitSides (sym l.sides) f.sides;
+}
 
 module _ (m : Meaning) (pages : Pages) (lawful : IsPaged m pages) (served : ℕ → Bool) where
   gives_node_fit : (w : World) (n k : ℕ) (e : Sent) (s : PlainSegment) (side : Option Side) → slice_get w.sides n ≡ side → FitWorld w → FitWorld (gives_node m served w (suc n) k e s side)
@@ -57,7 +70,7 @@ module _ (m : Meaning) (pages : Pages) (lawful : IsPaged m pages) (served : ℕ 
   slots_fit [] w f = f
   slots_fit (slot ∷ slots) w f = slots_fit slots (node_handles m served w (Periodic slot)) (periodic_fits m pages lawful served w slot f)
 
-  pub does_fit : (w : World) (act : Act) → IsPlainAct act → FitWorld w → FitWorld (does m served w act)
+  pub does_fit : (w : World) (act : Act) → Harmless m served w act → FitWorld w → FitWorld (does m served w act)
   does_fit w (Act.Opens n) pl f = numbered_fit w n client_opens (λ c. opens_setup c.state c) f
   does_fit w (Act.Again n) pl f = numbered_fit w n client_again (λ c. again_setup c.state c) f
   does_fit w (Act.Closes n) pl f = numbered_fit w n client_closes (λ c. closes_setup c.state c) f
@@ -65,5 +78,5 @@ module _ (m : Meaning) (pages : Pages) (lawful : IsPaged m pages) (served : ℕ 
   does_fit w (Act.Window n x) pl f = numbered_fit w n (tells_window x) (λ c. refl) f
   does_fit w (Act.Ping source) pl f = record { node = f.node; sides = f.sides }
   does_fit w (Act.Give k) pl f = gives_fit w k (numbered w.sent k) f
-  does_fit w (Act.Damage k at mask) pl f = absurd pl
+  does_fit w (Act.Damage k at mask) pl f = loss_fits w (does m served w (Act.Damage k at mask)) pl f
   does_fit w Act.Tick pl f = slots_fit (0 ∷ 1 ∷ 2 ∷ 3 ∷ 4 ∷ 5 ∷ 6 ∷ 7 ∷ 8 ∷ 9 ∷ []) w f

@@ -19,3 +19,10 @@ pub mod Same
 pub mod Ticks
 pub mod Damage
 pub mod Loss
+pub mod Sound
+pub mod Whole
+pub mod Harmless
+pub mod SoundNodes
+pub mod SoundWorlds
+pub mod Damages
+pub mod Runs

@@ -1,22 +1,19 @@
 -- Damage is a loss: nothing but the node's past changes.
-use Rattle.std.proofs.Common.{◌≡◌, ℕ, zero, suc, ◌+◌, ◌<◌, ◌≤◌, Bool, true, false, List, ◌∷◌, length, refl, sym, ap, ◌∙◌, subst, arith, Option, Some, None}
-use Rattle.tcp_segment.specs.Segments.{PlainSegment}
+use Rattle.std.proofs.Common.{◌≡◌, ℕ, ◌<◌, ◌≤◌, Bool, true, List, length, refl, sym, subst, Option, Some, None}
 use Rattle.app_events.specs.Part.{Meaning}
 use Rattle.uip_node.specs.Events.{Event}
 use Rattle.uip_node.specs.Events.Event.{IpRefused, IcmpRefused, TcpRefused, EchoAsked, Arrived, Overlong, Periodic}
 use Rattle.uip_node.specs.Edge.{event_of}
 use Rattle.link_client.specs.declared.setup.Setup.{Setup}
-use Rattle.link_world.specs.World.{World, Side, Sent, numbered, node_handles}
-use Rattle.link_world.specs.Bytes.{bytes_of, changed, hears, heard_by}
-use Rattle.link_world.specs.Acts.{does, damages_at, hands_over, handed, client_handed}
-use Rattle.link_world.specs.declared.act.Act.{Act}
-use Rattle.link_world.specs.declared.act.Act.TheVariants as Act
+use Rattle.link_world.specs.World.{World, Side, numbered, node_handles}
+use Rattle.link_world.specs.Bytes.{bytes_of, changed, heard_by}
+use Rattle.link_world.specs.Acts.{damages_at, hands_over, handed, client_handed}
 use Rattle.link_world.specs.declared.who.Who.{Who}
 use Rattle.link_world.specs.declared.who.Who.TheVariants.{FromClient, FromNode, Pinger}
 use Rattle.link_theorem.specs.Headline.{IsLoss, IsWhole, DamageIsLoss}
 use Rattle.link_theorem.proofs.Damage.{is_refused, damage_refused}
 
-same_world : (w : World) → IsLoss w w
+pub same_world : (w : World) → IsLoss w w
 same_world w = record { sides = refl; sent = refl; mark = refl; addr = refl; numbers = refl; connections = refl; ticks = refl; initial = refl; ident = refl }
 
 node_loses : (m : Meaning) (served : ℕ → Bool) (w : World) (e : Event) → is_refused e ≡ true → IsLoss w (node_handles m served w e)
@@ -41,7 +38,7 @@ client_loses : (w : World) (number : ℕ) (bytes : List ℕ) (side : Option Side
 client_loses w number bytes None h = same_world w
 client_loses w number bytes (Some side) h = subst (λ x. IsLoss w (client_handed w number side x)) (sym (nothing_heard side.client.setup (event_of side.client.setup.addr bytes) (h side.client.setup))) (same_world w)
 
-loses : (m : Meaning) (served : ℕ → Bool) (w : World) (who : Who) (bytes : List ℕ) (at mask : ℕ) → IsWhole bytes → at < length bytes → 1 ≤ mask → mask < 256 → IsLoss w (hands_over m served w (changed bytes at mask) who)
+pub loses : (m : Meaning) (served : ℕ → Bool) (w : World) (who : Who) (bytes : List ℕ) (at mask : ℕ) → IsWhole bytes → at < length bytes → 1 ≤ mask → mask < 256 → IsLoss w (hands_over m served w (changed bytes at mask) who)
 loses m served w (FromClient n) bytes at mask h l a b = node_loses m served w (event_of w.node.addr (changed bytes at mask)) (damage_refused bytes at mask w.node.addr h l a b)
 loses m served w Pinger bytes at mask h l a b = node_loses m served w (event_of w.node.addr (changed bytes at mask)) (damage_refused bytes at mask w.node.addr h l a b)
 loses m served w (FromNode n) bytes at mask h l a b = client_loses w n (changed bytes at mask) (numbered w.sides n) (λ setup. damage_refused bytes at mask setup.addr h l a b)

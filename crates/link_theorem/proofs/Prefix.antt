@@ -1,6 +1,6 @@
 -- Prefix and whole, for every schedule.
 use Rattle.std.specs.List.{All}
-use Rattle.std.proofs.Common.{◌≡◌, ℕ, zero, suc, ◌≤◌, Bool, true, false, List, [], ◌∷◌, ◌++◌, length, map, replicate, refl, sym, ap, ◌∙◌, subst, arith, Option, Some, None, Result, Ok, Err, slice_get, take}
+use Rattle.std.proofs.Common.{◌≡◌, ℕ, ◌≤◌, true, false, List, [], ◌∷◌, ◌++◌, length, map, replicate, refl, sym, ap, ◌∙◌, subst, arith, Option, Some, None, slice_get, take}
 use Rattle.std.proofs.Math.Seq.{take-length}
 use Rattle.std.proofs.lemmas.Bool.{eqb-true}
 use Rattle.uip_wire.specs.declared.addr.Addr.{Addr}
@@ -18,11 +18,8 @@ use Rattle.tcp_machine.specs.OnTick.{on_tick}
 use Rattle.link_client.specs.Client.{AbstractClient, ClientStep, has_closed, client_takes, client_opens, client_again, client_closes, client_aborts, tells_window}
 use Rattle.link_client.specs.declared.client_state.ClientState.{ClientState}
 use Rattle.link_world.specs.World.{World, Side, Sent, Era, sockets_of, with_client, marked, is_clean}
-use Rattle.link_world.specs.Acts.{does, fault_of, done_or, acts, and_then, runs}
-use Rattle.link_world.specs.declared.act.Act.{Act}
-use Rattle.link_world.specs.declared.step_fault.StepFault.{StepFault}
 use Rattle.link_world.specs.History.{era, era_of, serving, captures_in, captures_of, page_of, Planned, IsPlanned, IsPlan, fresh_side, opening_world}
-use Rattle.link_theorem.specs.Headline.{IsPlainAct, IsReached, IsServed, PrefixAndWhole}
+use Rattle.link_theorem.specs.Headline.{IsReached, IsServed, PrefixAndWhole}
 use Rattle.link_theorem.proofs.Basics.{both_ways, append_nothing, part_prefix}
 use Rattle.link_theorem.proofs.Good.{is_some, seg, from, to, spoken, ClientSaid, IsSyn, SentGood, StepGood, FromGood, ToGood, OpenedGood, Good, is_early}
 use Rattle.link_theorem.proofs.Good.NodeSaid.{node_reset}
@@ -32,18 +29,12 @@ use Rattle.link_theorem.proofs.Views.{era_now, view_live, view_dead, view_born, 
 use Rattle.link_theorem.proofs.Steps.{asked_good, on_segment_good, on_tick_good, says_syn}
 use Rattle.link_theorem.proofs.Clients.{Took_it, client_takes_good, opens_by_good, again_by_good, closes_by_good, aborts_by_good, window_good}
 use Rattle.link_theorem.proofs.Tables.{Free, serving_free, get_map}
-use Rattle.link_theorem.proofs.Fits.{FitConn, all_nil}
-use Rattle.link_theorem.proofs.FitWorlds.{FitWorld, closed_fits}
-use Rattle.link_theorem.proofs.FitActs.{does_fit}
+use Rattle.link_theorem.proofs.Fits.{FitConn}
+use Rattle.link_theorem.proofs.Runs.{all_closed, reached}
 use Rattle.link_theorem.proofs.Sides.{clean_before}
 use Rattle.link_theorem.proofs.Any.{Framed, Steps, Takes, speech, entry, older, does_framed}
 
 -- the opening world
-all_closed : (n k : ℕ) (x : Connection) → slice_get (replicate n closed) k ≡ Some x → closed ≡ x
-all_closed zero k x h = absurd (cc)
-all_closed (suc n) zero x h = let e : closed ≡ x = cc in e
-all_closed (suc n) (suc k) x h = all_closed n k x h
-
 pub none_serves : (n : ℕ) (p : Sockets) → Free p (replicate n closed)
 none_serves n p k x h = ap (serves p) (sym (all_closed n k x h))
 
@@ -52,29 +43,6 @@ opening_apart plan is j k a b x y e =
     let p = get_map fresh_side plan j a x in
     let q = get_map fresh_side plan k b y in
     is.apart j k p.from q.from p.get q.get (ap (λ (o : Side). sockets_of o) p.is ∙ e ∙ ap (λ (o : Side). sockets_of o) (sym q.is))
-
-pub opening_fits : (addr : Addr) (numbers : List ℕ) (plan : List Planned) → All IsWord numbers → IsPlan plan → FitWorld (opening_world addr numbers plan)
-opening_fits addr numbers plan n is = record {
-  node = record { size = omega arith; conns = λ i c x. subst (λ z. FitConn z) (all_closed 10 i c x) closed_fits; numbers = n };
-  sides = λ k side x. (let p = get_map fresh_side plan k side x in let g : IsPlanned p.from = is.each k p.from p.get in
-      subst (λ (o : Side). Rattle.link_theorem.proofs.FitWorlds.FitSide o) p.is record { eras = λ i. all_nil IsMoment; addr = g.addr; port = g.port });
-}
-
--- the acts in turn, for any fact that each of them keeps
-done_world : (v w : World) (f : Option StepFault) → done_or v f ≡ Ok w → v ≡ w
-done_world v w None e = cc
-done_world v w (Some f) e = absurd (cc)
-
-one_keeps : (m : Meaning) (served : ℕ → Bool) (P : World → Type 0) (v w : World) (act : Act) (more : List Act) (r : Result World StepFault) → acts m served v act ≡ r → P (does m served v act) →
-    ((u : World) → P u → runs m served more u ≡ Ok w → P w) → and_then (runs m served more) r ≡ Ok w → P w
-one_keeps m served P v w act more (Ok u) q p rest e = rest u (subst P (done_world (does m served v act) u (fault_of v act) q) p) e
-one_keeps m served P v w act more (Err f) q p rest e = absurd (cc)
-
-pub run_keeps : (m : Meaning) (served : ℕ → Bool) (P : World → Type 0) → ((w : World) (act : Act) → IsPlainAct act → P w → P (does m served w act)) → (schedule : List Act) (v w : World) → All IsPlainAct schedule → P v → runs m served schedule v ≡ Ok w → P w
-run_keeps m served P step [] v w pl p e = subst P (let z : v ≡ w = cc in z) p
-run_keeps m served P step (act ∷ more) v w pl p e =
-    one_keeps m served P v w act more (acts m served v act) refl (step v act (pl 0 act (omega arith)) p)
-    (λ u q. run_keeps m served P step more u w (λ k d l. pl (suc k) d (omega (arith, l))) q) e
 
 module _ (m : Meaning) (pages : Pages) (lawful : IsPaged m pages) where
   opened_here : (client : AbstractClient) (past : List Era) (c : Connection) (opened : Option ℕ) → is_live c.state ≡ true → OpenedGood pages client past c opened → is_some opened ≡ true → opened ≡ Some (length past)
@@ -221,19 +189,10 @@ module _ (m : Meaning) (pages : Pages) (lawful : IsPaged m pages) where
         subst (λ (o : Side). G k o (serving (sockets_of side) (replicate 10 closed)) []) p.is (fresh_good k p.from (serving (sockets_of side) (replicate 10 closed)) (ap (λ (z : Connection). is_live z.state) e) (is.each k p.from p.get)));
   }
 
-  record Both (w : World) : Type 0 where
-    framed : Framed m G other reset evict mark w
-    fits : FitWorld w
-
-  all_good : (w : World) → IsReached m w → Framed m G other reset evict mark w
-  all_good w r =
-      (run_keeps m r.served Both
-      (λ v act pl b. record {
-        framed = does_framed m G other reset evict mark pages lawful r.served segment tick birth took own_open own_again own_close own_abort own_window v act pl b.framed b.fits;
-        fits = does_fit m pages lawful r.served v act pl b.fits;
-      })
-      r.schedule (opening_world r.addr r.numbers r.plan) w r.plain
-      record { framed = opening_framed r.addr r.numbers r.plan r.is_plan; fits = opening_fits r.addr r.numbers r.plan r.in_range r.is_plan } r.accepted).framed
+  all_good : (w : World) → IsReached m pages w → Framed m G other reset evict mark w
+  all_good w r = reached m pages lawful (λ v. Framed m G other reset evict mark v)
+      (λ served v act harm g fits. does_framed m G other reset evict mark pages lawful served segment tick birth took own_open own_again own_close own_abort own_window v act harm g fits)
+      opening_framed w r
 
   not_early : (st : ClientState) → is_early st ≡ true → has_closed st ≡ true → ⊥
   not_early Rattle.link_client.specs.declared.client_state.ClientState.TheVariants.Idle h e = cc

@@ -27,10 +27,10 @@ use Rattle.link_theorem.proofs.Good.{seg, segment_in, from, to}
 use Rattle.link_theorem.proofs.Views.{length_push}
 use Rattle.link_theorem.proofs.Tables.{serving_free}
 use Rattle.link_theorem.proofs.Fits.{FitConn, FitOut, asked_fits, on_segment_fits, on_tick_fits, prepared_captures}
-use Rattle.link_theorem.proofs.FitWorlds.{FitWorld, closed_fits}
-use Rattle.link_theorem.proofs.FitActs.{does_fit}
+use Rattle.link_theorem.proofs.FitWorlds.{closed_fits}
 use Rattle.link_theorem.proofs.Told.{Safe, SafeState, IsDue, Onto, Tells, StepTells, due, alike_trans, alike_sym, alike_refl, asked_tells, segment_tells, tick_tells}
-use Rattle.link_theorem.proofs.Prefix.{none_serves, opening_apart, opening_fits, run_keeps}
+use Rattle.link_theorem.proofs.Prefix.{none_serves, opening_apart}
+use Rattle.link_theorem.proofs.Runs.{reached}
 use Rattle.link_theorem.proofs.Any.{Framed, Steps, Takes, speech, entry, does_framed}
 use Rattle.link_theorem.proofs.Any
 
@@ -340,37 +340,28 @@ module _ (m : Meaning) (pages : Pages) (lawful : IsPaged m pages) where
         subst (λ c. Told k side c []) (sym e) (record { fit = closed_fits; safe = λ l. absurd (cc); was_sent = λ l. absurd (cc); time = λ j e' y. absurd (cc); tells = λ j e' y. absurd (cc); repeats = λ j e' y. absurd (cc); agree = λ i j e' f y. absurd (cc) }));
   }
 
-  record Both (w : World) : Type 0 where
-    framed : Framed m Told other reset evict mark w
-    fits : FitWorld w
-
   asks_fit : (o : Outcome) → All IsWord o.numbers → FitConn o.connection → (now : Now) → IsNow now → All IsMoment (m.prepare o.numbers o.connection.part now).captures
   asks_fit o n f now is = prepared_captures m pages lawful o.numbers o.connection.part now n is f.captures
 
-  told_all : (w : World) → IsReached m w → Framed m Told other reset evict mark w
-  told_all w r =
-      (run_keeps m r.served Both
-      (λ v act pl b. record {
-        framed = does_framed m Told other reset evict mark pages lawful r.served
-            (λ w old numbers now k j side e l f n is sent who fresh t.
-            let o : Outcome = on_segment m old numbers (seg e) in
-            let fo : FitOut o = on_segment_fits m pages lawful old numbers (seg e) f n in
-            steps_by w old (asked m now o) k side l (asked_fits m pages lawful now is o fo).conn
-            (asked_tells m pages lawful now old o (λ x q. asks_fit o fo.numbers fo.conn x (subst IsNow (sym q) (is o.connection fo.conn))) (segment_tells m pages lawful old numbers (seg e) (t.safe l))) t)
-            (λ w old numbers now k side l f n is t.
-            let o : Outcome = on_tick m old numbers in
-            let fo : FitOut o = on_tick_fits m pages lawful old numbers f n in
-            steps_by w old (asked m now o) k side l (asked_fits m pages lawful now is o fo).conn
-            (asked_tells m pages lawful now old o (λ x q. asks_fit o fo.numbers fo.conn x (subst IsNow (sym q) (is o.connection fo.conn))) (tick_tells m pages lawful old numbers (t.safe l))) t)
-            birth
-            (λ w k j side c number e fit sent who t. takes w k (marked side number e) c (client_takes side.client (seg e)) (mark k side c w.sent number e t))
-            (λ w k side c fit t. takes w k side c _ t) (λ w k side c fit t. takes w k side c _ t) (λ w k side c fit t. takes w k side c _ t) (λ w k side c fit t. takes w k side c _ t)
-            (λ x w k side c fit t. takes w k side c _ t)
-            v act pl b.framed b.fits;
-        fits = does_fit m pages lawful r.served v act pl b.fits;
-      })
-      r.schedule (opening_world r.addr r.numbers r.plan) w r.plain
-      record { framed = opening_told r.addr r.numbers r.plan r.is_plan; fits = opening_fits r.addr r.numbers r.plan r.in_range r.is_plan } r.accepted).framed
+  told_all : (w : World) → IsReached m pages w → Framed m Told other reset evict mark w
+  told_all w r = reached m pages lawful (λ v. Framed m Told other reset evict mark v)
+      (λ served v act harm g fits. does_framed m Told other reset evict mark pages lawful served
+      (λ w old numbers now k j side e l f n is sent who fresh t.
+      let o : Outcome = on_segment m old numbers (seg e) in
+      let fo : FitOut o = on_segment_fits m pages lawful old numbers (seg e) f n in
+      steps_by w old (asked m now o) k side l (asked_fits m pages lawful now is o fo).conn
+      (asked_tells m pages lawful now old o (λ x q. asks_fit o fo.numbers fo.conn x (subst IsNow (sym q) (is o.connection fo.conn))) (segment_tells m pages lawful old numbers (seg e) (t.safe l))) t)
+      (λ w old numbers now k side l f n is t.
+      let o : Outcome = on_tick m old numbers in
+      let fo : FitOut o = on_tick_fits m pages lawful old numbers f n in
+      steps_by w old (asked m now o) k side l (asked_fits m pages lawful now is o fo).conn
+      (asked_tells m pages lawful now old o (λ x q. asks_fit o fo.numbers fo.conn x (subst IsNow (sym q) (is o.connection fo.conn))) (tick_tells m pages lawful old numbers (t.safe l))) t)
+      birth
+      (λ w k j side c number e fit sent who t. takes w k (marked side number e) c (client_takes side.client (seg e)) (mark k side c w.sent number e t))
+      (λ w k side c fit t. takes w k side c _ t) (λ w k side c fit t. takes w k side c _ t) (λ w k side c fit t. takes w k side c _ t) (λ w k side c fit t. takes w k side c _ t)
+      (λ x w k side c fit t. takes w k side c _ t)
+      v act harm g fits)
+      opening_told w r
 
 -- a content with a place is a segment
 pub record IsSegment (content : Content) : Type 0 where

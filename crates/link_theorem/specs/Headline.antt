@@ -1,11 +1,11 @@
 -- What every schedule keeps.
 use Rattle.std.specs.List.{All}
-use Rattle.std.specs.Prelude.{◌≡◌, ℕ, suc, ◌<◌, ◌≤◌, Bool, true, false, List, length, Option, Some, None, Ok, slice_get}
+use Rattle.std.specs.Prelude.{◌≡◌, ℕ, suc, ◌<◌, ◌≤◌, ◌⊎◌, Bool, true, false, List, length, Option, Some, None, Ok, slice_get}
 use Rattle.uip_wire.specs.declared.addr.Addr.{Addr}
 use Rattle.tcp_segment.specs.Segments.{PlainSegment}
-use Rattle.app_events.specs.Part.{Meaning}
+use Rattle.app_events.specs.Part.{Moment, Meaning}
 use Rattle.app_events.specs.Laws.{IsPrefixOf}
-use Rattle.app_events.specs.Pages.{Pages, IsPaged, IsWord, IsByte}
+use Rattle.app_events.specs.Pages.{Pages, IsPaged, IsMoment, IsWord, IsByte, IsAddr}
 use Rattle.link_client.specs.Client.{has_closed}
 use Rattle.app_events.specs.declared.state.State.{State}
 use Rattle.app_events.specs.declared.state.State.TheVariants.{Closed, SynRcvd, Established, CloseWait, FinWait1, FinWait2, Closing, TimeWait, LastAck}
@@ -44,16 +44,35 @@ IsPlainAct (Act.Ping source) = Unit {0}
 IsPlainAct (Act.Give number) = Unit {0}
 IsPlainAct Act.Tick = Unit {0}
 
--- The world that a list of acts reaches from the opening one, each of them accepted.
-pub record IsReached (m : Meaning) (w : World) : Type 0 where
+-- an act whose numbers fit their types; a changed byte is another one
+abbrev pub IsAct : Act → Type 0
+IsAct (Act.Damage number at mask) = (1 ≤ mask) × (mask < 256)
+IsAct (Act.Opens number) = Unit {0}
+IsAct (Act.Again number) = Unit {0}
+IsAct (Act.Closes number) = Unit {0}
+IsAct (Act.Aborts number) = Unit {0}
+IsAct (Act.Window number window) = window < 65536
+IsAct (Act.Ping source) = IsAddr source
+IsAct (Act.Give number) = Unit {0}
+IsAct Act.Tick = Unit {0}
+
+-- every text of a page is bytes
+abbrev pub HasBytes : Pages → Type 0
+HasBytes pages = (heard : List ℕ) (captures : List Moment) → All IsMoment captures → All IsByte (pages.text heard captures)
+
+-- The world that a list of acts reaches from the opening one, each of them accepted. Where a page may say what is no byte,
+-- the schedule damages nothing.
+pub record IsReached (m : Meaning) (pages : Pages) (w : World) : Type 0 where
   pub served : ℕ → Bool
   pub addr : Addr
+  pub is_addr : IsAddr addr
   pub numbers : List ℕ
   pub in_range : All IsWord numbers
   pub plan : List Planned
   pub is_plan : IsPlan plan
   pub schedule : List Act
-  pub plain : All IsPlainAct schedule
+  pub are_acts : All IsAct schedule
+  pub bytes : HasBytes pages ⊎ All IsPlainAct schedule
   pub accepted : runs m served schedule (opening_world addr numbers plan) ≡ Ok w
 
 -- A client has received a prefix of its page, and the whole page where it saw a plain close.
@@ -65,7 +84,7 @@ pub record IsServed (pages : Pages) (w : World) (side : Side) : Type 0 where
 -- Prefix and whole: so is every clean client.
 abbrev pub PrefixAndWhole : Type 0
 PrefixAndWhole =
-    (m : Meaning) (pages : Pages) → IsPaged m pages → (w : World) → IsReached m w →
+    (m : Meaning) (pages : Pages) → IsPaged m pages → (w : World) → IsReached m pages w →
     (k : ℕ) (side : Side) → slice_get w.sides k ≡ Some side → is_clean side ≡ true → IsServed pages w side
 
 -- the same flags and the same text
@@ -91,7 +110,7 @@ pub record IsRepeatOf (w : World) (e : Sent) (s : PlainSegment) (i j : ℕ) : Ty
 -- that are not clean too.
 abbrev pub SameBytes : Type 0
 SameBytes =
-    (m : Meaning) (pages : Pages) → IsPaged m pages → (w : World) → IsReached m w →
+    (m : Meaning) (pages : Pages) → IsPaged m pages → (w : World) → IsReached m pages w →
     (k : ℕ) (side : Side) → slice_get w.sides k ≡ Some side →
     (i : ℕ) (e : Sent) (id : ℕ) (s : PlainSegment) → slice_get w.sent i ≡ Some e → e.who ≡ FromNode (suc k) → e.content ≡ OfSegment id s → e.again ≡ true →
     (j : ℕ) × IsRepeatOf w e s i j
@@ -100,7 +119,7 @@ SameBytes =
 -- is marked, and they have the same flags and text.
 abbrev pub AgainExactly : Type 0
 AgainExactly =
-    (m : Meaning) (pages : Pages) → IsPaged m pages → (w : World) → IsReached m w →
+    (m : Meaning) (pages : Pages) → IsPaged m pages → (w : World) → IsReached m pages w →
     (k : ℕ) (side : Side) → slice_get w.sides k ≡ Some side →
     (i j : ℕ) (e f : Sent) (id id' : ℕ) (s t : PlainSegment) → slice_get w.sent i ≡ Some e → slice_get w.sent j ≡ Some f → j < i → e.who ≡ FromNode (suc k) → f.who ≡ FromNode (suc k) →
     e.content ≡ OfSegment id s → f.content ≡ OfSegment id' t → e.epoch ≡ f.epoch → s.seq ≡ t.seq → has_place s ≡ true → has_place t ≡ true →

@@ -1,8 +1,9 @@
 -- What the history of a world tells of a client: its captures and its page.
+use Rattle.std.specs.List.{All}
 use Rattle.std.specs.Prelude.{ℕ, ◌≡◌, ◌<◌, ◌≤◌, List, [], ◌∷◌, length, map, nat_lt, if◌then◌else◌, Bool, Option, Some, None, slice_get, slice_index_or}
 use Rattle.uip_wire.specs.declared.addr.Addr.{Addr}
 use Rattle.app_events.specs.Part.{Moment}
-use Rattle.app_events.specs.Pages.{Pages, IsAddr, IsWord}
+use Rattle.app_events.specs.Pages.{Pages, IsAddr, IsByte, IsWord}
 use Rattle.tcp_machine.specs.Connection.{Sockets, Connection, closed, serves}
 use Rattle.uip_node.specs.Node.{opening}
 use Rattle.link_client.specs.Client.{idle}
@@ -54,9 +55,13 @@ opening_world addr numbers plan = record { node = opening addr numbers; sides = 
 pub record IsPlanned (p : Planned) : Type 0 where
   pub addr : IsAddr p.setup.addr
   pub port : p.setup.port.0 < 65536
+  pub server : IsAddr p.setup.server
+  pub server_port : p.setup.server_port.0 < 65536
+  pub offered : p.setup.mss < 65536
   pub first : IsWord p.setup.iss.0
   pub short : length p.request ≤ 4096
-  pub seg : 1 ≤ p.setup.seg
+  pub all_bytes : All IsByte p.request
+  pub seg : (1 ≤ p.setup.seg) × (p.setup.seg ≤ 1460)
 
 abbrev pub sockets_in : Planned → Sockets
 sockets_in p = record { peer = p.setup.addr; peer_port = p.setup.port; own_port = p.setup.server_port }
