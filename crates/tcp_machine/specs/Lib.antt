@@ -3,3 +3,7 @@ pub mod Segments
 pub mod Ask
 pub mod OnSegment
 pub mod OnTick
+pub mod Stands
+pub mod Sound
+pub mod Fits
+pub mod Kept

@@ -11,12 +11,13 @@ use Rattle.app_events.specs.declared.state.State.TheVariants.{Closed, SynRcvd, E
 use Rattle.tcp_machine.specs.Connection.{Sockets, Connection, snd_nxt, rcv_nxt}
 use Rattle.tcp_machine.specs.Segments.{has_place}
 use Rattle.tcp_machine.specs.Ask.{Outcome, leaves, closes}
+use Rattle.tcp_machine.specs.declared.opening.TheConstants.{DEFAULT_MSS}
 use Rattle.tcp_machine.specs.declared.step.Step.{Step}
 
 -- The largest text that the peer takes: 536 where its SYN does not say (RFC 1122, section 4.2.2.6).
 abbrev pub first_mss : Option ℕ → ℕ
-first_mss None = 536
-first_mss (Some n) = if n == 0 then 536 else min OWN_MSS n
+first_mss None = DEFAULT_MSS
+first_mss (Some n) = if n == 0 then DEFAULT_MSS else min OWN_MSS n
 
 -- A plain SYN opens a connection in SYN-RECEIVED; its text is not taken.
 abbrev pub accepted : ℕ → Sockets → PlainSegment → Connection

@@ -12,10 +12,11 @@ use Rattle.tcp_machine.specs.Connection.{Connection}
 use Rattle.tcp_machine.specs.Ask.{Outcome, leaves, closes}
 use Rattle.tcp_machine.specs.OnSegment.{told_end, with_part}
 use Rattle.tcp_machine.specs.declared.step.Step.{Step}
+use Rattle.tcp_machine.specs.declared.ticking.TheConstants.{REST_TIME}
 
 -- how many ticks FIN-WAIT-2 and TIME-WAIT last
 abbrev pub rest_time : ℕ
-rest_time = 120
+rest_time = REST_TIME
 
 -- how often what is outstanding is sent again
 abbrev pub limit_of : State → ℕ

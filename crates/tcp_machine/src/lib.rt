@@ -2,6 +2,18 @@
 //! of the node is a `Step`. The definitions of the abstract connection stand in `specs/`; every layer above speaks of them.
 #![tactic(auto)]
 
+mod alone;
+mod asking;
+mod flags;
+mod moves;
+mod opening;
+mod segment;
+mod speaking;
 mod step;
+mod ticking;
 
+pub use asking::ask;
+pub use opening::{DEFAULT_MSS, accept};
+pub use segment::on_segment;
 pub use step::Step;
+pub use ticking::{REST_TIME, on_tick};

@@ -1,0 +1,3 @@
+pub mod Unspoken
+pub mod Beats
+pub mod Saying

@@ -1,0 +1,264 @@
+//! A segment of a connection (RFC 793, section 3.9, SEGMENT ARRIVES).
+
+ghost use Rattle.std.specs.Prelude.{◌≡◌, ℕ, ◌+◌, ◌<◌, ◌≤◌, ◌&&◌, ◌==◌, not, nat_lt, true, List, length};
+ghost use Rattle.uip_wire.specs.Numbers.{wrap};
+ghost use Rattle.tcp_segment.specs.Segments.{PlainSegment, has_ack};
+ghost use Rattle.tcp_machine.specs.Connection.{Connection, is_live};
+ghost use Rattle.tcp_machine.specs.Fits.{Rests, SameSockets, StepFits};
+ghost use Rattle.tcp_machine.specs.OnSegment.{connects, peer_closes, goes_on, in_established, by_state, on_segment, told_end};
+ghost use Rattle.tcp_machine.specs.Segments.{has_place};
+ghost use Rattle.tcp_machine.specs.Sound.{IsSound};
+ghost use Rattle.tcp_machine.specs.Stands.{ConnStands, Meets, is_open, plain};
+
+use crate::alone::{in_closing, in_fin_wait_1, in_fin_wait_2, in_last_ack};
+use crate::flags::{has_ack, has_fin, has_rst, has_syn};
+use crate::moves::{enter, rest, set_window, take};
+use crate::speaking::{absorb, hear, is_open, take_ack};
+use crate::step::Step;
+use app_events::{App, Ending, State};
+use tcp_segment::Segment;
+use tcp_table::Conn;
+
+/// The connection is given up. The application is told where it might still have spoken.
+pub(crate) fn leave<A: App>(conn: &mut Conn<A>, shared: &mut A::Shared, how: Ending)
+    requires { IsSound A.meaning A.stands_for (A.kept shared.old) conn.old }
+    ensures same { A.kept shared.new ≡ A.kept shared.old }
+    ensures closed { conn.new.state ≡ State.Closed }
+    ensures place { SameSockets conn.old conn.new }
+    ensures numbers { (a : Connection) → ConnStands A.stands_for (A.kept shared.old) conn.old a → A.numbers shared.new ≡ told_end (A.meaning (A.kept shared.old)) how a.state a.part (A.numbers shared.old) }
+{
+    if is_open(conn.state) {
+        conn.app.ended(shared, how);
+    }
+    conn.state = State::Closed;
+}
+
+/// SYN_RECEIVED, with the SYN-ACK acknowledged. A FIN is not taken.
+fn connects<A: App>(conn: &mut Conn<A>, shared: &mut A::Shared, piece: &[u8]) -> Step
+    requires state { conn.old.state ≡ State.SynRcvd }
+    requires sound { IsSound A.meaning A.stands_for (A.kept shared.old) conn.old }
+    requires short { length piece.now ≤ 1500 }
+    ensures same { A.kept shared.new ≡ A.kept shared.old }
+    ensures sound { IsSound A.meaning A.stands_for (A.kept shared.old) conn.new }
+    ensures place { SameSockets conn.old conn.new }
+    ensures fits { StepFits conn.new result }
+    ensures meets { (a : Connection) (seg : PlainSegment) → seg.text ≡ piece.now → ConnStands A.stands_for (A.kept shared.old) conn.old a → Meets A.stands_for (A.kept shared.old) conn.new (A.numbers shared.new) result (connects (A.meaning (A.kept shared.old)) a (A.numbers shared.old) seg) }
+{
+    conn.app.connected(shared, conn.own_port);
+    hear(&mut conn.app, shared, piece);
+    rest(conn);
+    enter(conn, State::Established);
+    take(conn, piece.len() as u32);
+    Step::Ask {
+        fresh: !piece.is_empty(),
+    }
+}
+
+/// ESTABLISHED, where the segment has a FIN.
+#[tactic(auto, unfolding(crate::specs::OnSegment::peer_closes))]
+fn peer_closes<A: App>(
+    conn: &mut Conn<A>,
+    shared: &mut A::Shared,
+    seg: &Segment,
+    piece: &[u8],
+) -> Step
+    requires state { conn.old.state ≡ State.Established }
+    requires sound { IsSound A.meaning A.stands_for (A.kept shared.old) conn.old }
+    requires short { length piece.now ≤ 1500 }
+    ensures same { A.kept shared.new ≡ A.kept shared.old }
+    ensures sound { IsSound A.meaning A.stands_for (A.kept shared.old) conn.new }
+    ensures place { SameSockets conn.old conn.new }
+    ensures fits { StepFits conn.new result }
+    ensures meets { (a : Connection) → ConnStands A.stands_for (A.kept shared.old) conn.old a → Meets A.stands_for (A.kept shared.old) conn.new (A.numbers shared.new) result (peer_closes (A.meaning (A.kept shared.old)) a (A.numbers shared.old) (plain seg.now piece.now)) }
+{
+    absorb(conn, shared, seg.window, piece, piece.len() as u32 + 1);
+    let is_idle = conn.len == 0;
+    enter(conn, State::CloseWait);
+    if is_idle {
+        return Step::Ask { fresh: true };
+    }
+    Step::Ack
+}
+
+/// ESTABLISHED, where it has none.
+#[tactic(auto, unfolding(crate::specs::OnSegment::goes_on))]
+fn goes_on<A: App>(
+    conn: &mut Conn<A>,
+    shared: &mut A::Shared,
+    seg: &Segment,
+    piece: &[u8],
+    acked: bool,
+) -> Step
+    requires state { conn.old.state ≡ State.Established }
+    requires sound { IsSound A.meaning A.stands_for (A.kept shared.old) conn.old }
+    requires short { length piece.now ≤ 1500 }
+    ensures same { A.kept shared.new ≡ A.kept shared.old }
+    ensures sound { IsSound A.meaning A.stands_for (A.kept shared.old) conn.new }
+    ensures place { SameSockets conn.old conn.new }
+    ensures fits { StepFits conn.new result }
+    ensures meets { (a : Connection) → ConnStands A.stands_for (A.kept shared.old) conn.old a → Meets A.stands_for (A.kept shared.old) conn.new (A.numbers shared.new) result (goes_on (A.meaning (A.kept shared.old)) acked a (A.numbers shared.old) (plain seg.now piece.now)) }
+{
+    let count = piece.len() as u32;
+    absorb(conn, shared, seg.window, piece, count);
+    let fresh = count > 0;
+    if !acked && !fresh {
+        return Step::Drop;
+    }
+    if conn.len > 0 {
+        return Step::Ack;
+    }
+    Step::Ask { fresh }
+}
+
+/// ESTABLISHED.
+#[tactic(auto, unfolding(crate::specs::OnSegment::in_established))]
+fn in_established<A: App>(
+    conn: &mut Conn<A>,
+    shared: &mut A::Shared,
+    seg: &Segment,
+    piece: &[u8],
+    acked: bool,
+) -> Step
+    requires state { conn.old.state ≡ State.Established }
+    requires sound { IsSound A.meaning A.stands_for (A.kept shared.old) conn.old }
+    requires short { length piece.now ≤ 1500 }
+    ensures same { A.kept shared.new ≡ A.kept shared.old }
+    ensures sound { IsSound A.meaning A.stands_for (A.kept shared.old) conn.new }
+    ensures place { SameSockets conn.old conn.new }
+    ensures fits { StepFits conn.new result }
+    ensures meets { (a : Connection) → ConnStands A.stands_for (A.kept shared.old) conn.old a → Meets A.stands_for (A.kept shared.old) conn.new (A.numbers shared.new) result (in_established (A.meaning (A.kept shared.old)) acked a (A.numbers shared.old) (plain seg.now piece.now)) }
+{
+    if has_fin(seg) {
+        peer_closes(conn, shared, seg, piece)
+    } else {
+        goes_on(conn, shared, seg, piece, acked)
+    }
+}
+
+/// ESTABLISHED, where the application may hear of an acknowledgement first.
+fn established<A: App>(
+    conn: &mut Conn<A>,
+    shared: &mut A::Shared,
+    seg: &Segment,
+    piece: &[u8],
+    acked: bool,
+) -> Step
+    requires state { conn.old.state ≡ State.Established }
+    requires sound { IsSound A.meaning A.stands_for (A.kept shared.old) conn.old }
+    requires short { length piece.now ≤ 1500 }
+    ensures same { A.kept shared.new ≡ A.kept shared.old }
+    ensures sound { IsSound A.meaning A.stands_for (A.kept shared.old) conn.new }
+    ensures place { SameSockets conn.old conn.new }
+    ensures fits { StepFits conn.new result }
+    ensures meets { (a : Connection) → ConnStands A.stands_for (A.kept shared.old) conn.old a → Meets A.stands_for (A.kept shared.old) conn.new (A.numbers shared.new) result (by_state (A.meaning (A.kept shared.old)) State.Established acked a (A.numbers shared.old) (plain seg.now piece.now)) }
+{
+    if acked {
+        take_ack(conn, shared);
+        return in_established(conn, shared, seg, piece, true);
+    }
+    in_established(conn, shared, seg, piece, false)
+}
+
+/// CLOSE_WAIT: text and FIN are not taken.
+fn in_close_wait<A: App>(
+    conn: &mut Conn<A>,
+    shared: &mut A::Shared,
+    seg: &Segment,
+    acked: bool,
+) -> Step
+    requires state { conn.old.state ≡ State.CloseWait }
+    requires sound { IsSound A.meaning A.stands_for (A.kept shared.old) conn.old }
+    requires out { 0 < conn.old.len }
+    ensures same { A.kept shared.new ≡ A.kept shared.old }
+    ensures sound { IsSound A.meaning A.stands_for (A.kept shared.old) conn.new }
+    ensures place { SameSockets conn.old conn.new }
+    ensures fits { StepFits conn.new result }
+    ensures meets { (a : Connection) (s : PlainSegment) → s.window ≡ seg.now.window → ConnStands A.stands_for (A.kept shared.old) conn.old a → Meets A.stands_for (A.kept shared.old) conn.new (A.numbers shared.new) result (by_state (A.meaning (A.kept shared.old)) State.CloseWait acked a (A.numbers shared.old) s) }
+{
+    if acked {
+        take_ack(conn, shared);
+        set_window(conn, seg.window);
+        return Step::Ask { fresh: false };
+    }
+    set_window(conn, seg.window);
+    Step::Drop
+}
+
+/// What stands in its order stands at another number than the expected one.
+fn is_out_of_order<A>(conn: &Conn<A>, seg: &Segment, piece: &[u8]) -> bool
+    ensures { result ≡ (has_place (plain seg.now piece.now) && not (seg.now.seq.0 == conn.now.rcv_nxt.0)) }
+{
+    (!piece.is_empty() || has_syn(seg) || has_fin(seg)) && seg.seq.0 != conn.rcv_nxt.0
+}
+
+/// The segment acknowledges all that is outstanding.
+fn is_acked<A>(conn: &Conn<A>, seg: &Segment) -> bool
+    ensures { result ≡ (has_ack seg.now.flags && (nat_lt 0 conn.now.len && (seg.now.ack.0 == wrap (conn.now.snd_nxt.0 + conn.now.len)))) }
+{
+    has_ack(seg) && conn.len > 0 && seg.ack.0 == conn.snd_nxt.add(conn.len as u32).0
+}
+
+/// The row of the connection's state; `acked` says whether the segment acknowledges all that is outstanding.
+fn by_state<A: App>(
+    conn: &mut Conn<A>,
+    shared: &mut A::Shared,
+    seg: &Segment,
+    piece: &[u8],
+    acked: bool,
+) -> Step
+    requires live { is_live conn.old.state ≡ true }
+    requires sound { IsSound A.meaning A.stands_for (A.kept shared.old) conn.old }
+    requires busy { Rests conn.old }
+    requires short { length piece.now ≤ 1500 }
+    ensures same { A.kept shared.new ≡ A.kept shared.old }
+    ensures sound { IsSound A.meaning A.stands_for (A.kept shared.old) conn.new }
+    ensures place { SameSockets conn.old conn.new }
+    ensures fits { StepFits conn.new result }
+    ensures meets { (a : Connection) → ConnStands A.stands_for (A.kept shared.old) conn.old a → Meets A.stands_for (A.kept shared.old) conn.new (A.numbers shared.new) result (by_state (A.meaning (A.kept shared.old)) a.state acked a (A.numbers shared.old) (plain seg.now piece.now)) }
+{
+    match conn.state {
+        State::Closed => Step::Drop,
+        State::SynRcvd => {
+            if acked {
+                return connects(conn, shared, piece);
+            }
+            Step::Drop
+        }
+        State::Established => established(conn, shared, seg, piece, acked),
+        State::CloseWait => in_close_wait(conn, shared, seg, acked),
+        State::FinWait1 => in_fin_wait_1(conn, seg, piece, acked),
+        State::FinWait2 => in_fin_wait_2(conn, seg, piece),
+        State::Closing => in_closing(conn, acked),
+        State::TimeWait => Step::Ack,
+        State::LastAck => in_last_ack(conn, acked),
+    }
+}
+
+/// A segment of a connection that is not CLOSED. `piece` is the segment's text.
+#[tactic(auto, unfolding(crate::specs::OnSegment::on_segment))]
+pub fn on_segment<A: App>(
+    conn: &mut Conn<A>,
+    shared: &mut A::Shared,
+    seg: &Segment,
+    piece: &[u8],
+) -> Step
+    requires live { is_live conn.old.state ≡ true }
+    requires sound { IsSound A.meaning A.stands_for (A.kept shared.old) conn.old }
+    requires busy { Rests conn.old }
+    requires short { length piece.now ≤ 1500 }
+    ensures same { A.kept shared.new ≡ A.kept shared.old }
+    ensures sound { IsSound A.meaning A.stands_for (A.kept shared.old) conn.new }
+    ensures place { SameSockets conn.old conn.new }
+    ensures fits { StepFits conn.new result }
+    ensures meets { (a : Connection) → ConnStands A.stands_for (A.kept shared.old) conn.old a → Meets A.stands_for (A.kept shared.old) conn.new (A.numbers shared.new) result (on_segment (A.meaning (A.kept shared.old)) a (A.numbers shared.old) (plain seg.now piece.now)) }
+{
+    if has_rst(seg) {
+        leave(conn, shared, Ending::Reset);
+        return Step::Drop;
+    }
+    if is_out_of_order(conn, seg, piece) {
+        return Step::Ack;
+    }
+    let acked = is_acked(conn, seg);
+    by_state(conn, shared, seg, piece, acked)
+}

@@ -1,0 +1,134 @@
+//! The periodic call of a connection.
+
+ghost use Rattle.std.specs.Prelude.{◌≡◌, ℕ, ◌<◌, ◌≤◌, true, false, List};
+ghost use Rattle.app_events.specs.Part.{Meaning};
+ghost use Rattle.tcp_machine.specs.Connection.{Connection, is_live, is_resting};
+ghost use Rattle.tcp_machine.specs.Fits.{Rests, SameSockets, StepFits};
+ghost use Rattle.tcp_machine.specs.OnTick.{limit_of, outstanding, waits_for_ack, rests_on, polls, ticks_established, tick_by, on_tick};
+ghost use Rattle.tcp_machine.specs.Sound.{HasSoundNumbers, IsSound};
+ghost use Rattle.tcp_machine.specs.Stands.{ConnStands, Meets, MeetsAlone, NumbersStand, is_open};
+
+use crate::segment::leave;
+use crate::step::Step;
+use app_events::{App, Ending, State};
+use rexmit_timer::{Beat, SYN_ACK_LIMIT, TEXT_LIMIT};
+use tcp_table::Conn;
+
+/// How many ticks FIN_WAIT_2 and TIME_WAIT last.
+pub const REST_TIME: u8 = 120;
+
+/// How often what is outstanding is sent again.
+fn limit_of(state: State) -> u8
+    ensures { result ≡ limit_of state }
+{
+    match state {
+        State::SynRcvd => SYN_ACK_LIMIT,
+        _ => TEXT_LIMIT,
+    }
+}
+
+/// What is outstanding, to be sent again.
+fn outstanding(state: State) -> Step
+    ensures { result ≡ outstanding true state }
+{
+    match state {
+        State::SynRcvd => Step::SynAck { again: true },
+        State::Established | State::CloseWait => Step::Text { again: true },
+        State::FinWait1 | State::Closing | State::LastAck => Step::Fin { again: true },
+        State::Closed | State::FinWait2 | State::TimeWait => Step::Drop,
+    }
+}
+
+/// A tick of FIN_WAIT_2 or TIME_WAIT.
+#[tactic(auto, unfolding(crate::specs::OnTick::rests_on))]
+fn rests_on<A>(conn: &mut Conn<A>) -> Step
+    requires resting { is_resting conn.old.state ≡ true }
+    requires sound { HasSoundNumbers conn.old }
+    requires idle { conn.old.len ≡ 0 }
+    ensures sound { is_live conn.new.state ≡ true → HasSoundNumbers conn.new }
+    ensures closed_to_it { is_open conn.new.state ≡ false }
+    ensures place { SameSockets conn.old conn.new }
+    ensures fits { StepFits conn.new result }
+    ensures meets { (a : Connection) (ns : List ℕ) → NumbersStand conn.old a → MeetsAlone conn.new ns result (rests_on a ns) }
+{
+    if conn.timer.count == REST_TIME - 1 {
+        conn.state = State::Closed;
+        return Step::Drop;
+    }
+    conn.timer.count += 1;
+    Step::Drop
+}
+
+/// ESTABLISHED with nothing outstanding: the application hears of the tick and is asked.
+fn polls<A: App>(conn: &mut Conn<A>, shared: &mut A::Shared) -> Step
+    requires state { conn.old.state ≡ State.Established }
+    requires idle { conn.old.len ≡ 0 }
+    requires sound { IsSound A.meaning A.stands_for (A.kept shared.old) conn.old }
+    ensures same { A.kept shared.new ≡ A.kept shared.old }
+    ensures sound { IsSound A.meaning A.stands_for (A.kept shared.old) conn.new }
+    ensures place { SameSockets conn.old conn.new }
+    ensures fits { StepFits conn.new result }
+    ensures meets { (a : Connection) → ConnStands A.stands_for (A.kept shared.old) conn.old a → Meets A.stands_for (A.kept shared.old) conn.new (A.numbers shared.new) result (polls (A.meaning (A.kept shared.old)) a (A.numbers shared.old)) }
+{
+    conn.app.polled(shared);
+    Step::Ask { fresh: false }
+}
+
+/// What is outstanding grows older by a tick: it waits, is sent again, or is given up.
+fn waits_for_ack<A: App>(conn: &mut Conn<A>, shared: &mut A::Shared) -> Step
+    requires live { is_live conn.old.state ≡ true }
+    requires out { 0 < conn.old.len }
+    requires sound { IsSound A.meaning A.stands_for (A.kept shared.old) conn.old }
+    ensures same { A.kept shared.new ≡ A.kept shared.old }
+    ensures sound { IsSound A.meaning A.stands_for (A.kept shared.old) conn.new }
+    ensures place { SameSockets conn.old conn.new }
+    ensures fits { StepFits conn.new result }
+    ensures meets { (a : Connection) → ConnStands A.stands_for (A.kept shared.old) conn.old a → Meets A.stands_for (A.kept shared.old) conn.new (A.numbers shared.new) result (waits_for_ack (A.meaning (A.kept shared.old)) a (A.numbers shared.old)) }
+{
+    match conn.timer.tick(limit_of(conn.state)) {
+        Beat::Wait => Step::Drop,
+        Beat::Again => outstanding(conn.state),
+        Beat::GiveUp => {
+            leave(conn, shared, Ending::TimedOut);
+            Step::Reset
+        }
+    }
+}
+
+/// ESTABLISHED.
+#[tactic(auto, unfolding(crate::specs::OnTick::ticks_established))]
+fn ticks_established<A: App>(conn: &mut Conn<A>, shared: &mut A::Shared) -> Step
+    requires state { conn.old.state ≡ State.Established }
+    requires sound { IsSound A.meaning A.stands_for (A.kept shared.old) conn.old }
+    ensures same { A.kept shared.new ≡ A.kept shared.old }
+    ensures sound { IsSound A.meaning A.stands_for (A.kept shared.old) conn.new }
+    ensures place { SameSockets conn.old conn.new }
+    ensures fits { StepFits conn.new result }
+    ensures meets { (a : Connection) → ConnStands A.stands_for (A.kept shared.old) conn.old a → Meets A.stands_for (A.kept shared.old) conn.new (A.numbers shared.new) result (ticks_established (A.meaning (A.kept shared.old)) a (A.numbers shared.old)) }
+{
+    if conn.len > 0 {
+        waits_for_ack(conn, shared)
+    } else {
+        polls(conn, shared)
+    }
+}
+
+/// The periodic call of a connection. One in CLOSE_WAIT has something outstanding.
+pub fn on_tick<A: App>(conn: &mut Conn<A>, shared: &mut A::Shared) -> Step
+    requires sound { IsSound A.meaning A.stands_for (A.kept shared.old) conn.old }
+    requires busy { Rests conn.old }
+    ensures same { A.kept shared.new ≡ A.kept shared.old }
+    ensures sound { IsSound A.meaning A.stands_for (A.kept shared.old) conn.new }
+    ensures place { SameSockets conn.old conn.new }
+    ensures fits { StepFits conn.new result }
+    ensures meets { (a : Connection) → ConnStands A.stands_for (A.kept shared.old) conn.old a → Meets A.stands_for (A.kept shared.old) conn.new (A.numbers shared.new) result (on_tick (A.meaning (A.kept shared.old)) a (A.numbers shared.old)) }
+{
+    match conn.state {
+        State::Closed => Step::Drop,
+        State::Established => ticks_established(conn, shared),
+        State::FinWait2 | State::TimeWait => rests_on(conn),
+        State::SynRcvd | State::CloseWait | State::FinWait1 | State::Closing | State::LastAck => {
+            waits_for_ack(conn, shared)
+        }
+    }
+}
