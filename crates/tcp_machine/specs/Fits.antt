@@ -24,6 +24,16 @@ StepFits c (Step.Fin again) = Rests c
 StepFits c Step.Reset = Rests c
 StepFits c (Step.Ask fresh) = CanBeAsked c
 
+-- an answer to the network, and no question to the application
+abbrev pub IsAnswer : Step → Type 0
+IsAnswer Step.Drop = Unit {0}
+IsAnswer Step.Ack = Unit {0}
+IsAnswer (Step.SynAck again) = Unit {0}
+IsAnswer (Step.Text again) = Unit {0}
+IsAnswer (Step.Fin again) = Unit {0}
+IsAnswer Step.Reset = Unit {0}
+IsAnswer (Step.Ask fresh) = ⊥
+
 -- the peer and the ports stay
 pub record SameSockets {A : Type 0} (old new : Conn A) : Type 0 where
   pub peer : new.peer ≡ old.peer
