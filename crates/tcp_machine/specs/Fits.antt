@@ -39,3 +39,8 @@ pub record SameSockets {A : Type 0} (old new : Conn A) : Type 0 where
   pub peer : new.peer ≡ old.peer
   pub peer_port : new.peer_port ≡ old.peer_port
   pub own_port : new.own_port ≡ old.own_port
+
+-- the numbers of what is expected next and of what is not acknowledged stay
+pub record SameNumbers {A : Type 0} (old new : Conn A) : Type 0 where
+  pub rcv_nxt : new.rcv_nxt ≡ old.rcv_nxt
+  pub snd_nxt : new.snd_nxt ≡ old.snd_nxt

@@ -4,7 +4,7 @@ ghost use Rattle.std.specs.Prelude.{◌≡◌, ℕ, ◌≤◌, true, List};
 ghost use Rattle.app_events.specs.Part.{Part};
 ghost use Rattle.tcp_machine.specs.Ask.{ask, does_as_wanted, idles, prepared, after_own_fin, peer_has_closed};
 ghost use Rattle.tcp_machine.specs.Connection.{Connection, is_live};
-ghost use Rattle.tcp_machine.specs.Fits.{CanBeAsked, IsAnswer, SameSockets, StepFits};
+ghost use Rattle.tcp_machine.specs.Fits.{CanBeAsked, IsAnswer, SameNumbers, SameSockets, StepFits};
 ghost use Rattle.tcp_machine.specs.Sound.{IsSound};
 ghost use Rattle.tcp_machine.specs.Stands.{ConnStands, Meets, is_open};
 
@@ -30,6 +30,7 @@ fn prepare<A: App>(conn: &mut Conn<A>, shared: &A::Shared, now: &Now)
     ensures asked { CanBeAsked conn.new }
     ensures sound { IsSound A.meaning A.stands_for (A.kept shared.now) conn.new }
     ensures place { SameSockets conn.old conn.new }
+    ensures same_numbers { SameNumbers conn.old conn.new }
     ensures conn { (a : Connection) → ConnStands A.stands_for (A.kept shared.now) conn.old a → ConnStands A.stands_for (A.kept shared.now) conn.new (prepared (A.meaning (A.kept shared.now)) now.now a (A.numbers shared.now)) }
 {
     conn.app.prepare(shared, now);
@@ -42,6 +43,7 @@ fn idle<A: App>(conn: &mut Conn<A>, shared: &A::Shared, fresh: bool) -> Step
     requires sound { IsSound A.meaning A.stands_for (A.kept shared.now) conn.old }
     ensures sound { IsSound A.meaning A.stands_for (A.kept shared.now) conn.new }
     ensures place { SameSockets conn.old conn.new }
+    ensures same_numbers { SameNumbers conn.old conn.new }
     ensures fits { StepFits conn.new result }
     ensures answer { IsAnswer result }
     ensures meets { (a : Connection) → ConnStands A.stands_for (A.kept shared.now) conn.old a → Meets A.stands_for (A.kept shared.now) conn.new (A.numbers shared.now) result (idles fresh a (A.numbers shared.now)) }
@@ -60,6 +62,7 @@ fn do_as_wanted<A: App>(conn: &mut Conn<A>, shared: &A::Shared, want: Want, fres
     requires want { (p : Part) → A.stands_for conn.old.app (A.kept shared.now) p → want ≡ (A.meaning (A.kept shared.now)).want (A.numbers shared.now) p }
     ensures sound { IsSound A.meaning A.stands_for (A.kept shared.now) conn.new }
     ensures place { SameSockets conn.old conn.new }
+    ensures same_numbers { SameNumbers conn.old conn.new }
     ensures fits { StepFits conn.new result }
     ensures answer { IsAnswer result }
     ensures meets { (a : Connection) → ConnStands A.stands_for (A.kept shared.now) conn.old a → Meets A.stands_for (A.kept shared.now) conn.new (A.numbers shared.now) result (does_as_wanted want fresh a (A.numbers shared.now)) }
@@ -90,6 +93,7 @@ pub fn ask<A: App>(conn: &mut Conn<A>, shared: &A::Shared, now: &Now, fresh: boo
     requires sound { IsSound A.meaning A.stands_for (A.kept shared.now) conn.old }
     ensures sound { IsSound A.meaning A.stands_for (A.kept shared.now) conn.new }
     ensures place { SameSockets conn.old conn.new }
+    ensures same_numbers { SameNumbers conn.old conn.new }
     ensures fits { StepFits conn.new result }
     ensures answer { IsAnswer result }
     ensures meets { (a : Connection) → ConnStands A.stands_for (A.kept shared.now) conn.old a → Meets A.stands_for (A.kept shared.now) conn.new (A.numbers shared.now) result (ask (A.meaning (A.kept shared.now)) now.now fresh a (A.numbers shared.now)) }

@@ -2,7 +2,7 @@
 
 ghost use Rattle.std.specs.Prelude.{◌≡◌, ◌<◌, ◌≤◌, true, false};
 ghost use Rattle.tcp_machine.specs.Connection.{Connection, is_resting};
-ghost use Rattle.tcp_machine.specs.Fits.{SameSockets};
+ghost use Rattle.tcp_machine.specs.Fits.{SameNumbers, SameSockets};
 ghost use Rattle.tcp_machine.specs.OnSegment.{rests, takes, in_state, with_window};
 ghost use Rattle.tcp_machine.specs.OnTick.{limit_of};
 ghost use Rattle.tcp_machine.specs.Stands.{IsLike};
@@ -74,6 +74,7 @@ pub(crate) fn send<A>(conn: &mut Conn<A>, state: State, len: u16)
     requires some { 0 < len }
     requires limit { limit_of state ≡ 8 }
     ensures kept { KeepsAllButTimer conn.old (record conn.new { len = conn.old.len }) }
+    ensures same_numbers { SameNumbers conn.old conn.new }
     ensures state { conn.new.state ≡ state }
     ensures len { conn.new.len ≡ len }
     ensures some { 0 < conn.new.len }

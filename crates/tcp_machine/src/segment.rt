@@ -4,7 +4,7 @@ ghost use Rattle.std.specs.Prelude.{◌≡◌, ℕ, ◌+◌, ◌<◌, ◌≤◌,
 ghost use Rattle.uip_wire.specs.Numbers.{wrap};
 ghost use Rattle.tcp_segment.specs.Segments.{PlainSegment, has_ack};
 ghost use Rattle.tcp_machine.specs.Connection.{Connection, is_live};
-ghost use Rattle.tcp_machine.specs.Fits.{Rests, SameSockets, StepFits};
+ghost use Rattle.tcp_machine.specs.Fits.{Rests, SameNumbers, SameSockets, StepFits};
 ghost use Rattle.tcp_machine.specs.OnSegment.{connects, peer_closes, goes_on, in_established, by_state, on_segment, told_end};
 ghost use Rattle.tcp_machine.specs.Segments.{has_place};
 ghost use Rattle.tcp_machine.specs.Sound.{IsSound};
@@ -25,6 +25,7 @@ pub(crate) fn leave<A: App>(conn: &mut Conn<A>, shared: &mut A::Shared, how: End
     ensures same { A.kept shared.new ≡ A.kept shared.old }
     ensures closed { conn.new.state ≡ State.Closed }
     ensures place { SameSockets conn.old conn.new }
+    ensures same_numbers { SameNumbers conn.old conn.new }
     ensures numbers { (a : Connection) → ConnStands A.stands_for (A.kept shared.old) conn.old a → A.numbers shared.new ≡ told_end (A.meaning (A.kept shared.old)) how a.state a.part (A.numbers shared.old) }
 {
     if is_open(conn.state) {

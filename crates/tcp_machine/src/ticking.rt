@@ -3,7 +3,7 @@
 ghost use Rattle.std.specs.Prelude.{◌≡◌, ℕ, ◌<◌, ◌≤◌, true, false, List};
 ghost use Rattle.app_events.specs.Part.{Meaning};
 ghost use Rattle.tcp_machine.specs.Connection.{Connection, is_live, is_resting};
-ghost use Rattle.tcp_machine.specs.Fits.{Rests, SameSockets, StepFits};
+ghost use Rattle.tcp_machine.specs.Fits.{Rests, SameNumbers, SameSockets, StepFits};
 ghost use Rattle.tcp_machine.specs.OnTick.{limit_of, outstanding, waits_for_ack, rests_on, polls, ticks_established, tick_by, on_tick};
 ghost use Rattle.tcp_machine.specs.Sound.{HasSoundNumbers, IsSound};
 ghost use Rattle.tcp_machine.specs.Stands.{ConnStands, Meets, MeetsAlone, NumbersStand, is_open};
@@ -48,6 +48,7 @@ fn rests_on<A>(conn: &mut Conn<A>) -> Step
     ensures sound { is_live conn.new.state ≡ true → HasSoundNumbers conn.new }
     ensures closed_to_it { is_open conn.new.state ≡ false }
     ensures place { SameSockets conn.old conn.new }
+    ensures same_numbers { SameNumbers conn.old conn.new }
     ensures fits { StepFits conn.new result }
     ensures meets { (a : Connection) (ns : List ℕ) → NumbersStand conn.old a → MeetsAlone conn.new ns result (rests_on a ns) }
 {
@@ -67,6 +68,7 @@ fn polls<A: App>(conn: &mut Conn<A>, shared: &mut A::Shared) -> Step
     ensures same { A.kept shared.new ≡ A.kept shared.old }
     ensures sound { IsSound A.meaning A.stands_for (A.kept shared.old) conn.new }
     ensures place { SameSockets conn.old conn.new }
+    ensures same_numbers { SameNumbers conn.old conn.new }
     ensures fits { StepFits conn.new result }
     ensures meets { (a : Connection) → ConnStands A.stands_for (A.kept shared.old) conn.old a → Meets A.stands_for (A.kept shared.old) conn.new (A.numbers shared.new) result (polls (A.meaning (A.kept shared.old)) a (A.numbers shared.old)) }
 {
@@ -82,6 +84,7 @@ fn waits_for_ack<A: App>(conn: &mut Conn<A>, shared: &mut A::Shared) -> Step
     ensures same { A.kept shared.new ≡ A.kept shared.old }
     ensures sound { IsSound A.meaning A.stands_for (A.kept shared.old) conn.new }
     ensures place { SameSockets conn.old conn.new }
+    ensures same_numbers { SameNumbers conn.old conn.new }
     ensures fits { StepFits conn.new result }
     ensures meets { (a : Connection) → ConnStands A.stands_for (A.kept shared.old) conn.old a → Meets A.stands_for (A.kept shared.old) conn.new (A.numbers shared.new) result (waits_for_ack (A.meaning (A.kept shared.old)) a (A.numbers shared.old)) }
 {
@@ -103,6 +106,7 @@ fn ticks_established<A: App>(conn: &mut Conn<A>, shared: &mut A::Shared) -> Step
     ensures same { A.kept shared.new ≡ A.kept shared.old }
     ensures sound { IsSound A.meaning A.stands_for (A.kept shared.old) conn.new }
     ensures place { SameSockets conn.old conn.new }
+    ensures same_numbers { SameNumbers conn.old conn.new }
     ensures fits { StepFits conn.new result }
     ensures meets { (a : Connection) → ConnStands A.stands_for (A.kept shared.old) conn.old a → Meets A.stands_for (A.kept shared.old) conn.new (A.numbers shared.new) result (ticks_established (A.meaning (A.kept shared.old)) a (A.numbers shared.old)) }
 {
@@ -120,6 +124,7 @@ pub fn on_tick<A: App>(conn: &mut Conn<A>, shared: &mut A::Shared) -> Step
     ensures same { A.kept shared.new ≡ A.kept shared.old }
     ensures sound { IsSound A.meaning A.stands_for (A.kept shared.old) conn.new }
     ensures place { SameSockets conn.old conn.new }
+    ensures same_numbers { SameNumbers conn.old conn.new }
     ensures fits { StepFits conn.new result }
     ensures meets { (a : Connection) → ConnStands A.stands_for (A.kept shared.old) conn.old a → Meets A.stands_for (A.kept shared.old) conn.new (A.numbers shared.new) result (on_tick (A.meaning (A.kept shared.old)) a (A.numbers shared.old)) }
 {
