@@ -8,7 +8,7 @@ use Rattle.site_image.specs.Files.{File}
 use Rattle.site_image.specs.Places.{IsWithin, file_in, files_in}
 use Rattle.file_tree.specs.declared.file_id.FileId.{FileId}
 use Rattle.file_tree.specs.Index.{IsOrder, IsSlot, AreWithin, IsTable}
-use Rattle.file_tree.proofs.TableLemmas.{table-insert}
+use Rattle.file_tree.proofs.TableLemmas.{within-push, table-insert}
 
 part-grown : (image more : List ℕ) (at len : ℕ) → at + len ≤ length image → slice_range (image ++ more) at (at + len) ≡ slice_range image at (at + len)
 part-grown image more at len within =
@@ -42,6 +42,17 @@ table-grown image more places order table = record {
   within = within-grown image more places table.within;
   order_is = subst (λ fs. IsOrder fs order) (sym (files-grown image more places table.within)) table.order_is;
 }
+
+-- a further file at the end of the image, where no order is kept
+pub file-push : (image grown : List ℕ) (more : List ℕ) (places : List Place) (place : Place) (file : File)
+    → grown ≡ image ++ more → AreWithin image places → IsWithin grown place → file_in grown place ≡ file
+    → AreWithin grown (places ++ place ∷ []) × (files_in grown (places ++ place ∷ []) ≡ files_in image places ++ file ∷ [])
+file-push image grown more places place file is all within file_is =
+    let kept : files_in grown places ≡ files_in image places = ap (λ x. files_in x places) is ∙ files-grown image more places all in
+    let old : AreWithin grown places = subst (λ x. AreWithin x places) (sym is) (within-grown image more places all) in (
+      within-push grown places place old within,
+      map_push (file_in grown) places place ∙ ap (λ fs. fs ++ file_in grown place ∷ []) kept ∙ ap (λ f. files_in image places ++ f ∷ []) file_is,
+    )
 
 -- a further file at the end of the image
 pub table-push : (image grown : List ℕ) (more : List ℕ) (places : List Place) (order : List FileId) (place : Place) (file : File) (slot number : ℕ)

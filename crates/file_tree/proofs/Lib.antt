@@ -15,3 +15,5 @@ pub mod ListLemmas
 pub mod SizeLemmas
 pub mod PackLemmas
 pub mod PackedLemmas
+pub mod GoodLemmas
+pub mod UpgradeLemmas

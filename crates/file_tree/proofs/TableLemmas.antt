@@ -22,7 +22,7 @@ pub record Reading (image : List ℕ) (version : Version) (count number next : �
   pub table : IsTable image places order
   pub inside : next ≤ length image
 
-within-push : (image : List ℕ) (places : List Place) (place : Place) → AreWithin image places → IsWithin image place → AreWithin image (places ++ place ∷ [])
+pub within-push : (image : List ℕ) (places : List Place) (place : Place) → AreWithin image places → IsWithin image place → AreWithin image (places ++ place ∷ [])
 within-push image places place all one k p s =
     elim (cases_lt k (length places)) [
       | inl old ↦

@@ -4,3 +4,4 @@ pub mod Reading
 pub mod Site
 pub mod Loading
 pub mod Packing
+pub mod Upgrading

@@ -1,8 +1,9 @@
 -- A site, and what it stands for.
-use Rattle.std.specs.Prelude.{◌≡◌, ◌≤◌, ℕ, List, [], ◌∷◌, length, Result, Ok}
+use Rattle.std.specs.Prelude.{◌≡◌, ◌≤◌, ℕ, List, [], ◌∷◌, length, slice_get, IsTrue, Some, Result, Ok}
 use Rattle.site_image.specs.declared.TheConstants.{LONGEST_IMAGE, MOST_FILES}
 use Rattle.site_image.specs.declared.place.Place.{Place}
 use Rattle.site_image.specs.declared.site_error.SiteError.{SiteError}
+use Rattle.site_image.specs.Names.{is_name, is_kind}
 use Rattle.site_image.specs.Files.{File}
 use Rattle.site_image.specs.Faults.{read_image}
 use Rattle.site_image.specs.Places.{files_in}
@@ -24,9 +25,19 @@ abbrev pub image_files : List ℕ → Result (List File) SiteError
 image_files [] = Ok []
 image_files (byte ∷ bytes) = read_image (byte ∷ bytes)
 
+-- each name and each content type is good
+abbrev pub AreGood : List File → Type 0
+AreGood files = (k : ℕ) (file : File) → slice_get files k ≡ Some file → IsTrue (is_name file.name) × IsTrue (is_kind file.kind)
+
+-- two files have two names
+abbrev pub AreApart : List File → Type 0
+AreApart files = (j k : ℕ) (one other : File) → slice_get files j ≡ Some one → slice_get files k ≡ Some other → one.name ≡ other.name → j ≡ k
+
 -- the three parts are those of one good image, or of the site without files
 pub record IsLoaded (site : SiteContent) : Type 0 where
   pub read : image_files site.image ≡ Ok (files_of site)
+  pub good : AreGood (files_of site)
+  pub apart : AreApart (files_of site)
   pub size : length site.image ≤ LONGEST_IMAGE
   pub few : length site.files ≤ MOST_FILES
   pub table : IsTable site.image site.files site.order

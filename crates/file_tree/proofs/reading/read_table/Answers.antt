@@ -7,6 +7,8 @@ use Rattle.site_image.specs.Places.{file_in, files_in}
 use Rattle.file_tree.specs.Answers.{Fails}
 use Rattle.file_tree.specs.Index.{IsTable, AreMeasured}
 use Rattle.file_tree.proofs.ReadLemmas.{read-at-head, read-at-entries, read-at-rest, read-at-end, image-files-are, gives-fault, gives-same}
+use Rattle.site_image.proofs.ImageLaws.{image-reads}
+use Rattle.file_tree.proofs.GoodLemmas.{image-good, image-apart}
 use Rattle.file_tree.proofs.reading.read_table.Goals as goal
 use Rattle.file_tree.proofs.reading.read_table.Goals.{In_ok-measure}
 
@@ -82,6 +84,8 @@ returns-clause-loaded c =
     ap length (places-are c) ∙ sym (length-map c.measure.new.files (file_in image)) ∙ ap length (same-files c) ∙ length-map c.in_ok-table.table.files.items (file_in image) in
     record {
       read = image-files-are image (files_in image (places c)) (omega (arith, size.0)) (is-read c);
+      good = image-good image (files_in image (places c)) (image-reads image (files_in image (places c)) (λ i. omega (arith, c.type_inv.image i)) (is-read c));
+      apart = image-apart image (files_in image (places c)) (image-reads image (files_in image (places c)) (λ i. omega (arith, c.type_inv.image i)) (is-read c));
       size = size.1;
       few = omega (arith, counted, count, few);
       table = subst (λ ps. IsTable image ps c.in_ok-table.table.order.items) (sym (places-are c))
