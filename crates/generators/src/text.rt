@@ -10,9 +10,10 @@ use crate::parts::Place;
 use crate::rows::rows_of;
 use crate::written::put_all;
 
-/// The length of the capture's text, in bytes.
+/// The length of the capture's text, in bytes. No record has a long text, whatever its numbers are.
 pub fn text_len(capture: &Capture) -> usize
-    ensures { result ≡ length (capture_text capture.now) }
+    ensures length { result ≡ length (capture_text capture.now) }
+    ensures short { result ≤ 4200 }
 {
     let place = Place { at: 0, so_far: 0 };
     put_text(place, &mut [], capture).so_far
@@ -31,6 +32,7 @@ pub fn fill_at(capture: &Capture, at: usize, out: &mut [u8])
 fn put_text(place: Place, out: &mut [u8], capture: &Capture) -> Place
     requires { place.so_far ≡ 0 }
     ensures so_far { result.so_far ≡ length (capture_text capture.now) }
+    ensures short { result.so_far ≤ 4200 }
     ensures at { result.at ≡ place.at }
     ensures part { HoldsPart [] place out.old → HoldsPart (capture_text capture.now) result out.new }
 {
