@@ -1,0 +1,23 @@
+//! The end of a reply.
+
+ghost use Rattle.std.specs.Prelude.{List, []};
+
+use protothread::Says;
+
+/// Says nothing: it stands where the connection is to be closed.
+#[derive(Clone, Copy, Drop)]
+pub struct CloseOut;
+
+impl Says for CloseOut {
+    ghost fits = { λ s w. Unit {0} };
+
+    ghost text_left = { λ s w. [] };
+
+    fn left(&self, _world: &[u8]) -> usize {
+        0
+    }
+
+    fn fill(&self, _world: &[u8], _out: &mut [u8]) {}
+
+    fn advance(&mut self, _world: &[u8], _count: usize) {}
+}

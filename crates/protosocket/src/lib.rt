@@ -1,0 +1,21 @@
+//! The protosocket of a connection (Dunkels 2006): the threads that hear a word of a request and that say the pieces of a
+//! reply. Each is a value that is its own resume point and takes no memory; a thread that says text makes the same bytes
+//! again for as long as they are not acknowledged.
+#![tactic(auto)]
+
+mod close_out;
+mod gen_out;
+mod laws;
+mod line_in;
+mod send_out;
+mod stops;
+
+pub use close_out::CloseOut;
+pub use gen_out::GenOut;
+pub use laws::hears_in_pieces;
+pub use line_in::LineIn;
+pub use send_out::SendOut;
+pub use stops::Stops;
+
+#[cfg(test)]
+mod tests;
