@@ -26,3 +26,6 @@ pub mod SoundNodes
 pub mod SoundWorlds
 pub mod Damages
 pub mod Runs
+pub mod Moves
+pub mod Counts
+pub mod Exact

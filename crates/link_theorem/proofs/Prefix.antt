@@ -118,10 +118,10 @@ module _ (m : Meaning) (pages : Pages) (lawful : IsPaged m pages) where
       steps_by w old (asked m now (on_tick m old numbers)) k side lv g (λ cl.
       asked_good m pages lawful side.opened side.client now old (on_tick m old numbers) (on_tick_good m pages lawful side.opened side.client old numbers ((g cl).connection lv)))
 
-  plain_is : (s : PlainSegment) → is_plain_syn s ≡ true → s.flags ≡ SYN
+  pub plain_is : (s : PlainSegment) → is_plain_syn s ≡ true → s.flags ≡ SYN
   plain_is s h = eqb-true s.flags SYN h
 
-  born_by : (side : Side) (e : Sent) → ClientSaid side.client side.opened e.epoch (seg e) → (seg e).flags ≡ SYN → IsSyn side.client side.opened e.epoch (seg e)
+  pub born_by : (side : Side) (e : Sent) → ClientSaid side.client side.opened e.epoch (seg e) → (seg e).flags ≡ SYN → IsSyn side.client side.opened e.epoch (seg e)
   born_by side e (said_reset r) sy = absurd (let z : has_rst (seg e).flags ≡ false = ap has_rst sy in cc)
   born_by side e (said_syn y) sy = y
   born_by side e (said_data d) sy = absurd (let z : has_syn (seg e).flags ≡ true = ap has_syn sy in let y : has_syn (seg e).flags ≡ false = d.no_syn in cc)
@@ -180,7 +180,7 @@ module _ (m : Meaning) (pages : Pages) (lawful : IsPaged m pages) where
     of_node = λ j e x y. absurd (cc);
   }
 
-  opening_framed : (addr : Addr) (numbers : List ℕ) (plan : List Planned) → IsPlan plan → Framed m G other reset evict mark (opening_world addr numbers plan)
+  pub opening_framed : (addr : Addr) (numbers : List ℕ) (plan : List Planned) → IsPlan plan → Framed m G other reset evict mark (opening_world addr numbers plan)
   opening_framed addr numbers plan is = record {
     apart = opening_apart plan is;
     single = λ p i j x y a b u v. absurd (let z = none_serves 10 p i x a in cc);

@@ -28,7 +28,7 @@ use Rattle.link_theorem.proofs.Views.{length_push}
 use Rattle.link_theorem.proofs.Tables.{serving_free}
 use Rattle.link_theorem.proofs.Fits.{FitConn, FitOut, asked_fits, on_segment_fits, on_tick_fits, prepared_captures}
 use Rattle.link_theorem.proofs.FitWorlds.{closed_fits}
-use Rattle.link_theorem.proofs.Told.{Safe, SafeState, IsDue, Onto, Tells, StepTells, due, alike_trans, alike_sym, alike_refl, asked_tells, segment_tells, tick_tells}
+use Rattle.link_theorem.proofs.Told.{Safe, SafeState, IsDue, Onto, Tells, StepTells, OutTells, OutTold, due, alike_trans, alike_sym, alike_refl, asked_tells, segment_tells, tick_tells}
 use Rattle.link_theorem.proofs.Prefix.{none_serves, opening_apart}
 use Rattle.link_theorem.proofs.Runs.{reached}
 use Rattle.link_theorem.proofs.Any.{Framed, Steps, Takes, speech, entry, does_framed}
@@ -96,7 +96,7 @@ module _ (m : Meaning) (pages : Pages) (lawful : IsPaged m pages) where
     pub agree : (i j : ℕ) (e f : Sent) → slice_get sent i ≡ Some e → slice_get sent j ≡ Some f → j < i → e.who ≡ to k → f.who ≡ to k → e.epoch ≡ f.epoch →
         has_place (seg e) ≡ true → has_place (seg f) ≡ true → (seg e).seq ≡ (seg f).seq → (e.again ≡ true) × Alike (seg f) (seg e)
 
-  off_low : (c : Connection) (st : State) → All IsMoment c.part.captures → SafeState m pages lawful c st → c.acked < 4294967296
+  pub off_low : (c : Connection) (st : State) → All IsMoment c.part.captures → SafeState m pages lawful c st → c.acked < 4294967296
   off_low c Closed f h = absurd h
   off_low c SynRcvd f h = omega (arith, h.acked)
   off_low c Established f h = (let s = lawful.short c.part.heard c.part.captures f in omega (arith, h.fits, h.count, s))
@@ -272,7 +272,7 @@ module _ (m : Meaning) (pages : Pages) (lawful : IsPaged m pages) where
         ];
       }
 
-  steps_by : (w : World) (old : Connection) (o : Outcome) (k : ℕ) (side : Side) → is_live old.state ≡ true → FitConn o.connection → StepTells m pages lawful old o.connection (segment_of m o.connection o.step) (is_again o.step) → Told k side old w.sent → Steps m Told other reset evict mark w o k side
+  pub steps_by : (w : World) (old : Connection) (o : Outcome) (k : ℕ) (side : Side) → is_live old.state ≡ true → FitConn o.connection → StepTells m pages lawful old o.connection (segment_of m o.connection o.step) (is_again o.step) → Told k side old w.sent → Steps m Told other reset evict mark w o k side
   steps_by w old o k side live fit h t = record {
     quiet = λ n l. moves k side old o.connection w.sent t live l (h.onto l) (h.safe l) fit
         (λ z. elim (h.still l z) [
@@ -327,12 +327,12 @@ module _ (m : Meaning) (pages : Pages) (lawful : IsPaged m pages) where
       }
 
   -- a client's step leaves what the node said
-  takes : (w : World) (k : ℕ) (base : Side) (c : Connection) (step : ClientStep) → Told k base c w.sent → Takes m Told other reset evict mark w k base c step
+  pub takes : (w : World) (k : ℕ) (base : Side) (c : Connection) (step : ClientStep) → Told k base c w.sent → Takes m Told other reset evict mark w k base c step
   takes w k base c step t =
       let good : Told k (with_client base step.client) c w.sent = same_past k base (with_client base step.client) c w.sent refl t in
       record { quiet = λ n. good; says = λ s e tick. push_silent k (with_client base step.client) c w.sent (entry (from k) (with_client base step.client) tick 0 (speech false s)) good (λ x. absurd (cc)) }
 
-  opening_told : (addr : Addr) (numbers : List ℕ) (plan : List Planned) → IsPlan plan → Framed m Told other reset evict mark (opening_world addr numbers plan)
+  pub opening_told : (addr : Addr) (numbers : List ℕ) (plan : List Planned) → IsPlan plan → Framed m Told other reset evict mark (opening_world addr numbers plan)
   opening_told addr numbers plan is = record {
     apart = opening_apart plan is;
     single = λ p i j x y a b u v. absurd (let z = none_serves 10 p i x a in cc);
@@ -343,19 +343,23 @@ module _ (m : Meaning) (pages : Pages) (lawful : IsPaged m pages) where
   asks_fit : (o : Outcome) → All IsWord o.numbers → FitConn o.connection → (now : Now) → IsNow now → All IsMoment (m.prepare o.numbers o.connection.part now).captures
   asks_fit o n f now is = prepared_captures m pages lawful o.numbers o.connection.part now n is f.captures
 
+  pub stepped_fits : (now : Connection → Now) (o : Outcome) → ((c : Connection) → FitConn c → IsNow (now c)) → FitOut o → FitConn (asked m now o).connection
+  stepped_fits now o is fo = (asked_fits m pages lawful now is o fo).conn
+
+  pub stepped_tells : (now : Connection → Now) (old : Connection) (o : Outcome) → ((c : Connection) → FitConn c → IsNow (now c)) → FitOut o → OutTells m pages lawful old o.connection o.step → OutTold m pages lawful old (asked m now o)
+  stepped_tells now old o is fo h = asked_tells m pages lawful now old o (λ x q. asks_fit o fo.numbers fo.conn x (subst IsNow (sym q) (is o.connection fo.conn))) h
+
   told_all : (w : World) → IsReached m pages w → Framed m Told other reset evict mark w
   told_all w r = reached m pages lawful (λ v. Framed m Told other reset evict mark v)
       (λ served v act harm g fits. does_framed m Told other reset evict mark pages lawful served
       (λ w old numbers now k j side e l f n is sent who fresh t.
       let o : Outcome = on_segment m old numbers (seg e) in
       let fo : FitOut o = on_segment_fits m pages lawful old numbers (seg e) f n in
-      steps_by w old (asked m now o) k side l (asked_fits m pages lawful now is o fo).conn
-      (asked_tells m pages lawful now old o (λ x q. asks_fit o fo.numbers fo.conn x (subst IsNow (sym q) (is o.connection fo.conn))) (segment_tells m pages lawful old numbers (seg e) (t.safe l))) t)
+      steps_by w old (asked m now o) k side l (stepped_fits now o is fo) (stepped_tells now old o is fo (segment_tells m pages lawful old numbers (seg e) (t.safe l))) t)
       (λ w old numbers now k side l f n is t.
       let o : Outcome = on_tick m old numbers in
       let fo : FitOut o = on_tick_fits m pages lawful old numbers f n in
-      steps_by w old (asked m now o) k side l (asked_fits m pages lawful now is o fo).conn
-      (asked_tells m pages lawful now old o (λ x q. asks_fit o fo.numbers fo.conn x (subst IsNow (sym q) (is o.connection fo.conn))) (tick_tells m pages lawful old numbers (t.safe l))) t)
+      steps_by w old (asked m now o) k side l (stepped_fits now o is fo) (stepped_tells now old o is fo (tick_tells m pages lawful old numbers (t.safe l))) t)
       birth
       (λ w k j side c number e fit sent who t. takes w k (marked side number e) c (client_takes side.client (seg e)) (mark k side c w.sent number e t))
       (λ w k side c fit t. takes w k side c _ t) (λ w k side c fit t. takes w k side c _ t) (λ w k side c fit t. takes w k side c _ t) (λ w k side c fit t. takes w k side c _ t)

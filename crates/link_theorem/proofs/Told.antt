@@ -289,7 +289,7 @@ module _ (m : Meaning) (pages : Pages) (lawful : IsPaged m pages) where
   idle_safe d TimeWait o p h = absurd (cc)
   idle_safe d LastAck o p h = absurd (cc)
 
-  abbrev OutTold : Connection → Outcome → Type 0
+  abbrev pub OutTold : Connection → Outcome → Type 0
   OutTold c o = StepTells c o.connection (segment_of m o.connection o.step) (is_again o.step)
 
   text_placed : (d : Connection) → TextSafe d → 0 < d.len → has_place (text_of m d) ≡ true

@@ -64,6 +64,21 @@ get_or_last (a ∷ past) x d (suc n) h = get_or_last past x d n (omega arith)
 pub length_push : (past : List Era) (x : Era) → length (past ++ x ∷ []) ≡ length past + 1
 length_push past x = length-append past (x ∷ [])
 
+-- the first number of an epoch stays while its connection goes on, and when it is gone
+pub first_live : (past : List Era) (c d : Connection) → d.first ≡ c.first → (o : ℕ) → (era past d o).first ≡ (era past c o).first
+first_live past c d f o = elim (low_or_not o (length past)) [
+  | inl h ↦ ap (λ (x : Era). x.first) (era_old past d o h) ∙ sym (ap (λ (x : Era). x.first) (era_old past c o h))
+  | inr h ↦ ap (λ (x : Era). x.first) (era_now past d o h) ∙ f ∙ sym (ap (λ (x : Era). x.first) (era_now past c o h))
+]
+
+pub first_dead : (past : List Era) (c d dead : Connection) → d.first ≡ c.first → (o : ℕ) → o ≤ length past → (era (past ++ era_of d ∷ []) dead o).first ≡ (era past c o).first
+first_dead past c d dead f o le =
+    let longer : o < length (past ++ era_of d ∷ []) = omega (arith, le, length_push past (era_of d)) in
+    elim (low_or_not o (length past)) [
+      | inl h ↦ ap (λ (x : Era). x.first) (era_old (past ++ era_of d ∷ []) dead o longer ∙ get_or_before past (era_of d) no_era o h) ∙ sym (ap (λ (x : Era). x.first) (era_old past c o h))
+      | inr h ↦ ap (λ (x : Era). x.first) (era_old (past ++ era_of d ∷ []) dead o longer ∙ get_or_last past (era_of d) no_era o (omega (arith, h, le))) ∙ f ∙ sym (ap (λ (x : Era). x.first) (era_now past c o h))
+    ]
+
 -- the connection goes on
 onward_live : (past : List Era) (c d : Connection) (more : List Moment) → d.first ≡ c.first → d.part.captures ≡ c.part.captures ++ more → is_live d.state ≡ true → Onward past c past d
 onward_live past c d more f k l = record {

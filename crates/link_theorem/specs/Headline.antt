@@ -1,15 +1,16 @@
 -- What every schedule keeps.
 use Rattle.std.specs.List.{All}
-use Rattle.std.specs.Prelude.{◌≡◌, ℕ, suc, ◌<◌, ◌≤◌, ◌⊎◌, Bool, true, false, List, length, Option, Some, None, Ok, slice_get}
+use Rattle.std.specs.Prelude.{◌≡◌, ℕ, suc, ◌+◌, ◌<◌, ◌≤◌, ◌⊎◌, Bool, true, false, List, length, Option, Some, None, Ok, slice_get}
+use Rattle.uip_wire.specs.Numbers.{wrap}
 use Rattle.uip_wire.specs.declared.addr.Addr.{Addr}
-use Rattle.tcp_segment.specs.Segments.{PlainSegment}
+use Rattle.tcp_segment.specs.Segments.{PlainSegment, has_rst, has_ack}
 use Rattle.app_events.specs.Part.{Moment, Meaning}
 use Rattle.app_events.specs.Laws.{IsPrefixOf}
 use Rattle.app_events.specs.Pages.{Pages, IsPaged, IsMoment, IsWord, IsByte, IsAddr}
-use Rattle.link_client.specs.Client.{has_closed}
+use Rattle.link_client.specs.Client.{AbstractClient, has_closed}
 use Rattle.app_events.specs.declared.state.State.{State}
 use Rattle.app_events.specs.declared.state.State.TheVariants.{Closed, SynRcvd, Established, CloseWait, FinWait1, FinWait2, Closing, TimeWait, LastAck}
-use Rattle.tcp_machine.specs.Connection.{Connection, count_of, tries_of}
+use Rattle.tcp_machine.specs.Connection.{Connection, is_live, count_of, tries_of}
 use Rattle.tcp_machine.specs.Segments.{has_place, segment_of}
 use Rattle.tcp_machine.specs.OnTick.{limit_of, outstanding, grows_older}
 use Rattle.uip_node.specs.Events.{Reply}
@@ -25,11 +26,11 @@ use Rattle.icmp_echo.specs.Echo.{echo_fate}
 use Rattle.tcp_segment.specs.Received.{segment_or_fate}
 use Rattle.tcp_segment.specs.declared.segment.Segment.{Segment}
 use Rattle.link_world.specs.Bytes.{bytes_of}
-use Rattle.link_world.specs.World.{World, Side, Sent, numbered, is_clean}
+use Rattle.link_world.specs.World.{World, Side, Sent, numbered, sockets_of, is_clean}
 use Rattle.link_world.specs.World.Content.{OfSegment}
-use Rattle.link_world.specs.declared.who.Who.TheVariants.{FromNode}
+use Rattle.link_world.specs.declared.who.Who.TheVariants.{FromClient, FromNode}
 use Rattle.link_world.specs.Acts.{does, runs}
-use Rattle.link_world.specs.History.{Planned, IsPlan, opening_world, page_of, is_whole}
+use Rattle.link_world.specs.History.{Planned, IsPlan, era, serving, opening_world, page_of, is_whole}
 use Rattle.link_world.specs.declared.act.Act.{Act}
 
 -- an act that damages nothing
@@ -124,6 +125,27 @@ AgainExactly =
     (i j : ℕ) (e f : Sent) (id id' : ℕ) (s t : PlainSegment) → slice_get w.sent i ≡ Some e → slice_get w.sent j ≡ Some f → j < i → e.who ≡ FromNode (suc k) → f.who ≡ FromNode (suc k) →
     e.content ≡ OfSegment id s → f.content ≡ OfSegment id' t → e.epoch ≡ f.epoch → s.seq ≡ t.seq → has_place s ≡ true → has_place t ≡ true →
     (e.again ≡ true) × Alike t s
+
+-- the connection that serves a client
+abbrev pub server_side : World → Side → Connection
+server_side w side = serving (sockets_of side) w.node.connections
+
+-- Where a client stands beside a connection, whose first number is `first`: it took `ahead` numbers after the SYN, and has
+-- acknowledged no more than these. While the connection lives, at most what is outstanding there is not taken here.
+pub record IsInStep (w : World) (number : ℕ) (client : AbstractClient) (c : Connection) (first : ℕ) : Type 0 where
+  pub ahead : ℕ
+  pub expected : client.expected ≡ wrap (first + 1 + ahead)
+  pub acknowledges : (i : ℕ) (e : Sent) (id : ℕ) (s : PlainSegment) → slice_get w.sent i ≡ Some e → e.who ≡ FromClient number → e.content ≡ OfSegment id s →
+      has_rst s.flags ≡ false → has_ack s.flags ≡ true → (at : ℕ) × (at ≤ ahead) × (s.ack ≡ wrap (first + 1 + at))
+  pub least : is_live c.state ≡ true → c.acked ≤ 1 + ahead
+  pub most : is_live c.state ≡ true → 1 + ahead ≤ c.acked + c.len
+
+-- One segment: so stands every clean client beside the connection of the epoch in which it opened.
+abbrev pub OneSegment : Type 0
+OneSegment =
+    (m : Meaning) (pages : Pages) → IsPaged m pages → (w : World) → IsReached m pages w →
+    (k : ℕ) (side : Side) → slice_get w.sides k ≡ Some side → is_clean side ≡ true → (o : ℕ) → side.opened ≡ Some o →
+    IsInStep w (suc k) side.client (server_side w side) (era side.past (server_side w side) o).first
 
 -- the states in which something may be outstanding
 abbrev pub may_wait : State → Bool

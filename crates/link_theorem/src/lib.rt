@@ -3,7 +3,7 @@
 //! proof goes is told in docs/LINK_THEOREM.md.
 #![tactic(auto)]
 
-ghost use Rattle.link_theorem.specs.Headline.{PrefixAndWhole, SameBytes, AgainExactly, Tick, DamageIsLoss};
+ghost use Rattle.link_theorem.specs.Headline.{PrefixAndWhole, SameBytes, AgainExactly, Tick, DamageIsLoss, OneSegment};
 
 /// A clean client has received a prefix of its page, and the whole page where it took the server's FIN in sequence.
 pub fn prefix_and_whole()
@@ -28,4 +28,9 @@ pub fn tick()
 /// A whole datagram that is handed over with one byte changed changes no client, no connection, no number and no list.
 pub fn damage_is_loss()
     ensures { DamageIsLoss }
+{}
+
+/// While its connection lives, a clean client expects a number inside what is outstanding there, and it has acknowledged no more.
+pub fn one_segment()
+    ensures { OneSegment }
 {}
