@@ -29,3 +29,4 @@ pub mod Runs
 pub mod Moves
 pub mod Counts
 pub mod Exact
+pub mod Lines

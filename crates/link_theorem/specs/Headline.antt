@@ -31,7 +31,9 @@ use Rattle.link_world.specs.World.Content.{OfSegment}
 use Rattle.link_world.specs.declared.who.Who.TheVariants.{FromClient, FromNode}
 use Rattle.link_world.specs.Acts.{does, runs}
 use Rattle.link_world.specs.History.{Planned, IsPlan, era, serving, opening_world, page_of, is_whole}
+use Rattle.link_world.specs.Schedule.{plays}
 use Rattle.link_world.specs.declared.act.Act.{Act}
+use Rattle.link_world.specs.declared.event.Event.{Event}
 
 -- an act that damages nothing
 abbrev pub IsPlainAct : Act → Type 0
@@ -75,6 +77,41 @@ pub record IsReached (m : Meaning) (pages : Pages) (w : World) : Type 0 where
   pub are_acts : All IsAct schedule
   pub bytes : HasBytes pages ⊎ All IsPlainAct schedule
   pub accepted : runs m served schedule (opening_world addr numbers plan) ≡ Ok w
+
+-- what each act of a line is
+abbrev pub OfLine : (Act → Type 0) → Event → Type 0
+OfLine P (Event.Opens number) = P (Act.Opens number)
+OfLine P (Event.Again number) = P (Act.Again number)
+OfLine P (Event.Closes number) = P (Act.Closes number)
+OfLine P (Event.Aborts number) = P (Act.Aborts number)
+OfLine P (Event.Window number window) = P (Act.Window number window)
+OfLine P (Event.Ping source) = P (Act.Ping source)
+OfLine P (Event.Give number) = P (Act.Give number)
+OfLine P (Event.Damage number at mask) = P (Act.Damage number at mask)
+OfLine P (Event.Tick n) = P Act.Tick
+OfLine P Event.Round = (number : ℕ) → P (Act.Give number)
+OfLine P Event.Twice = (number : ℕ) → P (Act.Give number)
+OfLine P Event.Reverse = (number : ℕ) → P (Act.Give number)
+OfLine P Event.Half = (number : ℕ) → P (Act.Give number)
+OfLine P Event.Lose = Unit {0}
+
+-- The world that the lines of a schedule reach, each of them accepted.
+pub record IsPlayed (m : Meaning) (pages : Pages) (w : World) : Type 0 where
+  pub served : ℕ → Bool
+  pub addr : Addr
+  pub is_addr : IsAddr addr
+  pub numbers : List ℕ
+  pub in_range : All IsWord numbers
+  pub plan : List Planned
+  pub is_plan : IsPlan plan
+  pub lines : List Event
+  pub are_acts : All (OfLine IsAct) lines
+  pub bytes : HasBytes pages ⊎ All (OfLine IsPlainAct) lines
+  pub accepted : plays m served lines (opening_world addr numbers plan) ≡ Ok w
+
+-- What lines reach, acts reach, apart from the mark, of which no law speaks.
+abbrev pub LinesAreActs : Type 0
+LinesAreActs = (m : Meaning) (pages : Pages) (w : World) → IsPlayed m pages w → IsReached m pages (record w { mark = 0 })
 
 -- A client has received a prefix of its page, and the whole page where it saw a plain close.
 pub record IsServed (pages : Pages) (w : World) (side : Side) : Type 0 where

@@ -3,7 +3,7 @@
 //! proof goes is told in docs/LINK_THEOREM.md.
 #![tactic(auto)]
 
-ghost use Rattle.link_theorem.specs.Headline.{PrefixAndWhole, SameBytes, AgainExactly, Tick, DamageIsLoss, OneSegment};
+ghost use Rattle.link_theorem.specs.Headline.{PrefixAndWhole, SameBytes, AgainExactly, Tick, DamageIsLoss, OneSegment, LinesAreActs};
 
 /// A clean client has received a prefix of its page, and the whole page where it took the server's FIN in sequence.
 pub fn prefix_and_whole()
@@ -33,4 +33,9 @@ pub fn damage_is_loss()
 /// While its connection lives, a clean client expects a number inside what is outstanding there, and it has acknowledged no more.
 pub fn one_segment()
     ensures { OneSegment }
+{}
+
+/// What the lines of a schedule reach is reached by a list of acts.
+pub fn lines_are_acts()
+    ensures { LinesAreActs }
 {}
