@@ -30,3 +30,4 @@ pub mod Moves
 pub mod Counts
 pub mod Exact
 pub mod Lines
+pub mod Parts

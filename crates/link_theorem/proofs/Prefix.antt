@@ -189,7 +189,7 @@ module _ (m : Meaning) (pages : Pages) (lawful : IsPaged m pages) where
         subst (λ (o : Side). G k o (serving (sockets_of side) (replicate 10 closed)) []) p.is (fresh_good k p.from (serving (sockets_of side) (replicate 10 closed)) (ap (λ (z : Connection). is_live z.state) e) (is.each k p.from p.get)));
   }
 
-  all_good : (w : World) → IsReached m pages w → Framed m G other reset evict mark w
+  pub all_good : (w : World) → IsReached m pages w → Framed m G other reset evict mark w
   all_good w r = reached m pages lawful (λ v. Framed m G other reset evict mark v)
       (λ served v act harm g fits. does_framed m G other reset evict mark pages lawful served segment tick birth took own_open own_again own_close own_abort own_window v act harm g fits)
       opening_framed w r

@@ -3,6 +3,7 @@
 //! proof goes is told in docs/LINK_THEOREM.md.
 #![tactic(auto)]
 
+ghost use Rattle.link_theorem.specs.Parts.{CleanParts};
 ghost use Rattle.link_theorem.specs.Headline.{PrefixAndWhole, SameBytes, AgainExactly, Tick, DamageIsLoss, OneSegment, LinesAreActs};
 
 /// A clean client has received a prefix of its page, and the whole page where it took the server's FIN in sequence.
@@ -38,4 +39,9 @@ pub fn one_segment()
 /// What the lines of a schedule reach is reached by a list of acts.
 pub fn lines_are_acts()
     ensures { LinesAreActs }
+{}
+
+/// What holds together of a clean client: the slices of its page, its FINs, its epochs and its requests.
+pub fn clean_parts()
+    ensures { CleanParts }
 {}
