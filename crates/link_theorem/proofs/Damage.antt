@@ -24,21 +24,10 @@ use Rattle.tcp_segment.specs.Segments.{pseudo_header}
 use Rattle.tcp_segment.specs.declared.segment.Segment.{Segment}
 use Rattle.tcp_segment.specs.declared.fate.TcpFate.TheVariants as TcpFate
 use Rattle.app_events.specs.Pages.{IsByte}
-use Rattle.uip_node.specs.Events.{Event}
-use Rattle.uip_node.specs.Events.Event.{IpRefused, IcmpRefused, TcpRefused, EchoAsked, Arrived, Overlong, Periodic}
 use Rattle.uip_node.specs.Edge.{event_of, by_head, by_proto, by_echo, by_segment}
 use Rattle.link_world.specs.Bytes.{changed}
-use Rattle.link_theorem.specs.Headline.{PassesBy, IsWhole}
+use Rattle.link_theorem.specs.Headline.{PassesBy, IsWhole, is_refused}
 use Rattle.link_theorem.proofs.Basics.{both_ways, choose, append_nothing}
-
-abbrev pub is_refused : Event → Bool
-is_refused (IpRefused fate) = true
-is_refused (IcmpRefused fate) = true
-is_refused (TcpRefused fate) = true
-is_refused (EchoAsked datagram) = false
-is_refused (Arrived sockets segment) = false
-is_refused Overlong = false
-is_refused (Periodic place) = false
 
 -- a list around one of its bytes
 pub record Around (bytes : List ℕ) (at : ℕ) (other : ℕ) : Type 0 where

@@ -10,8 +10,8 @@ use Rattle.link_world.specs.Bytes.{bytes_of, changed, heard_by}
 use Rattle.link_world.specs.Acts.{damages_at, hands_over, handed, client_handed}
 use Rattle.link_world.specs.declared.who.Who.{Who}
 use Rattle.link_world.specs.declared.who.Who.TheVariants.{FromClient, FromNode, Pinger}
-use Rattle.link_theorem.specs.Headline.{IsLoss, IsWhole, DamageIsLoss}
-use Rattle.link_theorem.proofs.Damage.{is_refused, damage_refused}
+use Rattle.link_theorem.specs.Headline.{is_refused, IsLoss, OneRefusal, CountsBy, IsWhole, DamageIsLoss}
+use Rattle.link_theorem.proofs.Damage.{damage_refused}
 
 pub same_world : (w : World) → IsLoss w w
 same_world w = record { sides = refl; sent = refl; mark = refl; addr = refl; numbers = refl; connections = refl; ticks = refl; initial = refl; ident = refl }
@@ -43,6 +43,27 @@ loses m served w (FromClient n) bytes at mask h l a b = node_loses m served w (e
 loses m served w Pinger bytes at mask h l a b = node_loses m served w (event_of w.node.addr (changed bytes at mask)) (damage_refused bytes at mask w.node.addr h l a b)
 loses m served w (FromNode n) bytes at mask h l a b = client_loses w n (changed bytes at mask) (numbered w.sides n) (λ setup. damage_refused bytes at mask setup.addr h l a b)
 
+-- what the node counts of it
+one_refusal : (m : Meaning) (served : ℕ → Bool) (w : World) (e : Event) → is_refused e ≡ true → OneRefusal w (node_handles m served w e)
+one_refusal m served w (IpRefused fate) h = record { event = IpRefused fate; refused = refl; past = refl }
+one_refusal m served w (IcmpRefused fate) h = record { event = IcmpRefused fate; refused = refl; past = refl }
+one_refusal m served w (TcpRefused fate) h = record { event = TcpRefused fate; refused = refl; past = refl }
+one_refusal m served w (EchoAsked datagram) h = absurd (cc)
+one_refusal m served w (Arrived sockets s) h = absurd (cc)
+one_refusal m served w Overlong h = absurd (cc)
+one_refusal m served w (Periodic place) h = absurd (cc)
+
+client_past : (w : World) (number : ℕ) (bytes : List ℕ) (side : Option Side) → ((setup : Setup) → is_refused (event_of setup.addr bytes) ≡ true) → (handed w number bytes side).node.past ≡ w.node.past
+client_past w number bytes None h = refl
+client_past w number bytes (Some side) h = subst (λ x. (client_handed w number side x).node.past ≡ w.node.past) (sym (nothing_heard side.client.setup (event_of side.client.setup.addr bytes) (h side.client.setup))) refl
+
+counts : (m : Meaning) (served : ℕ → Bool) (w : World) (who : Who) (bytes : List ℕ) (at mask : ℕ) → IsWhole bytes → at < length bytes → 1 ≤ mask → mask < 256 → CountsBy who w (hands_over m served w (changed bytes at mask) who)
+counts m served w (FromClient n) bytes at mask h l a b = one_refusal m served w (event_of w.node.addr (changed bytes at mask)) (damage_refused bytes at mask w.node.addr h l a b)
+counts m served w Pinger bytes at mask h l a b = one_refusal m served w (event_of w.node.addr (changed bytes at mask)) (damage_refused bytes at mask w.node.addr h l a b)
+counts m served w (FromNode n) bytes at mask h l a b = client_past w n (changed bytes at mask) (numbered w.sides n) (λ setup. damage_refused bytes at mask setup.addr h l a b)
+
 pub damage_is_loss : DamageIsLoss
-damage_is_loss m served w k at mask e sent h l a b =
-    subst (λ x. IsLoss w (damages_at m served w at mask x)) (sym sent) (loses m served w e.who (bytes_of w e) at mask h l a b)
+damage_is_loss m served w k at mask e sent h l a b = (
+  subst (λ x. IsLoss w (damages_at m served w at mask x)) (sym sent) (loses m served w e.who (bytes_of w e) at mask h l a b),
+  subst (λ x. CountsBy e.who w (damages_at m served w at mask x)) (sym sent) (counts m served w e.who (bytes_of w e) at mask h l a b),
+)

@@ -1,6 +1,6 @@
 -- What every schedule keeps.
 use Rattle.std.specs.List.{All}
-use Rattle.std.specs.Prelude.{◌≡◌, ℕ, suc, ◌+◌, ◌<◌, ◌≤◌, ◌⊎◌, Bool, true, false, List, length, Option, Some, None, Ok, slice_get}
+use Rattle.std.specs.Prelude.{◌≡◌, ℕ, suc, ◌+◌, ◌<◌, ◌≤◌, ◌⊎◌, Bool, true, false, List, ◌∷◌, length, Option, Some, None, Ok, slice_get}
 use Rattle.uip_wire.specs.Numbers.{wrap}
 use Rattle.uip_wire.specs.declared.addr.Addr.{Addr}
 use Rattle.tcp_segment.specs.Segments.{PlainSegment, has_rst, has_ack}
@@ -13,8 +13,9 @@ use Rattle.app_events.specs.declared.state.State.TheVariants.{Closed, SynRcvd, E
 use Rattle.tcp_machine.specs.Connection.{Connection, is_live, count_of, tries_of}
 use Rattle.tcp_machine.specs.Segments.{has_place, segment_of}
 use Rattle.tcp_machine.specs.OnTick.{limit_of, outstanding, grows_older}
-use Rattle.uip_node.specs.Events.{Reply}
-use Rattle.uip_node.specs.Events.Event.{Periodic}
+use Rattle.uip_node.specs.Events.{Event as NodeEvent, Reply}
+use Rattle.uip_node.specs.Events.Event.{IpRefused, IcmpRefused, TcpRefused, EchoAsked, Arrived, Overlong, Periodic}
+use Rattle.uip_node.specs.Events.Answer.{Silent}
 use Rattle.uip_node.specs.Events.Reply.{Tcp}
 use Rattle.uip_node.specs.Counters.{ticks_of, initial_number, ident_of}
 use Rattle.uip_node.specs.Node.{AbstractNode, step}
@@ -28,7 +29,8 @@ use Rattle.tcp_segment.specs.declared.segment.Segment.{Segment}
 use Rattle.link_world.specs.Bytes.{bytes_of}
 use Rattle.link_world.specs.World.{World, Side, Sent, numbered, sockets_of, is_clean}
 use Rattle.link_world.specs.World.Content.{OfSegment}
-use Rattle.link_world.specs.declared.who.Who.TheVariants.{FromClient, FromNode}
+use Rattle.link_world.specs.declared.who.Who.{Who}
+use Rattle.link_world.specs.declared.who.Who.TheVariants.{FromClient, FromNode, Pinger}
 use Rattle.link_world.specs.Acts.{does, runs}
 use Rattle.link_world.specs.History.{Planned, IsPlan, era, serving, opening_world, page_of, is_whole}
 use Rattle.link_world.specs.Schedule.{plays}
@@ -240,9 +242,31 @@ pub record IsLoss (w v : World) : Type 0 where
   pub initial : initial_number v.node.past ≡ initial_number w.node.past
   pub ident : ident_of v.node.past ≡ ident_of w.node.past
 
+-- a datagram that failed a check
+abbrev pub is_refused : NodeEvent → Bool
+is_refused (IpRefused fate) = true
+is_refused (IcmpRefused fate) = true
+is_refused (TcpRefused fate) = true
+is_refused (EchoAsked datagram) = false
+is_refused (Arrived sockets s) = false
+is_refused Overlong = false
+is_refused (Periodic place) = false
+
+-- one refused datagram more in the node's past, and no answer
+pub record OneRefusal (w v : World) : Type 0 where
+  pub event : NodeEvent
+  pub refused : is_refused event ≡ true
+  pub past : v.node.past ≡ record { event = event; answer = Silent } ∷ w.node.past
+
+-- The node counts what was sent to it, and nothing else.
+abbrev pub CountsBy : Who → World → World → Type 0
+CountsBy (FromClient number) w v = OneRefusal w v
+CountsBy Pinger w v = OneRefusal w v
+CountsBy (FromNode number) w v = v.node.past ≡ w.node.past
+
 -- Damage is a loss: a datagram that would have passed every check, handed over with one byte changed, changes no client, no
--- connection and no list.
+-- connection and no list; where it was sent to the node, its past has one refused datagram more.
 abbrev pub DamageIsLoss : Type 0
 DamageIsLoss =
     (m : Meaning) (served : ℕ → Bool) (w : World) (k at mask : ℕ) (e : Sent) → numbered w.sent k ≡ Some e → IsWhole (bytes_of w e) → at < length (bytes_of w e) → 1 ≤ mask → mask < 256 →
-    IsLoss w (does m served w (Act.Damage k at mask))
+    IsLoss w (does m served w (Act.Damage k at mask)) × CountsBy e.who w (does m served w (Act.Damage k at mask))
