@@ -17,11 +17,12 @@ use Rattle.uip_node.specs.Events.{Event, Reply}
 use Rattle.uip_node.specs.Events.Event.{IpRefused, IcmpRefused, TcpRefused, EchoAsked, Arrived}
 use Rattle.uip_node.specs.Events.Reply.{Echo, Tcp as TcpReply}
 
-abbrev pub sockets_between : IpHead → Segment → Sockets
-sockets_between head s = record { peer = head.source; peer_port = s.from; own_port = s.to }
+-- the sockets that a segment from a peer is for
+abbrev pub sockets_of : Addr → Segment → Sockets
+sockets_of peer s = record { peer = peer; peer_port = s.from; own_port = s.to }
 
 abbrev pub by_segment : IpHead → List ℕ → Result Segment TcpFate → Event
-by_segment head bytes (Ok s) = Arrived (sockets_between head s) (plain_of s bytes)
+by_segment head bytes (Ok s) = Arrived (sockets_of head.source s) (plain_of s bytes)
 by_segment head bytes (Err fate) = TcpRefused fate
 
 abbrev pub by_echo : IpHead → List ℕ → Option IcmpFate → Event

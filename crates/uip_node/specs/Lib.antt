@@ -2,3 +2,8 @@ pub mod Events
 pub mod Counters
 pub mod Node
 pub mod Edge
+pub mod Slots
+pub mod Raising
+pub mod Counted
+pub mod Spoken
+pub mod StandsFor

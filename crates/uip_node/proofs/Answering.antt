@@ -1,0 +1,86 @@
+-- A step that is answered, or not.
+use Rattle.std.proofs.Common.{ℕ, ◌≡◌, ◌+◌, ◌%◌, Bool, length, List, ◌∷◌, Option, Some, None, sym, ap, ◌∙◌, subst, refl}
+use Rattle.std.specs.Prelude.{slice_set}
+use Rattle.std.proofs.Math.Nat.{mod-add-mod}
+use Rattle.app_events.specs.Part.{Meaning, Part}
+use Rattle.tcp_segment.specs.Segments.{PlainSegment, datagram_bytes}
+use Rattle.tcp_machine.specs.Ask.{Outcome}
+use Rattle.tcp_machine.specs.Connection.{Connection}
+use Rattle.tcp_machine.specs.Segments.{is_again, segment_of}
+use Rattle.tcp_machine.specs.declared.step.Step.{Step}
+use Rattle.uip_node.specs.Counted.{CountsStand, seen}
+use Rattle.uip_node.specs.Counters.{ident_of, initial_number, is_spoken, times}
+use Rattle.uip_node.specs.Edge.{datagram_to}
+use Rattle.uip_node.specs.Events.{Event, Past}
+use Rattle.uip_node.specs.Events.Answer.{Spoke}
+use Rattle.uip_node.specs.Node.{AbstractNode, NodeStep, answer_of, gone_by, happened, reply_of}
+use Rattle.uip_node.specs.Slots.{MeetsAt, SlotsStand}
+use Rattle.uip_node.specs.Spoken.{IsSpoken}
+use Rattle.uip_node.specs.StandsFor.{Steps}
+use Rattle.uip_node.specs.declared.counts.Counts.{Counts}
+use Rattle.uip_node.specs.declared.node.Node.{Node}
+
+-- what is answered to an event of which so much is said
+abbrev answered_node : AbstractNode → Event → ℕ → Outcome → Option PlainSegment → AbstractNode
+answered_node n event slot o said = record n { numbers = o.numbers; connections = slice_set n.connections slot o.connection; past = record { event = event; answer = answer_of said (is_again o.step) } ∷ n.past }
+
+abbrev answered : AbstractNode → Event → ℕ → Outcome → Option Connection → Option PlainSegment → NodeStep
+answered n event slot o gone said = record {
+  node = answered_node n event slot o said;
+  sent = reply_of said o.connection.sockets (ident_of (answered_node n event slot o said).past) (is_again o.step);
+  gone = gone;
+}
+
+pub next_ident : (counts : Counts) (event : Event) (again : Bool) (past : List Past) → CountsStand counts (seen event past) → (counts.ident + 1) % 65536 ≡ ident_of (record { event = event; answer = Spoke again } ∷ past)
+next_ident counts event again past h = ap (λ (n : ℕ). (n + 1) % 65536) h.ident ∙ mod-add-mod (times (λ p. is_spoken p.answer) past) 65536 1
+
+spoken_by : {A S K : Type 0} (stands : A → K → Part → Type 0) (kept : S → K) (numbers : S → List ℕ) (node : Node A S) (len : ℕ) (id : ℕ) (n : AbstractNode) (event : Event) (slot : ℕ) (o : Outcome) (gone : Option Connection) (said : Option PlainSegment) (result : Option ℕ) →
+    node.addr ≡ n.addr → node.table.iss ≡ initial_number (seen event n.past) → CountsStand node.counts (record { event = event; answer = Spoke (is_again o.step) } ∷ n.past) →
+    id ≡ ident_of (record { event = event; answer = Spoke (is_again o.step) } ∷ n.past) →
+    SlotsStand stands (kept node.shared) node.table.conns (slice_set n.connections slot o.connection) → numbers node.shared ≡ o.numbers →
+    IsSpoken node.addr o.connection.sockets id said result node.packet → result ≡ Some len → initial_number (record { event = event; answer = Spoke (is_again o.step) } ∷ n.past) ≡ initial_number (seen event n.past) →
+    Steps stands kept numbers node (Some len) (answered n event slot o gone said)
+spoken_by stands kept numbers node len id n event slot o gone None result addr iss counts same slots counted spoken is first = cc
+spoken_by stands kept numbers node len id n event slot o gone (Some s) result addr iss counts same slots counted spoken is first =
+    let e = ap (λ (i : ℕ). datagram_bytes (datagram_to node.addr o.connection.sockets i s)) same in
+    record {
+      stands = record { addr = addr; slots = slots; iss = iss ∙ sym first; numbers_stand = counted; counts = counts };
+      sent = record {
+        answer = sym is ∙ (spoken.answer ∙ ap (λ (xs : List ℕ). Some (length xs)) e);
+        datagram = spoken.datagram ∙ e;
+      };
+    }
+
+pub speaks : {A S K : Type 0} (stands : A → K → Part → Type 0) (kept : S → K) (numbers : S → List ℕ) (m : Meaning) (node : Node A S) (before : Counts) (len : ℕ) (n : AbstractNode) (event : Event) (slot : ℕ) (old : Connection) (o : Outcome) (step : Step) (result : Option ℕ) →
+    node.addr ≡ n.addr → node.table.iss ≡ initial_number (seen event n.past) → CountsStand before (seen event n.past) → CountsStand node.counts (record { event = event; answer = Spoke (is_again step) } ∷ n.past) →
+    MeetsAt stands (kept node.shared) node.table.conns (numbers node.shared) step n.connections slot o →
+    IsSpoken node.addr o.connection.sockets ((before.ident + 1) % 65536) (segment_of m o.connection step) result node.packet → result ≡ Some len →
+    Steps stands kept numbers node (Some len) (happened m n event slot old o)
+unfolding happened
+speaks stands kept numbers m node before len n event slot old o step result addr iss before_stands counts meets spoken is =
+    spoken_by stands kept numbers node len ((before.ident + 1) % 65536) n event slot o (gone_by old o.connection) (segment_of m o.connection o.step) result addr iss
+    (subst (λ (s : Step). CountsStand node.counts (record { event = event; answer = Spoke (is_again s) } ∷ n.past)) meets.asked counts)
+    (next_ident before event (is_again o.step) n.past before_stands) meets.slots meets.counted
+    (subst (λ (s : Step). IsSpoken node.addr o.connection.sockets ((before.ident + 1) % 65536) (segment_of m o.connection s) result node.packet) meets.asked spoken) is refl
+
+silent_by : {A S K : Type 0} (stands : A → K → Part → Type 0) (kept : S → K) (numbers : S → List ℕ) (node : Node A S) (id : ℕ) (n : AbstractNode) (event : Event) (slot : ℕ) (o : Outcome) (gone : Option Connection) (said : Option PlainSegment) (result : Option ℕ) →
+    node.addr ≡ n.addr → node.table.iss ≡ initial_number (seen event n.past) → CountsStand node.counts (seen event n.past) →
+    SlotsStand stands (kept node.shared) node.table.conns (slice_set n.connections slot o.connection) → numbers node.shared ≡ o.numbers →
+    IsSpoken node.addr o.connection.sockets id said result node.packet → result ≡ None →
+    Steps stands kept numbers node None (answered n event slot o gone said)
+silent_by stands kept numbers node id n event slot o gone None result addr iss counts slots counted spoken is = record {
+  stands = record { addr = addr; slots = slots; iss = iss; numbers_stand = counted; counts = counts };
+  sent = refl;
+}
+silent_by stands kept numbers node id n event slot o gone (Some s) result addr iss counts slots counted spoken is =
+    let e = sym is ∙ spoken.answer in cc
+
+pub says_nothing : {A S K : Type 0} (stands : A → K → Part → Type 0) (kept : S → K) (numbers : S → List ℕ) (m : Meaning) (node : Node A S) (id : ℕ) (n : AbstractNode) (event : Event) (slot : ℕ) (old : Connection) (o : Outcome) (step : Step) (result : Option ℕ) →
+    node.addr ≡ n.addr → node.table.iss ≡ initial_number (seen event n.past) → CountsStand node.counts (seen event n.past) →
+    MeetsAt stands (kept node.shared) node.table.conns (numbers node.shared) step n.connections slot o →
+    IsSpoken node.addr o.connection.sockets id (segment_of m o.connection step) result node.packet → result ≡ None →
+    Steps stands kept numbers node None (happened m n event slot old o)
+unfolding happened
+says_nothing stands kept numbers m node id n event slot old o step result addr iss counts meets spoken is =
+    silent_by stands kept numbers node id n event slot o (gone_by old o.connection) (segment_of m o.connection o.step) result addr iss counts meets.slots meets.counted
+    (subst (λ (s : Step). IsSpoken node.addr o.connection.sockets id (segment_of m o.connection s) result node.packet) meets.asked spoken) is

@@ -1,0 +1,170 @@
+-- The slots that are found in the code's table and in the abstract node's.
+use Rattle.std.proofs.Common.{ℕ, zero, suc, ◌≡◌, ◌+◌, ◌<◌, ◌&&◌, ◌==◌, Bool, true, false, not, max, List, [], ◌∷◌, length, Option, Some, None, ◌⊎◌, inl, inr, refl, sym, ap, ◌∙◌, subst, arith, nat_lt, if◌then◌else◌}
+use Rattle.std.specs.Prelude.{slice_get, position, bytes_eq}
+use Rattle.std.specs.List.{position_or_len}
+use Rattle.std.proofs.lemmas.Bool.{lt-ltb}
+use Rattle.std.proofs.lemmas.List.Quantifiers.{position-Some}
+use Rattle.std.proofs.lemmas.Option.{get_or_from_slice_get}
+use Rattle.app_events.specs.Part.{Meaning, Part}
+use Rattle.app_events.specs.States.{is_live, is_time_wait}
+use Rattle.app_events.specs.declared.state.State.{State}
+use Rattle.app_events.specs.declared.state.State.TheVariants.{Closed, SynRcvd, Established, CloseWait, FinWait1, FinWait2, Closing, TimeWait, LastAck}
+use Rattle.tcp_table.specs.Connections.{is_at}
+use Rattle.tcp_table.specs.Slots.{has_waited, or_else, waited}
+use Rattle.tcp_table.specs.Slots as table
+use Rattle.tcp_table.specs.declared.conn.Conn.{Conn}
+use Rattle.tcp_machine.specs.Connection.{Connection, Sockets, is_resting, serves, same_sockets}
+use Rattle.tcp_machine.specs.Sound.{HasSoundNumbers, IsSound, LenFits}
+use Rattle.tcp_machine.specs.Stands.{ConnStands, IsLike}
+use Rattle.uip_node.specs.Node.{is_waiting, longest_wait, slot_for_syn}
+use Rattle.uip_node.specs.Slots.{AllKept, SlotsStand}
+
+-- place by place the same
+abbrev pub Agree : {X Y : Type 0} → (X → Bool) → (Y → Bool) → List X → List Y → Type 0
+Agree {X} {Y} p q xs ys = (i : ℕ) (x : X) (y : Y) → slice_get xs i ≡ Some x → slice_get ys i ≡ Some y → p x ≡ q y
+
+or_len_agrees : {X Y : Type 0} (p : X → Bool) (q : Y → Bool) (xs : List X) (ys : List Y) → length xs ≡ length ys → Agree p q xs ys → position_or_len p xs ≡ position_or_len q ys
+or_len_agrees p q [] [] e h = refl
+or_len_agrees p q [] (y ∷ ys) e h = absurd (omega (arith, e))
+or_len_agrees p q (x ∷ xs) [] e h = absurd (omega (arith, e))
+or_len_agrees p q (x ∷ xs) (y ∷ ys) e h =
+    let head : p x ≡ q y = h 0 x y refl refl in
+    let tail : position_or_len p xs ≡ position_or_len q ys = or_len_agrees p q xs ys (omega (arith, e)) (λ i a b k l. h (suc i) a b k l) in
+    cc
+
+pub position_agrees : {X Y : Type 0} (p : X → Bool) (q : Y → Bool) (xs : List X) (ys : List Y) → length xs ≡ length ys → Agree p q xs ys → position p xs ≡ position q ys
+position_agrees p q xs ys e h =
+    let same = or_len_agrees p q xs ys e h in
+    cc
+
+-- what is found stands there
+pub found : {X : Type 0} (p : X → Bool) (xs : List X) (i : ℕ) → position p xs ≡ Some i → (i < length xs) × ((x : X) → slice_get xs i ≡ Some x → p x ≡ true)
+found p [] i h = cc
+found p (y ∷ ys) i h =
+    let t = position-Some p (y ∷ ys) i y h in
+    (t.0, λ x at. sym (ap p (get_or_from_slice_get (y ∷ ys) i x y at)) ∙ t.1)
+
+by_bool : {P : Type 0} (b : Bool) → (b ≡ true → P) → (b ≡ false → P) → P
+by_bool true f g = f refl
+by_bool false f g = g refl
+
+some_is : {X : Type 0} (x y : X) → slice_get (x ∷ []) 0 ≡ Some y → x ≡ y
+some_is x y h = cc
+
+-- what passes is found
+or_len_below : {X : Type 0} (p : X → Bool) (xs : List X) (i : ℕ) (x : X) → slice_get xs i ≡ Some x → p x ≡ true → position_or_len p xs < length xs
+or_len_below p [] i x at passes = cc
+or_len_below p (y ∷ ys) zero x at passes =
+    let e : p y ≡ true = ap p (some_is y x at) ∙ passes in
+    let z : position_or_len p (y ∷ ys) ≡ 0 = cc in
+    omega (arith, z)
+or_len_below p (y ∷ ys) (suc i) x at passes =
+    let rest : position_or_len p ys < length ys = or_len_below p ys i x at passes in
+    by_bool (p y) (λ t. let z : position_or_len p (y ∷ ys) ≡ 0 = cc in omega (arith, z)) (λ f. let z : position_or_len p (y ∷ ys) ≡ 1 + position_or_len p ys = cc in omega (arith, z, rest))
+
+found_where : {X : Type 0} (p : X → Bool) (xs : List X) (i : ℕ) (x : X) → slice_get xs i ≡ Some x → p x ≡ true → position p xs ≡ None → ⊥
+found_where p xs i x at passes h =
+    let below : nat_lt (position_or_len p xs) (length xs) ≡ true = lt-ltb (position_or_len p xs) (length xs) (or_len_below p xs i x at passes) in
+    let e : position p xs ≡ Some (position_or_len p xs) = cc in
+    cc
+
+pub not_found : {X : Type 0} (p : X → Bool) (xs : List X) → position p xs ≡ None → (i : ℕ) (x : X) → slice_get xs i ≡ Some x → p x ≡ false
+not_found {X} p xs h i x at = by_bool (p x) (λ passes. absurd (found_where p xs i x at passes h)) (λ fails. fails)
+
+live_at : {A : Type 0} (c : Conn A) (a : Connection) (s : Sockets) → IsLike c a → c.state ≡ a.state → is_at s.peer s.peer_port s.own_port c ≡ serves s a
+live_at c a s l e =
+    let peer = l.peer in
+    let peer_port = l.peer_port in
+    let own_port = l.own_port in
+    cc
+
+dead_at : {A : Type 0} (c : Conn A) (a : Connection) (s : Sockets) → c.state ≡ a.state → is_live a.state ≡ false → is_at s.peer s.peer_port s.own_port c ≡ serves s a
+dead_at c a s e dead =
+    let f : is_live c.state ≡ false = ap is_live e ∙ dead in
+    ap (λ (b : Bool). b && (bytes_eq c.peer.0 s.peer.0 && ((c.peer_port.0 == s.peer_port.0) && (c.own_port.0 == s.own_port.0)))) f
+    ∙ sym (ap (λ (b : Bool). b && same_sockets a.sockets s) dead)
+
+at_serves : {A K : Type 0} (stands : A → K → Part → Type 0) (k : K) (c : Conn A) (a : Connection) (s : Sockets) → ConnStands stands k c a → is_at s.peer s.peer_port s.own_port c ≡ serves s a
+at_serves stands k c a s h =
+    by_bool (is_live a.state) (λ live. live_at c a s (h.numbers.like live) h.numbers.state) (λ dead. dead_at c a s h.numbers.state dead)
+
+pub find_agrees : {A K : Type 0} (stands : A → K → Part → Type 0) (k : K) (cs : List (Conn A)) (abstracts : List Connection) (s : Sockets) → SlotsStand stands k cs abstracts →
+    position (is_at s.peer s.peer_port s.own_port) cs ≡ position (serves s) abstracts
+find_agrees stands k cs abstracts s h =
+    position_agrees (is_at s.peer s.peer_port s.own_port) (serves s) cs abstracts (sym h.same_length) (λ i c a at there. at_serves stands k c a s (h.each i c a at there))
+
+-- in TIME-WAIT the timer counts the age
+counts_age : {A : Type 0} (state : State) (c : Conn A) (a : Connection) → a.state ≡ state → LenFits state c.len → IsLike c a → is_time_wait state ≡ true → c.timer.count ≡ a.age
+counts_age TimeWait c a e len l t =
+    l.timer.counts (sym l.len ∙ len) ∙ ap (λ (s : State). if is_resting s then a.age else 0) e
+counts_age Closed c a e len l t = cc
+counts_age SynRcvd c a e len l t = cc
+counts_age Established c a e len l t = cc
+counts_age CloseWait c a e len l t = cc
+counts_age FinWait1 c a e len l t = cc
+counts_age FinWait2 c a e len l t = cc
+counts_age Closing c a e len l t = cc
+counts_age LastAck c a e len l t = cc
+
+live_waits : (state : State) → is_time_wait state ≡ true → is_live state ≡ true
+live_waits TimeWait t = refl
+live_waits Closed t = cc
+live_waits SynRcvd t = refl
+live_waits Established t = refl
+live_waits CloseWait t = refl
+live_waits FinWait1 t = refl
+live_waits FinWait2 t = refl
+live_waits Closing t = refl
+live_waits LastAck t = refl
+
+pub age_counted : {A K : Type 0} (m : K → Meaning) (stands : A → K → Part → Type 0) (k : K) (c : Conn A) (a : Connection) → ConnStands stands k c a → IsSound m stands k c → is_time_wait a.state ≡ true → c.timer.count ≡ a.age
+age_counted m stands k c a h sound t =
+    let live : is_live a.state ≡ true = live_waits a.state t in
+    let numbers : HasSoundNumbers c = sound.numbers (ap is_live h.numbers.state ∙ live) in
+    counts_age a.state c a refl (subst (λ (s : State). LenFits s c.len) h.numbers.state numbers.len) (h.numbers.like live) t
+
+if_waits : (b : Bool) (x y t : ℕ) → (b ≡ true → x ≡ y) → (b && (x == t)) ≡ (b && (y == t))
+if_waits true x y t h = ap (λ (n : ℕ). n == t) (h refl)
+if_waits false x y t h = refl
+
+waited_agrees : {A K : Type 0} (m : K → Meaning) (stands : A → K → Part → Type 0) (k : K) (t : ℕ) (c : Conn A) (a : Connection) → ConnStands stands k c a → IsSound m stands k c → has_waited t c ≡ (is_waiting a && (a.age == t))
+waited_agrees m stands k t c a h sound =
+    ap (λ (s : State). is_time_wait s && (c.timer.count == t)) h.numbers.state
+    ∙ if_waits (is_time_wait a.state) c.timer.count a.age t (age_counted m stands k c a h sound)
+
+greater : (b : Bool) (x y rest more : ℕ) → (b ≡ true → x ≡ y) → rest ≡ more → max (if b then x else 0) rest ≡ (if b then max y more else more)
+greater true x y rest more h e = let same = h refl in cc
+greater false x y rest more h e = omega (arith, e)
+
+longest_agrees : {A K : Type 0} (m : K → Meaning) (stands : A → K → Part → Type 0) (k : K) (cs : List (Conn A)) (abstracts : List Connection) → length cs ≡ length abstracts →
+    ((i : ℕ) (c : Conn A) (a : Connection) → slice_get cs i ≡ Some c → slice_get abstracts i ≡ Some a → ConnStands stands k c a × IsSound m stands k c) → table.longest_wait cs ≡ longest_wait abstracts
+longest_agrees m stands k [] [] e h = refl
+longest_agrees m stands k [] (a ∷ abstracts) e h = absurd (omega (arith, e))
+longest_agrees m stands k (c ∷ cs) [] e h = absurd (omega (arith, e))
+longest_agrees m stands k (c ∷ cs) (a ∷ abstracts) e h =
+    let here = h 0 c a refl refl in
+    let rest = longest_agrees m stands k cs abstracts (omega (arith, e)) (λ i d b at there. h (suc i) d b at there) in
+    ap (λ (s : State). max (if is_time_wait s then c.timer.count else 0) (table.longest_wait cs)) here.0.numbers.state
+    ∙ greater (is_time_wait a.state) c.timer.count a.age (table.longest_wait cs) (longest_wait abstracts) (age_counted m stands k c a here.0 here.1) rest
+
+pub slot_agrees : {A K : Type 0} (m : K → Meaning) (stands : A → K → Part → Type 0) (k : K) (cs : List (Conn A)) (abstracts : List Connection) → SlotsStand stands k cs abstracts → AllKept m stands k cs → table.slot_for_syn cs ≡ slot_for_syn abstracts
+slot_agrees {A} m stands k cs abstracts h kept =
+    let size : length cs ≡ length abstracts = sym h.same_length in
+    let free = position_agrees (λ (c : Conn A). not (is_live c.state)) (λ (a : Connection). not (is_live a.state)) cs abstracts size (λ i c a at there. ap (λ (s : State). not (is_live s)) (h.each i c a at there).numbers.state) in
+    let longest = longest_agrees m stands k cs abstracts size (λ i c a at there. (h.each i c a at there, (kept i c at).sound)) in
+    let waits = position_agrees (has_waited (table.longest_wait cs)) (λ (a : Connection). is_waiting a && (a.age == table.longest_wait cs)) cs abstracts size
+    (λ i c a at there. waited_agrees m stands k (table.longest_wait cs) c a (h.each i c a at there) (kept i c at).sound) in
+    ap (λ (o : Option ℕ). or_else o (position (has_waited (table.longest_wait cs)) cs)) free
+    ∙ ap (or_else (position (λ (a : Connection). not (is_live a.state)) abstracts)) (waits ∙ ap (λ (n : ℕ). position (λ (a : Connection). is_waiting a && (a.age == n)) abstracts) longest)
+
+or_else_some : (o other : Option ℕ) (i : ℕ) → or_else o other ≡ Some i → (o ≡ Some i) ⊎ (other ≡ Some i)
+or_else_some (Some j) other i h = inl h
+or_else_some None other i h = inr h
+
+-- a slot that is found is one of the table's
+pub slot_within : {A : Type 0} (cs : List (Conn A)) (i : ℕ) → table.slot_for_syn cs ≡ Some i → i < length cs
+slot_within {A} cs i h =
+    elim (or_else_some (position (λ (c : Conn A). not (is_live c.state)) cs) (position (has_waited (table.longest_wait cs)) cs) i h) [
+      | inl e ↦ (found (λ (c : Conn A). not (is_live c.state)) cs i e).0
+      | inr e ↦ (found (has_waited (table.longest_wait cs)) cs i e).0
+    ]

@@ -1,0 +1,46 @@
+-- Counters raised together, place by place, and as counts.
+use Rattle.std.proofs.Common.{◌≡◌, ℕ, suc, ◌+◌, ◌<◌, ◌==◌, ◌||◌, Bool, true, false, List, [], ◌∷◌, if◌then◌else◌, length, get_or, map, refl, sym, ap, ◌∙◌, arith}
+use Rattle.std.proofs.lemmas.Bool.{agree_below_at, eqb-true}
+use Rattle.std.proofs.lemmas.List.{get_or-map}
+use Rattle.std.proofs.Math.Nat.{mod-add-mod}
+use Rattle.uip_wire.specs.Numbers.{wrap}
+use Rattle.uip_node.specs.Raising.{marks, raise, twenty}
+use Rattle.uip_node.specs.Counters.{counters, raised, times}
+use Rattle.uip_node.specs.Events.{Past}
+
+pub raise_by_place : (bs : List Bool) (ns ms : List ℕ) → length ms ≡ length ns → length bs ≡ length ns →
+    ((k : ℕ) → k < length ns → get_or ms k 0 ≡ (if get_or bs k false then wrap (get_or ns k 0 + 1) else get_or ns k 0)) → ms ≡ raise bs ns
+raise_by_place [] [] [] e f h = refl
+raise_by_place [] [] (m ∷ ms) e f h = absurd (omega (arith, e))
+raise_by_place [] (n ∷ ns) ms e f h = absurd (omega (arith, f))
+raise_by_place (b ∷ bs) [] ms e f h = absurd (omega (arith, f))
+raise_by_place (b ∷ bs) (n ∷ ns) [] e f h = absurd (omega (arith, e))
+raise_by_place (b ∷ bs) (n ∷ ns) (m ∷ ms) e f h =
+    let head : m ≡ (if b then wrap (n + 1) else n) = h 0 (omega arith) in
+    let tail : ms ≡ raise bs ns = raise_by_place bs ns ms (omega (arith, e)) (omega (arith, f)) (λ k lt. h (suc k) (omega arith)) in
+    cc
+
+one_more : (b : Bool) (n : ℕ) → wrap (if b then n + 1 else n) ≡ (if b then wrap (wrap n + 1) else wrap n)
+one_more true n = sym (mod-add-mod n 4294967296 1)
+one_more false n = refl
+
+-- one event more raises the counters whose tests it passes
+counts_more : (tests : List (Past → Bool)) (p : Past) (past : List Past) →
+    map (λ test. wrap (times test (p ∷ past))) tests ≡ raise (map (λ test. test p) tests) (map (λ test. wrap (times test past)) tests)
+counts_more [] p past = refl
+counts_more (test ∷ tests) p past =
+    let tail = counts_more tests p past in
+    let head : wrap (times test (p ∷ past)) ≡ (if test p then wrap (wrap (times test past) + 1) else wrap (times test past)) = one_more (test p) (times test past) in
+    cc
+
+pub counters_more : (p : Past) (past : List Past) → counters (p ∷ past) ≡ raise (map (λ test. test p) raised) (counters past)
+counters_more p past = counts_more raised p past
+
+-- the twenty places in their order
+abbrev in_order : ℕ → Bool
+in_order k = get_or twenty k 0 == k
+
+pub marks_at : (a b c k : ℕ) → k < 20 → get_or (marks a b c) k false ≡ ((k == a) || (k == b) || (k == c))
+marks_at a b c k h =
+    let at : get_or twenty k 0 ≡ k = eqb-true (get_or twenty k 0) k (agree_below_at in_order (λ _. true) 20 k refl h) in
+    get_or-map (λ (n : ℕ). (n == a) || (n == b) || (n == c)) twenty k 0 false h ∙ ap (λ (n : ℕ). (n == a) || (n == b) || (n == c)) at

@@ -1,0 +1,142 @@
+-- The cases of a node's step.
+use Rattle.std.proofs.Common.{ℕ, zero, suc, ◌≡◌, ◌+◌, ◌-◌, ◌%◌, ◌&&◌, ◌<◌, ◌≤◌, Bool, true, false, List, [], ◌∷◌, ◌++◌, length, take, drop, Option, Some, None, refl, sym, ap, ◌∙◌, subst, arith, nat_lt, slice_range, length-take, length-drop, length-append}
+use Rattle.std.specs.Prelude.{slice_get, slice_set}
+use Rattle.std.proofs.Math.Nat.{mod-add-mod}
+use Rattle.std.proofs.Math.Seq.{take-append_seam}
+use Rattle.std.proofs.lemmas.Bool.{ltb-false}
+use Rattle.std.proofs.lemmas.List.{take-take}
+use Rattle.app_events.specs.Part.{Meaning, Part}
+use Rattle.app_events.specs.States.{is_live}
+use Rattle.app_events.specs.declared.state.State.{State}
+use Rattle.app_events.specs.declared.state.State.TheVariants.{Closed, SynRcvd, Established, CloseWait, FinWait1, FinWait2, Closing, TimeWait, LastAck}
+use Rattle.icmp_echo.specs.Echo.{answered, echo_fate, echo_message, echo_reply}
+use Rattle.packet_buffer.specs.Buffer.{Buffer, datagram_in}
+use Rattle.uip_ipv4.specs.Head.{payload_of}
+use Rattle.uip_ipv4.specs.declared.head.IpHead.{IpHead}
+use Rattle.tcp_segment.specs.Segments.{PlainSegment, has_rst}
+use Rattle.tcp_machine.specs.Ask.{Outcome, asked, leaves}
+use Rattle.tcp_machine.specs.Connection.{Connection, Sockets}
+use Rattle.tcp_machine.specs.OnSegment.{accept}
+use Rattle.tcp_machine.specs.OnTick.{on_tick, tick_by}
+use Rattle.tcp_machine.specs.Segments.{is_plain_syn}
+use Rattle.tcp_machine.specs.declared.step.Step.{Step}
+use Rattle.uip_node.specs.Counted.{CountsStand, seen}
+use Rattle.uip_node.specs.Counters.{initial_number, is_periodic, times}
+use Rattle.uip_node.specs.Events.{Past}
+use Rattle.uip_node.specs.Events.Event.{Arrived, Periodic}
+use Rattle.uip_node.specs.Events.Answer.{Silent}
+use Rattle.uip_node.specs.Node.{AbstractNode, connection_in, from_stranger, happened, moment, opens, opens_in, passes, periodic, refuses, slot_for_syn}
+use Rattle.uip_node.specs.Slots.{SlotsStand}
+use Rattle.uip_node.specs.StandsFor.{Steps}
+use Rattle.uip_node.specs.declared.node.Node.{Node}
+
+-- only what is left and what is sent is looked at
+pub opened : {A S K : Type 0} (stands : A → K → Part → Type 0) (kept : S → K) (numbers : S → List ℕ) (node : Node A S) (result : Option ℕ) (m : Meaning) (n : AbstractNode) (s : Sockets) (seg : PlainSegment) (slot : ℕ) →
+    Steps stands kept numbers node result (happened m n (Arrived s seg) slot (connection_in slot n) (accept (initial_number n.past) s seg n.numbers)) →
+    Steps stands kept numbers node result (opens_in m n s seg slot)
+unfolding opens_in
+opened stands kept numbers node result m n s seg slot h = record { stands = h.stands; sent = h.sent }
+
+pub stranger_opens : (m : Meaning) (served : ℕ → Bool) (n : AbstractNode) (s : Sockets) (seg : PlainSegment) → (is_plain_syn seg && served s.own_port.0) ≡ true →
+    opens m n s seg (slot_for_syn n.connections) ≡ from_stranger m served n s seg
+unfolding from_stranger
+stranger_opens m served n s seg h = cc
+
+pub stranger_passes : (m : Meaning) (served : ℕ → Bool) (n : AbstractNode) (s : Sockets) (seg : PlainSegment) → (is_plain_syn seg && served s.own_port.0) ≡ false → has_rst seg.flags ≡ true →
+    passes n (Arrived s seg) Silent ≡ from_stranger m served n s seg
+unfolding from_stranger
+stranger_passes m served n s seg h r = cc
+
+pub stranger_refused : (m : Meaning) (served : ℕ → Bool) (n : AbstractNode) (s : Sockets) (seg : PlainSegment) → (is_plain_syn seg && served s.own_port.0) ≡ false → has_rst seg.flags ≡ false →
+    refuses n s seg ≡ from_stranger m served n s seg
+unfolding from_stranger
+stranger_refused m served n s seg h r = cc
+
+-- the initial number rises by one at each periodic call
+pub next_first : (past : List Past) (slot : ℕ) → (initial_number past + 1) % 4294967296 ≡ initial_number (seen (Periodic slot) past)
+next_first past slot = mod-add-mod (times (λ p. is_periodic p.event) past) 4294967296 1
+
+-- a CLOSED connection does nothing at a tick
+by_state : (m : Meaning) (state : State) (a : Connection) (ns : List ℕ) → is_live state ≡ false → tick_by m state a ns ≡ leaves a ns Step.Drop
+by_state m Closed a ns h = refl
+by_state m SynRcvd a ns h = cc
+by_state m Established a ns h = cc
+by_state m CloseWait a ns h = cc
+by_state m FinWait1 a ns h = cc
+by_state m FinWait2 a ns h = cc
+by_state m Closing a ns h = cc
+by_state m TimeWait a ns h = cc
+by_state m LastAck a ns h = cc
+
+pub closed_tick : (m : Meaning) (a : Connection) (ns : List ℕ) → is_live a.state ≡ false → on_tick m a ns ≡ leaves a ns Step.Drop
+closed_tick m a ns h = by_state m a.state a ns h
+
+pub set_same : {X : Type 0} (xs : List X) (i : ℕ) (x : X) → slice_get xs i ≡ Some x → slice_set xs i x ≡ xs
+set_same [] i x h = refl
+set_same (y ∷ ys) zero x h = cc
+set_same (y ∷ ys) (suc i) x h = ap (λ (zs : List _). y ∷ zs) (set_same ys i x h)
+
+-- what stands at a place inside
+pub slice_get-element : {X : Type 0} (xs : List X) (i : ℕ) → i < length xs → (x : X) × (slice_get xs i ≡ Some x)
+slice_get-element [] i h = absurd (omega (arith, h))
+slice_get-element (x ∷ xs) zero h = (x, refl)
+slice_get-element (x ∷ xs) (suc i) h = slice_get-element xs i (omega (arith, h))
+
+rests_by : {A S K : Type 0} (stands : A → K → Part → Type 0) (kept : S → K) (numbers : S → List ℕ) (m : Meaning) (node : Node A S) (n : AbstractNode) (slot : ℕ) →
+    node.addr ≡ n.addr → SlotsStand stands (kept node.shared) node.table.conns (slice_set n.connections slot (connection_in slot n)) → node.table.iss ≡ initial_number (seen (Periodic slot) n.past) → numbers node.shared ≡ n.numbers → CountsStand node.counts (seen (Periodic slot) n.past) →
+    Steps stands kept numbers node None (happened m n (Periodic slot) slot (connection_in slot n) (leaves (connection_in slot n) n.numbers Step.Drop))
+unfolding happened
+rests_by stands kept numbers m node n slot addr slots iss ns counts = record {
+  stands = record { addr = addr; slots = slots; iss = iss; numbers_stand = ns; counts = counts };
+  sent = refl;
+}
+
+pub rests_at : {A S K : Type 0} (stands : A → K → Part → Type 0) (kept : S → K) (numbers : S → List ℕ) (m : Meaning) (node : Node A S) (n : AbstractNode) (slot : ℕ) →
+    node.addr ≡ n.addr → SlotsStand stands (kept node.shared) node.table.conns n.connections → node.table.iss ≡ initial_number (seen (Periodic slot) n.past) → numbers node.shared ≡ n.numbers → CountsStand node.counts (seen (Periodic slot) n.past) →
+    slice_get n.connections slot ≡ Some (connection_in slot n) → is_live (connection_in slot n).state ≡ false → Steps stands kept numbers node None (periodic m n slot)
+rests_at stands kept numbers m node n slot addr slots iss ns counts there dead =
+    let a : Connection = connection_in slot n in
+    subst (λ (o : Outcome). Steps stands kept numbers node None (happened m n (Periodic slot) slot a (asked m (moment n (Periodic slot) slot) o))) (sym (closed_tick m a n.numbers dead))
+    (rests_by stands kept numbers m node n slot addr (subst (λ (xs : List Connection). SlotsStand stands (kept node.shared) node.table.conns xs) (sym (set_same n.connections slot a there)) slots) iss ns counts)
+
+-- a message that passes the checks is whole
+by_short : (b : Bool) (message : List ℕ) → nat_lt (length message) 8 ≡ b → echo_fate message ≡ None → 8 ≤ length message
+by_short true message e h = cc
+by_short false message e h = omega (arith, ltb-false (length message) 8 e)
+
+long_enough : (message : List ℕ) → echo_fate message ≡ None → 8 ≤ length message
+long_enough message h = by_short (nat_lt (length message) 8) message refl h
+
+-- a reply is as long as its request
+reply_length : (request : List ℕ) → 24 ≤ length request → length (echo_reply request) ≡ length request
+reply_length request long =
+    let a : List ℕ = take 12 request in
+    let b : List ℕ = slice_range request 16 20 in
+    let c : List ℕ = slice_range request 12 16 in
+    let d : List ℕ = echo_message (drop 24 request) in
+    let message : length d ≡ 4 + length (drop 24 request) = omega arith in
+    let whole : length (echo_reply request) ≡ length (((a ++ b) ++ c) ++ d) = refl in
+    whole ∙ omega (arith, long, message, length-append ((a ++ b) ++ c) d, length-append (a ++ b) c, length-append a b, length-append a (b ++ (c ++ d)), length-append b (c ++ d), length-append c d, length-take 12 request, length-drop 16 request, length-take 4 (drop 16 request), length-drop 12 request, length-take 4 (drop 12 request), length-drop 24 request)
+
+pub payload_long : (head : IpHead) (bytes : List ℕ) → head.total ≤ length bytes → echo_fate (payload_of head bytes) ≡ None → 28 ≤ head.total
+payload_long head bytes most h =
+    omega (arith, most, long_enough (payload_of head bytes) h, length-take (head.total - 20) (drop 20 bytes), length-drop 20 bytes)
+
+-- the reply in the packet
+pub reply_is : (head : IpHead) (old new : Buffer) → new ≡ answered head old → head.total ≤ length (datagram_in old) → 28 ≤ head.total → datagram_in new ≡ echo_reply (take head.total (datagram_in old))
+reply_is head old new e most long =
+    let request : List ℕ = take head.total old.area in
+    let size : length request ≡ head.total = omega (arith, most, length-take old.len old.area, length-take head.total old.area) in
+    let inside : head.total ≤ old.len = omega (arith, most, length-take old.len old.area) in
+    let n : head.total ≡ length (echo_reply request) = sym (reply_length request (omega (arith, size)) ∙ size) in
+    ap (λ (b : Buffer). datagram_in b) e
+    ∙ ap (λ (k : ℕ). take k (echo_reply request ++ drop head.total old.area)) n
+    ∙ take-append_seam (echo_reply request) (drop head.total old.area)
+    ∙ ap echo_reply (sym (take-take head.total old.len old.area inside))
+
+pub answered_long : (head : IpHead) (old new : Buffer) → new ≡ answered head old → head.total ≤ length (datagram_in old) → 28 ≤ head.total → length new.area ≡ length old.area
+answered_long head old new e most long =
+    let request : List ℕ = take head.total old.area in
+    let size : length request ≡ head.total = omega (arith, most, length-take old.len old.area, length-take head.total old.area) in
+    ap (λ (b : Buffer). length b.area) e
+    ∙ omega (arith, most, length-take old.len old.area, size, reply_length request (omega (arith, size)), length-append (echo_reply request) (drop head.total old.area), length-drop head.total old.area)

@@ -1,0 +1,10 @@
+use Rattle.std.proofs.Common.{◌≡◌, ℕ, ◌+◌, ◌<◌, ◌≤◌, ◌==◌, ◌||◌, if◌then◌else◌, get_or, length}
+use Rattle.uip_wire.specs.Numbers.{wrap}
+use Rattle.uip_node.proofs.counters.raised.Given as goal
+
+abbrev pub invariant-loop-place : goal.invariant-loop-place
+invariant-loop-place l = record {
+  long : length l.net ≡ 20;
+  done : (k : ℕ) → k < l.place → get_or l.net k 0 ≡ (if (k == l.first) || (k == l.second) || (k == l.third) then wrap (get_or l.fn.net k 0 + 1) else get_or l.fn.net k 0);
+  left : (k : ℕ) → l.place ≤ k → get_or l.net k 0 ≡ get_or l.fn.net k 0;
+}

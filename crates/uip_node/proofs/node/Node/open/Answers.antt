@@ -1,0 +1,35 @@
+-- The connection that was opened.
+use Rattle.std.proofs.Common.{ℕ, arith, ◌∙◌, subst, refl}
+use Rattle.std.specs.Prelude.{slice_set}
+use Rattle.tcp_machine.specs.Connection.{Connection}
+use Rattle.tcp_machine.specs.OnSegment.{accept, accepted}
+use Rattle.tcp_machine.specs.Stands.{plain}
+use Rattle.uip_node.specs.Counted.{seen}
+use Rattle.uip_node.specs.Counters.{initial_number}
+use Rattle.uip_node.specs.Edge.{sockets_of}
+use Rattle.uip_node.specs.Slots.{SlotsStand}
+use Rattle.uip_node.proofs.Naming.{like_named}
+use Rattle.uip_node.proofs.Settling.{get_set}
+use Rattle.uip_node.proofs.node.Node.open.Goals as goal
+
+pub say-requires-clause-whole : goal.say-requires-clause-whole
+say-requires-clause-whole g c = record { size = c.requires.whole.size; conns = c.open_in-step.ensures.kept (g.A.App.kept c.args.self.now.shared) c.requires.whole.conns }
+
+pub say-requires-clause-within : goal.say-requires-clause-within
+say-requires-clause-within g c = omega (arith, c.open_in-step.ensures.long, c.requires.within)
+
+pub returns-clause-step : goal.returns-clause-step
+returns-clause-step g c = λ n event old text h within.
+    let now = c.args.self.now in
+    let k = g.A.App.kept now.shared in
+    let stands = g.A.App.stands_for in
+    let b : Connection = accepted (initial_number (seen event n.past)) (sockets_of c.args.peer c.args.seg.now) (plain c.args.seg.now text) in
+    let slots = subst (λ (i : ℕ). SlotsStand stands k c.open_in-step.new.table.conns (slice_set n.connections c.args.slot (accepted i (sockets_of c.args.peer c.args.seg.now) (plain c.args.seg.now text)))) h.iss
+    (c.open_in-step.ensures.stands k n.connections text h.slots) in
+    c.say.ensures.step n event old (accept (initial_number (seen event n.past)) (sockets_of c.args.peer c.args.seg.now) (plain c.args.seg.now text) n.numbers) h.addr within (c.open_in-step.ensures.iss ∙ h.iss) h.counts
+    (record {
+      slots = slots;
+      counted = h.numbers_stand;
+      asked = c.open_in-step.ensures.step;
+      named = λ speaks d at. like_named d b ((slots.each c.args.slot d b at (get_set n.connections c.args.slot b within)).numbers.like refl);
+    })

@@ -1,0 +1,23 @@
+-- The reset.
+use Rattle.std.proofs.Common.{ℕ, List, Some, ap, ◌∙◌, length, false}
+use Rattle.tcp_machine.specs.Segments.{reset_to_none}
+use Rattle.tcp_machine.specs.Stands.{plain}
+use Rattle.tcp_segment.specs.Segments.{datagram_bytes}
+use Rattle.uip_node.specs.Edge.{datagram_to, sockets_of}
+use Rattle.uip_node.specs.Events.{Event}
+use Rattle.uip_node.specs.Events.Event.{Arrived}
+use Rattle.uip_node.proofs.Answering.{next_ident}
+use Rattle.uip_node.proofs.node.Node.refuse.Goals as goal
+
+pub returns-clause-step : goal.returns-clause-step
+returns-clause-step g c = λ n text h.
+    let now = c.args.self.now in
+    let event : Event = Arrived (sockets_of c.args.peer c.args.seg.now) (plain c.args.seg.now text) in
+    let e = c.put_reset-len.ensures.bytes text ∙ ap (λ (i : ℕ). datagram_bytes (datagram_to now.addr (sockets_of c.args.peer c.args.seg.now) i (reset_to_none (plain c.args.seg.now text)))) (next_ident now.counts event false n.past h.counts) in
+    record {
+      stands = record { addr = h.addr; slots = h.slots; iss = h.iss; numbers_stand = h.numbers_stand; counts = c.speak.ensures n.past event h.counts };
+      sent = record {
+        answer = ap (λ (k : ℕ). Some k) (c.put_reset-len.ensures.length ∙ ap (λ (xs : List ℕ). length xs) e);
+        datagram = e;
+      };
+    }

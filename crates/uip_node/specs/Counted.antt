@@ -1,0 +1,38 @@
+-- What a node counts stands for its past.
+use Rattle.std.specs.Prelude.{ℕ, ◌≡◌, ◌+◌, Bool, List, ◌∷◌, if◌then◌else◌}
+use Rattle.uip_ipv4.specs.declared.fate.IpFate.{IpFate}
+use Rattle.icmp_echo.specs.declared.fate.IcmpFate.{IcmpFate}
+use Rattle.icmp_echo.specs.declared.fate.IcmpFate.TheVariants as Icmp
+use Rattle.tcp_segment.specs.declared.fate.TcpFate.{TcpFate}
+use Rattle.tcp_segment.specs.declared.fate.TcpFate.TheVariants as Tcp
+use Rattle.uip_node.specs.Counters.{counters, ident_of, ip_order, ticks_of}
+use Rattle.uip_node.specs.Events.{Event, Past}
+use Rattle.uip_node.specs.Events.Answer.{Silent}
+use Rattle.uip_node.specs.declared.counts.Counts.{Counts}
+
+pub record CountsStand (counts : Counts) (past : List Past) : Type 0 where
+  pub net : counts.net ≡ counters past
+  pub ticks : counts.ticks ≡ ticks_of past
+  pub ident : counts.ident ≡ ident_of past
+
+-- the places of the fates' counters, counted from 0
+abbrev pub ip_place : IpFate → ℕ
+ip_place fate = 3 + ip_order fate
+
+abbrev pub icmp_place : IcmpFate → ℕ
+icmp_place Icmp.Short = 12
+icmp_place Icmp.NotEcho = 12
+icmp_place Icmp.Checksum = 13
+
+abbrev pub tcp_place : TcpFate → ℕ
+tcp_place Tcp.Short = 16
+tcp_place Tcp.Offset = 16
+tcp_place Tcp.Checksum = 17
+
+-- the place of the counter of what is sent again; 20 is behind the last
+abbrev pub again_place : Bool → ℕ
+again_place again = if again then 18 else 20
+
+-- an event that nothing was answered to as yet
+abbrev pub seen : Event → List Past → List Past
+seen event past = record { event = event; answer = Silent } ∷ past

@@ -1,0 +1,16 @@
+-- Counters that are raised by one, each modulo 2^32.
+use Rattle.std.specs.Prelude.{ℕ, ◌+◌, ◌==◌, ◌||◌, Bool, List, [], ◌∷◌, map, if◌then◌else◌}
+use Rattle.uip_wire.specs.Numbers.{wrap}
+
+-- those that are marked
+abbrev pub raise : List Bool → List ℕ → List ℕ
+raise [] ns = ns
+raise (b ∷ bs) [] = []
+raise (b ∷ bs) (n ∷ ns) = (if b then wrap (n + 1) else n) ∷ raise bs ns
+
+abbrev pub twenty : List ℕ
+twenty = 0 ∷ 1 ∷ 2 ∷ 3 ∷ 4 ∷ 5 ∷ 6 ∷ 7 ∷ 8 ∷ 9 ∷ 10 ∷ 11 ∷ 12 ∷ 13 ∷ 14 ∷ 15 ∷ 16 ∷ 17 ∷ 18 ∷ 19 ∷ []
+
+-- of twenty, those at three places; a place past the end marks none
+abbrev pub marks : ℕ → ℕ → ℕ → List Bool
+marks a b c = map (λ k. (k == a) || (k == b) || (k == c)) twenty

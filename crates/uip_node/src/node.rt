@@ -1,0 +1,361 @@
+//! The node: ten connections over one packet.
+
+ghost use Rattle.std.specs.Prelude.{◌≡◌, ◌==◌, ◌&&◌};
+ghost use Rattle.tcp_machine.specs.Segments.{is_again};
+
+use crate::counts::Counts;
+use crate::deliver::{
+    count_slots, is_live_in, open_in, rows_in, settle, speak_in, take_segment, take_tick,
+};
+use crate::speaking::put_reset;
+use app_events::{App, Now};
+use icmp_echo::reply;
+use packet_buffer::Packet;
+use std::alloc::Global;
+use tcp_machine::Step;
+use tcp_segment::{SYN, Segment, check as check_segment};
+use tcp_table::Table;
+use uip_edge::NoMemory;
+use uip_ipv4::{IpHead, Proto, check as check_head};
+use uip_wire::{Addr, LARGEST_DATAGRAM};
+
+/// Whether a step sends again what is outstanding.
+fn is_again(step: Step) -> bool
+    ensures { result ≡ is_again step }
+{
+    match step {
+        Step::SynAck { again } | Step::Text { again } | Step::Fin { again } => again,
+        Step::Drop | Step::Ack | Step::Reset | Step::Ask { .. } => false,
+    }
+}
+
+/// Whether a segment to no connection may open one: of the six flags it has SYN alone, and its port is served.
+fn opens_here<A: App>(seg: &Segment) -> bool
+    ensures { result ≡ ((seg.now.flags == SYN) && A.served seg.now.to.0) }
+{
+    seg.flags == SYN && A::serves(seg.to)
+}
+
+/// A node. Nothing in it holds a sent segment beside its one packet.
+#[derive(Drop)]
+pub struct Node<A: App> {
+    pub addr: Addr,
+    pub packet: Packet,
+    pub table: Table<A>,
+    pub counts: Counts,
+    /// What the connections' applications share.
+    pub shared: A::Shared,
+}
+
+impl<A: App> Node<A> {
+    ghost use Rattle.std.specs.Prelude.{◌≡◌, ◌+◌, ◌<◌, ◌≤◌, ℕ, [], List, IfOk, Some, length, slice_get, true};
+    ghost use Rattle.app_events.specs.States.{is_live};
+    ghost use Rattle.packet_buffer.specs.Buffer.{datagram_in};
+    ghost use Rattle.tcp_machine.specs.Ask.{Outcome, asked};
+    ghost use Rattle.tcp_machine.specs.Connection.{Connection, rows_from};
+    ghost use Rattle.tcp_machine.specs.Fits.{IsAnswer, StepFits};
+    ghost use Rattle.tcp_machine.specs.OnSegment.{accept, on_segment};
+    ghost use Rattle.tcp_machine.specs.Stands.{plain};
+    ghost use Rattle.tcp_segment.specs.Received.{plain_of, segment_or_fate};
+    ghost use Rattle.icmp_echo.specs.Echo.{echo_fate};
+    ghost use Rattle.uip_ipv4.specs.Head.{IsHeadOf, payload_of};
+    ghost use Rattle.uip_node.specs.Counted.{CountsStand, seen};
+    ghost use Rattle.uip_node.specs.Counters.{counters, initial_number, ticks_of};
+    ghost use Rattle.uip_node.specs.Edge.{by_echo, by_segment, event_of, sockets_of};
+    ghost use Rattle.uip_node.specs.Events.{Event};
+    ghost use Rattle.uip_node.specs.Events.Event.{Arrived, Overlong, Periodic};
+    ghost use Rattle.uip_node.specs.Node.{AbstractNode, arrives, connection_in, from_stranger, happened, moment, opening, opens, refuses, slot_for_syn, step};
+    ghost use Rattle.uip_node.specs.Slots.{AllKept, AllSound, IsIn, MeetsAt, NoneAt, OthersRest};
+    ghost use Rattle.uip_node.specs.StandsFor.{IsWhole, Stands, Steps};
+
+    /// A node at an address, with ten CLOSED connections and nothing counted. After this no call of it takes memory. On NoMemory
+    /// `shared` is dropped.
+    pub fn new(alloc: Global, addr: Addr, shared: A::Shared) -> Result<Node<A>, NoMemory>
+        ensures whole { IfOk result (λ node. IsWhole A.meaning A.stands_for A.kept node) }
+        ensures stands { IfOk result (λ node. Stands A.stands_for A.kept A.numbers node (opening addr (A.numbers shared)) []) }
+        ensures shared { IfOk result (λ node. node.shared ≡ shared) }
+    {
+        let packet = Packet::new(alloc, LARGEST_DATAGRAM)?;
+        let table = Table::new(alloc)?;
+        count_slots(&table);
+        Ok(Node {
+            addr,
+            packet,
+            table,
+            counts: Counts::new(),
+            shared,
+        })
+    }
+
+    /// The datagram that stands in the packet.
+    pub fn packet(&self) -> &[u8]
+        ensures { result.now ≡ datagram_in self.now.packet }
+    {
+        self.packet.bytes()
+    }
+
+    /// The ticks, the counters and the rows of the connections that are not CLOSED.
+    pub fn now(&self) -> Now
+        ensures { (n : AbstractNode) → Stands A.stands_for A.kept A.numbers self.now n n.past → result ≡ record { ticks = ticks_of n.past; net = counters n.past; rows = rows_from 0 n.connections } }
+    {
+        Now {
+            ticks: self.counts.ticks,
+            net: self.counts.net,
+            rows: rows_in(&self.table),
+        }
+    }
+
+    /// A frame was longer than a datagram.
+    pub fn count_overlong(&mut self)
+        requires whole { IsWhole A.meaning A.stands_for A.kept self.old }
+        ensures whole { IsWhole A.meaning A.stands_for A.kept self.new }
+        ensures same { A.kept self.new.shared ≡ A.kept self.old.shared }
+        ensures step { (n : AbstractNode) → Stands A.stands_for A.kept A.numbers self.old n n.past
+            → Stands A.stands_for A.kept A.numbers self.new (step (A.meaning (A.kept self.old.shared)) A.served n Overlong).node (seen Overlong n.past) }
+    {
+        self.counts.overlong();
+    }
+
+    /// The segment of a step of the connection in a slot is sent, as the answer to the last event.
+    fn say(&mut self, slot: usize, step: Step) -> Option<usize>
+        requires whole { IsWhole A.meaning A.stands_for A.kept self.old }
+        requires within { slot < length self.old.table.conns }
+        requires answer { IsAnswer step }
+        requires fits { IsIn self.old.table.conns slot (λ c. StepFits c step) }
+        ensures whole { IsWhole A.meaning A.stands_for A.kept self.new }
+        ensures same { A.kept self.new.shared ≡ A.kept self.old.shared }
+        ensures step { (n : AbstractNode) (event : Event) (old : Connection) (o : Outcome) → self.old.addr ≡ n.addr → slot < length n.connections → self.old.table.iss ≡ initial_number (seen event n.past) → CountsStand self.old.counts (seen event n.past)
+            → MeetsAt A.stands_for (A.kept self.old.shared) self.old.table.conns (A.numbers self.old.shared) step n.connections slot o
+            → Steps A.stands_for A.kept A.numbers self.new result (happened (A.meaning (A.kept self.old.shared)) n event slot old o) }
+    {
+        let id = self.counts.ident.wrapping_add(1);
+        match speak_in(
+            &mut self.packet,
+            &self.table,
+            &self.shared,
+            slot,
+            step,
+            self.addr,
+            id,
+        ) {
+            Some(len) => {
+                self.counts.speak(is_again(step));
+                Some(len)
+            }
+            None => None,
+        }
+    }
+
+    /// After a step of the connection in a slot its application is asked where the step says so, and what comes of both is sent.
+    fn finish(&mut self, slot: usize, step: Step) -> Option<usize>
+        requires size { length self.old.packet.area ≡ LARGEST_DATAGRAM }
+        requires within { slot < length self.old.table.conns }
+        requires fits { IsIn self.old.table.conns slot (λ c. StepFits c step) }
+        requires sound { AllSound A.meaning A.stands_for (A.kept self.old.shared) self.old.table.conns }
+        requires others { OthersRest slot self.old.table.conns }
+        ensures whole { IsWhole A.meaning A.stands_for A.kept self.new }
+        ensures same { A.kept self.new.shared ≡ A.kept self.old.shared }
+        ensures step { (n : AbstractNode) (event : Event) (old : Connection) (o : Outcome) → self.old.addr ≡ n.addr → slot < length n.connections → self.old.table.iss ≡ initial_number (seen event n.past) → CountsStand self.old.counts (seen event n.past)
+            → MeetsAt A.stands_for (A.kept self.old.shared) self.old.table.conns (A.numbers self.old.shared) step n.connections slot o
+            → Steps A.stands_for A.kept A.numbers self.new result (happened (A.meaning (A.kept self.old.shared)) n event slot old (asked (A.meaning (A.kept self.old.shared)) (moment n event slot) o)) }
+    {
+        let step = settle(
+            &mut self.table,
+            &self.shared,
+            slot,
+            step,
+            self.counts.ticks,
+            self.counts.net,
+        );
+        self.say(slot, step)
+    }
+
+    /// A segment of the connection in a slot, which is not CLOSED.
+    fn deliver(&mut self, slot: usize, seg: &Segment) -> Option<usize>
+        requires whole { IsWhole A.meaning A.stands_for A.kept self.old }
+        requires within { slot < length self.old.table.conns }
+        requires live { IsIn self.old.table.conns slot (λ c. is_live c.state ≡ true) }
+        requires inside { seg.now.text_at + seg.now.text_len ≤ length (datagram_in self.old.packet) }
+        ensures whole { IsWhole A.meaning A.stands_for A.kept self.new }
+        ensures same { A.kept self.new.shared ≡ A.kept self.old.shared }
+        ensures step { (n : AbstractNode) (event : Event) → Stands A.stands_for A.kept A.numbers self.old n (seen event n.past) → slot < length n.connections
+            → Steps A.stands_for A.kept A.numbers self.new result (happened (A.meaning (A.kept self.old.shared)) n event slot (connection_in slot n) (asked (A.meaning (A.kept self.old.shared)) (moment n event slot) (on_segment (A.meaning (A.kept self.old.shared)) (connection_in slot n) n.numbers (plain_of seg.now (datagram_in self.old.packet))))) }
+    {
+        let piece = seg.text(self.packet.bytes());
+        let step = take_segment(&mut self.table, &mut self.shared, slot, seg, piece);
+        self.finish(slot, step)
+    }
+
+    /// A plain SYN opens a connection in a slot.
+    fn open(&mut self, slot: usize, peer: Addr, seg: &Segment) -> Option<usize>
+        requires whole { IsWhole A.meaning A.stands_for A.kept self.old }
+        requires within { slot < length self.old.table.conns }
+        requires free { NoneAt peer seg.now.from seg.now.to self.old.table.conns }
+        ensures whole { IsWhole A.meaning A.stands_for A.kept self.new }
+        ensures same { A.kept self.new.shared ≡ A.kept self.old.shared }
+        ensures step { (n : AbstractNode) (event : Event) (old : Connection) (text : List ℕ) → Stands A.stands_for A.kept A.numbers self.old n (seen event n.past) → slot < length n.connections
+            → Steps A.stands_for A.kept A.numbers self.new result (happened (A.meaning (A.kept self.old.shared)) n event slot old (accept (initial_number (seen event n.past)) (sockets_of peer seg.now) (plain seg.now text) n.numbers)) }
+    {
+        let step = open_in(&mut self.table, slot, peer, seg);
+        self.say(slot, step)
+    }
+
+    /// A segment to no connection is answered with a reset.
+    fn refuse(&mut self, peer: Addr, seg: &Segment) -> Option<usize>
+        requires whole { IsWhole A.meaning A.stands_for A.kept self.old }
+        ensures whole { IsWhole A.meaning A.stands_for A.kept self.new }
+        ensures same { A.kept self.new.shared ≡ A.kept self.old.shared }
+        ensures step { (n : AbstractNode) (text : List ℕ) → Stands A.stands_for A.kept A.numbers self.old n (seen (Arrived (sockets_of peer seg.now) (plain seg.now text)) n.past)
+            → Steps A.stands_for A.kept A.numbers self.new result (refuses n (sockets_of peer seg.now) (plain seg.now text)) }
+    {
+        let id = self.counts.ident.wrapping_add(1);
+        let len = put_reset(&mut self.packet, self.addr, peer, seg, id);
+        self.counts.speak(false);
+        Some(len)
+    }
+
+    /// A plain SYN to a served port takes a slot, or is turned away.
+    fn welcome(&mut self, peer: Addr, seg: &Segment) -> Option<usize>
+        requires whole { IsWhole A.meaning A.stands_for A.kept self.old }
+        requires free { NoneAt peer seg.now.from seg.now.to self.old.table.conns }
+        ensures whole { IsWhole A.meaning A.stands_for A.kept self.new }
+        ensures same { A.kept self.new.shared ≡ A.kept self.old.shared }
+        ensures step { (n : AbstractNode) (text : List ℕ) → Stands A.stands_for A.kept A.numbers self.old n (seen (Arrived (sockets_of peer seg.now) (plain seg.now text)) n.past)
+            → Steps A.stands_for A.kept A.numbers self.new result (opens (A.meaning (A.kept self.old.shared)) n (sockets_of peer seg.now) (plain seg.now text) (slot_for_syn n.connections)) }
+    {
+        match self.table.slot_for_syn() {
+            Some(slot) => self.open(slot, peer, seg),
+            None => {
+                self.counts.turn_away();
+                None
+            }
+        }
+    }
+
+    /// A segment that belongs to no connection.
+    fn answer_stranger(&mut self, peer: Addr, seg: &Segment) -> Option<usize>
+        requires whole { IsWhole A.meaning A.stands_for A.kept self.old }
+        requires free { NoneAt peer seg.now.from seg.now.to self.old.table.conns }
+        ensures whole { IsWhole A.meaning A.stands_for A.kept self.new }
+        ensures same { A.kept self.new.shared ≡ A.kept self.old.shared }
+        ensures step { (n : AbstractNode) (text : List ℕ) → Stands A.stands_for A.kept A.numbers self.old n (seen (Arrived (sockets_of peer seg.now) (plain seg.now text)) n.past)
+            → Steps A.stands_for A.kept A.numbers self.new result (from_stranger (A.meaning (A.kept self.old.shared)) A.served n (sockets_of peer seg.now) (plain seg.now text)) }
+    {
+        if opens_here::<A>(seg) {
+            self.welcome(peer, seg)
+        } else if seg.has_rst() {
+            None
+        } else {
+            self.refuse(peer, seg)
+        }
+    }
+
+    /// A segment from a peer, which stands in the packet.
+    fn arrive(&mut self, peer: Addr, seg: &Segment) -> Option<usize>
+        requires whole { IsWhole A.meaning A.stands_for A.kept self.old }
+        requires inside { seg.now.text_at + seg.now.text_len ≤ length (datagram_in self.old.packet) }
+        ensures whole { IsWhole A.meaning A.stands_for A.kept self.new }
+        ensures same { A.kept self.new.shared ≡ A.kept self.old.shared }
+        ensures step { (n : AbstractNode) → Stands A.stands_for A.kept A.numbers self.old n n.past
+            → Steps A.stands_for A.kept A.numbers self.new result (arrives (A.meaning (A.kept self.old.shared)) A.served n (sockets_of peer seg.now) (plain_of seg.now (datagram_in self.old.packet))) }
+    {
+        self.counts.arrive();
+        match self.table.find(peer, seg.from, seg.to) {
+            Some(slot) => self.deliver(slot, seg),
+            None => self.answer_stranger(peer, seg),
+        }
+    }
+
+    /// The TCP datagram that stands in the packet.
+    fn take_tcp(&mut self, head: &IpHead) -> Option<usize>
+        requires whole { IsWhole A.meaning A.stands_for A.kept self.old }
+        requires head { IsHeadOf head.now (datagram_in self.old.packet) }
+        requires most { head.now.total ≤ length (datagram_in self.old.packet) }
+        ensures whole { IsWhole A.meaning A.stands_for A.kept self.new }
+        ensures same { A.kept self.new.shared ≡ A.kept self.old.shared }
+        ensures step { (n : AbstractNode) → Stands A.stands_for A.kept A.numbers self.old n n.past
+            → Steps A.stands_for A.kept A.numbers self.new result (step (A.meaning (A.kept self.old.shared)) A.served n (by_segment head.now (datagram_in self.old.packet) (segment_or_fate head.now (datagram_in self.old.packet)))) }
+    {
+        match check_segment(self.packet.bytes(), head) {
+            Err(fate) => {
+                self.counts.refuse_tcp(fate);
+                None
+            }
+            Ok(seg) => self.arrive(head.source, &seg),
+        }
+    }
+
+    /// The ICMP datagram that stands in the packet.
+    fn take_icmp(&mut self, head: &IpHead) -> Option<usize>
+        requires whole { IsWhole A.meaning A.stands_for A.kept self.old }
+        requires head { IsHeadOf head.now (datagram_in self.old.packet) }
+        requires most { head.now.total ≤ length (datagram_in self.old.packet) }
+        ensures whole { IsWhole A.meaning A.stands_for A.kept self.new }
+        ensures same { A.kept self.new.shared ≡ A.kept self.old.shared }
+        ensures step { (n : AbstractNode) → Stands A.stands_for A.kept A.numbers self.old n n.past
+            → Steps A.stands_for A.kept A.numbers self.new result (step (A.meaning (A.kept self.old.shared)) A.served n (by_echo head.now (datagram_in self.old.packet) (echo_fate (payload_of head.now (datagram_in self.old.packet))))) }
+    {
+        match reply(&mut self.packet, head) {
+            Err(fate) => {
+                self.counts.refuse_icmp(fate);
+                None
+            }
+            Ok(()) => {
+                self.counts.echo();
+                Some(self.packet.bytes().len())
+            }
+        }
+    }
+
+    /// The datagram that stands in the packet.
+    fn take_datagram(&mut self) -> Option<usize>
+        requires whole { IsWhole A.meaning A.stands_for A.kept self.old }
+        ensures whole { IsWhole A.meaning A.stands_for A.kept self.new }
+        ensures same { A.kept self.new.shared ≡ A.kept self.old.shared }
+        ensures step { (n : AbstractNode) → Stands A.stands_for A.kept A.numbers self.old n n.past
+            → Steps A.stands_for A.kept A.numbers self.new result (step (A.meaning (A.kept self.old.shared)) A.served n (event_of n.addr (datagram_in self.old.packet))) }
+    {
+        match check_head(self.packet.bytes(), self.addr) {
+            Err(fate) => {
+                self.counts.refuse_ip(fate);
+                None
+            }
+            Ok(head) => match head.proto {
+                Proto::Icmp => self.take_icmp(&head),
+                Proto::Tcp => self.take_tcp(&head),
+            },
+        }
+    }
+
+    /// A datagram of 1 to 1500 bytes came. What is answered stands in the packet then, and its length is told.
+    pub fn input(&mut self, datagram: &[u8]) -> Option<usize>
+        requires whole { IsWhole A.meaning A.stands_for A.kept self.old }
+        requires most { length datagram.now ≤ LARGEST_DATAGRAM }
+        ensures whole { IsWhole A.meaning A.stands_for A.kept self.new }
+        ensures same { A.kept self.new.shared ≡ A.kept self.old.shared }
+        ensures step { (n : AbstractNode) → Stands A.stands_for A.kept A.numbers self.old n n.past
+            → Steps A.stands_for A.kept A.numbers self.new result (step (A.meaning (A.kept self.old.shared)) A.served n (event_of n.addr datagram.now)) }
+    {
+        self.packet.load(datagram);
+        self.take_datagram()
+    }
+
+    /// The periodic call of the connection in a slot below 10.
+    pub fn periodic(&mut self, slot: usize) -> Option<usize>
+        requires whole { IsWhole A.meaning A.stands_for A.kept self.old }
+        requires within { slot < 10 }
+        ensures whole { IsWhole A.meaning A.stands_for A.kept self.new }
+        ensures same { A.kept self.new.shared ≡ A.kept self.old.shared }
+        ensures step { (n : AbstractNode) → Stands A.stands_for A.kept A.numbers self.old n n.past
+            → Steps A.stands_for A.kept A.numbers self.new result (step (A.meaning (A.kept self.old.shared)) A.served n (Periodic slot)) }
+    {
+        count_slots(&self.table);
+        self.counts.call(slot);
+        self.table.next_iss();
+        if !is_live_in(&self.table, slot) {
+            return None;
+        }
+        let step = take_tick(&mut self.table, &mut self.shared, slot);
+        self.finish(slot, step)
+    }
+}

@@ -1,0 +1,198 @@
+//! The segment that a connection sends, written into the packet.
+
+ghost use Rattle.std.specs.Prelude.{◌≡◌, ℕ, ◌+◌, ◌≤◌, List, IsSome, length, slice_range, take};
+ghost use Rattle.app_events.specs.Part.{CanSay, Part, text_left};
+ghost use Rattle.packet_buffer.specs.Buffer.{datagram_in};
+ghost use Rattle.tcp_machine.specs.Connection.{Connection};
+ghost use Rattle.tcp_machine.specs.Fits.{IsAnswer, StepFits};
+ghost use Rattle.tcp_machine.specs.Segments.{reset_to_none, segment_of};
+ghost use Rattle.tcp_machine.specs.Sound.{IsSound};
+ghost use Rattle.tcp_machine.specs.Stands.{ConnStands, plain};
+ghost use Rattle.tcp_machine.specs.declared.step.Step.TheVariants.{Drop};
+ghost use Rattle.tcp_segment.specs.Segments.{datagram_bytes};
+ghost use Rattle.tcp_segment.specs.Sent.{datagram_of};
+ghost use Rattle.uip_node.specs.Edge.{datagram_to, sockets_of};
+ghost use Rattle.uip_node.specs.Slots.{IsNamed};
+ghost use Rattle.uip_node.specs.Spoken.{IsSpoken, headed};
+
+use app_events::App;
+use packet_buffer::Packet;
+use tcp_machine::Step;
+use tcp_segment::{ACK, FIN, Out, PSH, RST, SYN, Segment, put};
+use tcp_table::Conn;
+use uip_wire::{Addr, LARGEST_DATAGRAM, OWN_MSS};
+
+/// What of a segment's header does not stand in its connection.
+#[derive(Clone, Copy, Debug, PartialEq, Eq)]
+pub(crate) struct Heading {
+    pub flags: u8,
+    pub window: u16,
+    pub mss: Option<u16>,
+    /// The length of the text in bytes.
+    pub len: u16,
+}
+
+/// The heading of a segment without text, with the own window.
+fn bare(flags: u8) -> Heading
+    ensures { result ≡ record { flags = flags; window = OWN_MSS; mss = None; len = 0 } }
+{
+    Heading {
+        flags,
+        window: OWN_MSS,
+        mss: None,
+        len: 0,
+    }
+}
+
+/// An address has four bytes.
+fn has_four_bytes(addr: Addr)
+    ensures { length addr.0 ≡ 4 }
+{
+    let [_first, _second, _third, _fourth] = addr.0;
+}
+
+/// Writes a segment around the text that stands at place 40, and answers the length of its datagram.
+fn put_out(packet: &mut Packet, out: &Out) -> usize
+    requires size { length packet.old.area ≡ LARGEST_DATAGRAM }
+    requires len { out.now.len ≤ OWN_MSS }
+    requires no_text { IsSome out.now.mss → out.now.len ≡ 0 }
+    ensures size { length packet.new.area ≡ LARGEST_DATAGRAM }
+    ensures length { result ≡ length (datagram_in packet.new) }
+    ensures bytes { datagram_in packet.new ≡ datagram_bytes (datagram_of out.now (slice_range packet.old.area 40 (40 + out.now.len))) }
+{
+    has_four_bytes(out.source);
+    has_four_bytes(out.target);
+    put(packet, out);
+    packet.bytes().len()
+}
+
+/// Writes a connection's segment around the text that stands at place 40, and answers the length of its datagram.
+fn send<A>(packet: &mut Packet, conn: &Conn<A>, heading: Heading, own: Addr, id: u16) -> usize
+    requires size { length packet.old.area ≡ LARGEST_DATAGRAM }
+    requires len { heading.len ≤ OWN_MSS }
+    requires no_text { IsSome heading.mss → heading.len ≡ 0 }
+    ensures size { length packet.new.area ≡ LARGEST_DATAGRAM }
+    ensures length { result ≡ length (datagram_in packet.new) }
+    ensures bytes { (a : Connection) → IsNamed conn.now a → datagram_in packet.new ≡ datagram_bytes (datagram_to own a.sockets id (headed heading a (slice_range packet.old.area 40 (40 + heading.len)))) }
+{
+    let out = Out {
+        source: own,
+        target: conn.peer,
+        from: conn.own_port,
+        to: conn.peer_port,
+        seq: conn.snd_nxt,
+        ack: conn.rcv_nxt,
+        flags: heading.flags,
+        window: heading.window,
+        mss: heading.mss,
+        len: heading.len as usize,
+        id,
+    };
+    put_out(packet, &out)
+}
+
+/// The application makes its text at place 40 of an area.
+fn fill_at_40<A: App>(app: &A, shared: &A::Shared, area: &mut [u8], len: usize)
+    requires fits { 40 + len ≤ length area.old }
+    requires says { CanSay A.meaning A.stands_for app.now (A.kept shared.now) len }
+    ensures size { length area.new ≡ length area.old }
+    ensures text { (p : Part) → A.stands_for app.now (A.kept shared.now) p → slice_range area.new 40 (40 + len) ≡ take len (text_left (A.meaning (A.kept shared.now)) p) }
+{
+    app.fill(shared, &mut area[40..40 + len]);
+}
+
+/// The application makes the text that is outstanding, at place 40.
+fn fill_text<A: App>(packet: &mut Packet, conn: &Conn<A>, shared: &A::Shared)
+    requires size { length packet.old.area ≡ LARGEST_DATAGRAM }
+    requires says { CanSay A.meaning A.stands_for conn.now.app (A.kept shared.now) conn.now.len }
+    requires len { conn.now.len ≤ OWN_MSS }
+    ensures size { length packet.new.area ≡ LARGEST_DATAGRAM }
+    ensures text { (p : Part) → A.stands_for conn.now.app (A.kept shared.now) p → slice_range packet.new.area 40 (40 + conn.now.len) ≡ take conn.now.len (text_left (A.meaning (A.kept shared.now)) p) }
+{
+    fill_at_40(&conn.app, shared, packet.area_mut(), conn.len as usize);
+}
+
+/// The segment of a connection's text.
+fn send_text<A: App>(
+    packet: &mut Packet,
+    conn: &Conn<A>,
+    shared: &A::Shared,
+    own: Addr,
+    id: u16,
+) -> usize
+    requires size { length packet.old.area ≡ LARGEST_DATAGRAM }
+    requires says { CanSay A.meaning A.stands_for conn.now.app (A.kept shared.now) conn.now.len }
+    requires len { conn.now.len ≤ OWN_MSS }
+    ensures size { length packet.new.area ≡ LARGEST_DATAGRAM }
+    ensures length { result ≡ length (datagram_in packet.new) }
+    ensures bytes { (a : Connection) → IsNamed conn.now a → A.stands_for conn.now.app (A.kept shared.now) a.part → datagram_in packet.new ≡ datagram_bytes (datagram_to own a.sockets id (headed (record { flags = ACK + PSH; window = OWN_MSS; mss = None; len = conn.now.len }) a (take conn.now.len (text_left (A.meaning (A.kept shared.now)) a.part)))) }
+{
+    fill_text(packet, conn, shared);
+    let heading = Heading {
+        len: conn.len,
+        ..bare(ACK + PSH)
+    };
+    send(packet, conn, heading, own, id)
+}
+
+/// Writes the segment of a step into the packet and answers the length of its datagram, or sends nothing.
+pub(crate) fn speak<A: App>(
+    packet: &mut Packet,
+    conn: &Conn<A>,
+    shared: &A::Shared,
+    step: Step,
+    own: Addr,
+    id: u16,
+) -> Option<usize>
+    requires size { length packet.old.area ≡ LARGEST_DATAGRAM }
+    requires sound { IsSound A.meaning A.stands_for (A.kept shared.now) conn.now }
+    requires fits { StepFits conn.now step }
+    requires answer { IsAnswer step }
+    ensures size { length packet.new.area ≡ LARGEST_DATAGRAM }
+    ensures spoken { (a : Connection) → ConnStands A.stands_for (A.kept shared.now) conn.now a → ((step ≡ Drop → ⊥) → IsNamed conn.now a) → IsSpoken own a.sockets id (segment_of (A.meaning (A.kept shared.now)) a step) result packet.new }
+{
+    match step {
+        Step::Drop | Step::Ask { .. } => None,
+        Step::Ack => Some(send(packet, conn, bare(ACK), own, id)),
+        Step::SynAck { .. } => {
+            let heading = Heading {
+                mss: Some(OWN_MSS),
+                ..bare(SYN + ACK)
+            };
+            Some(send(packet, conn, heading, own, id))
+        }
+        Step::Text { .. } => Some(send_text(packet, conn, shared, own, id)),
+        Step::Fin { .. } => Some(send(packet, conn, bare(FIN + ACK), own, id)),
+        Step::Reset => {
+            let heading = Heading {
+                window: 0,
+                ..bare(RST + ACK)
+            };
+            Some(send(packet, conn, heading, own, id))
+        }
+    }
+}
+
+/// Writes the answer to a segment that belongs to no connection (RFC 793, section 3.4), and answers the length of its
+/// datagram.
+pub(crate) fn put_reset(packet: &mut Packet, own: Addr, peer: Addr, seg: &Segment, id: u16) -> usize
+    requires size { length packet.old.area ≡ LARGEST_DATAGRAM }
+    ensures size { length packet.new.area ≡ LARGEST_DATAGRAM }
+    ensures length { result ≡ length (datagram_in packet.new) }
+    ensures bytes { (text : List ℕ) → datagram_in packet.new ≡ datagram_bytes (datagram_to own (sockets_of peer seg.now) id (reset_to_none (plain seg.now text))) }
+{
+    let out = Out {
+        source: own,
+        target: peer,
+        from: seg.to,
+        to: seg.from,
+        seq: seg.ack,
+        ack: seg.seq.add(1),
+        flags: RST + ACK,
+        window: 0,
+        mss: None,
+        len: 0,
+        id,
+    };
+    put_out(packet, &out)
+}
