@@ -11,3 +11,6 @@ mod speaking;
 
 pub use counts::Counts;
 pub use node::Node;
+
+#[cfg(test)]
+mod tests;
