@@ -9,7 +9,6 @@ ghost use Rattle.tcp_machine.specs.OnSegment.{fin_acked, fin_waits, in_fin_wait_
 ghost use Rattle.tcp_machine.specs.Sound.{HasSoundNumbers};
 ghost use Rattle.tcp_machine.specs.Stands.{MeetsAlone, NumbersStand, is_open, plain};
 
-use crate::flags::has_fin;
 use crate::moves::{begin_time_wait, enter, rest, take};
 use crate::step::Step;
 use app_events::State;
@@ -30,7 +29,7 @@ fn fin_acked<A>(conn: &mut Conn<A>, seg: &Segment, piece: &[u8]) -> Step
 {
     rest(conn);
     let count = piece.len() as u32;
-    if has_fin(seg) {
+    if seg.has_fin() {
         take(conn, count + 1);
         enter(conn, State::TimeWait);
         return Step::Ack;
@@ -53,7 +52,7 @@ fn fin_waits<A>(conn: &mut Conn<A>, seg: &Segment, piece: &[u8]) -> Step
     ensures meets { (a : Connection) (ns : List ℕ) → NumbersStand conn.old a → MeetsAlone conn.new ns result (fin_waits a ns (plain seg.now piece.now)) }
 {
     let count = piece.len() as u32;
-    if has_fin(seg) {
+    if seg.has_fin() {
         take(conn, count + 1);
         enter(conn, State::Closing);
         return Step::Ack;
@@ -78,7 +77,7 @@ pub(crate) fn in_fin_wait_2<A>(conn: &mut Conn<A>, seg: &Segment, piece: &[u8]) 
     ensures meets { (a : Connection) (ns : List ℕ) → NumbersStand conn.old a → MeetsAlone conn.new ns result (in_fin_wait_2 a ns (plain seg.now piece.now)) }
 {
     let count = piece.len() as u32;
-    if has_fin(seg) {
+    if seg.has_fin() {
         take(conn, count + 1);
         begin_time_wait(conn);
         return Step::Ack;

@@ -4,7 +4,6 @@
 
 mod alone;
 mod asking;
-mod flags;
 mod moves;
 mod opening;
 mod segment;

@@ -11,7 +11,6 @@ ghost use Rattle.tcp_machine.specs.Sound.{IsSound};
 ghost use Rattle.tcp_machine.specs.Stands.{ConnStands, Meets, is_open, plain};
 
 use crate::alone::{in_closing, in_fin_wait_1, in_fin_wait_2, in_last_ack};
-use crate::flags::{has_ack, has_fin, has_rst, has_syn};
 use crate::moves::{enter, rest, set_window, take};
 use crate::speaking::{absorb, hear, is_open, take_ack};
 use crate::step::Step;
@@ -129,7 +128,7 @@ fn in_established<A: App>(
     ensures fits { StepFits conn.new result }
     ensures meets { (a : Connection) → ConnStands A.stands_for (A.kept shared.old) conn.old a → Meets A.stands_for (A.kept shared.old) conn.new (A.numbers shared.new) result (in_established (A.meaning (A.kept shared.old)) acked a (A.numbers shared.old) (plain seg.now piece.now)) }
 {
-    if has_fin(seg) {
+    if seg.has_fin() {
         peer_closes(conn, shared, seg, piece)
     } else {
         goes_on(conn, shared, seg, piece, acked)
@@ -189,14 +188,14 @@ fn in_close_wait<A: App>(
 fn is_out_of_order<A>(conn: &Conn<A>, seg: &Segment, piece: &[u8]) -> bool
     ensures { result ≡ (has_place (plain seg.now piece.now) && not (seg.now.seq.0 == conn.now.rcv_nxt.0)) }
 {
-    (!piece.is_empty() || has_syn(seg) || has_fin(seg)) && seg.seq.0 != conn.rcv_nxt.0
+    (!piece.is_empty() || seg.has_syn() || seg.has_fin()) && seg.seq.0 != conn.rcv_nxt.0
 }
 
 /// The segment acknowledges all that is outstanding.
 fn is_acked<A>(conn: &Conn<A>, seg: &Segment) -> bool
     ensures { result ≡ (has_ack seg.now.flags && (nat_lt 0 conn.now.len && (seg.now.ack.0 == wrap (conn.now.snd_nxt.0 + conn.now.len)))) }
 {
-    has_ack(seg) && conn.len > 0 && seg.ack.0 == conn.snd_nxt.add(conn.len as u32).0
+    seg.has_ack() && conn.len > 0 && seg.ack.0 == conn.snd_nxt.add(conn.len as u32).0
 }
 
 /// The row of the connection's state; `acked` says whether the segment acknowledges all that is outstanding.
@@ -253,7 +252,7 @@ pub fn on_segment<A: App>(
     ensures fits { StepFits conn.new result }
     ensures meets { (a : Connection) → ConnStands A.stands_for (A.kept shared.old) conn.old a → Meets A.stands_for (A.kept shared.old) conn.new (A.numbers shared.new) result (on_segment (A.meaning (A.kept shared.old)) a (A.numbers shared.old) (plain seg.now piece.now)) }
 {
-    if has_rst(seg) {
+    if seg.has_rst() {
         leave(conn, shared, Ending::Reset);
         return Step::Drop;
     }
