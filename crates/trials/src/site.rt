@@ -1,0 +1,75 @@
+// A site of one file: its image in both versions, and what is read of them.
+use file_tree::{Entry, KindWord, LoadFault, Site, SiteError, SiteWhy, pack, upgrade};
+use std::alloc::{AllocError, Global};
+use std::test::Fail;
+use uip_edge::{Held, MemShelf};
+
+const IMAGE: &[u8] = b"UIPSITE1\0\x01\x0b/index.html\0\0\0\x06hello\n";
+
+const TYPED: &[u8] = b"UIPSITE2\0\x01\x0b/index.html\x09text/html\0\0\0\x06hello\n";
+
+fn shelf_of(alloc: Global, content: &[u8]) -> Result<MemShelf, AllocError> {
+    let mut files = Vec::new(alloc);
+    files.push(Held {
+        name: b"h".to_vec(alloc)?,
+        content: content.to_vec(alloc)?,
+    })?;
+    Ok(MemShelf::new(files, Vec::new(alloc)))
+}
+
+#[test]
+fn packs_the_image_of_a_list(rt: HostRuntime) -> Result<(), Fail> {
+    let alloc = rt.alloc();
+    let mut list = Vec::new(alloc);
+    list.push(Entry {
+        name: b"/index.html".to_vec(alloc)?,
+        content: b"hello\n".to_vec(alloc)?,
+    })?;
+    match pack(alloc, &list) {
+        Ok(image) => assert!(rt; image.as_slice() == IMAGE),
+        Err(_) => assert!(rt; false),
+    }
+    Ok(())
+}
+
+#[test]
+fn finds_the_file_of_an_image(rt: HostRuntime) -> Result<(), Fail> {
+    let mut shelf = shelf_of(rt.alloc(), IMAGE)?;
+    match Site::load(rt.alloc(), &mut shelf, b"h") {
+        Ok(site) => {
+            assert!(rt; site.count() == 1);
+            assert!(rt; site.find(b"/index.html").is_some());
+            assert!(rt; site.find(b"/").is_none());
+        }
+        Err(_) => assert!(rt; false),
+    }
+    Ok(())
+}
+
+#[test]
+fn upgrades_an_image(rt: HostRuntime) -> Result<(), Fail> {
+    let alloc = rt.alloc();
+    let mut kinds = Vec::new(alloc);
+    kinds.push(KindWord {
+        name: b"/index.html".to_vec(alloc)?,
+        kind: b"text/html".to_vec(alloc)?,
+    })?;
+    match Site::read(alloc, IMAGE) {
+        Ok(site) => match upgrade(alloc, &site, &kinds) {
+            Ok(image) => assert!(rt; image.as_slice() == TYPED),
+            Err(_) => assert!(rt; false),
+        },
+        Err(_) => assert!(rt; false),
+    }
+    Ok(())
+}
+
+#[test]
+fn tells_where_an_image_is_cut(rt: HostRuntime) {
+    let cut = LoadFault::Bad(SiteError {
+        why: SiteWhy::Cut,
+        entry: 1,
+    });
+    assert!(rt; Site::read(rt.alloc(), &IMAGE[..31]).err() == Some(cut));
+    assert!(rt; Site::empty(rt.alloc()).count() == 0);
+}
