@@ -1,0 +1,45 @@
+use Rattle.std.proofs.Common.{◌≡◌, ◌++◌, [], ◌∙◌, List, ℕ, length, take, refl, sym, subst, append-nil, append_assoc}
+use Rattle.std.proofs.lemmas.Bool.{eqb-true}
+use Rattle.uip_edge.proofs.Told.{moved_on, on_err}
+use Rattle.serve_loop.specs.Turns.{HasTaken}
+use Rattle.serve_loop.proofs.FrontLaws.{all_in_front, behind_broke, behind_wrote}
+use Rattle.serve_loop.proofs.RunLaws.{wrote_none}
+use Rattle.serve_loop.proofs.line.Line.take.Goals as goal
+
+pub loop-rest-init : goal.loop-rest-init
+loop-rest-init g c = record {
+  front = [];
+  pieces = refl;
+  whole = c.requires.whole;
+  same = refl;
+  taken = λ pace before h. rw append-nil h;
+  wrote = λ m own pace before h. wrote_none m g.A.App.served own _ _ _ (λ n p. p);
+  calm = refl;
+}
+
+pub returns-in_err-count-clause-err : goal.returns-in_err-count-clause-err
+returns-in_err-count-clause-err g c =
+    let inv = c.loop-rest.invariant in
+    on_err _ (behind_broke g.A.App.served _ _ _ _ inv.front inv.taken _ _ _ _ _ _ inv.wrote c.args.bytes.now c.loop-rest.rest.now inv.pieces c.in_err-count.ensures.err)
+
+pub loop-rest-preserved : goal.loop-rest-preserved
+loop-rest-preserved g c =
+    let inv = c.loop-rest.invariant in
+    let rest = c.loop-rest.rest.now in
+    let n = c.in_ok-count.count in
+    let told = c.in_ok-count.ensures in
+    record {
+      front = inv.front ++ take n rest;
+      pieces = moved_on _ inv.front rest n inv.pieces;
+      whole = told.whole;
+      same = told.same ∙ inv.same;
+      taken = λ pace before h. rw (← append_assoc before inv.front (take n rest)) (told.taken pace (before ++ inv.front) (inv.taken pace before h));
+      wrote = behind_wrote g.A.App.served _ _ _ _ inv.front inv.taken _ _ _ _ _ _ inv.wrote (take n rest) told.ok;
+      calm = told.cause.same ∙ inv.calm;
+    }
+
+pub returns-clause-taken : goal.returns-clause-taken
+returns-clause-taken g c = λ pace before h.
+    let inv = c.loop-rest.invariant in
+    let none : length c.loop-rest.rest.now ≡ 0 = eqb-true _ _ (sym c.loop-rest-test.ensures) in
+    subst (λ (l : List ℕ). HasTaken pace (before ++ l) c.loop-rest.self.decoder c.loop-rest.self.pacer) (sym (all_in_front _ _ _ inv.pieces none)) (inv.taken pace before h)

@@ -1,0 +1,62 @@
+use Rattle.std.proofs.Common.{◌++◌, [], refl, arith, ◌∙◌, length-take, length-append}
+use Rattle.uip_edge.proofs.Told.{Consumes-none, Consumes-then}
+use Rattle.serve_loop.specs.LineEvents.{bytes_of, events_behind, line_events}
+use Rattle.serve_loop.specs.Outside.{outside}
+use Rattle.serve_loop.proofs.EventLaws.{bytes_of-append, events-then}
+use Rattle.serve_loop.proofs.RunLaws.{wrote_by, wrote_none, wrote_then}
+use Rattle.serve_loop.proofs.ServeLaws.{spent, stopped}
+use Rattle.serve_loop.proofs.serving.serve_line.Goals as goal
+
+pub loop-left-init : goal.loop-left-init
+loop-left-init g c = record {
+  whole = c.requires.whole;
+  same = refl;
+  served = λ pace h. record {
+    taken = [];
+    consumed = Consumes-none _;
+    number = omega arith;
+    at = h;
+    wrote = λ m own. wrote_none m g.A.App.served own _ _ _ (λ n p. p);
+    link_same = refl;
+    sink_same = refl;
+  };
+}
+
+pub loop-left-preserved : goal.loop-left-preserved
+loop-left-preserved g c = record {
+  whole = c.in-Went.ensures.whole;
+  same = c.in-Went.ensures.same ∙ c.loop-left.invariant.same;
+  served = λ pace h.
+      let inv = c.loop-left.invariant.served pace h in
+      let turn = c.in-Went.ensures.turns pace (bytes_of inv.taken) inv.at in
+      let room = length-take c.min-room.result c.loop-left.buf in
+      record {
+        taken = inv.taken ++ turn.items;
+        consumed = Consumes-then _ _ _ inv.taken turn.items inv.consumed turn.consumed;
+        number = omega (arith, length-append inv.taken turn.items, turn.cause.0, inv.number, c.in-Went.ensures.fits.1, room);
+        at = rw bytes_of-append turn.on;
+        wrote = λ m own. wrote_by m g.A.App.served own _ _ _ _ _ _ (events-then own pace [] inv.taken turn.items)
+            (wrote_then m g.A.App.served own (line_events own pace inv.taken) (events_behind own pace (bytes_of inv.taken) turn.items) _ _ _ _ _ _ (inv.wrote m own) (turn.wrote m own));
+        link_same = turn.cause.1 ∙ inv.link_same;
+        sink_same = turn.cause.2 ∙ inv.sink_same;
+      };
+}
+
+pub returns-in-Stopped-clause-serves : goal.returns-in-Stopped-clause-serves
+returns-in-Stopped-clause-serves g c = λ pace h.
+    let inv = c.loop-left.invariant.served pace h in
+    let room = length-take c.min-room.result c.loop-left.buf in
+    stopped g.A.App.meaning g.A.App.served g.A.App.stands_for g.A.App.kept g.A.App.numbers pace c.args.items inv.taken c.args.node.now c.loop-left.node c.turn.new.node
+    (outside g.L.Link.coming g.K.Sink.written g.L.Link.faults g.K.Sink.faults c.args.link.now c.args.sink.now)
+    (outside g.L.Link.coming g.K.Sink.written g.L.Link.faults g.K.Sink.faults c.loop-left.link c.loop-left.sink)
+    (outside g.L.Link.coming g.K.Sink.written g.L.Link.faults g.K.Sink.faults c.turn.new.link c.turn.new.sink)
+    _ _ _ c.in-Stopped.end inv.consumed (omega arith) (omega (arith, inv.number, room)) inv.link_same inv.sink_same inv.wrote
+    (c.in-Stopped.ensures.turns pace (bytes_of inv.taken) inv.at)
+
+pub returns-clause-serves : goal.returns-clause-serves
+returns-clause-serves g c = λ pace h.
+    let inv = c.loop-left.invariant.served pace h in
+    spent g.A.App.meaning g.A.App.served g.A.App.stands_for g.A.App.kept g.A.App.numbers pace c.args.items inv.taken c.args.node.now c.loop-left.node
+    (outside g.L.Link.coming g.K.Sink.written g.L.Link.faults g.K.Sink.faults c.args.link.now c.args.sink.now)
+    (outside g.L.Link.coming g.K.Sink.written g.L.Link.faults g.K.Sink.faults c.loop-left.link c.loop-left.sink)
+    inv.consumed (omega (arith, inv.number, c.loop-left-test.false)) inv.link_same inv.sink_same inv.wrote

@@ -1,0 +1,30 @@
+use Rattle.std.proofs.Common.{◌≡◌, ◌+◌, [], List, ℕ, length}
+use Rattle.app_events.specs.Part.{Meaning}
+use Rattle.uip_edge.specs.declared.item.Item.{Item}
+use Rattle.uip_edge.specs.Coming.{Consumes}
+use Rattle.uip_wire.specs.declared.addr.Addr.{Addr}
+use Rattle.uip_node.specs.StandsFor.{IsWhole}
+use Rattle.serve_loop.specs.LineEvents.{bytes_of, line_events}
+use Rattle.serve_loop.specs.Running.{Wrote}
+use Rattle.serve_loop.specs.Turns.{HasTaken, IsNode}
+use Rattle.serve_loop.proofs.serving.serve_line.Given as goal
+
+abbrev pub invariant-loop-left : goal.invariant-loop-left
+invariant-loop-left g l = record {
+  whole : IsWhole g.A.App.meaning g.A.App.stands_for g.A.App.kept l.node;
+  same : g.A.App.kept l.node.shared ≡ g.A.App.kept l.fn.node.shared;
+  served : (pace : ℕ) → HasTaken pace [] l.fn.line.decoder l.fn.line.pacer → record {
+    taken : List Item;
+    consumed : Consumes (g.L.Link.coming l.fn.link) (g.L.Link.coming l.link) taken;
+    number : length taken + l.left ≡ l.items;
+    at : HasTaken pace (bytes_of taken) l.line.decoder l.line.pacer;
+    wrote : (m : Meaning) (own : Addr) → Wrote m g.A.App.served own (line_events own pace taken)
+        (IsNode g.A.App.meaning g.A.App.stands_for g.A.App.kept g.A.App.numbers m own l.fn.node)
+        (IsNode g.A.App.meaning g.A.App.stands_for g.A.App.kept g.A.App.numbers m own l.node) (g.K.Sink.written l.fn.sink) (g.K.Sink.written l.sink);
+    link_same : g.L.Link.faults l.link ≡ g.L.Link.faults l.fn.link;
+    sink_same : g.K.Sink.faults l.sink ≡ g.K.Sink.faults l.fn.sink;
+  };
+}
+
+abbrev pub decreases-loop-left : goal.decreases-loop-left
+decreases-loop-left g l = l.left

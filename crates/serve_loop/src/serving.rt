@@ -1,0 +1,77 @@
+ghost use Rattle.std.specs.Prelude.{◌≡◌, ◌<◌, [], List, ℕ, Some, length};
+ghost use Rattle.uip_edge.specs.Coming.{Consumes};
+ghost use Rattle.uip_edge.specs.declared.item.Item.{Item};
+ghost use Rattle.uip_edge.specs.declared.serve_end.ServeEnd.{ServeEnd as AnyEnd};
+ghost use Rattle.uip_edge.specs.declared.serve_end.ServeEnd.TheVariants.{Budget, End};
+ghost use Rattle.uip_node.specs.StandsFor.{IsWhole};
+ghost use Rattle.serve_loop.specs.Outside.{outside, Outside, Unfailed};
+ghost use Rattle.serve_loop.specs.Serving.{EndsBy, Serves};
+ghost use Rattle.serve_loop.specs.Turns.{HasTaken};
+
+use crate::line::{Line, Turn};
+use app_events::App;
+use uip_edge::{Link, ServeEnd, Sink};
+use uip_node::Node;
+
+/// The most bytes that are asked of a link at once.
+const BLOCK: usize = 4096;
+
+/// Serves the line at the node, up to so many items. At a pace above 0 every so many bytes make a tick, and each silence
+/// makes one. No call in it is given an allocator.
+pub fn serve<A: App, L: Link, K: Sink>(
+    node: &mut Node<A>,
+    link: &mut L,
+    sink: &mut K,
+    pace: u64,
+    items: u64,
+) -> ServeEnd
+    requires whole { IsWhole A.meaning A.stands_for A.kept node.old }
+    ensures whole { IsWhole A.meaning A.stands_for A.kept node.new }
+    ensures same { A.kept node.new.shared ≡ A.kept node.old.shared }
+    ensures serves { Serves A.meaning A.served A.stands_for A.kept A.numbers pace items node.old node.new
+        (outside L.coming K.written L.faults K.faults link.old sink.old)
+        (outside L.coming K.written L.faults K.faults link.new sink.new) result }
+{
+    let mut line = Line::new(pace);
+    serve_line(&mut line, node, link, sink, items)
+}
+
+/// Takes items of a line of which nothing was read, until so many were taken.
+fn serve_line<A: App, L: Link, K: Sink>(
+    line: &mut Line,
+    node: &mut Node<A>,
+    link: &mut L,
+    sink: &mut K,
+    items: u64,
+) -> ServeEnd
+    requires whole { IsWhole A.meaning A.stands_for A.kept node.old }
+    ensures whole { IsWhole A.meaning A.stands_for A.kept node.new }
+    ensures same { A.kept node.new.shared ≡ A.kept node.old.shared }
+    ensures serves { (pace : ℕ) → HasTaken pace [] line.old.decoder line.old.pacer
+        → Serves A.meaning A.served A.stands_for A.kept A.numbers pace items node.old node.new
+        (outside L.coming K.written L.faults K.faults link.old sink.old)
+        (outside L.coming K.written L.faults K.faults link.new sink.new) result }
+{
+    let mut buf = [0; BLOCK];
+    let mut left = items;
+    while left > 0 {
+        let room = left.min(BLOCK as u64) as usize;
+        match line.turn(node, &mut buf[..room], link, sink) {
+            Turn::Went(count) => left -= count,
+            Turn::Stopped(end) => return end,
+        }
+    }
+    ServeEnd::Budget
+}
+
+/// The budget is told wherever as many items were taken as were allowed and nothing failed.
+pub fn budget_is_told()
+    ensures { (n : ℕ) (old new : Outside) (taken : List Item) (end : AnyEnd) → EndsBy n old new taken end
+        → length taken ≡ n → Unfailed old new → end ≡ Budget }
+{}
+
+/// The end is told wherever the link tells fewer items than are allowed and nothing failed.
+pub fn end_is_told()
+    ensures { (n : ℕ) (old new : Outside) (all taken : List Item) (end : AnyEnd) → old.coming ≡ Some all → length all < n
+        → Consumes old.coming new.coming taken → EndsBy n old new taken end → Unfailed old new → end ≡ End }
+{}
