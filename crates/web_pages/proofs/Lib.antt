@@ -1,0 +1,9 @@
+pub mod Found
+pub mod Bounds
+pub mod Limits
+pub mod PageLaws
+pub mod Upgrades
+pub mod ByteLaws
+pub mod WordLaws
+mod WorkedRequests
+mod WorkedPages

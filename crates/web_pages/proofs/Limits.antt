@@ -1,0 +1,169 @@
+-- Every page of a site is shorter than 2^30 bytes.
+use Rattle.std.specs.List.{All}
+use Rattle.std.proofs.Common.{◌≡◌, ℕ, ◌+◌, ◌-◌, ◌<◌, ◌≤◌, ◌==◌, Bool, true, false, List, [], ◌∷◌, length, drop, Option, Some, None, Result, Ok, refl, sym, ap, subst, ◌∙◌, arith, length-take, length-drop, if◌then◌else◌, lit<, lit≤}
+use Rattle.std.specs.Prelude.{slice_get, option_map, nat_le, nat_lt, codes, sum_by}
+use Rattle.std.specs.List.{list_any, list_all}
+use Rattle.std.proofs.lemmas.Bool.{leb-true, leb-false, and_parts}
+use Rattle.std.proofs.lemmas.List.Sums.{sum_by-cons}
+use Rattle.std.proofs.lemmas.Option.{slice_get-map, same_Some}
+use Rattle.script_lang.specs.Pieces.{pieces}
+use Rattle.site_image.specs.declared.TheConstants.{PAGE_LIMIT}
+use Rattle.site_image.specs.declared.place.Place.{Place}
+use Rattle.site_image.specs.declared.version.Version.{Version}
+use Rattle.site_image.specs.declared.site_error.SiteError.{SiteError}
+use Rattle.site_image.specs.declared.site_error.SiteWhy.TheVariants.{Rest, Include, PageTooLong}
+use Rattle.site_image.specs.Names.{is_script, is_kind, is_kind_byte, kind_by_name}
+use Rattle.site_image.specs.Files.{File, file_named, kind_of}
+use Rattle.site_image.specs.Pages.{misses, script_fault, piece_length, page_length, body_length}
+use Rattle.site_image.specs.Places.{file_in}
+use Rattle.site_image.specs.Faults.{◌>>=◌, refuse, head_of, entries, scripts, read_image}
+use Rattle.site_image.proofs.ImageLaws.{AreSound, bind_ok, scripts-sound}
+use Rattle.file_tree.specs.Site.{SiteContent, IsLoaded, files_of, image_files}
+use Rattle.file_tree.proofs.KindLemmas.{kind-short}
+use Rattle.app_events.specs.Part.{Moment}
+use Rattle.app_events.specs.Pages.{IsMoment}
+use Rattle.web_pages.specs.Requests.{Wanted, wanted}
+use Rattle.web_pages.specs.Requests.Wanted.{NotYet, Refused, Name}
+use Rattle.web_pages.specs.Pieces.{Say, missing_body, missing_reply, missing_head, reply_to, reply_of, found_reply, kind_line}
+use Rattle.web_pages.specs.Pieces.Say.{Plain}
+use Rattle.web_pages.specs.Pages.{text_of, page_for, page}
+use Rattle.web_pages.specs.Claims.{IsAtMostGreatest}
+use Rattle.web_pages.proofs.Found.{found_there, found_itself}
+use Rattle.web_pages.proofs.Bounds.{all_said, most_said, text_bound, found_bound}
+
+-- ---- what a loaded site tells of its files
+
+ok_is : {T : Type 0} (x y : T) → ◌≡◌ {A = Result T SiteError} (Ok x) (Ok y) → x ≡ y
+ok_is x y e = cc
+
+abbrev scripts_read : List File × List ℕ → Result (List File) SiteError
+scripts_read read = scripts read.0 0 read.0 >>= λ _. Ok read.0
+
+abbrev rest_read : List File × List ℕ → Result (List File) SiteError
+rest_read read = refuse (nat_lt 0 (length read.1)) Rest >>= λ _. scripts_read read
+
+read_sound : (bytes : List ℕ) (files : List File) → read_image bytes ≡ Ok files → AreSound files files
+unfolding read_image
+read_sound bytes files e =
+    let a = bind_ok (head_of bytes) (λ (head : Version × ℕ). entries head.0 head.1 [] (drop 10 bytes) >>= rest_read) files e in
+    let b = bind_ok (entries a.0.0 a.0.1 [] (drop 10 bytes)) rest_read files a.2 in
+    let d = bind_ok (refuse (nat_lt 0 (length b.0.1)) Rest) (λ _. scripts_read b.0) files b.2 in
+    let s = bind_ok (scripts b.0.0 0 b.0.0) (λ _. Ok b.0.0) files d.2 in
+    subst (λ fs. AreSound fs fs) (ok_is b.0.0 files s.2) (scripts-sound b.0.0 0 b.0.0 s.0 s.1)
+
+none_sound : (files : List File) → [] ≡ files → AreSound files files
+none_sound files e = subst (λ fs. AreSound fs fs) e (λ k file s. absurd cc)
+
+image_sound : (image : List ℕ) (files : List File) → image_files image ≡ Ok files → AreSound files files
+image_sound [] files e = none_sound files (ok_is [] files e)
+image_sound (byte ∷ bytes) files e = read_sound (byte ∷ bytes) files e
+
+content_by : (image : List ℕ) (place : Option Place) (file : File) → option_map (file_in image) place ≡ Some file → length file.content ≤ length image
+content_by image None file e = absurd cc
+content_by image (Some place) file e =
+    let here : length (file_in image place).content ≤ length image =
+    omega (arith, length-take ((place.at + place.len) - place.at) (drop place.at image), length-drop place.at image) in
+    subst (λ (f : File). length f.content ≤ length image) (same_Some (file_in image place) file e) here
+
+pub content_small : (site : SiteContent) → IsLoaded site → (k : ℕ) (file : File) → slice_get (files_of site) k ≡ Some file → length file.content ≤ 16777216
+content_small site is k file s =
+    let here = content_by site.image (slice_get site.files k) file (sym (slice_get-map (file_in site.image) site.files k) ∙ s) in
+    let size = is.size in
+    omega arith
+
+kind_good : (kind : List ℕ) → is_kind kind ≡ true → length kind ≤ 64
+kind_good kind is = leb-true (length kind) 64 (and_parts (nat_le (length kind) 64) (list_all is_kind_byte kind) is).0
+
+kind_small : (file : File) → is_kind file.kind ≡ true → length (kind_of file) ≤ 64
+kind_small file is = by_own (length file.kind == 0)
+  where
+    by_own : (b : Bool) → length (if b then kind_by_name file.name else file.kind) ≤ 64
+    by_own true = (let short = kind-short file.name in omega arith)
+    by_own false = kind_good file.kind is
+
+script_short : (files : List File) (file : File) → script_fault files file ≡ None → is_script file.name ≡ true → page_length files file < 1073741824
+script_short files file sound script =
+    by_misses (list_any (λ found. misses files file.content found.piece) (pieces file.content)) (nat_le PAGE_LIMIT (page_length files file)) refl
+    (ap (λ b. if b then
+    (if list_any (λ found. misses files file.content found.piece) (pieces file.content) then Some Include
+    else (if nat_le PAGE_LIMIT (page_length files file) then Some PageTooLong else None))
+    else None) (sym script) ∙ sound)
+  where
+    by_misses : (m long : Bool) → nat_le PAGE_LIMIT (page_length files file) ≡ long
+        → (if m then Some Include else (if long then Some PageTooLong else None)) ≡ None → page_length files file < 1073741824
+    by_misses true long e h = absurd cc
+    by_misses false true e h = absurd cc
+    by_misses false false e h = leb-false 1073741824 (page_length files file) e
+
+plain_body : (files : List File) (file : File) → is_script file.name ≡ false → body_length files file ≡ length file.content
+plain_body files file plain =
+    ap (λ b. if b then sum_by (λ found. piece_length files file.content found.piece) (pieces file.content) else length file.content) plain
+
+-- the greatest length of a file's page is below the limit
+pub greatest_short : (site : SiteContent) → IsLoaded site → (k : ℕ) (file : File) → slice_get (files_of site) k ≡ Some file
+    → page_length (files_of site) file < 1073741824
+greatest_short site is k file s = by_script (is_script file.name) refl
+  where
+    by_script : (b : Bool) → is_script file.name ≡ b → page_length (files_of site) file < 1073741824
+    by_script true e = script_short (files_of site) file (image_sound site.image (files_of site) is.read k file s) e
+    by_script false e =
+        let body = plain_body (files_of site) file e in
+        let content = content_small site is k file s in
+        let kind = kind_small file (is.good k file s).1 in
+        omega arith
+
+-- ---- pages
+
+missing_small : (site : SiteContent) → IsLoaded site → (file : Option File) → file_named (files_of site) (codes "/404.html") ≡ file
+    → length (missing_body file) ≤ 16777216
+missing_small site is None e = lit≤ tt
+missing_small site is (Some file) e =
+    let there = found_there (files_of site) (codes "/404.html") file e in
+    content_small site is there.place file there.at
+
+missing_bound : (site : SiteContent) → IsLoaded site → all_said (missing_reply (files_of site)) < 1073741824
+missing_bound site is =
+    let body = missing_small site is (file_named (files_of site) (codes "/404.html")) refl in
+    let last : Say = Plain (missing_body (file_named (files_of site) (codes "/404.html"))) in
+    let line : Say = Plain (kind_line (codes "text/html")) in
+    let head_length : length missing_head ≡ 60 = refl in
+    let line_length : length (kind_line (codes "text/html")) ≡ 27 = refl in
+    omega (
+      arith,
+      sum_by-cons most_said (Plain missing_head) (line ∷ last ∷ []),
+      sum_by-cons most_said line (last ∷ []),
+      sum_by-cons most_said last [],
+    )
+
+reply_bound : (site : SiteContent) → IsLoaded site → (name : List ℕ) (found : Option File) → file_named (files_of site) name ≡ found
+    → all_said (reply_to (files_of site) found) < 1073741824
+reply_bound site is name None e = missing_bound site is
+reply_bound site is name (Some file) e =
+    let there = found_there (files_of site) name file e in
+    let short = greatest_short site is there.place file there.at in
+    let said = found_bound (files_of site) file in
+    omega arith
+
+short_by : (site : SiteContent) → IsLoaded site → (asked : Wanted) (captures : List Moment) → All IsMoment captures
+    → length (page_for (files_of site) asked captures) < 1073741824
+short_by site is NotYet captures all = lit< tt
+short_by site is Refused captures all = lit< tt
+short_by site is (Name name) captures all =
+    let text = text_bound (files_of site) (reply_of (files_of site) name) captures all in
+    let said = reply_bound site is name (file_named (files_of site) name) refl in
+    omega arith
+
+pub page_short : (site : SiteContent) → IsLoaded site → (request : List ℕ) (captures : List Moment) → All IsMoment captures
+    → length (page (files_of site) request captures) < 1073741824
+page_short site is request captures all = short_by site is (wanted request) captures all
+
+-- the page of a file is at most as long as the site tells
+pub at_most_greatest : IsAtMostGreatest
+at_most_greatest site is id file s request captures asked all =
+    let files = files_of site in
+    let itself : file_named files file.name ≡ Some file = found_itself files is.apart id file s in
+    let same : page files request captures ≡ text_of files (found_reply files file) captures =
+    ap (λ w. page_for files w captures) asked ∙ ap (λ found. text_of files (reply_to files found) captures) itself in
+    let text = text_bound files (found_reply files file) captures all in
+    let said = found_bound files file in
+    omega (arith, ap length same)

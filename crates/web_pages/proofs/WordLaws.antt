@@ -1,0 +1,121 @@
+-- The two words of a request, as they are kept while they are heard.
+use Rattle.std.proofs.Common.{◌≡◌, ℕ, ◌<◌, ◌≤◌, ◌&&◌, ◌==◌, Bool, true, false, not, List, [], ◌∷◌, length, take, refl, sym, ap, subst, ◌∙◌, arith, length-take, if◌then◌else◌}
+use Rattle.std.specs.Prelude.{codes, nat_lt, nat_eq}
+use Rattle.std.specs.List.{before_first, list_any, starts_with, concat, fold}
+use Rattle.std.specs.Str.{bytes_eq}
+use Rattle.std.proofs.lemmas.Bool.{and_parts, not-true, ltb-true, ltb-false, eqb-true}
+use Rattle.std.proofs.lemmas.Bool.Decides.{same_from_decides}
+use Rattle.std.proofs.lemmas.List.{take_all}
+use Rattle.std.proofs.lemmas.List.Sums.{take_while-cons}
+use Rattle.std.proofs.lemmas.Slice.Eq.{bytes_eq-Decides}
+use Rattle.protosocket.specs.declared.stops.Stops.TheVariants.{Space, SpaceOrLine}
+use Rattle.protosocket.specs.Line.{Line, is_mark, after, fresh, heard}
+use Rattle.protosocket.specs.Hearing.{none_at_all}
+use Rattle.protosocket.proofs.Pieces.{hears_in_pieces}
+use Rattle.web_pages.specs.Requests.{Wanted, wanted, wanted_by, has_ended, method_of, after_method, target_of, name_in}
+use Rattle.web_pages.specs.Requests.Wanted.{NotYet, Refused, Name}
+use Rattle.web_pages.specs.Words.{told_by, ToldInPieces, LongNames}
+use Rattle.web_pages.specs.Deciding.{by_tests}
+
+-- ---- the method
+
+is_get_word : (word : List ℕ) → bytes_eq word (codes "GET") ≡ (bytes_eq (take 64 (before_first is_mark word)) (codes "GET") && not (list_any is_mark word))
+is_get_word word =
+    same_from_decides {P = word ≡ codes "GET"} _ _ (bytes_eq-Decides word (codes "GET")) (from, to)
+  where
+    from : (bytes_eq (take 64 (before_first is_mark word)) (codes "GET") && not (list_any is_mark word)) ≡ true → word ≡ codes "GET"
+    from e =
+        let both = and_parts (bytes_eq (take 64 (before_first is_mark word)) (codes "GET")) (not (list_any is_mark word)) e in
+        let whole : before_first is_mark word ≡ word = none_at_all is_mark word (not-true (list_any is_mark word) both.1) in
+        let same : take 64 word ≡ codes "GET" = ap (take 64) (sym whole) ∙ (bytes_eq-Decides (take 64 (before_first is_mark word)) (codes "GET")).0 both.0 in
+        let three : length (codes "GET") ≡ 3 = refl in
+        let short : length word ≤ 64 = omega (arith, length-take 64 word, ap length same) in
+        sym (take_all 64 word short) ∙ same
+
+    to : word ≡ codes "GET" → (bytes_eq (take 64 (before_first is_mark word)) (codes "GET") && not (list_any is_mark word)) ≡ true
+    to e = ap (λ w. bytes_eq (take 64 (before_first is_mark w)) (codes "GET") && not (list_any is_mark w)) e
+
+-- ---- the target
+
+abbrev front : List ℕ → List ℕ
+front target = before_first is_mark target
+
+front_here : (x : ℕ) (xs : List ℕ) → is_mark x ≡ true → front (x ∷ xs) ≡ []
+front_here x xs e = take_while-cons (λ b. not (is_mark b)) x xs ∙ ap (λ b. if not b then x ∷ front xs else []) e
+
+front_later : (x : ℕ) (xs : List ℕ) → is_mark x ≡ false → front (x ∷ xs) ≡ x ∷ front xs
+front_later x xs e = take_while-cons (λ b. not (is_mark b)) x xs ∙ ap (λ b. if not b then x ∷ front xs else []) e
+
+front_again : (target : List ℕ) → front (front target) ≡ front target
+front_again [] = refl
+front_again (x ∷ xs) =
+    elim (is_mark x) as (λ b. is_mark x ≡ b → front (front (x ∷ xs)) ≡ front (x ∷ xs)) [
+      | true ↦ λ e. ap front (front_here x xs e) ∙ sym (front_here x xs e)
+      | false ↦ λ e. ap front (front_later x xs e) ∙ front_later x (front xs) e ∙ ap (λ ys. x ∷ ys) (front_again xs) ∙ sym (front_later x xs e)
+    ] refl
+
+begins_slash : List ℕ → Bool
+begins_slash target = starts_with nat_eq target (codes "/")
+
+mark_no_slash : (x : ℕ) → is_mark x ≡ true → (47 == x) ≡ false
+mark_no_slash x e = ap (λ y. 47 == y) (eqb-true x 63 e)
+
+slash_front : (target : List ℕ) → starts_with nat_eq (front target) (codes "/") ≡ starts_with nat_eq target (codes "/")
+slash_front [] = refl
+slash_front (x ∷ xs) =
+    elim (is_mark x) as (λ b. is_mark x ≡ b → starts_with nat_eq (front (x ∷ xs)) (codes "/") ≡ starts_with nat_eq (x ∷ xs) (codes "/")) [
+      | true ↦ λ e. ap (λ ys. starts_with nat_eq ys (codes "/")) (front_here x xs e) ∙ sym (ap (λ b. b && true) (mark_no_slash x e))
+      | false ↦ λ e. ap (λ ys. starts_with nat_eq ys (codes "/")) (front_later x xs e)
+    ] refl
+
+wanted_front : (target : List ℕ) → wanted_by (front target) ≡ wanted_by target
+wanted_front target = λ i. if slash_front target i then Name (if bytes_eq (front_again target i) (codes "/") then codes "/index.html" else front_again target i) else Refused
+
+kept_front : (target : List ℕ) → nat_lt 64 (length (front target)) ≡ false → wanted_by (take 64 (front target)) ≡ wanted_by target
+kept_front target e = ap wanted_by (take_all 64 (front target) (ltb-false 64 (length (front target)) e)) ∙ wanted_front target
+
+-- ---- both
+
+pub told_by_heard : (request : List ℕ) → (heard SpaceOrLine (after_method request)).over ≡ false
+    → wanted request ≡ told_by (heard Space request) (heard SpaceOrLine (after_method request))
+told_by_heard request e =
+    λ i. if not (has_ended Space request) then NotYet
+    else (if not (is_get_word (method_of request) i) then Refused
+    else (if not (has_ended SpaceOrLine (after_method request)) then NotYet else sym (kept_front (target_of request) e) i))
+
+pub told_in_pieces : ToldInPieces
+told_in_pieces pieces later rest e =
+    let method : fold after (fresh Space) pieces ≡ heard Space (concat pieces) = hears_in_pieces Space pieces in
+    let target : fold after (fresh SpaceOrLine) later ≡ heard SpaceOrLine (after_method (concat pieces)) =
+    hears_in_pieces SpaceOrLine later ∙ ap (heard SpaceOrLine) (sym rest) in
+    told_by_heard (concat pieces) (sym (ap (λ (line : Line). line.over) target) ∙ e) ∙ sym (λ i. told_by (method i) (target i))
+
+-- a long name is the name that is asked for
+named_by : (target name : List ℕ) → 64 < length (front target) → wanted_by target ≡ Name name → 64 < length name
+named_by target name long e = by_slash (starts_with nat_eq target (codes "/")) e
+  where
+    name_of : Wanted → List ℕ
+    name_of NotYet = []
+    name_of Refused = []
+    name_of (Name n) = n
+
+    by_short : (b : Bool) → bytes_eq (front target) (codes "/") ≡ b → 64 < length (if b then codes "/index.html" else front target)
+    by_short true s = absurd (omega (arith, ap length ((bytes_eq-Decides (front target) (codes "/")).0 s), (let one : length (codes "/") ≡ 1 = refl in one)))
+    by_short false s = long
+
+    by_slash : (b : Bool) → (if b then Name (name_in target) else Refused) ≡ Name name → 64 < length name
+    by_slash true h = subst (λ n. 64 < length n) (ap name_of h) (by_short (bytes_eq (front target) (codes "/")) refl)
+    by_slash false h = absurd cc
+
+long_by : (a b c : Bool) (target name : List ℕ) → 64 < length (front target) → by_tests a b c target ≡ Name name → 64 < length name
+long_by false b c target name long e = absurd cc
+long_by true false c target name long e = absurd cc
+long_by true true false target name long e = absurd cc
+long_by true true true target name long e = named_by target name long e
+
+pub long_names : LongNames
+long_names pieces later rest name over e =
+    let request = concat pieces in
+    let target : fold after (fresh SpaceOrLine) later ≡ heard SpaceOrLine (after_method request) = hears_in_pieces SpaceOrLine later ∙ ap (heard SpaceOrLine) (sym rest) in
+    let long = ltb-true 64 (length (front (target_of request))) (sym (ap (λ (line : Line). line.over) target) ∙ over) in
+    long_by (has_ended Space request) (bytes_eq (method_of request) (codes "GET")) (has_ended SpaceOrLine (after_method request)) (target_of request) name long e

@@ -1,0 +1,41 @@
+-- What holds of the pages of every site.
+use Rattle.std.specs.List.{All}
+use Rattle.std.specs.Prelude.{◌≡◌, ◌≢◌, ◌≤◌, ℕ, false, List, ◌++◌, length, slice_get, Some}
+use Rattle.app_events.specs.Part.{Moment}
+use Rattle.app_events.specs.Pages.{IsPaged, IsMoment, IsByte}
+use Rattle.site_image.specs.Files.{File, has_name}
+use Rattle.site_image.specs.Pages.{page_length}
+use Rattle.file_tree.specs.Site.{SiteContent, IsLoaded, files_of}
+use Rattle.file_tree.specs.Upgrading.{KindContent, upgraded}
+use Rattle.web_pages.specs.Requests.{wanted}
+use Rattle.web_pages.specs.Requests.Wanted.{NotYet, Name}
+use Rattle.web_pages.specs.Pages.{page, is_whole, pages_of}
+use Rattle.web_pages.specs.WebMeaning.{web_meaning}
+
+-- The web server of a site keeps the laws from which the headline follows.
+abbrev pub KeepsPageLaws : Type 0
+KeepsPageLaws = (site : SiteContent) → IsLoaded site → IsPaged (web_meaning (files_of site)) (pages_of (files_of site))
+
+-- A page of a file is at most as long as the greatest length that the site tells for it.
+abbrev pub IsAtMostGreatest : Type 0
+IsAtMostGreatest =
+    (site : SiteContent) → IsLoaded site → (id : ℕ) (file : File) → slice_get (files_of site) id ≡ Some file →
+    (request : List ℕ) (captures : List Moment) → wanted request ≡ Name file.name → All IsMoment captures →
+    length (page (files_of site) request captures) ≤ page_length (files_of site) file
+
+-- A page of a site of bytes is bytes.
+abbrev pub IsMadeOfBytes : Type 0
+IsMadeOfBytes =
+    (site : SiteContent) → All IsByte site.image → (request : List ℕ) (captures : List Moment) → All IsMoment captures →
+    All IsByte (page (files_of site) request captures)
+
+-- An upgrade in which no word names a file keeps every page.
+abbrev pub UpgradeKeepsPages : Type 0
+UpgradeKeepsPages =
+    (files : List File) (words : List KindContent) → ((word : KindContent) (k : ℕ) → slice_get words k ≡ Some word → has_name files word.name ≡ false) →
+    (request : List ℕ) (captures : List Moment) →
+    (page (upgraded words files) request captures ≡ page files request captures) × (is_whole (upgraded words files) request captures ≡ is_whole files request captures)
+
+-- What is decided of a request stays, whatever bytes follow.
+abbrev pub DecisionStays : Type 0
+DecisionStays = (request more : List ℕ) → wanted request ≢ NotYet → wanted (request ++ more) ≡ wanted request

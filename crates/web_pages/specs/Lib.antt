@@ -1,0 +1,12 @@
+pub mod Requests
+pub mod Pieces
+pub mod Pages
+pub mod ZeroPages
+pub mod WebMeaning
+pub mod Words
+pub mod Deciding
+pub mod Growing
+pub mod WebLaws
+pub mod Claims
+pub mod WorkedRequests
+pub mod WorkedPages

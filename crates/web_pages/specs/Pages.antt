@@ -1,0 +1,80 @@
+-- The page of a request: its pieces joined, each call that takes a capture made from the next one. It stops before the first
+-- such call that has none left, and it is whole where nothing stopped it.
+use Rattle.std.specs.Prelude.{ℕ, Bool, true, false, List, [], ◌∷◌, ◌++◌, if◌then◌else◌, Option, None, Some, position}
+use Rattle.std.specs.List.{slice_index_or}
+use Rattle.std.specs.Str.{bytes_eq}
+use Rattle.script_lang.specs.declared.function.Function.{Function}
+use Rattle.script_lang.specs.declared.function.Function.TheVariants.{FileStats, TcpConnections, NetStats, Ticks, Unknown}
+use Rattle.site_image.specs.Files.{File}
+use Rattle.generators.specs.Captures.{capture_of}
+use Rattle.generators.specs.Text.{capture_text}
+use Rattle.app_events.specs.Part.{Moment}
+use Rattle.app_events.specs.Pages.{Pages}
+use Rattle.web_pages.specs.Requests.{Wanted, wanted}
+use Rattle.web_pages.specs.Requests.Wanted.{NotYet, Refused, Name}
+use Rattle.web_pages.specs.Pieces.{Say, reply_of}
+use Rattle.web_pages.specs.Pieces.Say.{Plain, Made}
+
+-- a call of an unknown function says nothing and takes no capture
+abbrev pub takes_capture : Function → Bool
+takes_capture FileStats = true
+takes_capture TcpConnections = true
+takes_capture NetStats = true
+takes_capture Ticks = true
+takes_capture Unknown = false
+
+-- the number of a file among the numbers of all files, 0 where there is no file
+abbrev pub number_at : List ℕ → Option ℕ → ℕ
+number_at numbers None = 0
+number_at numbers (Some place) = slice_index_or numbers place 0
+
+-- where the file of a name stands among the files
+abbrev pub place_of : List File → List ℕ → Option ℕ
+place_of files name = position (λ file. bytes_eq file.name name) files
+
+-- the hit count of the file that the argument names
+abbrev pub hits_of : List File → List ℕ → List ℕ → ℕ
+hits_of files hits argument = number_at hits (place_of files argument)
+
+-- what a call says at a moment
+abbrev pub made_text : List File → Function → List ℕ → Moment → List ℕ
+made_text files function argument moment = capture_text (capture_of function (hits_of files moment.numbers argument) moment.now)
+
+-- the text of pieces, as far as the captures reach
+abbrev pub text_of : List File → List Say → List Moment → List ℕ
+text_of files [] captures = []
+text_of files (Plain text ∷ more) captures = text ++ text_of files more captures
+text_of files (Made function argument ∷ more) [] = if takes_capture function then [] else text_of files more []
+text_of files (Made function argument ∷ more) (capture ∷ later) =
+    if takes_capture function then made_text files function argument capture ++ text_of files more later
+    else text_of files more (capture ∷ later)
+
+-- nothing stops the pieces
+abbrev pub reach_end : List Say → List Moment → Bool
+reach_end [] captures = true
+reach_end (Plain text ∷ more) captures = reach_end more captures
+reach_end (Made function argument ∷ more) [] = if takes_capture function then false else reach_end more []
+reach_end (Made function argument ∷ more) (capture ∷ later) =
+    if takes_capture function then reach_end more later else reach_end more (capture ∷ later)
+
+abbrev pub page_for : List File → Wanted → List Moment → List ℕ
+page_for files NotYet captures = []
+page_for files Refused captures = []
+page_for files (Name name) captures = text_of files (reply_of files name) captures
+
+abbrev pub whole_for : List File → Wanted → List Moment → Bool
+whole_for files NotYet captures = false
+whole_for files Refused captures = true
+whole_for files (Name name) captures = reach_end (reply_of files name) captures
+
+-- the page of a request and captures
+abbrev pub page : List File → List ℕ → List Moment → List ℕ
+page files request captures = page_for files (wanted request) captures
+
+-- and whether it is whole
+abbrev pub is_whole : List File → List ℕ → List Moment → Bool
+is_whole files request captures = whole_for files (wanted request) captures
+
+-- the pages of a site
+abbrev pub pages_of : List File → Pages
+pages_of files = record { text = page files; whole = is_whole files }

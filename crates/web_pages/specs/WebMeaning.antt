@@ -1,0 +1,69 @@
+-- What each call does to a connection of the web server. Its text is the page of the bytes that were heard and of the captures
+-- that were taken. The numbers are the hits of the files, in their order.
+use Rattle.std.specs.Prelude.{ℕ, ◌+◌, ◌-◌, ◌%◌, ◌^◌, ◌==◌, Bool, ◌&&◌, false, not, List, [], ◌∷◌, ◌++◌, length, min, nat_lt, slice_set, if◌then◌else◌, Option, None, Some}
+use Rattle.std.specs.List.{slice_index_or}
+use Rattle.app_events.specs.Part.{Part, Meaning}
+use Rattle.app_events.specs.declared.want.Want.{Want}
+use Rattle.app_events.specs.declared.want.Want.TheVariants.{Nothing, Send, Close, Abort}
+use Rattle.site_image.specs.Files.{File}
+use Rattle.web_pages.specs.Requests.{Wanted, wanted}
+use Rattle.web_pages.specs.Requests.Wanted.{NotYet, Refused, Name}
+use Rattle.web_pages.specs.Pages.{page, is_whole, place_of}
+use Rattle.web_pages.specs.declared.TheConstants.{MOST_POLLS, LARGEST_SEGMENT}
+
+-- a hit of the file at a place: its count rises by one modulo 2^32
+abbrev pub hit_at : List ℕ → Option ℕ → List ℕ
+hit_at hits None = hits
+hit_at hits (Some place) = slice_set hits place ((slice_index_or hits place 0 + 1) % 2 ^ 32)
+
+-- the hits where what is decided was open before: the file that is asked for is hit
+abbrev pub hits_by : List File → List ℕ → Wanted → Wanted → List ℕ
+hits_by files hits NotYet NotYet = hits
+hits_by files hits NotYet Refused = hits
+hits_by files hits NotYet (Name name) = hit_at hits (place_of files name)
+hits_by files hits Refused after = hits
+hits_by files hits (Name name) after = hits
+
+-- all of the page so far is acknowledged
+abbrev pub is_acknowledged : List File → Part → Bool
+is_acknowledged files part = part.acked == length (page files part.heard part.captures)
+
+-- a call that has no capture stops the page of a request that is decided
+abbrev pub waits_for_capture : List File → Wanted → Part → Bool
+waits_for_capture files NotYet part = false
+waits_for_capture files Refused part = false
+waits_for_capture files (Name name) part = not (is_whole files part.heard part.captures)
+
+-- what is left of the page so far
+abbrev pub left_of : List File → Part → ℕ
+left_of files part = length (page files part.heard part.captures) - part.acked
+
+-- It gives up after so many ticks with nothing to send, closes when the whole page is acknowledged, and sends what is left of
+-- the page so far.
+abbrev pub web_want : List File → Part → Want
+web_want files part =
+    if part.polls == MOST_POLLS then Abort
+    else if is_whole files part.heard part.captures && is_acknowledged files part then Close
+    else if nat_lt 0 (left_of files part) then Send (min LARGEST_SEGMENT (left_of files part))
+    else Nothing
+
+abbrev pub web_meaning : List File → Meaning
+web_meaning files = record {
+  said = λ part. page files part.heard part.captures;
+  connected = λ hits port. record {
+    part = record { port = port; heard = []; captures = []; acked = 0; polls = 0; own = 0 };
+    numbers = hits;
+  };
+  newdata = λ hits part piece. record {
+    part = record part { heard = part.heard ++ piece; polls = 0 };
+    numbers = hits_by files hits (wanted part.heard) (wanted (part.heard ++ piece));
+  };
+  prepare = λ hits part now.
+      if is_acknowledged files part && waits_for_capture files (wanted part.heard) part
+      then record part { captures = part.captures ++ record { numbers = hits; now = now } ∷ [] }
+      else part;
+  want = λ hits part. web_want files part;
+  acked = λ hits part count. record { part = record part { acked = part.acked + count; polls = 0 }; numbers = hits };
+  polled = λ hits part. record { part = record part { polls = min MOST_POLLS (part.polls + 1) }; numbers = hits };
+  ended = λ hits part how. hits;
+}

@@ -1,0 +1,24 @@
+-- The page of a target at which each call is given the zero record of its kind: hits 0, ticks 0, twenty zeros, no rows.
+use Rattle.std.specs.Prelude.{ℕ, List, [], ◌∷◌, ◌++◌, codes, length, replicate}
+use Rattle.app_events.specs.Part.{Moment}
+use Rattle.site_image.specs.Files.{File}
+use Rattle.web_pages.specs.Requests.{Wanted, wanted}
+use Rattle.web_pages.specs.Requests.Wanted.{NotYet, Refused, Name}
+use Rattle.web_pages.specs.Pieces.{reply_of}
+use Rattle.web_pages.specs.Pages.{page}
+
+abbrev pub zero_moment : Moment
+zero_moment = record { numbers = []; now = record { ticks = 0; net = replicate 20 0; rows = [] } }
+
+-- the shortest request for a target
+abbrev pub request_for : List ℕ → List ℕ
+request_for target = codes "GET " ++ target ++ 10 ∷ []
+
+-- no page takes more captures than it has pieces
+abbrev pub most_captures : List File → Wanted → ℕ
+most_captures files NotYet = 0
+most_captures files Refused = 0
+most_captures files (Name name) = length (reply_of files name)
+
+abbrev pub zero_page : List File → List ℕ → List ℕ
+zero_page files target = page files (request_for target) (replicate (most_captures files (wanted (request_for target))) zero_moment)

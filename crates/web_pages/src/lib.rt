@@ -1,0 +1,16 @@
+//! The pages of a site, as definitions: what a request asks for, the pieces of a reply, the page of a request and captures, and
+//! what each call does to a connection of the web server. The code that says these pages, byte for byte, stands in `httpd`.
+#![tactic(auto)]
+
+mod laws;
+
+pub use laws::{
+    decisions_stay, page_laws, pages_are_bytes, pages_within_greatest, told_by_words,
+    upgrade_keeps_pages, worked_pages, worked_requests,
+};
+
+/// After so many ticks with nothing outstanding and no other event between them the connection is given up.
+pub const MOST_POLLS: u8 = 20;
+
+/// The most bytes that are offered to be sent at once, the node's own maximum segment size.
+pub const LARGEST_SEGMENT: usize = 1460;
