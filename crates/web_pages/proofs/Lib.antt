@@ -5,5 +5,6 @@ pub mod PageLaws
 pub mod Upgrades
 pub mod ByteLaws
 pub mod WordLaws
+pub mod ZeroLaws
 mod WorkedRequests
 mod WorkedPages

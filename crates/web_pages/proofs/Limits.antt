@@ -74,7 +74,7 @@ content_small site is k file s =
 kind_good : (kind : List ℕ) → is_kind kind ≡ true → length kind ≤ 64
 kind_good kind is = leb-true (length kind) 64 (and_parts (nat_le (length kind) 64) (list_all is_kind_byte kind) is).0
 
-kind_small : (file : File) → is_kind file.kind ≡ true → length (kind_of file) ≤ 64
+pub kind_small : (file : File) → is_kind file.kind ≡ true → length (kind_of file) ≤ 64
 kind_small file is = by_own (length file.kind == 0)
   where
     by_own : (b : Bool) → length (if b then kind_by_name file.name else file.kind) ≤ 64

@@ -37,7 +37,7 @@ is_get_word word =
 
 -- ---- the target
 
-abbrev front : List ℕ → List ℕ
+abbrev pub front : List ℕ → List ℕ
 front target = before_first is_mark target
 
 front_here : (x : ℕ) (xs : List ℕ) → is_mark x ≡ true → front (x ∷ xs) ≡ []
@@ -60,7 +60,7 @@ begins_slash target = starts_with nat_eq target (codes "/")
 mark_no_slash : (x : ℕ) → is_mark x ≡ true → (47 == x) ≡ false
 mark_no_slash x e = ap (λ y. 47 == y) (eqb-true x 63 e)
 
-slash_front : (target : List ℕ) → starts_with nat_eq (front target) (codes "/") ≡ starts_with nat_eq target (codes "/")
+pub slash_front : (target : List ℕ) → starts_with nat_eq (front target) (codes "/") ≡ starts_with nat_eq target (codes "/")
 slash_front [] = refl
 slash_front (x ∷ xs) =
     elim (is_mark x) as (λ b. is_mark x ≡ b → starts_with nat_eq (front (x ∷ xs)) (codes "/") ≡ starts_with nat_eq (x ∷ xs) (codes "/")) [
@@ -91,7 +91,7 @@ told_in_pieces pieces later rest e =
     told_by_heard (concat pieces) (sym (ap (λ (line : Line). line.over) target) ∙ e) ∙ sym (λ i. told_by (method i) (target i))
 
 -- a long name is the name that is asked for
-named_by : (target name : List ℕ) → 64 < length (front target) → wanted_by target ≡ Name name → 64 < length name
+pub named_by : (target name : List ℕ) → 64 < length (front target) → wanted_by target ≡ Name name → 64 < length name
 named_by target name long e = by_slash (starts_with nat_eq target (codes "/")) e
   where
     name_of : Wanted → List ℕ

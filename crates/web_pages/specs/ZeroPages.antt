@@ -1,10 +1,14 @@
 -- The page of a target at which each call is given the zero record of its kind: hits 0, ticks 0, twenty zeros, no rows.
-use Rattle.std.specs.Prelude.{ℕ, List, [], ◌∷◌, ◌++◌, codes, length, replicate}
+use Rattle.std.specs.Prelude.{ℕ, List, [], ◌∷◌, ◌++◌, codes, length, replicate, Option}
+use Rattle.std.specs.List.{flat_map}
 use Rattle.app_events.specs.Part.{Moment}
+use Rattle.generators.specs.Captures.{capture_of}
+use Rattle.generators.specs.Text.{capture_text}
 use Rattle.site_image.specs.Files.{File}
 use Rattle.web_pages.specs.Requests.{Wanted, wanted}
 use Rattle.web_pages.specs.Requests.Wanted.{NotYet, Refused, Name}
-use Rattle.web_pages.specs.Pieces.{reply_of}
+use Rattle.web_pages.specs.Pieces.{Say, reply_to, reply_of}
+use Rattle.web_pages.specs.Pieces.Say.{Plain, Made}
 use Rattle.web_pages.specs.Pages.{page}
 
 abbrev pub zero_moment : Moment
@@ -22,3 +26,12 @@ most_captures files (Name name) = length (reply_of files name)
 
 abbrev pub zero_page : List File → List ℕ → List ℕ
 zero_page files target = page files (request_for target) (replicate (most_captures files (wanted (request_for target))) zero_moment)
+
+-- what a piece says at the zero record of its kind
+abbrev pub zero_said : Say → List ℕ
+zero_said (Plain text) = text
+zero_said (Made function argument) = capture_text (capture_of function 0 zero_moment.now)
+
+-- what a reply says
+abbrev pub zero_reply : List File → Option File → List ℕ
+zero_reply files found = flat_map zero_said (reply_to files found)

@@ -1,0 +1,84 @@
+-- The page of a target at which each call is given the zero record of its kind.
+use Rattle.std.proofs.Common.{◌≡◌, ℕ, zero, suc, ◌≤◌, true, false, List, [], ◌∷◌, ◌++◌, length, replicate, Option, Some, None, refl, sym, ap, ◌∙◌, arith, append-nil}
+use Rattle.std.specs.List.{flat_map, list_any}
+use Rattle.std.proofs.lemmas.Bool.{or_right}
+use Rattle.std.proofs.lemmas.List.Folds.{list_any-append}
+use Rattle.script_lang.specs.declared.function.Function.{Function}
+use Rattle.script_lang.specs.declared.function.Function.TheVariants.{FileStats, TcpConnections, NetStats, Ticks, Unknown}
+use Rattle.generators.specs.Captures.{capture_of}
+use Rattle.generators.specs.Text.{capture_text}
+use Rattle.protosocket.specs.declared.stops.Stops.TheVariants.{SpaceOrLine}
+use Rattle.protosocket.specs.Line.{is_stop, word_of}
+use Rattle.protosocket.specs.Hearing.{one_before, none_before, none_at_all}
+use Rattle.site_image.specs.Files.{File, file_named}
+use Rattle.web_pages.specs.Requests.{Wanted, wanted, wanted_by, has_ended}
+use Rattle.web_pages.specs.Requests.Wanted.{NotYet, Refused, Name}
+use Rattle.web_pages.specs.Pieces.{Say, reply_of}
+use Rattle.web_pages.specs.Pieces.Say.{Plain, Made}
+use Rattle.web_pages.specs.Pages.{takes_capture, number_at, place_of, made_text, text_of, page_for}
+use Rattle.web_pages.specs.ZeroPages.{zero_moment, zero_said, zero_reply, request_for, zero_page, most_captures}
+use Rattle.web_pages.specs.Growing.{silent_text, made_first}
+use Rattle.web_pages.specs.Deciding.{decided_by_target}
+
+-- ---- the text
+
+no_number : (place : Option ℕ) → number_at [] place ≡ 0
+no_number None = refl
+no_number (Some place) = refl
+
+silent_zero : (function : Function) (argument : List ℕ) → takes_capture function ≡ false → zero_said (Made function argument) ≡ []
+silent_zero FileStats argument e = absurd cc
+silent_zero TcpConnections argument e = absurd cc
+silent_zero NetStats argument e = absurd cc
+silent_zero Ticks argument e = absurd cc
+silent_zero Unknown argument e = refl
+
+made_zero : (files : List File) (function : Function) (argument : List ℕ) → made_text files function argument zero_moment ≡ zero_said (Made function argument)
+made_zero files function argument = ap (λ hits. capture_text (capture_of function hits zero_moment.now)) (no_number (place_of files argument))
+
+pub zero_text : (files : List File) (says : List Say) (n : ℕ) → length says ≤ n → text_of files says (replicate n zero_moment) ≡ flat_map zero_said says
+zero_text files [] n h = refl
+zero_text files (Plain text ∷ more) n h = ap (λ rest. text ++ rest) (zero_text files more n (omega arith))
+zero_text files (Made function argument ∷ more) zero h = absurd (omega arith)
+zero_text files (Made function argument ∷ more) (suc n) h =
+    elim (takes_capture function) as (λ b. takes_capture function ≡ b
+    → text_of files (Made function argument ∷ more) (replicate (suc n) zero_moment) ≡ zero_said (Made function argument) ++ flat_map zero_said more) [
+      | true ↦ λ e.
+          made_first files function argument more zero_moment (replicate n zero_moment) e
+          ∙ (λ i. made_zero files function argument i ++ zero_text files more n (omega arith) i)
+      | false ↦ λ e.
+          silent_text files function argument more (replicate (suc n) zero_moment) e
+          ∙ zero_text files more (suc n) (omega arith)
+          ∙ ap (λ front. front ++ flat_map zero_said more) (sym (silent_zero function argument e))
+    ] refl
+
+-- ---- the target
+
+word_ends : (target : List ℕ) → word_of SpaceOrLine (target ++ 10 ∷ []) ≡ word_of SpaceOrLine target
+word_ends target =
+    elim (list_any (is_stop SpaceOrLine) target) as (λ b. list_any (is_stop SpaceOrLine) target ≡ b → word_of SpaceOrLine (target ++ 10 ∷ []) ≡ word_of SpaceOrLine target) [
+      | true ↦ λ e. one_before (is_stop SpaceOrLine) target (10 ∷ []) e
+      | false ↦ λ e. none_before (is_stop SpaceOrLine) target (10 ∷ []) e ∙ append-nil target ∙ sym (none_at_all (is_stop SpaceOrLine) target e)
+    ] refl
+
+target_ended : (target : List ℕ) → has_ended SpaceOrLine (target ++ 10 ∷ []) ≡ true
+target_ended target = list_any-append (is_stop SpaceOrLine) target (10 ∷ []) ∙ or_right (list_any (is_stop SpaceOrLine) target) true refl
+
+pub zero_wanted : (target : List ℕ) → wanted (request_for target) ≡ wanted_by (word_of SpaceOrLine target)
+zero_wanted target = decided_by_target (request_for target) refl refl (target_ended target) ∙ ap wanted_by (word_ends target)
+
+-- ---- the page
+
+-- what is written for what is asked for
+abbrev pub zero_for : List File → Wanted → List ℕ
+zero_for files NotYet = []
+zero_for files Refused = []
+zero_for files (Name name) = zero_reply files (file_named files name)
+
+page_for_zero : (files : List File) (asked : Wanted) → page_for files asked (replicate (most_captures files asked) zero_moment) ≡ zero_for files asked
+page_for_zero files NotYet = refl
+page_for_zero files Refused = refl
+page_for_zero files (Name name) = zero_text files (reply_of files name) (length (reply_of files name)) (omega arith)
+
+pub zero_asked : (files : List File) (target : List ℕ) (asked : Wanted) → wanted (request_for target) ≡ asked → zero_page files target ≡ zero_for files asked
+zero_asked files target asked e = page_for_zero files (wanted (request_for target)) ∙ ap (zero_for files) e
