@@ -31,3 +31,8 @@ pub mod Counts
 pub mod Exact
 pub mod Lines
 pub mod Parts
+pub mod Rounds
+pub mod HonestClient
+pub mod HonestNode
+pub mod HonestRun
+pub mod Honest

@@ -1,7 +1,7 @@
 -- The parts that hold together of a clean client, from what is known of it.
-use Rattle.std.proofs.Common.{◌≡◌, ℕ, ◌+◌, ◌<◌, true, false, List, [], length, refl, sym, ap, ◌∙◌, subst, arith, Option, Some, None}
+use Rattle.std.proofs.Common.{◌≡◌, ℕ, ◌+◌, ◌<◌, true, false, List, [], length, refl, sym, ap, ◌∙◌, subst, arith, Option, Some, None, is_some}
 use Rattle.uip_wire.specs.Numbers.{wrap}
-use Rattle.tcp_segment.specs.Segments.{PlainSegment, has_syn, has_fin, has_rst}
+use Rattle.tcp_segment.specs.Segments.{PlainSegment, has_syn, has_fin, has_rst, has_ack}
 use Rattle.app_events.specs.Pages.{Pages}
 use Rattle.app_events.specs.declared.state.State.{State}
 use Rattle.app_events.specs.declared.state.State.TheVariants.{Closed, SynRcvd, Established, CloseWait, FinWait1, FinWait2, Closing, TimeWait, LastAck}
@@ -47,6 +47,11 @@ asks_request side epoch s nr l (said_reset r) = absurd (cc)
 asks_request side epoch s nr l (said_syn y) = absurd (no_text s y.no_text l)
 asks_request side epoch s nr l (said_data d) = record { at = d.at; slice = slice_of side.client.request s.text d.at d.part; seq = d.seq l }
 
+has_opened : (side : Side) (epoch : ℕ) (s : PlainSegment) → has_rst s.flags ≡ false → has_ack s.flags ≡ true → ClientSaid side.client side.opened epoch s → is_some side.opened ≡ true
+has_opened side epoch s nr a (said_reset r) = absurd (cc)
+has_opened side epoch s nr a (said_syn y) = absurd (let z : has_ack s.flags ≡ false = y.no_ack in cc)
+has_opened side epoch s nr a (said_data d) = d.opened_is
+
 not_past : (pages : Pages) (client : AbstractClient) (c : Connection) (st : State) → c.state ≡ st → is_live st ≡ true → StateGood pages None client c st → c.state ≡ SynRcvd
 not_past pages client c Closed e l g = absurd (cc)
 not_past pages client c SynRcvd e l g = e
@@ -79,5 +84,7 @@ clean_parts m pages lawful w r k side x clean =
           subst (λ z. SaysPage pages side e.epoch (era side.past c e.epoch) z) q (says_page pages side e.epoch (era side.past c e.epoch) (seg e) (ap (λ (z : PlainSegment). has_rst z.flags) q ∙ nr) (g.of_node i e y who).said));
       of_client = λ i e id s y who is nr l. (let q : seg e ≡ s = ap segment_in is in
           subst (λ z. AsksRequest side z) q (asks_request side e.epoch (seg e) (ap (λ (z : PlainSegment). has_rst z.flags) q ∙ nr) (subst (λ (z : PlainSegment). 0 < length z.text) (sym q) l) (g.of_client i e y who).said));
+      acknowledges = λ i e id s y who is nr a. (let q : seg e ≡ s = ap segment_in is in
+          has_opened side e.epoch (seg e) (ap (λ (z : PlainSegment). has_rst z.flags) q ∙ nr) (ap (λ (z : PlainSegment). has_ack z.flags) q ∙ a) (g.of_client i e y who).said);
       epochs = one_epoch pages side c side.opened refl g.opened_good (λ l. (g.connection l).state);
     }

@@ -1,7 +1,7 @@
 -- What holds together of a clean client: the slices of its page, its FINs, its epochs and its requests.
-use Rattle.std.specs.Prelude.{◌≡◌, ℕ, suc, ◌+◌, ◌<◌, ◌≤◌, true, false, List, [], length, take, drop, Some, None, slice_get}
+use Rattle.std.specs.Prelude.{◌≡◌, ℕ, suc, ◌+◌, ◌<◌, ◌≤◌, true, false, List, [], length, take, drop, Some, None, slice_get, is_some}
 use Rattle.uip_wire.specs.Numbers.{wrap}
-use Rattle.tcp_segment.specs.Segments.{PlainSegment, has_syn, has_fin, has_rst}
+use Rattle.tcp_segment.specs.Segments.{PlainSegment, has_syn, has_fin, has_rst, has_ack}
 use Rattle.app_events.specs.Part.{Meaning}
 use Rattle.app_events.specs.Pages.{Pages, IsPaged}
 use Rattle.app_events.specs.declared.state.State.TheVariants.{SynRcvd}
@@ -54,11 +54,14 @@ pub record HasOneEpoch (side : Side) (c : Connection) : Type 0 where
   pub waits : side.opened ≡ None → is_live c.state ≡ true → c.state ≡ SynRcvd
   pub opened_in : (o : ℕ) → side.opened ≡ Some o → is_live c.state ≡ true → o ≡ length side.past
 
+-- Every datagram of the node and of the client says what it may, and a client acknowledges nothing before it opened.
 pub record HasParts (pages : Pages) (w : World) (number : ℕ) (side : Side) (c : Connection) : Type 0 where
   pub of_node : (i : ℕ) (e : Sent) (id : ℕ) (s : PlainSegment) → slice_get w.sent i ≡ Some e → e.who ≡ FromNode number → e.content ≡ OfSegment id s → has_rst s.flags ≡ false →
       SaysPage pages side e.epoch (era side.past c e.epoch) s
   pub of_client : (i : ℕ) (e : Sent) (id : ℕ) (s : PlainSegment) → slice_get w.sent i ≡ Some e → e.who ≡ FromClient number → e.content ≡ OfSegment id s → has_rst s.flags ≡ false → 0 < length s.text →
       AsksRequest side s
+  pub acknowledges : (i : ℕ) (e : Sent) (id : ℕ) (s : PlainSegment) → slice_get w.sent i ≡ Some e → e.who ≡ FromClient number → e.content ≡ OfSegment id s → has_rst s.flags ≡ false → has_ack s.flags ≡ true →
+      is_some side.opened ≡ true
   pub epochs : HasOneEpoch side c
 
 abbrev pub CleanParts : Type 0

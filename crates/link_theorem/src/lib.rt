@@ -4,6 +4,7 @@
 #![tactic(auto)]
 
 ghost use Rattle.link_theorem.specs.Parts.{CleanParts};
+ghost use Rattle.link_theorem.specs.Honest.{HonestLink};
 ghost use Rattle.link_theorem.specs.Headline.{PrefixAndWhole, SameBytes, AgainExactly, Tick, DamageIsLoss, OneSegment, LinesAreActs};
 
 /// A clean client has received a prefix of its page, and the whole page where it took the server's FIN in sequence.
@@ -44,4 +45,10 @@ pub fn lines_are_acts()
 /// What holds together of a clean client: the slices of its page, its FINs, its epochs and its requests.
 pub fn clean_parts()
     ensures { CleanParts }
+{}
+
+/// Over a link that loses nothing a client is served whole, within two rounds for each part of its request, two for each text of
+/// its page, and six more.
+pub fn honest_link()
+    ensures { HonestLink }
 {}
