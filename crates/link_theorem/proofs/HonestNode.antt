@@ -41,7 +41,7 @@ use Rattle.link_theorem.proofs.FitWorlds.{closed_fits}
 use Rattle.link_theorem.proofs.Runs.{all_closed}
 use Rattle.link_theorem.proofs.HonestClient.{client_at, node_says, node_syn_ack, Brings, next_out}
 
-mss_low : (o : Option ℕ) → 1 ≤ first_mss o
+pub mss_low : (o : Option ℕ) → 1 ≤ first_mss o
 mss_low None = omega arith
 mss_low (Some n) = choose (λ k. 1 ≤ k) (eqb n 0) _ _ (λ e. omega arith) (λ e. elim (zero_or_more n) [ inl z ↦ absurd (let t : eqb n 0 ≡ true = eq-eqb n 0 z in cc) | inr p ↦ omega arith ])
 

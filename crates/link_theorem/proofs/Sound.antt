@@ -51,7 +51,7 @@ closed_lens = record { len = omega arith; mss = omega arith; initial = omega ari
 window_low : (initial w : ℕ) → initial ≤ 1460 → (if eqb w 0 then initial else min initial w) ≤ 1460
 window_low initial w h = choose (λ x. x ≤ 1460) (eqb w 0) _ _ (λ e. h) (λ e. omega (arith, h))
 
-first_low : (n : Option ℕ) → first_mss n ≤ 1460
+pub first_low : (n : Option ℕ) → first_mss n ≤ 1460
 first_low None = omega arith
 first_low (Some n) = choose (λ x. x ≤ 1460) (eqb n 0) _ _ (λ e. omega arith) (λ e. omega arith)
 

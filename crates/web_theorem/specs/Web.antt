@@ -1,0 +1,77 @@
+-- The headline for the web server: what its clients receive of the pages of a site.
+use Rattle.std.specs.List.{All}
+use Rattle.std.specs.Int.{div_ceil}
+use Rattle.std.specs.Prelude.{◌≡◌, ◌≢◌, ℕ, ◌+◌, ◌*◌, ◌≤◌, Bool, true, List, [], ◌∷◌, length, replicate, sum_by, Some, Ok, slice_get}
+use Rattle.uip_wire.specs.declared.addr.Addr.{Addr}
+use Rattle.app_events.specs.Pages.{IsWord, IsByte, IsAddr}
+use Rattle.tcp_machine.specs.OnSegment.{first_mss}
+use Rattle.script_lang.specs.Functions.{length_at_most}
+use Rattle.site_image.specs.Files.{File}
+use Rattle.file_tree.specs.Site.{SiteContent, IsLoaded, files_of}
+use Rattle.link_client.specs.Client.{offered}
+use Rattle.link_world.specs.World.{World, Side, is_clean}
+use Rattle.link_world.specs.History.{Planned, IsPlan, opening_world}
+use Rattle.link_world.specs.Schedule.{plays}
+use Rattle.link_world.specs.declared.event.Event.{Event}
+use Rattle.link_world.specs.declared.event.Event.TheVariants.{Opens, Round}
+use Rattle.link_theorem.specs.Headline.{OfLine, IsAct, IsServed}
+use Rattle.link_theorem.specs.Honest.{IsServedWhole}
+use Rattle.web_pages.specs.Requests.{Wanted, wanted}
+use Rattle.web_pages.specs.Requests.Wanted.{NotYet, Refused, Name}
+use Rattle.web_pages.specs.Pieces.{Say, reply_of}
+use Rattle.web_pages.specs.Pieces.Say.{Plain, Made}
+use Rattle.web_pages.specs.Pages.{pages_of}
+use Rattle.web_pages.specs.WebMeaning.{web_meaning}
+
+-- The lines of a schedule, each of them accepted, of a site's server and some clients reach this world. Damage is a line like
+-- any other.
+pub record IsReplayed (site : SiteContent) (w : World) : Type 0 where
+  pub served : ℕ → Bool
+  pub addr : Addr
+  pub is_addr : IsAddr addr
+  pub hits : List ℕ
+  pub in_range : All IsWord hits
+  pub plan : List Planned
+  pub is_plan : IsPlan plan
+  pub lines : List Event
+  pub are_acts : All (OfLine IsAct) lines
+  pub accepted : plays (web_meaning (files_of site)) served lines (opening_world addr hits plan) ≡ Ok w
+
+-- Every client to and from which nothing stale was delivered has received a prefix of its page, and the whole page where it saw
+-- a plain close.
+abbrev pub PagesAreReceived : Type 0
+PagesAreReceived =
+    (site : SiteContent) → IsLoaded site → All IsByte site.image → (w : World) → IsReplayed site w →
+    (k : ℕ) (side : Side) → slice_get w.sides k ≡ Some side → is_clean side ≡ true → IsServed (pages_of (files_of site)) w side
+
+-- the most bytes of what is said
+abbrev pub most_of : Say → ℕ
+most_of (Plain text) = length text
+most_of (Made function argument) = length_at_most function
+
+-- how many texts of at most mss bytes hold the pieces, where each text stays in one piece
+abbrev pub texts_for : ℕ → List Say → ℕ
+texts_for mss pieces = sum_by (λ piece. div_ceil (most_of piece) mss) pieces
+
+-- the pieces of the reply to a request
+abbrev pub pieces_for : List File → Wanted → List Say
+pieces_for files NotYet = []
+pieces_for files Refused = []
+pieces_for files (Name name) = reply_of files name
+
+-- the parts in which a client sends its request
+abbrev pub parts_of : Planned → ℕ
+parts_of p = div_ceil (length p.request) p.setup.seg
+
+-- the texts in which its page is said
+abbrev pub texts_of : List File → Planned → ℕ
+texts_of files p = texts_for (first_mss (offered p.setup.mss)) (pieces_for files (wanted p.request))
+
+-- Over a link that loses nothing a client whose request is decided has its whole page after so many rounds: two for each part of
+-- its request, two for each text of its page, and six.
+abbrev pub HonestPages : Type 0
+HonestPages =
+    (site : SiteContent) → IsLoaded site → (served : ℕ → Bool) (addr : Addr) (hits : List ℕ) (p : Planned) → IsAddr addr → All IsWord hits → IsPlan (p ∷ []) →
+    served p.setup.server_port.0 ≡ true → wanted p.request ≢ NotYet → 2 * parts_of p + 2 * texts_of (files_of site) p + 7 ≤ 65535 →
+    (w : World) × (plays (web_meaning (files_of site)) served (Opens 1 ∷ replicate (2 * parts_of p + 2 * texts_of (files_of site) p + 6) Round) (opening_world addr hits (p ∷ [])) ≡ Ok w)
+    × IsServedWhole (pages_of (files_of site)) w

@@ -1,0 +1,17 @@
+//! The headline for the web server: what its clients receive of the pages of a site, whatever a schedule loses, repeats,
+//! reorders or damages. Each law is the clause of a function without parameters.
+#![tactic(auto)]
+
+ghost use Rattle.web_theorem.specs.Web.{PagesAreReceived, HonestPages};
+
+/// A client to and from which nothing stale was delivered has received a prefix of its page, and the whole page where it saw a
+/// plain close.
+pub fn pages_are_received()
+    ensures { PagesAreReceived }
+{}
+
+/// Over a link that loses nothing a client has its whole page after two rounds for each part of its request, two for each text of
+/// its page, and six more.
+pub fn honest_pages()
+    ensures { HonestPages }
+{}
