@@ -1,6 +1,13 @@
-//! Tests over the crates below, with ample memory: that a call which may answer NoMemory does what it is for. No other crate
-//! stands on this one.
+//! Tests over the crates below, with ample memory: that a call which may answer NoMemory does what it is for. `Counter` is an
+//! application for these tests, which shows that the transport serves others than the program's own. No other crate stands on
+//! this one.
 #![tactic(auto)]
 
+mod counting;
+
+pub use counting::{Counter, Tally};
+
+#[cfg(test)]
+mod lines;
 #[cfg(test)]
 mod site;

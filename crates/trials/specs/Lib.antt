@@ -1,0 +1,2 @@
+pub mod CounterMeaning
+pub mod CounterLaws
