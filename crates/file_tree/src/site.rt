@@ -1,4 +1,5 @@
-ghost use Rattle.std.specs.Prelude.{◌≡◌, ◌<◌, ◌+◌, [], List, Some, Ok, length, is_some, IfOk, IfSome, option_and_then, option_map, slice_get};
+ghost use Rattle.std.specs.Prelude.{◌≡◌, ◌<◌, ◌≤◌, ◌+◌, [], List, Some, Ok, length, is_some, IfOk, IfSome, option_and_then, option_map, slice_get};
+ghost use Rattle.site_image.specs.declared.TheConstants.{MOST_FILES};
 ghost use Rattle.site_image.specs.Files.{File, file_named, kind_of, has_name};
 ghost use Rattle.site_image.specs.Grammar.{IsImage};
 ghost use Rattle.site_image.specs.Faults.{read_image};
@@ -90,7 +91,8 @@ impl Site {
 impl Site {
     /// How many files there are.
     pub fn count(&self) -> usize
-        ensures { result ≡ length (files_of self.now) }
+        ensures count { result ≡ length (files_of self.now) }
+        ensures few { result ≤ MOST_FILES }
     {
         self.files.len()
     }

@@ -1,5 +1,6 @@
 pub mod Answering
 pub mod Output
+pub mod Running
 pub mod Serving
 pub mod Stack
 pub mod Telling

@@ -9,9 +9,6 @@ use Rattle.uip_edge.specs.Coming.{Consumes}
 use Rattle.uip_edge.specs.Writing.{AppendsPrefix}
 use Rattle.uipd.specs.declared.status.Status.{Status}
 use Rattle.uipd.specs.declared.status.Status.TheVariants as status
-use Rattle.uipd.specs.declared.words.Command.{Command}
-use Rattle.uipd.specs.declared.words.Command.TheVariants.{Serve}
-use Rattle.uipd.specs.Words.{command_of}
 use Rattle.uipd.specs.Output.{output_of}
 
 -- a line and its output, as they are told, with the counts of their faults
@@ -70,15 +67,8 @@ ServeRuns own n old new status.WriteFault = Serves own n old new ends.WriteFault
 ServeRuns own n old new status.Budget = Serves own n old new ends.Budget
 ServeRuns own n old new status.NoMemory = new ≡ old
 ServeRuns own n old new status.BadWords = ⊥
-
--- words without a form are told, and only they; other words are done
-abbrev pub CommandRuns : Option Command → Outside → Outside → Status → Type 0
-CommandRuns None old new result = result ≡ status.BadWords
-CommandRuns (Some (Serve own n)) old new result = ServeRuns own.0 n old new result
-
--- the headline of a run
-abbrev pub Runs : List (List ℕ) → Outside → Outside → Status → Type 0
-Runs words old new result = CommandRuns (command_of words) old new result
+ServeRuns own n old new status.ShelfFault = ⊥
+ServeRuns own n old new (status.BadSite error) = ⊥
 
 -- the status of a run that served a line to this end
 abbrev pub status_of : ServeEnd → Status
@@ -86,15 +76,6 @@ status_of ends.End = status.Done
 status_of ends.LinkFault = status.LinkFault
 status_of ends.WriteFault = status.WriteFault
 status_of ends.Budget = status.Budget
-
--- what the process exits with
-abbrev pub exit_code_of : Status → ℕ
-exit_code_of status.Done = 0
-exit_code_of status.BadWords = 1
-exit_code_of status.LinkFault = 3
-exit_code_of status.WriteFault = 4
-exit_code_of status.Budget = 5
-exit_code_of status.NoMemory = 8
 
 -- no count rose, and none stands at its end value
 pub record Unfailed (old new : Outside) : Type 0 where

@@ -1,12 +1,15 @@
-//! The program `uipd`: it serves a serial line, and reads its words, its line and its output through the traits of
-//! `uip_edge` alone, so that everything it does is said of `run`. This file only makes the real adapters and turns the
-//! answer of `run` into the process's status.
+//! The program `uipd`: it serves a serial line and works on the images of sites. It reads its words, and reaches its files,
+//! its line and its output through the traits of `uip_edge` alone, so that everything it does is said of `run`. This file
+//! only makes the real adapters and turns the answer of `run` into the process's status.
 #![tactic(auto)]
 
 mod adapters;
+mod file_shelf;
 mod run;
 mod serve;
 mod server;
+#[cfg(test)]
+mod site_tests;
 mod stack;
 mod status;
 #[cfg(test)]
@@ -14,6 +17,7 @@ mod tests;
 mod words;
 
 use adapters::{ReaderLink, WriterSink};
+use file_shelf::FileShelf;
 use run::run;
 use status::Status;
 use std::process::ExitCode;
@@ -25,9 +29,10 @@ fn run_words(rt: HostRuntime) -> io::Result<Status> {
     for word in env::args(&rt)?.skip(1) {
         words.push(word)?;
     }
+    let mut shelf = FileShelf::new(&rt, rt.alloc());
     let mut link = ReaderLink::new(rt.stdin());
     let mut out = WriterSink::new(rt.stdout());
-    Ok(run(rt.alloc(), &words, &mut link, &mut out))
+    Ok(run(rt.alloc(), &words, &mut shelf, &mut link, &mut out))
 }
 
 /// Words that are not text are no words of the program.

@@ -1,26 +1,41 @@
-ghost use Rattle.std.specs.Prelude.{◌≡◌, ◌<◌, List, ℕ, Some, length, map, string_bytes};
+ghost use Rattle.std.specs.Prelude.{◌≡◌, ◌<◌, ◌⊎◌, List, ℕ, Option, Some, length, map, string_bytes};
 ghost use Rattle.uip_edge.specs.Coming.{Consumes};
 ghost use Rattle.uip_edge.specs.declared.item.Item.{Item};
 ghost use Rattle.uip_edge.specs.declared.serve_end.ServeEnd.{ServeEnd as AnyEnd};
 ghost use Rattle.uip_edge.specs.declared.serve_end.ServeEnd.TheVariants.{Budget, End};
-ghost use Rattle.uipd.specs.Serving.{outside, Outside, Ends, Runs, Unfailed};
-ghost use Rattle.uipd.specs.declared.status.Status.TheVariants.{BadWords};
+ghost use Rattle.uip_edge.specs.Shelving.{Files};
+ghost use Rattle.site_tools.specs.Due.{Due};
+ghost use Rattle.site_tools.specs.Ending.{Desk, IsCalm, IsDue, LacksFile, end_of};
+ghost use Rattle.uipd.specs.Running.{surroundings, Runs, SiteRuns, status_of_site};
+ghost use Rattle.uipd.specs.Serving.{Outside, Ends, Unfailed};
+ghost use Rattle.uipd.specs.declared.status.Status.TheVariants.{BadWords, NoMemory};
+ghost use Rattle.uipd.specs.declared.status.Status.{Status as Answer};
 
 use crate::serve::serve;
-use crate::status::Status;
+use crate::status::{Status, worked};
 use crate::words::{Command, command_of};
+use site_tools::check;
 use std::alloc::Global;
-use uip_edge::{Link, Sink};
+use uip_edge::{Link, Shelf, Sink};
 
 /// Does what the words say.
-pub fn run<L: Link, K: Sink>(alloc: Global, words: &[String], link: &mut L, out: &mut K) -> Status
-    ensures runs { Runs (map string_bytes words.now) (outside L.coming K.written L.faults K.faults link.old out.old)
-        (outside L.coming K.written L.faults K.faults link.new out.new) result }
-    ensures untouched { result ≡ BadWords → (link.new ≡ link.old) × (out.new ≡ out.old) }
+pub fn run<H: Shelf, L: Link, K: Sink>(
+    alloc: Global,
+    words: &[String],
+    shelf: &mut H,
+    link: &mut L,
+    out: &mut K,
+) -> Status
+    ensures runs { Runs (map string_bytes words.now)
+        (surroundings H.held L.coming K.written H.faults L.faults K.faults shelf.old link.old out.old)
+        (surroundings H.held L.coming K.written H.faults L.faults K.faults shelf.new link.new out.new) result }
+    ensures untouched { result ≡ BadWords → (shelf.new ≡ shelf.old) × (link.new ≡ link.old) × (out.new ≡ out.old) }
+    ensures kept { H.held shelf.new ≡ H.held shelf.old }
 {
     match command_of(words) {
         None => Status::BadWords,
         Some(Command::Serve(own, items)) => serve(alloc, own, items, link, out),
+        Some(Command::Check(site)) => worked(check(alloc, site.as_bytes(), shelf, out)),
     }
 }
 
@@ -34,4 +49,10 @@ pub fn budget_is_told()
 pub fn done_is_told()
     ensures { (own : List ℕ) (n : ℕ) (old new : Outside) (all taken : List Item) (end : AnyEnd) → old.coming ≡ Some all → length all < n
         → Consumes old.coming new.coming taken → Ends own n old new taken end → Unfailed old new → end ≡ End }
+{}
+
+/// Work on an image ends as is due for the shelf's files wherever no count rose and no file is missing, or memory was short.
+pub fn image_is_told()
+    ensures { (due : Files → Option Due) (old new : Desk) (result : Answer) → SiteRuns due old new result → IsCalm old new → ¬ (LacksFile due old.held)
+        → (result ≡ NoMemory) ⊎ ((made : Due) × IsDue due old.held made × (result ≡ status_of_site (end_of made.fault))) }
 {}

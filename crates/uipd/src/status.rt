@@ -1,6 +1,8 @@
 ghost use Rattle.std.specs.Prelude.{◌≡◌};
-ghost use Rattle.uipd.specs.Serving.{exit_code_of, status_of};
+ghost use Rattle.uipd.specs.Running.{exit_code_of, status_of_site};
+ghost use Rattle.uipd.specs.Serving.{status_of};
 
+use site_tools::{SiteEnd, SiteError};
 use uip_edge::ServeEnd;
 
 /// How a run ends.
@@ -10,12 +12,16 @@ pub enum Status {
     Done,
     /// The words have no form that the program knows.
     BadWords,
+    /// A call of the shelf failed, or it does not hold a file that the words name.
+    ShelfFault,
     /// A call of the link failed.
     LinkFault,
     /// A call of the sink failed.
     WriteFault,
     /// As many items as were allowed were taken.
     Budget,
+    /// The image, or the list that is to be made into one, has this first fault.
+    BadSite(SiteError),
     /// There was not enough memory.
     NoMemory,
 }
@@ -28,9 +34,11 @@ impl Status {
         match self {
             Status::Done => 0,
             Status::BadWords => 1,
+            Status::ShelfFault => 2,
             Status::LinkFault => 3,
             Status::WriteFault => 4,
             Status::Budget => 5,
+            Status::BadSite(_) => 6,
             Status::NoMemory => 8,
         }
     }
@@ -45,5 +53,18 @@ pub fn ended(end: ServeEnd) -> Status
         ServeEnd::LinkFault => Status::LinkFault,
         ServeEnd::WriteFault => Status::WriteFault,
         ServeEnd::Budget => Status::Budget,
+    }
+}
+
+/// The status of work on an image that ended so.
+pub fn worked(end: SiteEnd) -> Status
+    ensures { result ≡ status_of_site end }
+{
+    match end {
+        SiteEnd::Done => Status::Done,
+        SiteEnd::ShelfFault => Status::ShelfFault,
+        SiteEnd::WriteFault => Status::WriteFault,
+        SiteEnd::Bad(error) => Status::BadSite(error),
+        SiteEnd::NoMemory => Status::NoMemory,
     }
 }

@@ -4,7 +4,7 @@ use crate::status::Status;
 use std::alloc::{AllocError, Global};
 use std::process::Abort;
 use std::test::Fail;
-use uip_edge::{Item, MemLink, MemSink};
+use uip_edge::{Item, MemLink, MemShelf, MemSink};
 
 const SERVE: [&str; 3] = ["serve", "-", "10.0.0.1"];
 
@@ -96,7 +96,7 @@ impl<'a> Row<'a> {
     }
 }
 
-fn words_of(alloc: Global, words: &[&str]) -> Result<Vec<String>, AllocError> {
+pub fn words_of(alloc: Global, words: &[&str]) -> Result<Vec<String>, AllocError> {
     let mut list = Vec::new(alloc);
     for word in words {
         list.push(String::from_str(alloc, word)?)?;
@@ -120,7 +120,8 @@ fn check(rt: &impl Abort, alloc: Global, row: &Row, most: usize) -> Result<(), F
     let Ok(mut out) = MemSink::new(alloc, row.room, Vec::new(alloc)) else {
         return Err("no memory".into());
     };
-    let status = run(alloc, &words, &mut link, &mut out);
+    let mut shelf = MemShelf::new(Vec::new(alloc), Vec::new(alloc));
+    let status = run(alloc, &words, &mut shelf, &mut link, &mut out);
     assert_eq!(rt; status, row.status);
     assert_eq!(rt; out.written(), row.output);
     Ok(())

@@ -1,0 +1,90 @@
+-- What a run does to the outside, by what the words ask for.
+use Rattle.std.specs.Prelude.{◌≡◌, ℕ, List, Option, None, Some}
+use Rattle.uip_edge.specs.declared.item.Item.{Item}
+use Rattle.uip_edge.specs.Shelving.{Files}
+use Rattle.site_tools.specs.declared.site_end.SiteEnd.{SiteEnd}
+use Rattle.site_tools.specs.declared.site_end.SiteEnd.TheVariants as ends
+use Rattle.site_tools.specs.Due.{Due, check_due}
+use Rattle.site_tools.specs.Ending.{Desk, Ends}
+use Rattle.uipd.specs.declared.status.Status.{Status}
+use Rattle.uipd.specs.declared.status.Status.TheVariants as status
+use Rattle.uipd.specs.Serving.{Outside as Line, ServeRuns}
+use Rattle.uipd.specs.Words.{Task, Serves, Checks, task_of}
+
+-- a shelf, a line and its output, as they are told, with the counts of their faults
+pub record Surroundings : Type 0 where
+  pub held : Option Files
+  pub coming : Option (List Item)
+  pub written : Option (List ℕ)
+  pub shelf_faults : ℕ
+  pub link_faults : ℕ
+  pub sink_faults : ℕ
+
+abbrev pub surroundings : {H L K : Type 0} → (H → Option Files) → (L → Option (List Item)) → (K → Option (List ℕ)) → (H → ℕ) → (L → ℕ) → (K → ℕ)
+    → H → L → K → Surroundings
+surroundings held coming written shelf_faults link_faults sink_faults shelf link sink = record {
+  held = held shelf;
+  coming = coming link;
+  written = written sink;
+  shelf_faults = shelf_faults shelf;
+  link_faults = link_faults link;
+  sink_faults = sink_faults sink;
+}
+
+-- the line and its output alone
+abbrev pub line_of : Surroundings → Line
+line_of all = record { coming = all.coming; written = all.written; link_faults = all.link_faults; sink_faults = all.sink_faults }
+
+-- the shelf and the output alone
+abbrev pub desk_of : Surroundings → Desk
+desk_of all = record { held = all.held; written = all.written; shelf_faults = all.shelf_faults; sink_faults = all.sink_faults }
+
+-- the line was left alone
+pub record LeavesLine (old new : Surroundings) : Type 0 where
+  pub coming : new.coming ≡ old.coming
+  pub faults : new.link_faults ≡ old.link_faults
+
+-- the shelf was left alone
+pub record LeavesShelf (old new : Surroundings) : Type 0 where
+  pub held : new.held ≡ old.held
+  pub faults : new.shelf_faults ≡ old.shelf_faults
+
+-- a run of work on an image ends as the work does
+abbrev pub SiteRuns : (Files → Option Due) → Desk → Desk → Status → Type 0
+SiteRuns due old new status.Done = Ends due old new ends.Done
+SiteRuns due old new status.ShelfFault = Ends due old new ends.ShelfFault
+SiteRuns due old new status.WriteFault = Ends due old new ends.WriteFault
+SiteRuns due old new (status.BadSite error) = Ends due old new (ends.Bad error)
+SiteRuns due old new status.NoMemory = Ends due old new ends.NoMemory
+SiteRuns due old new status.BadWords = ⊥
+SiteRuns due old new status.LinkFault = ⊥
+SiteRuns due old new status.Budget = ⊥
+
+-- words without a form are told, and only they; other words are done
+abbrev pub TaskRuns : Option Task → Surroundings → Surroundings → Status → Type 0
+TaskRuns None old new result = result ≡ status.BadWords
+TaskRuns (Some (Serves own n)) old new result = ServeRuns own n (line_of old) (line_of new) result × LeavesShelf old new
+TaskRuns (Some (Checks site)) old new result = SiteRuns (check_due site) (desk_of old) (desk_of new) result × LeavesLine old new
+
+-- the headline of a run
+abbrev pub Runs : List (List ℕ) → Surroundings → Surroundings → Status → Type 0
+Runs words old new result = TaskRuns (task_of words) old new result
+
+-- the status of work on an image that ended so
+abbrev pub status_of_site : SiteEnd → Status
+status_of_site ends.Done = status.Done
+status_of_site ends.ShelfFault = status.ShelfFault
+status_of_site ends.WriteFault = status.WriteFault
+status_of_site (ends.Bad error) = status.BadSite error
+status_of_site ends.NoMemory = status.NoMemory
+
+-- what the process exits with
+abbrev pub exit_code_of : Status → ℕ
+exit_code_of status.Done = 0
+exit_code_of status.BadWords = 1
+exit_code_of status.ShelfFault = 2
+exit_code_of status.LinkFault = 3
+exit_code_of status.WriteFault = 4
+exit_code_of status.Budget = 5
+exit_code_of (status.BadSite error) = 6
+exit_code_of status.NoMemory = 8

@@ -1,0 +1,102 @@
+ghost use Rattle.std.specs.Prelude.{◌≡◌, ◌≤◌, length, None, IfSome};
+
+use std::alloc::Global;
+use std::fs;
+use std::io::Read;
+use std::rt::Files;
+use uip_edge::{Failed, Shelf};
+
+/// The size of the block that what stands before a place is read by.
+const BLOCK: usize = 4096;
+
+/// A file that is being read, and how far.
+#[derive(Drop)]
+struct OpenFile<F> {
+    name: Vec<u8>,
+    file: F,
+    at: u64,
+}
+
+/// The files of the system, by their paths. The last one stays open and goes on where the next call reads on; else the file
+/// is opened anew and read up to the place. A name that is no text is a fault, and so is a file that is not there.
+#[derive(Drop)]
+pub struct FileShelf<'a, R: Files> {
+    rt: &'a R,
+    alloc: Global,
+    last: Option<OpenFile<R::File>>,
+    faults: u64,
+}
+
+impl<'a, R: Files> FileShelf<'a, R> {
+    pub fn new(rt: &'a R, alloc: Global) -> FileShelf<'a, R> {
+        FileShelf {
+            rt,
+            alloc,
+            last: None,
+            faults: 0,
+        }
+    }
+}
+
+impl<'a, R: Files> Shelf for FileShelf<'a, R> {
+    ghost held = { λ _. None };
+
+    ghost faults = { λ shelf. shelf.faults };
+
+    fn read(&mut self, name: &[u8], at: u64, buf: &mut [u8]) -> Result<usize, Failed> {
+        match read_on(self.rt, self.alloc, &mut self.last, name, at, buf) {
+            Some(count) => Ok(count),
+            None => {
+                self.faults = self.faults.saturating_add(1);
+                Err(Failed)
+            }
+        }
+    }
+}
+
+/// Reads on in the last file, if the place is its own, else in the file anew.
+fn read_on<R: Files>(
+    rt: &R,
+    alloc: Global,
+    last: &mut Option<OpenFile<R::File>>,
+    name: &[u8],
+    at: u64,
+    buf: &mut [u8],
+) -> Option<usize>
+    ensures { IfSome result (λ count. count ≤ length buf.new) }
+{
+    let mut open = match last.take() {
+        Some(open) if open.at == at && open.name.as_slice() == name => open,
+        _ => open_at(rt, alloc, name, at)?,
+    };
+    let count = open.file.read(buf).ok()?;
+    open.at = at.saturating_add(count as u64);
+    *last = Some(open);
+    Some(count)
+}
+
+/// Opens a file and reads up to the place.
+fn open_at<R: Files>(rt: &R, alloc: Global, name: &[u8], at: u64) -> Option<OpenFile<R::File>> {
+    let path = str::from_utf8(name).ok()?;
+    let mut file = fs::open(rt, path).ok()?;
+    pass(&mut file, at)?;
+    Some(OpenFile {
+        name: name.to_vec(alloc).ok()?,
+        file,
+        at,
+    })
+}
+
+/// Reads so many bytes and drops them, as far as there are any.
+fn pass<F: Read>(file: &mut F, bytes: u64) -> Option<()> {
+    let mut block = [0; BLOCK];
+    let mut left = bytes;
+    while left > 0 {
+        let room = left.min(BLOCK as u64) as usize;
+        match file.read(&mut block[..room]).ok()? {
+            0 => return Some(()),
+            count => left -= count as u64,
+        }
+    }
+    Some(())
+}
