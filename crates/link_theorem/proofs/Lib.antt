@@ -30,8 +30,10 @@ pub mod Moves
 pub mod Counts
 pub mod Exact
 pub mod Lines
+pub mod Requests
 pub mod Parts
 pub mod Rounds
+pub mod Asking
 pub mod HonestClient
 pub mod HonestNode
 pub mod HonestRun

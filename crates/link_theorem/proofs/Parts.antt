@@ -1,21 +1,24 @@
 -- The parts that hold together of a clean client, from what is known of it.
-use Rattle.std.proofs.Common.{◌≡◌, ℕ, ◌+◌, ◌<◌, true, false, List, [], length, refl, sym, ap, ◌∙◌, subst, arith, Option, Some, None, is_some}
+use Rattle.std.proofs.Common.{◌≡◌, ℕ, ◌+◌, ◌<◌, ◌≤◌, ◌⊎◌, inl, inr, Bool, true, false, List, [], length, refl, sym, ap, ◌∙◌, subst, arith, Option, Some, None, is_some}
+use Rattle.std.proofs.lemmas.Bool.{cases_lt}
 use Rattle.uip_wire.specs.Numbers.{wrap}
 use Rattle.tcp_segment.specs.Segments.{PlainSegment, has_syn, has_fin, has_rst, has_ack}
+use Rattle.app_events.specs.Laws.{IsPrefixOf}
 use Rattle.app_events.specs.Pages.{Pages}
 use Rattle.app_events.specs.declared.state.State.{State}
 use Rattle.app_events.specs.declared.state.State.TheVariants.{Closed, SynRcvd, Established, CloseWait, FinWait1, FinWait2, Closing, TimeWait, LastAck}
 use Rattle.tcp_machine.specs.Connection.{Connection, is_live}
-use Rattle.link_client.specs.Client.{AbstractClient}
-use Rattle.link_world.specs.World.{Side, Era}
+use Rattle.link_client.specs.Client.{AbstractClient, fin_sent, one_if}
+use Rattle.link_world.specs.World.{Side, Era, Sent}
 use Rattle.link_world.specs.History.{era}
 use Rattle.link_theorem.specs.Headline.{server_side}
-use Rattle.link_theorem.specs.Parts.{IsSlice, SaysPage, AsksRequest, HasOneEpoch, CleanParts}
+use Rattle.link_theorem.specs.Parts.{IsSlice, SaysPage, AsksRequest, HasTaken, HasOneEpoch, CleanParts}
 use Rattle.link_theorem.proofs.Basics.{IsPart}
 use Rattle.link_theorem.proofs.Good.{seg, segment_in, StateGood, NodeSaid, ClientSaid, OpenedGood, Good}
 use Rattle.link_theorem.proofs.Good.NodeSaid.{node_reset, node_syn, node_ack, node_text, node_fin}
 use Rattle.link_theorem.proofs.Good.ClientSaid.{said_reset, said_syn, said_data}
 use Rattle.link_theorem.proofs.Prefix.{all_good}
+use Rattle.link_theorem.proofs.Requests.{RequestedBy, all_requested}
 
 slice_of : (whole text : List ℕ) (at : ℕ) → IsPart whole text at → IsSlice whole text at
 slice_of whole text at p = record { fits = p.fits; same = p.same }
@@ -75,6 +78,29 @@ one_epoch pages side c (Some o) q h s = record {
   opened_in = λ n e l. (let z : Some o ≡ Some n = sym q ∙ e in let y : n ≡ o = cc in y ∙ h.live_then l);
 }
 
+-- the numbers that were taken are request bytes, and maybe the FIN behind them
+split_taken : (client : AbstractClient) (taken : ℕ) (b : Bool) → fin_sent client.fin ≡ b → client.acked ≤ taken → taken ≤ client.acked + client.out + one_if b →
+    (n : ℕ) × (client.acked ≤ n) × (n ≤ client.acked + client.out) × ((taken ≡ n) ⊎ ((fin_sent client.fin ≡ true) × (taken ≡ n + 1)))
+split_taken client taken false e l h = (taken, l, omega (arith, h), inl refl)
+split_taken client taken true e l h =
+    elim (cases_lt (client.acked + client.out) taken) [
+      | inl i ↦ (client.acked + client.out, omega arith, omega arith, inr (e, omega (arith, i, h)))
+      | inr i ↦ (taken, l, i, inl refl)
+    ]
+
+at_established : (pages : Pages) (opened : Option ℕ) (client : AbstractClient) (c : Connection) → c.state ≡ Established → StateGood pages opened client c c.state → IsPrefixOf c.part.heard client.request × (c.taken ≡ length c.part.heard)
+at_established pages opened client c e g = (let h : StateGood pages opened client c Established = subst (λ s. StateGood pages opened client c s) e g in (h.text.heard, h.taken))
+
+at_close_wait : (pages : Pages) (opened : Option ℕ) (client : AbstractClient) (c : Connection) → c.state ≡ CloseWait → StateGood pages opened client c c.state → IsPrefixOf c.part.heard client.request
+at_close_wait pages opened client c e g = (let h : StateGood pages opened client c CloseWait = subst (λ s. StateGood pages opened client c s) e g in h.heard)
+
+has_taken : (pages : Pages) (k : ℕ) (client : AbstractClient) (c : Connection) (sent : List Sent) (opened : Option ℕ) → RequestedBy k client c sent opened → is_some opened ≡ true → is_live c.state ≡ true → StateGood pages opened client c c.state → HasTaken client c
+has_taken pages k client c sent None r s l g = absurd (cc)
+has_taken pages k client c sent (Some o) r s l g =
+    let q = r l in
+    let p = split_taken client c.taken (fin_sent client.fin) refl q.low q.high in
+    record { bytes = p.0; least = p.1; most = p.2; taken = p.3; established = λ e. at_established pages (Some o) client c e g; close_wait = λ e. at_close_wait pages (Some o) client c e g }
+
 pub clean_parts : CleanParts
 clean_parts m pages lawful w r k side x clean =
     let c : Connection = server_side w side in
@@ -86,5 +112,6 @@ clean_parts m pages lawful w r k side x clean =
           subst (λ z. AsksRequest side z) q (asks_request side e.epoch (seg e) (ap (λ (z : PlainSegment). has_rst z.flags) q ∙ nr) (subst (λ (z : PlainSegment). 0 < length z.text) (sym q) l) (g.of_client i e y who).said));
       acknowledges = λ i e id s y who is nr a. (let q : seg e ≡ s = ap segment_in is in
           has_opened side e.epoch (seg e) (ap (λ (z : PlainSegment). has_rst z.flags) q ∙ nr) (ap (λ (z : PlainSegment). has_ack z.flags) q ∙ a) (g.of_client i e y who).said);
+      requested = λ l o. has_taken pages k side.client c w.sent side.opened (((all_requested m pages lawful w r).each k side x).asked_by clean) o l (g.connection l).state;
       epochs = one_epoch pages side c side.opened refl g.opened_good (λ l. (g.connection l).state);
     }

@@ -1,6 +1,6 @@
 -- What every schedule keeps.
-use Rattle.std.specs.List.{All}
-use Rattle.std.specs.Prelude.{◌≡◌, ℕ, suc, ◌+◌, ◌<◌, ◌≤◌, ◌⊎◌, Bool, true, false, List, ◌∷◌, length, Option, Some, None, Ok, slice_get}
+use Rattle.std.specs.List.{All, list_any}
+use Rattle.std.specs.Prelude.{◌≡◌, ℕ, suc, ◌+◌, ◌<◌, ◌≤◌, ◌⊎◌, ◌==◌, Bool, true, false, if◌then◌else◌, List, [], ◌∷◌, length, Option, Some, None, Ok, slice_get}
 use Rattle.uip_wire.specs.Numbers.{wrap}
 use Rattle.uip_wire.specs.declared.addr.Addr.{Addr}
 use Rattle.tcp_segment.specs.Segments.{PlainSegment, has_rst, has_ack}
@@ -16,14 +16,16 @@ use Rattle.tcp_machine.specs.OnTick.{limit_of, outstanding, grows_older}
 use Rattle.uip_node.specs.Events.{Event as NodeEvent, Reply}
 use Rattle.uip_node.specs.Events.Event.{IpRefused, IcmpRefused, TcpRefused, EchoAsked, Arrived, Overlong, Periodic}
 use Rattle.uip_node.specs.Events.Answer.{Silent}
-use Rattle.uip_node.specs.Events.Reply.{Tcp}
-use Rattle.uip_node.specs.Counters.{ticks_of, initial_number, ident_of}
+use Rattle.uip_node.specs.Events.Reply.{Tcp as TcpReply}
+use Rattle.uip_node.specs.Counters.{ticks_of, initial_number, ident_of, counters, ip_order}
 use Rattle.uip_node.specs.Node.{AbstractNode, step}
 use Rattle.uip_ipv4.specs.Head.{IsHeadOf, payload_of}
 use Rattle.uip_ipv4.specs.declared.head.IpHead.{IpHead}
 use Rattle.uip_ipv4.specs.declared.proto.Proto.{Proto}
-use Rattle.uip_ipv4.specs.declared.proto.Proto.TheVariants.{Icmp, Tcp as TcpProto}
+use Rattle.uip_ipv4.specs.declared.proto.Proto.TheVariants.{Icmp as IcmpProto, Tcp as TcpProto}
 use Rattle.icmp_echo.specs.Echo.{echo_fate}
+use Rattle.icmp_echo.specs.declared.fate.IcmpFate.TheVariants as Icmp
+use Rattle.tcp_segment.specs.declared.fate.TcpFate.TheVariants as Tcp
 use Rattle.tcp_segment.specs.Received.{segment_or_fate}
 use Rattle.tcp_segment.specs.declared.segment.Segment.{Segment}
 use Rattle.link_world.specs.Bytes.{bytes_of}
@@ -209,7 +211,7 @@ pub record IsExpired (c : Connection) : Type 0 where
 pub record SendsAgain (m : Meaning) (c : Connection) (sent : Option Reply) : Type 0 where
   pub id : ℕ
   pub segment : PlainSegment
-  pub sends : sent ≡ Some (Tcp c.sockets id true segment)
+  pub sends : sent ≡ Some (TcpReply c.sockets id true segment)
   pub is : segment_of m (grows_older c) (outstanding true c.state) ≡ Some segment
 
 -- Tick: an expired timer below its limit sends in that tick, at every node.
@@ -221,7 +223,7 @@ Tick =
 -- What a datagram has that passes every check at the address of its header, and has no bytes past its length.
 abbrev pub PassesBy : Proto → IpHead → List ℕ → Type 0
 PassesBy TcpProto head bytes = (s : Segment) × (segment_or_fate head bytes ≡ Ok s)
-PassesBy Icmp head bytes = echo_fate (payload_of head bytes) ≡ None
+PassesBy IcmpProto head bytes = echo_fate (payload_of head bytes) ≡ None
 
 pub record IsWhole (bytes : List ℕ) : Type 0 where
   pub head : IpHead
@@ -252,11 +254,29 @@ is_refused (Arrived sockets s) = false
 is_refused Overlong = false
 is_refused (Periodic place) = false
 
--- one refused datagram more in the node's past, and no answer
+-- The numbers of the counters, from 1, that a refused datagram raises: the datagrams taken in, the ICMP messages or TCP segments
+-- among them, and one fate.
+abbrev pub raised_by : NodeEvent → List ℕ
+raised_by (IpRefused fate) = 1 ∷ (4 + ip_order fate) ∷ []
+raised_by (IcmpRefused Icmp.Short) = 1 ∷ 11 ∷ 13 ∷ []
+raised_by (IcmpRefused Icmp.NotEcho) = 1 ∷ 11 ∷ 13 ∷ []
+raised_by (IcmpRefused Icmp.Checksum) = 1 ∷ 11 ∷ 14 ∷ []
+raised_by (TcpRefused Tcp.Short) = 1 ∷ 15 ∷ 17 ∷ []
+raised_by (TcpRefused Tcp.Offset) = 1 ∷ 15 ∷ 17 ∷ []
+raised_by (TcpRefused Tcp.Checksum) = 1 ∷ 15 ∷ 18 ∷ []
+raised_by _ = []
+
+-- the counters from number n on, where those of these numbers rise by one
+abbrev pub rise : List ℕ → ℕ → List ℕ → List ℕ
+rise numbers n [] = []
+rise numbers n (x ∷ xs) = (if list_any (λ k. k == n) numbers then wrap (x + 1) else x) ∷ rise numbers (n + 1) xs
+
+-- One refused datagram more in the node's past, and no answer: so these counters rise, and no other.
 pub record OneRefusal (w v : World) : Type 0 where
   pub event : NodeEvent
   pub refused : is_refused event ≡ true
   pub past : v.node.past ≡ record { event = event; answer = Silent } ∷ w.node.past
+  pub counted : counters v.node.past ≡ rise (raised_by event) 1 (counters w.node.past)
 
 -- The node counts what was sent to it, and nothing else.
 abbrev pub CountsBy : Who → World → World → Type 0

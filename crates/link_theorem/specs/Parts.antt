@@ -1,12 +1,13 @@
 -- What holds together of a clean client: the slices of its page, its FINs, its epochs and its requests.
-use Rattle.std.specs.Prelude.{◌≡◌, ℕ, suc, ◌+◌, ◌<◌, ◌≤◌, true, false, List, [], length, take, drop, Some, None, slice_get, is_some}
+use Rattle.std.specs.Prelude.{◌≡◌, ℕ, suc, ◌+◌, ◌<◌, ◌≤◌, ◌⊎◌, true, false, List, [], length, take, drop, Some, None, slice_get, is_some}
 use Rattle.uip_wire.specs.Numbers.{wrap}
 use Rattle.tcp_segment.specs.Segments.{PlainSegment, has_syn, has_fin, has_rst, has_ack}
 use Rattle.app_events.specs.Part.{Meaning}
+use Rattle.app_events.specs.Laws.{IsPrefixOf}
 use Rattle.app_events.specs.Pages.{Pages, IsPaged}
-use Rattle.app_events.specs.declared.state.State.TheVariants.{SynRcvd}
+use Rattle.app_events.specs.declared.state.State.TheVariants.{SynRcvd, Established, CloseWait}
 use Rattle.tcp_machine.specs.Connection.{Connection, is_live}
-use Rattle.link_client.specs.Client.{first_of}
+use Rattle.link_client.specs.Client.{AbstractClient, first_of, fin_sent}
 use Rattle.link_world.specs.World.{World, Side, Sent, Era, is_clean}
 use Rattle.link_world.specs.World.Content.{OfSegment}
 use Rattle.link_world.specs.declared.who.Who.TheVariants.{FromClient, FromNode}
@@ -54,7 +55,18 @@ pub record HasOneEpoch (side : Side) (c : Connection) : Type 0 where
   pub waits : side.opened ≡ None → is_live c.state ≡ true → c.state ≡ SynRcvd
   pub opened_in : (o : ℕ) → side.opened ≡ Some o → is_live c.state ≡ true → o ≡ length side.past
 
--- Every datagram of the node and of the client says what it may, and a client acknowledges nothing before it opened.
+-- How much of the request the server has taken: so many bytes, from what is acknowledged up to what is outstanding, and maybe the
+-- FIN behind them. As long as the application is handed text, that is a front of the request.
+pub record HasTaken (client : AbstractClient) (c : Connection) : Type 0 where
+  pub bytes : ℕ
+  pub least : client.acked ≤ bytes
+  pub most : bytes ≤ client.acked + client.out
+  pub taken : (c.taken ≡ bytes) ⊎ ((fin_sent client.fin ≡ true) × (c.taken ≡ bytes + 1))
+  pub established : c.state ≡ Established → IsPrefixOf c.part.heard client.request × (c.taken ≡ length c.part.heard)
+  pub close_wait : c.state ≡ CloseWait → IsPrefixOf c.part.heard client.request
+
+-- Every datagram of the node and of the client says what it may, a client acknowledges nothing before it opened, and its server has
+-- taken what it may of the request.
 pub record HasParts (pages : Pages) (w : World) (number : ℕ) (side : Side) (c : Connection) : Type 0 where
   pub of_node : (i : ℕ) (e : Sent) (id : ℕ) (s : PlainSegment) → slice_get w.sent i ≡ Some e → e.who ≡ FromNode number → e.content ≡ OfSegment id s → has_rst s.flags ≡ false →
       SaysPage pages side e.epoch (era side.past c e.epoch) s
@@ -62,6 +74,7 @@ pub record HasParts (pages : Pages) (w : World) (number : ℕ) (side : Side) (c 
       AsksRequest side s
   pub acknowledges : (i : ℕ) (e : Sent) (id : ℕ) (s : PlainSegment) → slice_get w.sent i ≡ Some e → e.who ≡ FromClient number → e.content ≡ OfSegment id s → has_rst s.flags ≡ false → has_ack s.flags ≡ true →
       is_some side.opened ≡ true
+  pub requested : is_live c.state ≡ true → is_some side.opened ≡ true → HasTaken side.client c
   pub epochs : HasOneEpoch side c
 
 abbrev pub CleanParts : Type 0
