@@ -8,6 +8,10 @@ mod counting;
 pub use counting::{Counter, Tally};
 
 #[cfg(test)]
+mod fields;
+#[cfg(test)]
 mod lines;
 #[cfg(test)]
 mod site;
+#[cfg(test)]
+mod web;

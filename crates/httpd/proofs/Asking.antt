@@ -1,0 +1,241 @@
+-- What is wanted, and the capture that is taken, for each part that a value stands for.
+use Rattle.std.proofs.Common.{◌≡◌, ◌+◌, ℕ, ◌≤◌, ◌==◌, ◌&&◌, min, Bool, true, false, not, List, [], ◌∷◌, ◌++◌, Option, length, drop, nat_lt, refl, sym, ap, subst, ◌∙◌, arith, append_assoc, append-nil, length-append, length-drop, if◌then◌else◌, inl, inr}
+use Rattle.std.proofs.lemmas.Bool.{cases_eq, eq-eqb, eqb-true, ne_eqb}
+use Rattle.app_events.specs.Part.{Moment, Part}
+use Rattle.app_events.specs.declared.want.Want.TheVariants.{Nothing, Send, Close, Abort}
+use Rattle.script_lang.specs.declared.function.Function.{Function}
+use Rattle.generators.specs.declared.capture.Capture.{Capture}
+use Rattle.generators.specs.Captures.{capture_of}
+use Rattle.site_image.specs.Files.{File}
+use Rattle.file_tree.specs.declared.file_id.FileId.{FileId}
+use Rattle.file_tree.specs.Site.{SiteContent, files_of}
+use Rattle.web_pages.specs.Requests.{Wanted, wanted}
+use Rattle.web_pages.specs.Requests.Wanted.{Name, NotYet, Refused}
+use Rattle.web_pages.specs.Pieces.{Say, reply_of}
+use Rattle.web_pages.specs.Pieces.Say.{Made}
+use Rattle.web_pages.specs.Pages.{hits_of, is_whole, page, page_for, reach_end, text_of, whole_for}
+use Rattle.web_pages.specs.WebMeaning.{is_acknowledged, left_of, waits_for_capture, web_want}
+use Rattle.web_pages.specs.Growing.{made_end, made_first, stopped_end, stopped_text, text_grows}
+use Rattle.httpd.specs.declared.httpd.Httpd.{Httpd}
+use Rattle.httpd.specs.declared.stage.Stage.TheVariants as stage
+use Rattle.httpd.specs.declared.thread.Thread.{Thread}
+use Rattle.httpd.specs.declared.thread.Thread.TheVariants.{Head, Kind, Body, Inside, Making, End}
+use Rattle.httpd.specs.declared.saying.Due.{Due}
+use Rattle.httpd.specs.Reply.{body_from, calls_in, left_from, reply_in}
+use Rattle.httpd.specs.Places.{Fits, IsInner}
+use Rattle.httpd.specs.Looking.{SeesCall}
+use Rattle.httpd.specs.Saying.{IsDue, IsNotDue, want_left}
+use Rattle.httpd.specs.HttpdStands.{HttpdStands, IsLeft, IsReplying, SaysNothing, StandsIn}
+use Rattle.httpd.proofs.Standing.{replying}
+
+-- what is left of the page of a reply
+abbrev left_text : Httpd → SiteContent → Option FileId → List ℕ
+left_text a site found = text_of (files_of site) (left_from (reply_in site found a.capture) a.thread) []
+
+abbrev left_end : Httpd → SiteContent → Option FileId → Bool
+left_end a site found = reach_end (left_from (reply_in site found a.capture) a.thread) []
+
+record IsSaid (files : List File) (p : Part) (text : List ℕ) (whole : Bool) : Type 0 where
+  left : left_of files p ≡ length text
+  ends : is_whole files p.heard p.captures ≡ whole
+  within : p.acked ≤ length (page files p.heard p.captures)
+
+is_said : (a : Httpd) (site : SiteContent) (found : Option FileId) (p : Part) (name : List ℕ) → IsReplying a site name found p → IsSaid (files_of site) p (left_text a site found) (left_end a site found)
+is_said a site found p name is =
+    let files = files_of site in
+    let text : page files p.heard p.captures ≡ text_of files (reply_of files name) p.captures = ap (λ w. page_for files w p.captures) is.wanted in
+    let end : is_whole files p.heard p.captures ≡ reach_end (reply_of files name) p.captures = ap (λ w. whole_for files w p.captures) is.wanted in
+    let rest : left_text a site found ≡ drop p.acked (text_of files (reply_of files name) p.captures) =
+    is.left.text [] ∙ ap (λ ks. drop p.acked (text_of files (reply_of files name) ks)) (append-nil p.captures) in
+    let size = ap length text in
+    record {
+      left = omega (arith, size, ap length rest, length-drop p.acked (text_of files (reply_of files name) p.captures));
+      ends = end ∙ ap (λ ks. reach_end (reply_of files name) ks) (sym (append-nil p.captures)) ∙ sym (is.left.whole []);
+      within = omega (arith, size, is.left.within);
+    }
+
+same_bool : (a b : ℕ) (c d : ℕ) → (a ≡ b → c ≡ d) → (c ≡ d → a ≡ b) → (a == b) ≡ (c == d)
+same_bool a b c d f g = elim (cases_eq a b) [
+  | inl e ↦ eq-eqb a b e ∙ sym (eq-eqb c d (f e))
+  | inr e ↦ ne_eqb a b e ∙ sym (ne_eqb c d (λ h. e (g h)))
+]
+
+acked_all : (files : List File) (p : Part) (text : List ℕ) (whole : Bool) → IsSaid files p text whole → is_acknowledged files p ≡ (length text == 0)
+acked_all files p text whole said =
+    same_bool p.acked (length (page files p.heard p.captures)) (length text) 0
+    (λ e. omega (arith, e, said.left)) (λ e. omega (arith, e, said.left, said.within))
+
+-- ---- wanting
+
+want_by : (files : List File) (p : Part) (text : List ℕ) (whole : Bool) → IsSaid files p text whole → (p.polls == 20) ≡ false → want_left text whole ≡ web_want files p
+want_by files p text whole said polls = sym (
+    ap (λ b. if b then Abort else (if is_whole files p.heard p.captures && is_acknowledged files p then Close else (if nat_lt 0 (left_of files p) then Send (min 1460 (left_of files p)) else Nothing))) polls
+    ∙ (λ i. if said.ends i && acked_all files p text whole said i then Close else (if nat_lt 0 (said.left i) then Send (min 1460 (said.left i)) else Nothing)))
+
+pub reply_wants : (a : Httpd) (site : SiteContent) (found : Option FileId) (p : Part) → a.stage ≡ stage.Reply found → (a.polls ≡ 20 → ⊥) → HttpdStands a site p
+    → want_left (left_text a site found) (left_end a site found) ≡ web_want (files_of site) p
+reply_wants a site found p e polls s =
+    let is = replying a site p found e s in
+    want_by (files_of site) p (left_text a site found) (left_end a site found) (is_said a site found p is.0 is.1) (ne_eqb p.polls 20 (λ h. polls (s.polls ∙ h)))
+
+-- where nothing is said
+nothing_said : (files : List File) (p : Part) (w : Wanted) (whole : Bool) → wanted p.heard ≡ w → page_for files w p.captures ≡ [] → whole_for files w p.captures ≡ whole → SaysNothing p → IsSaid files p [] whole
+nothing_said files p w whole e text end none =
+    let size : length (page files p.heard p.captures) ≡ 0 = ap (λ v. length (page_for files v p.captures)) e ∙ ap length text in
+    record {
+      left = omega (arith, size, none.acked);
+      ends = ap (λ v. whole_for files v p.captures) e ∙ end;
+      within = omega (arith, none.acked);
+    }
+
+pub open_wants : (files : List File) (p : Part) → wanted p.heard ≡ NotYet → SaysNothing p → (p.polls ≡ 20 → ⊥) → Nothing ≡ web_want files p
+open_wants files p e none polls = want_by files p [] false (nothing_said files p NotYet false e refl refl none) (ne_eqb p.polls 20 polls)
+
+pub refused_wants : (files : List File) (p : Part) → wanted p.heard ≡ Refused → SaysNothing p → (p.polls ≡ 20 → ⊥) → Close ≡ web_want files p
+refused_wants files p e none polls = want_by files p [] true (nothing_said files p Refused true e refl refl none) (ne_eqb p.polls 20 polls)
+
+pub gives_up : (files : List File) (p : Part) → p.polls ≡ 20 → Abort ≡ web_want files p
+gives_up files p e =
+    sym (ap (λ b. if b then Abort else (if is_whole files p.heard p.captures && is_acknowledged files p then Close else (if nat_lt 0 (left_of files p) then Send (min 1460 (left_of files p)) else Nothing))) (eq-eqb p.polls 20 e))
+
+-- ---- taking a capture
+
+abbrev pub with_capture : Part → Moment → Part
+with_capture p moment = record p { captures = p.captures ++ moment ∷ [] }
+
+abbrev pub prepared : List File → Part → Moment → Part
+prepared files p moment = if is_acknowledged files p && waits_for_capture files (wanted p.heard) p then with_capture p moment else p
+
+prepared_by : (files : List File) (p : Part) (moment : Moment) (b : Bool) → (is_acknowledged files p && waits_for_capture files (wanted p.heard) p) ≡ b → prepared files p moment ≡ (if b then with_capture p moment else p)
+prepared_by files p moment b e = ap (λ t. if t then with_capture p moment else p) e
+
+unless_whole : (b w : Bool) → (b ≡ true → w ≡ true) → (b && not w) ≡ false
+unless_whole false w h = refl
+unless_whole true w h = ap not (h refl)
+
+abbrev waits_named : List File → Part → Bool
+waits_named files p = not (is_whole files p.heard p.captures)
+
+waits : (files : List File) (p : Part) (name : List ℕ) → wanted p.heard ≡ Name name → waits_for_capture files (wanted p.heard) p ≡ waits_named files p
+waits files p name e = ap (λ w. waits_for_capture files w p) e
+
+-- no call is due: the part stays
+pub not_due : (a : Httpd) (site : SiteContent) (found : Option FileId) (p : Part) (moment : Moment) → a.stage ≡ stage.Reply found → IsNotDue (files_of site) (left_from (reply_in site found a.capture) a.thread) → HttpdStands a site p
+    → HttpdStands a site (prepared (files_of site) p moment)
+not_due a site found p moment e due s =
+    let is = replying a site p found e s in
+    let said = is_said a site found p is.0 is.1 in
+    let stays : (is_acknowledged (files_of site) p && waits_for_capture (files_of site) (wanted p.heard) p) ≡ false =
+    ap (λ w. is_acknowledged (files_of site) p && w) (waits (files_of site) p is.0 is.1.wanted)
+    ∙ unless_whole (is_acknowledged (files_of site) p) (is_whole (files_of site) p.heard p.captures)
+    (λ h. said.ends ∙ due (eqb-true (length (left_text a site found)) 0 (sym (acked_all (files_of site) p (left_text a site found) (left_end a site found) said) ∙ h))) in
+    subst (λ q. HttpdStands a site q) (sym (prepared_by (files_of site) p moment false stays)) s
+
+-- a request that is not decided, or refused: the part stays
+pub quiet_prepared : (files : List File) (p : Part) (moment : Moment) (w : Wanted) → wanted p.heard ≡ w → waits_for_capture files w p ≡ false → prepared files p moment ≡ p
+quiet_prepared files p moment w e never =
+    prepared_by files p moment false
+    (ap (λ v. is_acknowledged files p && waits_for_capture files v p) e ∙ ap (λ b. is_acknowledged files p && b) never ∙ Rattle.std.proofs.Math.Bool.and-false (is_acknowledged files p))
+
+other_inner : (site : SiteContent) (found : Option FileId) (one other : Capture) (next : ℕ) → IsInner (reply_in site found one) next → IsInner (reply_in site found other) next
+other_inner site found one other next is = record { script = is.script; goes_on = record { within = is.goes_on.within; between = is.goes_on.between } }
+
+-- ---- a call that is due
+
+-- the value that begins the text of the record of a call
+abbrev begins_call : Httpd → Capture → Thread → Httpd
+begins_call a capture next = record a { capture = capture; thread = next }
+
+-- what it says then
+record Begun (site : SiteContent) (found : Option FileId) (old new : Capture) (pieces : List Say) (f : Function) (argument : List ℕ) (next : Thread) : Type 0 where
+  fits : Fits (reply_in site found new) next
+  more : List Say
+  pieces_are : pieces ≡ Made f argument ∷ more
+  says : (later : List Moment) → text_of (files_of site) (left_from (reply_in site found new) next) later ≡ Rattle.generators.specs.Text.capture_text new ++ text_of (files_of site) more later
+  ends : (later : List Moment) → reach_end (left_from (reply_in site found new) next) later ≡ reach_end more later
+  calls : calls_in (left_from (reply_in site found new) next) ≡ calls_in more
+
+begun : (site : SiteContent) (found : Option FileId) (old new : Capture) (pieces : List Say) (f : Function) (argument : List ℕ) (next : Thread) → SeesCall (reply_in site found old) pieces (Made f argument) next
+    → Begun site found old new pieces f argument next
+unfolding Fits left_from
+begun site found old new pieces f argument (Making next at) call =
+    let front : drop at (Rattle.generators.specs.Text.capture_text new) ≡ Rattle.generators.specs.Text.capture_text new = ap (λ n. drop n (Rattle.generators.specs.Text.capture_text new)) call.1 in
+    record {
+      fits = (other_inner site found old new next call.2, omega (arith, call.1));
+      more = body_from (reply_in site found old) next;
+      pieces_are = call.0;
+      says = λ later. ap (λ xs. xs ++ text_of (files_of site) (body_from (reply_in site found old) next) later) front;
+      ends = λ later. refl;
+      calls = refl;
+    }
+begun site found old new pieces f argument (Head at) call = absurd call
+begun site found old new pieces f argument (Kind at) call = absurd call
+begun site found old new pieces f argument (Body at) call = absurd call
+begun site found old new pieces f argument (Inside next file at) call = absurd call
+begun site found old new pieces f argument End call = absurd call
+
+due_left : (a : Httpd) (site : SiteContent) (found : Option FileId) (p : Part) (name : List ℕ) (due : Due) (capture : Capture) (moment : Moment) → IsDue (reply_in site found a.capture) a.thread due → IsReplying a site name found p
+    → capture ≡ capture_of due.function (hits_of (files_of site) moment.numbers due.argument.now) moment.now → IsLeft (reply_in site found capture) due.next name (with_capture p moment)
+due_left a site found p name due capture moment is_due is made =
+    let files = files_of site in
+    let b = begun site found a.capture capture is_due.pieces due.function due.argument.now due.next is_due.call in
+    let reply = reply_of files name in
+    record {
+      text = λ later.
+          b.says later
+          ∙ ap (λ c. Rattle.generators.specs.Text.capture_text c ++ text_of files b.more later) made
+          ∙ sym (made_first files due.function due.argument.now b.more moment later is_due.takes)
+          ∙ ap (λ ps. text_of files ps (moment ∷ later)) (sym b.pieces_are)
+          ∙ is_due.past.text (moment ∷ later)
+          ∙ is.left.text (moment ∷ later)
+          ∙ ap (λ ks. drop p.acked (text_of files reply ks)) (sym (append_assoc p.captures (moment ∷ []) later));
+      whole = λ later.
+          b.ends later
+          ∙ sym (made_end due.function due.argument.now b.more moment later is_due.takes)
+          ∙ ap (λ ps. reach_end ps (moment ∷ later)) (sym b.pieces_are)
+          ∙ is_due.past.whole (moment ∷ later)
+          ∙ is.left.whole (moment ∷ later)
+          ∙ ap (λ ks. reach_end reply ks) (sym (append_assoc p.captures (moment ∷ []) later));
+      calls = omega (
+        arith,
+        length-append p.captures (moment ∷ []),
+        b.calls,
+        is.left.calls,
+        is_due.past.calls,
+        ap calls_in b.pieces_are,
+        ap (λ t. if t then 1 + calls_in b.more else calls_in b.more) is_due.takes,
+      );
+      within =
+          let grows = text_grows files reply p.captures (moment ∷ []) in
+          omega (arith, is.left.within, ap length grows.joined, length-append (text_of files reply p.captures) grows.rest);
+    }
+
+-- nothing is left before the call, and the end is not reached
+due_waits : (a : Httpd) (site : SiteContent) (found : Option FileId) (p : Part) (name : List ℕ) (due : Due) → IsDue (reply_in site found a.capture) a.thread due → IsReplying a site name found p
+    → (is_acknowledged (files_of site) p && waits_for_capture (files_of site) (wanted p.heard) p) ≡ true
+due_waits a site found p name due is_due is =
+    let files = files_of site in
+    let said = is_said a site found p name is in
+    let b = begun site found a.capture a.capture is_due.pieces due.function due.argument.now due.next is_due.call in
+    let none : length (left_text a site found) ≡ 0 = ap length (sym (is_due.past.text []) ∙ ap (λ ps. text_of files ps []) b.pieces_are ∙ stopped_text files due.function due.argument.now b.more is_due.takes) in
+    let stops : left_end a site found ≡ false = sym (is_due.past.whole []) ∙ ap (λ ps. reach_end ps []) b.pieces_are ∙ stopped_end due.function due.argument.now b.more is_due.takes in
+    (λ i. (acked_all files p (left_text a site found) (left_end a site found) said ∙ eq-eqb (length (left_text a site found)) 0 none) i && (waits files p name is.wanted ∙ ap not (said.ends ∙ stops)) i)
+
+pub due_stands : (a : Httpd) (site : SiteContent) (found : Option FileId) (p : Part) (due : Due) (capture : Capture) (moment : Moment) → a.stage ≡ stage.Reply found → IsDue (reply_in site found a.capture) a.thread due → HttpdStands a site p
+    → capture ≡ capture_of due.function (hits_of (files_of site) moment.numbers due.argument.now) moment.now → HttpdStands (record a { capture = capture; thread = due.next }) site (prepared (files_of site) p moment)
+due_stands a site found p due capture moment e is_due s made =
+    let is = replying a site p found e s in
+    subst (λ q. HttpdStands (begins_call a capture due.next) site q) (sym (prepared_by (files_of site) p moment true (due_waits a site found p is.0 due is_due is.1)))
+    (record {
+      polls = s.polls;
+      stands = subst (λ st. StandsIn (begins_call a capture due.next) site (with_capture p moment) st) (sym e) (
+        is.0,
+        record {
+          wanted = is.1.wanted;
+          there = is.1.there;
+          file = is.1.file;
+          fits = (begun site found a.capture capture is_due.pieces due.function due.argument.now due.next is_due.call).fits;
+          left = due_left a site found p is.0 due capture moment is_due is.1 made;
+        },
+      );
+    })

@@ -1,0 +1,11 @@
+pub mod Sizes
+pub mod Seeing
+pub mod Scripts
+pub mod Threads
+pub mod Walking
+pub mod Finding
+pub mod Words
+pub mod Requesting
+pub mod Standing
+pub mod Telling
+pub mod Asking

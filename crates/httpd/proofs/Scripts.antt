@@ -1,0 +1,170 @@
+-- What a thread sees in a script.
+use Rattle.std.proofs.Common.{◌≡◌, ℕ, ◌+◌, ◌-◌, ◌<◌, ◌≤◌, Bool, true, false, ◌⊎◌, inl, inr, List, [], ◌∷◌, length, take, drop, map, min, refl, sym, ap, subst, ◌∙◌, arith, true≢false, if◌then◌else◌}
+use Rattle.std.specs.Prelude.{slice_range, nat_lt, ◌&&◌}
+use Rattle.std.proofs.lemmas.List.{drop-drop, drop-take}
+use Rattle.script_lang.specs.declared.function.Function.{Function}
+use Rattle.script_lang.specs.declared.piece.Found.{Found}
+use Rattle.script_lang.specs.declared.piece.Piece.TheVariants.{Text, Include, Call}
+use Rattle.script_lang.specs.Places.{is_byte, word, word_start, word_end}
+use Rattle.script_lang.specs.Functions.{function_named}
+use Rattle.script_lang.specs.Directives.{IsPlace, is_mark, is_open, line_end, before_cr, directive}
+use Rattle.script_lang.specs.Pieces.{piece_at, pieces_from, run_end}
+use Rattle.script_lang.proofs.PieceLemmas.{found-goes, pieces_from-step, run-rest}
+use Rattle.script_lang.proofs.StartLemmas.{run-inside}
+use Rattle.site_image.specs.Files.{file_named}
+use Rattle.web_pages.specs.Pieces.{Say, bytes_of, says}
+use Rattle.web_pages.specs.Pieces.Say.{Plain, Made}
+use Rattle.httpd.specs.declared.span.Span.{Span}
+use Rattle.httpd.specs.declared.thread.Thread.TheVariants.{Body}
+use Rattle.httpd.specs.Reply.{Reply, body, body_from, is_scripted, left_from}
+use Rattle.httpd.specs.Places.{Fits, IsBodyPlace, IsInner}
+use Rattle.httpd.specs.Looking.{IsSpan, Sees}
+use Rattle.httpd.proofs.Seeing.{sees_first}
+
+-- what `next_piece` tells of a piece that it found
+pub record Reads (script : List ℕ) (at : ℕ) (found : Found) : Type 0 where
+  pub pieces : pieces_from script at ≡ found ∷ pieces_from script found.next
+  pub after : at < found.next
+  pub place : IsPlace script found.next
+
+place_by : (script : List ℕ) (at : ℕ) → at ≤ length script → (is_open script at ≡ true → at ≡ length script) → IsPlace script at
+place_by script at h between = (h, by (is_open script at) refl)
+  where
+    by : (b : Bool) → is_open script at ≡ b → ◌⊎◌ (is_open script at ≡ false) (at ≡ length script)
+    by true e = inr (between e)
+    by false e = inl e
+
+pub is_place : (r : Reply) (at : ℕ) → is_scripted r.file ≡ true → IsBodyPlace r at → IsPlace (body r) at
+is_place r at script is = place_by (body r) at is.within (is.between script)
+
+between_by : (script : List ℕ) (at : ℕ) → ◌⊎◌ (is_open script at ≡ false) (at ≡ length script) → is_open script at ≡ true → at ≡ length script
+between_by script at (inl closed) opened = absurd (true≢false (sym opened ∙ closed))
+between_by script at (inr end) opened = end
+
+pub body_place : (r : Reply) (at : ℕ) → IsPlace (body r) at → IsBodyPlace r at
+body_place r at is = record { within = is.0; between = λ script opened. between_by (body r) at is.1 opened }
+
+pub inner_place : (r : Reply) (at : ℕ) → is_scripted r.file ≡ true → IsPlace (body r) at → IsInner r at
+inner_place r at script is = record { script = script; goes_on = body_place r at is }
+
+pub script_from : (r : Reply) (a : ℕ) → is_scripted r.file ≡ true → body_from r a ≡ map (λ found. says r.files (body r) found.piece) (pieces_from (body r) a)
+script_from r a e = ap (λ b. if b then map (λ found. says r.files (body r) found.piece) (pieces_from (body r) a) else Plain (drop a (body r)) ∷ []) e
+
+-- the first piece and the further ones
+pub script_step : (r : Reply) (at : ℕ) (found : Found) → is_scripted r.file ≡ true → pieces_from (body r) at ≡ found ∷ pieces_from (body r) found.next
+    → left_from r (Body at) ≡ says r.files (body r) found.piece ∷ body_from r found.next
+unfolding left_from
+script_step r at found script e =
+    script_from r at script
+    ∙ ap (λ ps. map (λ f. says r.files (body r) f.piece) ps) e
+    ∙ ap (λ more. says r.files (body r) found.piece ∷ more) (sym (script_from r found.next script))
+
+pub script_end : (r : Reply) (at : ℕ) → is_scripted r.file ≡ true → pieces_from (body r) at ≡ [] → left_from r (Body at) ≡ []
+unfolding left_from
+script_end r at script e = script_from r at script ∙ ap (λ ps. map (λ f. says r.files (body r) f.piece) ps) e
+
+same_first : (f g : Found) (xs ys : List Found) → f ∷ xs ≡ g ∷ ys → f ≡ g
+same_first f g xs ys e = cc
+
+-- a piece that is read is the one at its place
+piece_read : (script : List ℕ) (at : ℕ) (found : Found) → IsPlace script at → at < length script → pieces_from script at ≡ found ∷ pieces_from script found.next → found ≡ piece_at script at
+piece_read script at found place h e =
+    let goes = found-goes script at (piece_at script at) place (λ end. omega (arith, h, end)) refl in
+    same_first found (piece_at script at) (pieces_from script found.next) (pieces_from script (piece_at script at).next)
+    (sym e ∙ pieces_from-step script at (piece_at script at).next goes)
+
+abbrev pub text_found : ℕ → ℕ → ℕ → Found
+text_found from len next = record { piece = Text from len; next = next }
+
+-- the piece is the text run from the place on
+record IsRun (script : List ℕ) (at from len next : ℕ) : Type 0 where
+  from_is : from ≡ at
+  len_is : len ≡ run_end script at - at
+  next_is : next ≡ run_end script at
+
+no_text : (test : Bool) (a b c d : ℕ) (f : Function) (from len : ℕ) → Text from len ≡ (if test then Include a b else Call f c d) → ⊥
+no_text true a b c d f from len e = cc
+no_text false a b c d f from len e = cc
+
+run_by : (m : Bool) (script : List ℕ) (at from len next : ℕ)
+    → text_found from len next ≡ (if m then record { piece = directive script at; next = min (line_end script (at + 2) + 1) (length script) } else record { piece = Text at (run_end script at - at); next = run_end script at })
+    → IsRun script at from len next
+run_by true script at from len next e =
+    let inner = at + 2 in
+    let stop = before_cr script (at + 2) (line_end script (at + 2)) in
+    absurd (no_text (nat_lt inner stop && is_byte script 58 inner) (word script (inner + 1) stop).at (word script (inner + 1) stop).len (word script (word_end script inner stop) stop).at (word script (word_end script inner stop) stop).len
+    (function_named (slice_range script (word_start script inner stop) (word_end script inner stop))) from len
+    (ap (λ (f : Found). f.piece) e))
+run_by false script at from len next e =
+    let piece : Text from len ≡ Text at (run_end script at - at) = ap (λ (f : Found). f.piece) e in
+    record { from_is = cc; len_is = cc; next_is = ap (λ (f : Found). f.next) e }
+
+run_of : (script : List ℕ) (at from len next : ℕ) → text_found from len next ≡ piece_at script at → IsRun script at from len next
+run_of script at from len next e = run_by (is_mark script at) script at from len next e
+
+-- a slice past its first n elements
+slice_past : (xs : List ℕ) (at end n : ℕ) → n ≤ end - at → slice_range xs (at + n) ((at + n) + (end - (at + n))) ≡ drop n (slice_range xs at end)
+slice_past xs at end n h =
+    let parts : end - at ≡ n + (end - (at + n)) = omega (arith, h) in
+    let width : ((at + n) + (end - (at + n))) - (at + n) ≡ end - (at + n) = omega arith in
+    ap (λ m. take m (drop (at + n) xs)) width
+    ∙ ap (λ rest. take (end - (at + n)) rest) (sym (drop-drop n at xs))
+    ∙ sym (drop-take n (end - (at + n)) (drop at xs))
+    ∙ ap (λ m. drop n (take m (drop at xs))) (sym parts)
+
+closed_at : (script : List ℕ) (at : ℕ) → at < length script → ◌⊎◌ (is_open script at ≡ false) (at ≡ length script) → is_open script at ≡ false
+closed_at script at h (inl closed) = closed
+closed_at script at h (inr end) = absurd (omega (arith, h, end))
+
+-- in a text run
+pub run_seen : (r : Reply) (at from len next : ℕ) (s : Span) → is_scripted r.file ≡ true → IsBodyPlace r at → length (body r) ≤ 16777216 → Reads (body r) at (text_found from len next)
+    → IsSpan s (slice_range (body r) at (at + len)) → Sees r (left_from r (Body at)) (record { span = s; here = Body at; next = Body next })
+unfolding left_from Fits
+run_seen r at from len next s script is short read span =
+    let before : at < length (body r) = omega (arith, read.after, read.place.0) in
+    let place : IsPlace (body r) at = is_place r at script is in
+    let closed : is_open (body r) at ≡ false = closed_at (body r) at before place.1 in
+    let run : IsRun (body r) at from len next = run_of (body r) at from len next (piece_read (body r) at (text_found from len next) place before read.pieces) in
+    let more : List Say = body_from r next in
+    let front : slice_range (body r) at (at + len) ≡ slice_range (body r) from (from + len) = ap (λ a. slice_range (body r) a (a + len)) (sym run.from_is) in
+    let end_is : at + len ≡ run_end (body r) at = omega (arith, run.len_is, run.next_is, read.after) in
+    subst (λ ps. Sees r ps (record { span = s; here = Body at; next = Body next }))
+    (ap (λ f. Plain f ∷ more) front ∙ sym (script_step r at (text_found from len next) script read.pieces))
+    (sees_first r (slice_range (body r) at (at + len)) more (record { span = s; here = Body at; next = Body next }) span refl (body_place r next read.place)
+    (λ n h.
+    let inside : at + n < run_end (body r) at = omega (arith, end_is, h, length-slice (body r) at (at + len)) in
+    let there = run-inside (body r) at (at + n) closed (omega arith) inside (omega (arith, before)) in
+    let rest = run-rest (body r) at (at + n) closed (omega arith) inside (omega (arith, before)) in
+    record {
+      fits = record { within = omega (arith, inside, read.place.0, run.next_is); between = λ t opened. absurd (true≢false (sym opened ∙ there.1)) };
+      small = omega (arith, inside, read.place.0, run.next_is, short);
+      pieces = script_from r (at + n) script
+          ∙ ap (λ ps. map (λ f. says r.files (body r) f.piece) ps) rest
+          ∙ ap (λ m. Plain (slice_range (body r) (at + n) ((at + n) + (run_end (body r) at - (at + n)))) ∷ m) (sym (script_from r (run_end (body r) at) script))
+          ∙ ap (λ b. Plain (slice_range (body r) (at + n) ((at + n) + (run_end (body r) at - (at + n)))) ∷ body_from r b) (sym run.next_is)
+          ∙ ap (λ f. Plain f ∷ more) (slice_past (body r) at (run_end (body r) at) n (omega (arith, inside)))
+          ∙ ap (λ e. Plain (drop n (slice_range (body r) at e)) ∷ more) (sym end_is);
+    }))
+  where
+    length-slice : (xs : List ℕ) (a b : ℕ) → length (slice_range xs a b) ≤ b - a
+    length-slice xs a b = omega (arith, Rattle.std.proofs.Common.length-take (b - a) (drop a xs))
+
+-- a text run is read from the place on
+pub text_at : (script : List ℕ) (at from len next : ℕ) → IsPlace script at → Reads script at (text_found from len next) → from ≡ at
+text_at script at from len next place read =
+    (run_of script at from len next (piece_read script at (text_found from len next) place (omega (arith, read.after, read.place.0)) read.pieces)).from_is
+
+-- the first piece is an include, or a call
+pub include_step : (r : Reply) (at : ℕ) (script : List ℕ) (read : Found) (from len : ℕ) → script ≡ body r → is_scripted r.file ≡ true → Reads (body r) at read → read.piece ≡ Include from len
+    → Plain (bytes_of (file_named r.files (slice_range script from (from + len)))) ∷ body_from r read.next ≡ left_from r (Body at)
+include_step r at script read from len e scripted reads is =
+    ap (λ s. Plain (bytes_of (file_named r.files (slice_range s from (from + len)))) ∷ body_from r read.next) e
+    ∙ ap (λ p. says r.files (body r) p ∷ body_from r read.next) (sym is)
+    ∙ sym (script_step r at read scripted reads.pieces)
+
+pub call_step : (r : Reply) (at : ℕ) (script : List ℕ) (read : Found) (f : Function) (from len : ℕ) → script ≡ body r → is_scripted r.file ≡ true → Reads (body r) at read → read.piece ≡ Call f from len
+    → Made f (slice_range script from (from + len)) ∷ body_from r read.next ≡ left_from r (Body at)
+call_step r at script read f from len e scripted reads is =
+    ap (λ s. Made f (slice_range s from (from + len)) ∷ body_from r read.next) e
+    ∙ ap (λ p. says r.files (body r) p ∷ body_from r read.next) (sym is)
+    ∙ sym (script_step r at read scripted reads.pieces)

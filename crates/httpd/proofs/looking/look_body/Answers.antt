@@ -1,0 +1,25 @@
+use Rattle.std.proofs.Common.{◌≤◌, length, drop, sym, ap, subst, ◌∙◌}
+use Rattle.httpd.specs.Reply.{left_from, reply_in}
+use Rattle.httpd.specs.Places.{Fits}
+use Rattle.httpd.specs.Looking.{Sees}
+use Rattle.httpd.specs.declared.thread.Thread.TheVariants.{Body, End}
+use Rattle.httpd.proofs.Seeing.{span_along}
+use Rattle.httpd.proofs.Threads.{plain_from, plain_seen}
+use Rattle.httpd.proofs.looking.look_body.Goals as goal
+
+pub look_script-requires-clause-fits : goal.look_script-requires-clause-fits
+unfolding Fits
+look_script-requires-clause-fits c = c.requires.fits
+
+pub rest_of-requires-clause-within : goal.rest_of-requires-clause-within
+unfolding Fits
+rest_of-requires-clause-within c = subst (λ xs. c.args.at ≤ length xs) (sym c.body_of.ensures.text) c.requires.fits.within
+
+pub returns : goal.returns
+unfolding Fits left_from
+returns c =
+    let r = reply_in c.args.site.now c.args.found c.args.capture.now in
+    let plain = sym c.is_scripted.ensures ∙ c.if-is_scripted.false in
+    subst (λ ps. Sees r ps (record { span = c.rest_of.result; here = Body c.args.at; next = End })) (sym (plain_from r c.args.at plain))
+    (plain_seen r c.args.at c.rest_of.result plain c.requires.fits.within (subst (λ xs. length xs ≤ 16777216) c.body_of.ensures.text c.body_of.ensures.short)
+    (span_along c.rest_of.result _ _ (ap (λ xs. drop c.args.at xs) c.body_of.ensures.text) c.rest_of.ensures))

@@ -1,0 +1,15 @@
+use Rattle.std.proofs.Common.{refl, arith}
+use Rattle.httpd.specs.Reply.{reply_in}
+use Rattle.httpd.specs.Places.{Fits}
+use Rattle.httpd.specs.declared.span.Span.TheVariants as span
+use Rattle.httpd.proofs.Threads.{making_seen}
+use Rattle.httpd.proofs.looking.look_making.Goals as goal
+
+pub returns : goal.returns
+unfolding Fits
+returns c =
+    let r = reply_in c.args.site.now c.args.found c.args.capture.now in
+    let size = c.text_len-end.ensures.length in
+    let bound = c.text_len-end.ensures.short in
+    making_seen r c.args.next c.args.at (span.Made c.args.capture c.args.at c.text_len-end.result) c.requires.0 c.requires.1 (omega (arith, size, bound))
+    (record { plain = tt; text = refl; fits = (omega (arith, size, c.requires.1), size, bound) })

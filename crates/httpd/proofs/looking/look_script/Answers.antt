@@ -1,0 +1,57 @@
+use Rattle.std.proofs.Common.{◌≡◌, ◌+◌, ◌≤◌, [], length, ap, subst, arith}
+use Rattle.std.specs.Prelude.{slice_range}
+use Rattle.script_lang.specs.Pieces.{LiesWithin, pieces_from}
+use Rattle.httpd.specs.Reply.{body, left_from, reply_in}
+use Rattle.httpd.specs.Looking.{Sees}
+use Rattle.httpd.specs.declared.thread.Thread.TheVariants.{Body}
+use Rattle.httpd.proofs.Seeing.{end_seen, span_along}
+use Rattle.httpd.proofs.Scripts.{Reads, call_step, include_step, is_place, run_seen, script_end, text_at, text_found}
+use Rattle.httpd.proofs.looking.look_script.Goals as goal
+use Rattle.httpd.proofs.looking.look_script.Goals.{In-Some, In-Text}
+
+reads : (c : In-Some) → Reads (body (reply_in c.args.site.now c.args.found c.args.capture.now)) c.args.at c.in-Some.read
+reads c =
+    subst (λ s. Reads s c.args.at c.in-Some.read) c.body_of-script.ensures.text
+    (record { pieces = c.in-Some.ensures.pieces; after = c.in-Some.ensures.next.0; place = c.in-Some.ensures.next.1 })
+
+run : (c : In-Text) → Reads (body (reply_in c.args.site.now c.args.found c.args.capture.now)) c.args.at (text_found c.in-Text.at c.in-Text.len c.in-Some.read.next)
+run c =
+    subst (λ s. Reads s c.args.at (text_found c.in-Text.at c.in-Text.len c.in-Some.read.next)) c.body_of-script.ensures.text
+    (subst (λ p. Reads c.body_of-script.result.now c.args.at (record { piece = p; next = c.in-Some.read.next })) c.in-Text.is
+    (record { pieces = c.in-Some.ensures.pieces; after = c.in-Some.ensures.next.0; place = c.in-Some.ensures.next.1 }))
+
+pub returns-in_default : goal.returns-in_default
+returns-in_default c =
+    let r = reply_in c.args.site.now c.args.found c.args.capture.now in
+    end_seen r (left_from r (Body c.args.at)) c.look_end.result (script_end r c.args.at c.requires.script (subst (λ s. pieces_from s c.args.at ≡ []) c.body_of-script.ensures.text c.in_default.ensures.pieces)) c.look_end.ensures
+
+pub part_of-requires-clause-within : goal.part_of-requires-clause-within
+part_of-requires-clause-within c =
+    let r = reply_in c.args.site.now c.args.found c.args.capture.now in
+    let within : c.in-Text.at + c.in-Text.len ≤ length c.body_of-script.result.now = subst (λ p. LiesWithin (length c.body_of-script.result.now) p) c.in-Text.is c.in-Some.ensures.within in
+    let same = text_at (body r) c.args.at c.in-Text.at c.in-Text.len c.in-Some.read.next (is_place r c.args.at c.requires.script c.requires.fits) (run c) in
+    omega (arith, within, same)
+
+pub returns-in-Text : goal.returns-in-Text
+returns-in-Text c =
+    let r = reply_in c.args.site.now c.args.found c.args.capture.now in
+    run_seen r c.args.at c.in-Text.at c.in-Text.len c.in-Some.read.next c.part_of.result c.requires.script c.requires.fits
+    (subst (λ xs. length xs ≤ 16777216) c.body_of-script.ensures.text c.body_of-script.ensures.short)
+    (run (goal.at.returns-in-Text c).In-Text)
+    (span_along c.part_of.result _ _ (ap (λ xs. slice_range xs c.args.at (c.args.at + c.in-Text.len)) c.body_of-script.ensures.text) c.part_of.ensures)
+
+pub returns-in-Include : goal.returns-in-Include
+returns-in-Include c =
+    let r = reply_in c.args.site.now c.args.found c.args.capture.now in
+    subst (λ ps. Sees r ps c.look_include.result)
+    (include_step r c.args.at c.body_of-script.result.now c.in-Some.read c.in-Include.from c.in-Include.len c.body_of-script.ensures.text c.requires.script
+    (reads (goal.at.returns-in-Include c).In-Some) c.in-Include.is)
+    c.look_include.ensures
+
+pub returns-in-Call : goal.returns-in-Call
+returns-in-Call c =
+    let r = reply_in c.args.site.now c.args.found c.args.capture.now in
+    subst (λ ps. Sees r ps c.look_call.result)
+    (call_step r c.args.at c.body_of-script.result.now c.in-Some.read c.in-Call.function c.in-Call.from c.in-Call.len c.body_of-script.ensures.text c.requires.script
+    (reads (goal.at.returns-in-Call c).In-Some) c.in-Call.is)
+    c.look_call.ensures

@@ -1,0 +1,11 @@
+use Rattle.std.proofs.Common.{arith}
+use Rattle.httpd.specs.Reply.{reply_in}
+use Rattle.httpd.proofs.Walking.{acked_on}
+use Rattle.httpd.proofs.saying.acked_reply.Goals as goal
+
+pub loop-left-preserved : goal.loop-left-preserved
+loop-left-preserved c = (
+  acked_on (reply_in c.args.site.now c.args.found c.args.capture.now) c.args.thread c.loop-left.place c.args.count c.loop-left.left c.span_len-len.result c.look-seen.result
+      c.requires.enough c.loop-left.invariant.0 c.loop-left.invariant.1 c.loop-left-test.true c.look-seen.ensures c.span_len-len.ensures.length c.if-left-len.false,
+  omega (arith, c.loop-left.invariant.1),
+)

@@ -1,0 +1,28 @@
+use Rattle.std.proofs.Common.{[], refl, ap, ◌∙◌, true, false}
+use Rattle.app_events.specs.declared.want.Want.TheVariants.{Nothing, Close}
+use Rattle.httpd.specs.Reply.{left_from, reply_in}
+use Rattle.web_pages.specs.Pages.{reach_end, text_of}
+use Rattle.httpd.proofs.Walking.{call_seen, call_stops, end_reached, ready_on, text_unless, want_at}
+use Rattle.httpd.proofs.saying.want_reply.Goals as goal
+
+pub returns-in-Call : goal.returns-in-Call
+returns-in-Call c =
+    let r = reply_in c.args.site.now c.args.found c.args.capture.now in
+    let call = call_seen r (left_from r c.loop-ready.place) c.look-seen.result c.in-Call.function c.in-Call.argument c.in-Call.is c.look-seen.ensures in
+    let stops = call_stops r (left_from r c.loop-ready.place) c.look-seen.result c.in-Call.function c.in-Call.argument.now call.0 call.1 in
+    c.want_before_call.ensures
+    ∙ want_at r c.args.thread c.loop-ready.place c.loop-ready.ready Nothing false c.loop-ready.invariant.0 c.loop-ready.invariant.1 c.loop-ready-test.true stops.0 stops.1 refl
+
+pub returns-in-End : goal.returns-in-End
+returns-in-End c =
+    let r = reply_in c.args.site.now c.args.found c.args.capture.now in
+    let end = end_reached r (left_from r c.loop-ready.place) c.look-seen.result c.in-End.is c.look-seen.ensures in
+    c.want_before_end.ensures
+    ∙ want_at r c.args.thread c.loop-ready.place c.loop-ready.ready Close true c.loop-ready.invariant.0 c.loop-ready.invariant.1 c.loop-ready-test.true
+    (ap (λ p. text_of r.files p []) end) (ap (λ p. reach_end p []) end) refl
+
+pub loop-ready-preserved : goal.loop-ready-preserved
+loop-ready-preserved c =
+    let r = reply_in c.args.site.now c.args.found c.args.capture.now in
+    ready_on r c.args.thread c.loop-ready.place c.loop-ready.ready c.span_len-ready.result c.look-seen.result c.loop-ready.invariant.0 c.loop-ready.invariant.1
+    (text_unless c.look-seen.result.span c.in_default.not-Call c.in_default.not-End) c.look-seen.ensures c.span_len-ready.ensures.length

@@ -1,0 +1,20 @@
+use Rattle.std.proofs.Common.{Option, None, Some, ℕ, List, ◌≡◌, option_map}
+use Rattle.std.specs.Prelude.{IfSome, slice_get}
+use Rattle.site_image.specs.Files.{File}
+use Rattle.file_tree.specs.Site.{files_of}
+use Rattle.file_tree.specs.declared.file_id.FileId.{FileId}
+use Rattle.httpd.specs.Places.{IsFound}
+use Rattle.httpd.proofs.Finding.{found_place}
+use Rattle.httpd.proofs.Sizes.{named_within}
+use Rattle.httpd.proofs.web.place_in.Goals as goal
+
+pub returns-clause-place : goal.returns-clause-place
+returns-clause-place c =
+    found_place (files_of c.args.site.now) c.see_loaded.ensures.apart c.args.name.now c.find.result c.find.ensures.found c.find.ensures.there
+
+there : (files : List File) (name : List ℕ) (o : Option FileId) → IfSome o (λ id. option_map (λ (file : File). file.name) (slice_get files id.0) ≡ Some name) → IsFound files o
+there files name None named = tt
+there files name (Some id) named = named_within files id.0 name named
+
+pub returns-clause-found : goal.returns-clause-found
+returns-clause-found c = there (files_of c.args.site.now) c.args.name.now c.find.result c.find.ensures.found

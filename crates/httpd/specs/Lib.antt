@@ -1,0 +1,9 @@
+pub mod Reply
+pub mod Places
+pub mod Looking
+pub mod Saying
+pub mod Web
+pub mod Hearing
+pub mod Undecided
+pub mod HttpdStands
+pub mod SameLeft

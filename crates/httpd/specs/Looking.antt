@@ -1,0 +1,91 @@
+-- What a thread sees where it stands.
+use Rattle.std.specs.Prelude.{◌≡◌, ◌≤◌, ◌<◌, ℕ, ◌+◌, true, List, [], ◌∷◌, ◌++◌, length, drop, slice_range}
+use Rattle.app_events.specs.Part.{Moment}
+use Rattle.generators.specs.Text.{capture_text}
+use Rattle.site_image.specs.Files.{File}
+use Rattle.web_pages.specs.Pieces.{Say, kind_line}
+use Rattle.web_pages.specs.Pieces.Say.{Made}
+use Rattle.web_pages.specs.Pages.{text_of, reach_end, takes_capture}
+use Rattle.httpd.specs.declared.span.Span.{Span}
+use Rattle.httpd.specs.declared.span.Span.TheVariants as span
+use Rattle.httpd.specs.declared.span.Look.{Look}
+use Rattle.httpd.specs.declared.thread.Thread.{Thread}
+use Rattle.httpd.specs.declared.thread.Thread.TheVariants.{Head, Kind, Body, Inside, Making, End}
+use Rattle.httpd.specs.Reply.{Reply, body_from, calls_in, left_from}
+use Rattle.httpd.specs.Places.{Fits, IsInner, moved, place_of}
+
+-- what is left of the piece
+abbrev pub span_text : Span → List ℕ
+span_text (span.Bytes world send) = slice_range world.now send.run.at send.run.end
+span_text (span.Line kind at) = drop at (kind_line kind.now)
+span_text (span.Made capture at end) = drop at (capture_text capture.now)
+span_text (span.Call function argument) = []
+span_text span.End = []
+
+-- the places lie within the texts
+abbrev pub SpanFits : Span → Type 0
+SpanFits (span.Bytes world send) = (send.run.at ≤ send.run.end) × (send.run.end ≤ length world.now) × (length world.now ≤ 16777216)
+SpanFits (span.Line kind at) = (length kind.now ≤ 64) × (at ≤ length (kind_line kind.now))
+SpanFits (span.Made capture at end) = (at ≤ end) × (end ≡ length (capture_text capture.now)) × (end ≤ 4200)
+SpanFits (span.Call function argument) = Unit {0}
+SpanFits span.End = Unit {0}
+
+-- The pieces say the text first and then what the others say, whatever captures they have.
+pub record Leads (files : List File) (pieces : List Say) (front : List ℕ) (others : List Say) : Type 0 where
+  pub text : (later : List Moment) → text_of files pieces later ≡ front ++ text_of files others later
+  pub whole : (later : List Moment) → reach_end pieces later ≡ reach_end others later
+  pub calls : calls_in pieces ≡ calls_in others
+
+-- The others say what the pieces say past the first n bytes.
+pub record IsPast (files : List File) (n : ℕ) (pieces others : List Say) : Type 0 where
+  pub text : (later : List Moment) → text_of files others later ≡ drop n (text_of files pieces later)
+  pub whole : (later : List Moment) → reach_end others later ≡ reach_end pieces later
+  pub calls : calls_in others ≡ calls_in pieces
+
+-- a place n bytes further in the same piece
+pub record IsInPiece (reply : Reply) (pieces : List Say) (here : Thread) (n : ℕ) : Type 0 where
+  pub fits : Fits reply (moved here n)
+  pub small : place_of here + n < 2147483648
+  pub past : IsPast reply.files n pieces (left_from reply (moved here n))
+
+-- The first piece takes no capture.
+pub record SeesText (reply : Reply) (pieces : List Say) (look : Look) : Type 0 where
+  pub leads : Leads reply.files pieces (span_text look.span) (left_from reply look.next)
+  pub fewer : length (left_from reply look.next) < length pieces
+  pub next : Fits reply look.next
+  pub within : (n : ℕ) → n < length (span_text look.span) → IsInPiece reply pieces look.here n
+
+-- It is a call that takes a capture, behind which the script goes on at a place.
+abbrev pub SeesCall : Reply → List Say → Say → Thread → Type 0
+SeesCall reply pieces call (Making next at) = (pieces ≡ call ∷ body_from reply next) × (at ≡ 0) × IsInner reply next
+SeesCall reply pieces call (Head at) = ⊥
+SeesCall reply pieces call (Kind at) = ⊥
+SeesCall reply pieces call (Body at) = ⊥
+SeesCall reply pieces call (Inside next file at) = ⊥
+SeesCall reply pieces call End = ⊥
+
+abbrev pub SeesBy : Reply → List Say → Look → Span → Type 0
+SeesBy reply pieces look (span.Bytes world send) = SeesText reply pieces look
+SeesBy reply pieces look (span.Line kind at) = SeesText reply pieces look
+SeesBy reply pieces look (span.Made capture at end) = SeesText reply pieces look
+SeesBy reply pieces look (span.Call function argument) = SeesCall reply pieces (Made function argument.now) look.next × (takes_capture function ≡ true)
+SeesBy reply pieces look span.End = pieces ≡ []
+
+-- what is seen where the pieces are left
+pub record Sees (reply : Reply) (pieces : List Say) (look : Look) : Type 0 where
+  pub sees : SeesBy reply pieces look look.span
+  pub fits : SpanFits look.span
+
+-- no call, and not the end
+abbrev pub IsText : Span → Type 0
+IsText (span.Bytes world send) = Unit {0}
+IsText (span.Line kind at) = Unit {0}
+IsText (span.Made capture at end) = Unit {0}
+IsText (span.Call function argument) = ⊥
+IsText span.End = ⊥
+
+-- the text is left of the piece
+pub record IsSpan (span : Span) (front : List ℕ) : Type 0 where
+  pub plain : IsText span
+  pub text : span_text span ≡ front
+  pub fits : SpanFits span

@@ -1,0 +1,50 @@
+-- The places at which a thread can stand: each `at` is at most the length of its text.
+use Rattle.std.specs.Prelude.{◌≡◌, ◌≤◌, ◌<◌, ℕ, ◌+◌, true, List, length, Option, None, Some}
+use Rattle.script_lang.specs.Directives.{is_open}
+use Rattle.site_image.specs.Files.{File}
+use Rattle.file_tree.specs.declared.file_id.FileId.{FileId}
+use Rattle.generators.specs.Text.{capture_text}
+use Rattle.web_pages.specs.Pieces.{kind_line}
+use Rattle.httpd.specs.Reply.{Reply, body, head_text, included, is_scripted, kind_text}
+use Rattle.httpd.specs.declared.thread.Thread.{Thread}
+use Rattle.httpd.specs.declared.thread.Thread.TheVariants.{Head, Kind, Body, Inside, Making, End}
+
+-- the id is that of a file
+abbrev pub IsFound : List File → Option FileId → Type 0
+IsFound files None = Unit {0}
+IsFound files (Some id) = id.0 < length files
+
+-- a place of the body; in a script it is at or inside a text run, at the start of a directive, or the end
+pub record IsBodyPlace (reply : Reply) (at : ℕ) : Type 0 where
+  pub within : at ≤ length (body reply)
+  pub between : is_scripted reply.file ≡ true → is_open (body reply) at ≡ true → at ≡ length (body reply)
+
+-- a place inside a piece of a script, which goes on at another
+pub record IsInner (reply : Reply) (next : ℕ) : Type 0 where
+  pub script : is_scripted reply.file ≡ true
+  pub goes_on : IsBodyPlace reply next
+
+unfoldable pub Fits : Reply → Thread → Type 0
+Fits reply (Head at) = at ≤ length (head_text reply.file)
+Fits reply (Kind at) = at ≤ length (kind_line (kind_text reply.file))
+Fits reply (Body at) = IsBodyPlace reply at
+Fits reply (Inside next file at) = IsInner reply next × (file.0 < length reply.files) × (at ≤ length (included reply file))
+Fits reply (Making next at) = IsInner reply next × (at ≤ length (capture_text reply.capture))
+Fits reply End = Unit {0}
+
+-- the thread after so many more bytes of its piece
+abbrev pub moved : Thread → ℕ → Thread
+moved (Head at) n = Head (at + n)
+moved (Kind at) n = Kind (at + n)
+moved (Body at) n = Body (at + n)
+moved (Inside next file at) n = Inside next file (at + n)
+moved (Making next at) n = Making next (at + n)
+moved End n = End
+
+abbrev pub place_of : Thread → ℕ
+place_of (Head at) = at
+place_of (Kind at) = at
+place_of (Body at) = at
+place_of (Inside next file at) = at
+place_of (Making next at) = at
+place_of End = 0

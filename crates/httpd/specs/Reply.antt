@@ -1,0 +1,73 @@
+-- What a thread has still to say of a reply, as pieces.
+use Rattle.std.specs.Prelude.{ℕ, ◌+◌, Bool, false, List, [], ◌∷◌, map, drop, codes, slice_get, if◌then◌else◌, Option, None, Some}
+use Rattle.std.specs.Option.{option_and_then}
+use Rattle.script_lang.specs.Pieces.{pieces_from}
+use Rattle.site_image.specs.Names.{is_script}
+use Rattle.site_image.specs.Files.{File, file_named, kind_of}
+use Rattle.file_tree.specs.declared.file_id.FileId.{FileId}
+use Rattle.file_tree.specs.Site.{SiteContent, files_of}
+use Rattle.generators.specs.declared.capture.Capture.{Capture}
+use Rattle.generators.specs.Text.{capture_text}
+use Rattle.web_pages.specs.Pieces.{Say, bytes_of, found_head, kind_line, missing_body, missing_head, says}
+use Rattle.web_pages.specs.Pieces.Say.{Plain, Made}
+use Rattle.web_pages.specs.Pages.{takes_capture}
+use Rattle.httpd.specs.declared.thread.Thread.{Thread}
+use Rattle.httpd.specs.declared.thread.Thread.TheVariants.{Head, Kind, Body, Inside, Making, End}
+
+-- What a reply is said from: the files, the file that was found, and the record of the call that is being said.
+pub record Reply : Type 0 where
+  pub files : List File
+  pub file : Option File
+  pub capture : Capture
+
+-- the file that was found
+abbrev pub found_file : List File → Option FileId → Option File
+found_file files found = option_and_then (λ id. slice_get files id.0) found
+
+abbrev pub reply_in : SiteContent → Option FileId → Capture → Reply
+reply_in site found capture = record { files = files_of site; file = found_file (files_of site) found; capture = capture }
+
+abbrev pub head_text : Option File → List ℕ
+head_text None = missing_head
+head_text (Some file) = found_head
+
+abbrev pub kind_text : Option File → List ℕ
+kind_text None = codes "text/html"
+kind_text (Some file) = kind_of file
+
+-- the bytes from which the body is said
+abbrev pub body_bytes : List File → Option File → List ℕ
+body_bytes files None = missing_body (file_named files (codes "/404.html"))
+body_bytes files (Some file) = file.content
+
+abbrev pub is_scripted : Option File → Bool
+is_scripted None = false
+is_scripted (Some file) = is_script file.name
+
+abbrev pub body : Reply → List ℕ
+body reply = body_bytes reply.files reply.file
+
+-- the pieces of the body from a place on
+abbrev pub body_from : Reply → ℕ → List Say
+body_from reply at =
+    if is_scripted reply.file then map (λ found. says reply.files (body reply) found.piece) (pieces_from (body reply) at)
+    else Plain (drop at (body reply)) ∷ []
+
+-- the bytes of an included file
+abbrev pub included : Reply → FileId → List ℕ
+included reply file = bytes_of (slice_get reply.files file.0)
+
+-- what is left to be said
+unfoldable pub left_from : Reply → Thread → List Say
+left_from reply (Head at) = Plain (drop at (head_text reply.file)) ∷ Plain (kind_line (kind_text reply.file)) ∷ body_from reply 0
+left_from reply (Kind at) = Plain (drop at (kind_line (kind_text reply.file))) ∷ body_from reply 0
+left_from reply (Body at) = body_from reply at
+left_from reply (Inside next file at) = Plain (drop at (included reply file)) ∷ body_from reply next
+left_from reply (Making next at) = Plain (drop at (capture_text reply.capture)) ∷ body_from reply next
+left_from reply End = []
+
+-- the calls among pieces that take a capture
+abbrev pub calls_in : List Say → ℕ
+calls_in [] = 0
+calls_in (Plain text ∷ more) = calls_in more
+calls_in (Made function argument ∷ more) = if takes_capture function then 1 + calls_in more else calls_in more

@@ -1,0 +1,133 @@
+//! A request line is heard word by word.
+
+ghost use Rattle.std.specs.Prelude.{◌≡◌, ◌≤◌, ◌++◌, ◌&&◌, ℕ, List, length, not, nat_eq, codes, option_map, if◌then◌else◌};
+ghost use Rattle.std.specs.Str.{bytes_eq};
+ghost use Rattle.std.specs.List.{starts_with};
+ghost use Rattle.file_tree.specs.Site.{files_of};
+ghost use Rattle.site_image.specs.Files.{file_named};
+ghost use Rattle.protosocket.specs.declared.stops.Stops.TheVariants.{SpaceOrLine};
+ghost use Rattle.protosocket.specs.Line.{after, heard, taken, word_of};
+ghost use Rattle.web_pages.specs.Pages.{place_of};
+ghost use Rattle.web_pages.specs.Requests.{name_in, wanted};
+ghost use Rattle.web_pages.specs.Requests.Wanted.{NotYet};
+ghost use Rattle.web_pages.specs.WebMeaning.{hits_by};
+ghost use Rattle.httpd.specs.Hearing.{HearsMethod, HearsTarget, HearsTo, IsDecided};
+ghost use Rattle.httpd.specs.Places.{IsFound};
+ghost use Rattle.httpd.specs.Reply.{found_file};
+
+use crate::stage::Stage;
+use crate::texts::see_loaded;
+use crate::web::{Web, hit, place_in};
+use file_tree::{FileId, Site};
+use protosocket::{LineIn, Stops};
+use protothread::Hears;
+
+/// How far a request line was heard.
+pub(crate) enum Heard {
+    /// The first word goes on.
+    Method,
+    /// The second word goes on.
+    Target,
+    /// It asks for the name that the line holds.
+    Named,
+    /// It is no request for a file.
+    Refused,
+}
+
+/// The word goes on with a piece, of which so many bytes are taken.
+fn feed(line: &mut LineIn, piece: &[u8]) -> usize
+    ensures after { line.new ≡ after line.old piece.now }
+    ensures taken { result ≡ taken line.old piece.now }
+    ensures within { result ≤ length piece.now }
+{
+    line.feed(piece)
+}
+
+/// The first word goes on with a piece.
+pub(crate) fn hear_method(line: &mut LineIn, piece: &[u8]) -> Heard
+    ensures { (request : List ℕ) → HearsMethod line.old request → HearsTo result line.new (request ++ piece.now) }
+{
+    let count = feed(line, piece);
+    if !line.done() {
+        return Heard::Method;
+    }
+    if !is_get(line) {
+        return Heard::Refused;
+    }
+    *line = LineIn::new(Stops::SpaceOrLine);
+    hear_target(line, &piece[count..])
+}
+
+/// The second word goes on with a piece.
+pub(crate) fn hear_target(line: &mut LineIn, piece: &[u8]) -> Heard
+    ensures { (request : List ℕ) → HearsTarget line.old request → HearsTo result line.new (request ++ piece.now) }
+{
+    line.feed(piece);
+    if !line.done() {
+        return Heard::Target;
+    }
+    if is_path(line) {
+        Heard::Named
+    } else {
+        Heard::Refused
+    }
+}
+
+/// Whether the word is `GET`.
+fn is_get(line: &LineIn) -> bool
+    ensures { result ≡ (not line.now.query && bytes_eq line.now.name (codes "GET")) }
+{
+    let get: &[u8] = b"GET";
+    !line.query && line.name.as_slice() == get
+}
+
+/// Whether the word begins with `/`.
+fn is_path(line: &LineIn) -> bool
+    ensures { result ≡ starts_with nat_eq line.now.name (codes "/") }
+{
+    let root: &[u8] = b"/";
+    line.name.as_slice().starts_with(root)
+}
+
+/// The name that the line holds, `/` being short for `/index.html`.
+fn name_asked(line: &LineIn) -> &[u8]
+    ensures { result.now ≡ (if bytes_eq line.now.name (codes "/") then codes "/index.html" else line.now.name) }
+{
+    let root: &[u8] = b"/";
+    let name = line.name.as_slice();
+    if name == root {
+        return b"/index.html";
+    }
+    name
+}
+
+/// The file of the name that the line holds. No file has a name that is longer than what a line keeps.
+pub(crate) fn file_asked(site: &Site, line: &LineIn) -> Option<FileId>
+    ensures place { (bytes : List ℕ) → line.now ≡ heard SpaceOrLine bytes → option_map (λ id. id.0) result ≡ place_of (files_of site.now) (name_in (word_of SpaceOrLine bytes)) }
+    ensures found { IsFound (files_of site.now) result }
+    ensures file { (bytes : List ℕ) → line.now ≡ heard SpaceOrLine bytes → found_file (files_of site.now) result ≡ file_named (files_of site.now) (name_in (word_of SpaceOrLine bytes)) }
+{
+    see_loaded(site);
+    if line.over {
+        return None;
+    }
+    place_in(site, name_asked(line))
+}
+
+/// The stage that a request has come to. Where it asks for a file, that file is hit.
+pub(crate) fn decide(web: &mut Web, line: &LineIn, heard: Heard) -> Stage
+    ensures site { web.new.site ≡ web.old.site }
+    ensures stage { (request : List ℕ) → HearsTo heard line.now request → IsDecided (files_of web.old.site) line.now request result }
+    ensures hits { (request : List ℕ) → HearsTo heard line.now request → web.new.hits ≡ hits_by (files_of web.old.site) web.old.hits NotYet (wanted request) }
+{
+    match heard {
+        Heard::Method => Stage::Method,
+        Heard::Target => Stage::Target,
+        Heard::Refused => Stage::Refused,
+        Heard::Named => {
+            let found = file_asked(&web.site, line);
+            hit(&mut web.hits, found);
+            Stage::Reply { found }
+        }
+    }
+}

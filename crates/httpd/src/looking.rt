@@ -1,0 +1,249 @@
+//! What a thread sees where it stands.
+
+ghost use Rattle.std.specs.Prelude.{◌≡◌, ◌≤◌, ◌∷◌, [], true, drop, length, slice_range};
+ghost use Rattle.file_tree.specs.Site.{files_of};
+ghost use Rattle.site_image.specs.Files.{file_named};
+ghost use Rattle.web_pages.specs.Pieces.{bytes_of};
+ghost use Rattle.web_pages.specs.Pieces.Say.{Plain, Made};
+ghost use Rattle.httpd.specs.Reply.{body_from, found_file, is_scripted, left_from, reply_in};
+ghost use Rattle.httpd.specs.Places.{Fits, IsBodyPlace, IsFound, IsInner};
+ghost use Rattle.httpd.specs.Looking.{IsSpan, Sees};
+
+use crate::span::{Look, Span};
+use crate::texts::{body_of, bytes_at, head_of, is_scripted, kind_of};
+use crate::thread::Thread;
+use file_tree::{FileId, Site};
+use generators::{Capture, text_len};
+use protosocket::SendOut;
+use protothread::Run;
+use script_lang::{Function, Piece, next_piece};
+
+/// What the thread sees.
+pub(crate) fn look<'a>(
+    site: &'a Site,
+    found: Option<FileId>,
+    capture: &'a Capture,
+    thread: Thread,
+) -> Look<'a>
+    requires found { IsFound (files_of site.now) found }
+    requires fits { Fits (reply_in site.now found capture.now) thread }
+    ensures { Sees (reply_in site.now found capture.now) (left_from (reply_in site.now found capture.now) thread) result }
+{
+    match thread {
+        Thread::Head { at } => look_head(site, found, capture, at),
+        Thread::Kind { at } => look_kind(site, found, capture, at),
+        Thread::Body { at } => look_body(site, found, capture, at),
+        Thread::Inside { next, file, at } => look_inside(site, found, capture, next, file, at),
+        Thread::Making { next, at } => look_making(site, found, capture, next, at),
+        Thread::End => look_end(),
+    }
+}
+
+/// What is left of the bytes from a place on.
+fn rest_of(world: &[u8], at: u32) -> Span<'_>
+    requires within { at ≤ length world.now }
+    requires short { length world.now ≤ 16777216 }
+    ensures { IsSpan result (drop at world.now) }
+{
+    part_of(world, at, world.len() as u32)
+}
+
+/// A part of the bytes.
+fn part_of(world: &[u8], at: u32, end: u32) -> Span<'_>
+    requires ordered { at ≤ end }
+    requires within { end ≤ length world.now }
+    requires short { length world.now ≤ 16777216 }
+    ensures { IsSpan result (slice_range world.now at end) }
+{
+    let run = Run { at, end };
+    Span::Bytes {
+        world,
+        send: SendOut { run },
+    }
+}
+
+/// In the head.
+fn look_head<'a>(site: &'a Site, found: Option<FileId>, capture: &'a Capture, at: u32) -> Look<'a>
+    requires found { IsFound (files_of site.now) found }
+    requires fits { Fits (reply_in site.now found capture.now) (Thread.Head at) }
+    ensures { Sees (reply_in site.now found capture.now) (left_from (reply_in site.now found capture.now) (Thread.Head at)) result }
+{
+    Look {
+        span: rest_of(head_of(site, found), at),
+        here: Thread::Head { at },
+        next: Thread::Kind { at: 0 },
+    }
+}
+
+/// In the line of the content type.
+fn look_kind<'a>(site: &'a Site, found: Option<FileId>, capture: &'a Capture, at: u32) -> Look<'a>
+    requires found { IsFound (files_of site.now) found }
+    requires fits { Fits (reply_in site.now found capture.now) (Thread.Kind at) }
+    ensures { Sees (reply_in site.now found capture.now) (left_from (reply_in site.now found capture.now) (Thread.Kind at)) result }
+{
+    Look {
+        span: Span::Line {
+            kind: kind_of(site, found),
+            at,
+        },
+        here: Thread::Kind { at },
+        next: Thread::Body { at: 0 },
+    }
+}
+
+/// In the body.
+fn look_body<'a>(site: &'a Site, found: Option<FileId>, capture: &'a Capture, at: u32) -> Look<'a>
+    requires found { IsFound (files_of site.now) found }
+    requires fits { Fits (reply_in site.now found capture.now) (Thread.Body at) }
+    ensures { Sees (reply_in site.now found capture.now) (left_from (reply_in site.now found capture.now) (Thread.Body at)) result }
+{
+    if is_scripted(site, found) {
+        return look_script(site, found, capture, at);
+    }
+    Look {
+        span: rest_of(body_of(site, found), at),
+        here: Thread::Body { at },
+        next: Thread::End,
+    }
+}
+
+/// In a script.
+fn look_script<'a>(site: &'a Site, found: Option<FileId>, capture: &'a Capture, at: u32) -> Look<'a>
+    requires found { IsFound (files_of site.now) found }
+    requires script { is_scripted (found_file (files_of site.now) found) ≡ true }
+    requires fits { IsBodyPlace (reply_in site.now found capture.now) at }
+    ensures { Sees (reply_in site.now found capture.now) (left_from (reply_in site.now found capture.now) (Thread.Body at)) result }
+{
+    let script = body_of(site, found);
+    let Some(read) = next_piece(script, at as usize) else {
+        return look_end();
+    };
+    let next = read.next as u32;
+    match read.piece {
+        Piece::Text { len, .. } => Look {
+            span: part_of(script, at, at + len as u32),
+            here: Thread::Body { at },
+            next: Thread::Body { at: next },
+        },
+        Piece::Include { at: from, len } => {
+            look_include(site, found, capture, next, &script[from..from + len])
+        }
+        Piece::Call {
+            function,
+            at: from,
+            len,
+        } => look_call(
+            site,
+            found,
+            capture,
+            next,
+            function,
+            &script[from..from + len],
+        ),
+    }
+}
+
+/// At an include.
+fn look_include<'a>(
+    site: &'a Site,
+    found: Option<FileId>,
+    capture: &'a Capture,
+    next: u32,
+    name: &[u8],
+) -> Look<'a>
+    requires found { IsFound (files_of site.now) found }
+    requires inner { IsInner (reply_in site.now found capture.now) next }
+    ensures { Sees (reply_in site.now found capture.now) (Plain (bytes_of (file_named (files_of site.now) name.now)) ∷ body_from (reply_in site.now found capture.now) next) result }
+{
+    match site.find(name) {
+        Some(file) => look_inside(site, found, capture, next, file, 0),
+        None => look_nothing(next),
+    }
+}
+
+/// At a piece that says nothing.
+fn look_nothing<'a>(next: u32) -> Look<'a>
+    ensures nothing { IsSpan result.span [] }
+    ensures next { result.next ≡ Thread.Body next }
+{
+    Look {
+        span: rest_of(b"", 0),
+        here: Thread::Body { at: next },
+        next: Thread::Body { at: next },
+    }
+}
+
+/// In the bytes of an included file.
+fn look_inside<'a>(
+    site: &'a Site,
+    found: Option<FileId>,
+    capture: &'a Capture,
+    next: u32,
+    file: FileId,
+    at: u32,
+) -> Look<'a>
+    requires found { IsFound (files_of site.now) found }
+    requires fits { Fits (reply_in site.now found capture.now) (Thread.Inside next file at) }
+    ensures { Sees (reply_in site.now found capture.now) (left_from (reply_in site.now found capture.now) (Thread.Inside next file at)) result }
+{
+    Look {
+        span: rest_of(bytes_at(site, file), at),
+        here: Thread::Inside { next, file, at },
+        next: Thread::Body { at: next },
+    }
+}
+
+/// At a call.
+fn look_call<'a>(
+    site: &'a Site,
+    found: Option<FileId>,
+    capture: &'a Capture,
+    next: u32,
+    function: Function,
+    argument: &'a [u8],
+) -> Look<'a>
+    requires { IsInner (reply_in site.now found capture.now) next }
+    ensures { Sees (reply_in site.now found capture.now) (Made function argument.now ∷ body_from (reply_in site.now found capture.now) next) result }
+{
+    match function {
+        Function::Unknown => look_nothing(next),
+        Function::FileStats | Function::TcpConnections | Function::NetStats | Function::Ticks => {
+            let made = Thread::Making { next, at: 0 };
+            Look {
+                span: Span::Call { function, argument },
+                here: made,
+                next: made,
+            }
+        }
+    }
+}
+
+/// In the text of a record.
+fn look_making<'a>(
+    site: &'a Site,
+    found: Option<FileId>,
+    capture: &'a Capture,
+    next: u32,
+    at: u32,
+) -> Look<'a>
+    requires { Fits (reply_in site.now found capture.now) (Thread.Making next at) }
+    ensures { Sees (reply_in site.now found capture.now) (left_from (reply_in site.now found capture.now) (Thread.Making next at)) result }
+{
+    let end = text_len(capture) as u32;
+    Look {
+        span: Span::Made { capture, at, end },
+        here: Thread::Making { next, at },
+        next: Thread::Body { at: next },
+    }
+}
+
+/// At the end.
+fn look_end<'a>() -> Look<'a>
+    ensures { result.span ≡ Span.End }
+{
+    Look {
+        span: Span::End,
+        here: Thread::End,
+        next: Thread::End,
+    }
+}

@@ -1,0 +1,159 @@
+//! A reply is said by going from piece to piece.
+
+ghost use Rattle.std.specs.Prelude.{◌≡◌, ◌==◌, ◌≤◌, ◌-◌, ◌∷◌, [], ℕ, true, length, take, MatchOption, if◌then◌else◌};
+ghost use Rattle.file_tree.specs.Site.{files_of};
+ghost use Rattle.web_pages.specs.Pages.{reach_end, text_of};
+ghost use Rattle.httpd.specs.Reply.{left_from, reply_in};
+ghost use Rattle.httpd.specs.Places.{Fits, IsFound};
+ghost use Rattle.httpd.specs.Looking.{IsPast};
+ghost use Rattle.httpd.specs.Saying.{IsDue, IsNotDue, want_left};
+
+use crate::looking::look;
+use crate::span::{Span, span_len, write_at};
+use crate::thread::{Thread, moved};
+use app_events::Want;
+use file_tree::{FileId, Site};
+use generators::Capture;
+use script_lang::Function;
+use web_pages::LARGEST_SEGMENT;
+
+/// Writes the front of the text that is left, as much as `out` holds.
+pub(crate) fn fill_reply(
+    site: &Site,
+    found: Option<FileId>,
+    capture: &Capture,
+    thread: Thread,
+    out: &mut [u8],
+)
+    requires found { IsFound (files_of site.now) found }
+    requires fits { Fits (reply_in site.now found capture.now) thread }
+    requires enough { length out.old ≤ length (text_of (files_of site.now) (left_from (reply_in site.now found capture.now) thread) []) }
+    ensures { out.new ≡ take (length out.old) (text_of (files_of site.now) (left_from (reply_in site.now found capture.now) thread) []) }
+{
+    let mut place = thread;
+    let mut from = 0;
+    while from < out.len() {
+        let seen = look(site, found, capture, place);
+        let count = span_len(&seen.span).min(out.len() - from);
+        write_at(&seen.span, out, from, count);
+        from += count;
+        place = seen.next;
+    }
+}
+
+/// The thread after so many bytes of the text that is left.
+pub(crate) fn acked_reply(
+    site: &Site,
+    found: Option<FileId>,
+    capture: &Capture,
+    thread: Thread,
+    count: usize,
+) -> Thread
+    requires found { IsFound (files_of site.now) found }
+    requires fits { Fits (reply_in site.now found capture.now) thread }
+    requires enough { count ≤ length (text_of (files_of site.now) (left_from (reply_in site.now found capture.now) thread) []) }
+    ensures fits { Fits (reply_in site.now found capture.now) result }
+    ensures past { IsPast (files_of site.now) count (left_from (reply_in site.now found capture.now) thread) (left_from (reply_in site.now found capture.now) result) }
+{
+    let mut place = thread;
+    let mut left = count;
+    while left > 0 {
+        let seen = look(site, found, capture, place);
+        let len = span_len(&seen.span);
+        if left < len {
+            return moved(seen.here, left as u32);
+        }
+        left -= len;
+        place = seen.next;
+    }
+    place
+}
+
+/// What is wanted, by the text that is left and whether it ends the page.
+pub(crate) fn want_reply(
+    site: &Site,
+    found: Option<FileId>,
+    capture: &Capture,
+    thread: Thread,
+) -> Want
+    requires found { IsFound (files_of site.now) found }
+    requires fits { Fits (reply_in site.now found capture.now) thread }
+    ensures { result ≡ want_left (text_of (files_of site.now) (left_from (reply_in site.now found capture.now) thread) []) (reach_end (left_from (reply_in site.now found capture.now) thread) []) }
+{
+    let mut place = thread;
+    let mut ready = 0;
+    while ready < LARGEST_SEGMENT {
+        let seen = look(site, found, capture, place);
+        match seen.span {
+            Span::Call { .. } => return want_before_call(ready),
+            Span::End => return want_before_end(ready),
+            _ => {}
+        }
+        ready += span_len(&seen.span);
+        place = seen.next;
+    }
+    Want::Send(LARGEST_SEGMENT)
+}
+
+/// What is wanted where so much is left before a call.
+fn want_before_call(ready: usize) -> Want
+    ensures { result ≡ (if ready == 0 then Want.Nothing else Want.Send ready) }
+{
+    if ready == 0 {
+        Want::Nothing
+    } else {
+        Want::Send(ready)
+    }
+}
+
+/// What is wanted where so much is left before the end.
+fn want_before_end(ready: usize) -> Want
+    ensures { result ≡ (if ready == 0 then Want.Close else Want.Send ready) }
+{
+    if ready == 0 {
+        Want::Close
+    } else {
+        Want::Send(ready)
+    }
+}
+
+/// A call that is due: its record is to be taken.
+#[derive(Clone, Copy)]
+pub(crate) struct Due<'a> {
+    pub function: Function,
+    pub argument: &'a [u8],
+    /// The front of the text of its record.
+    pub next: Thread,
+}
+
+/// The call before which no text is left.
+pub(crate) fn due_call<'a>(
+    site: &'a Site,
+    found: Option<FileId>,
+    capture: &'a Capture,
+    thread: Thread,
+) -> Option<Due<'a>>
+    requires found { IsFound (files_of site.now) found }
+    requires fits { Fits (reply_in site.now found capture.now) thread }
+    ensures { MatchOption result (IsNotDue (files_of site.now) (left_from (reply_in site.now found capture.now) thread)) (IsDue (reply_in site.now found capture.now) thread) }
+{
+    let mut place = thread;
+    loop {
+        let seen = look(site, found, capture, place);
+        let len = span_len(&seen.span);
+        if len > 0 {
+            return None;
+        }
+        match seen.span {
+            Span::Call { function, argument } => {
+                return Some(Due {
+                    function,
+                    argument,
+                    next: seen.next,
+                });
+            }
+            Span::End => return None,
+            _ => place = seen.next,
+        }
+    }
+}

@@ -1,0 +1,105 @@
+//! What is left of the piece of a reply in which a thread stands.
+
+ghost use Rattle.std.specs.Prelude.{◌≡◌, ◌+◌, ◌≤◌, ◌++◌, length, take, drop};
+ghost use Rattle.web_pages.specs.Pieces.{kind_line};
+ghost use Rattle.httpd.specs.Looking.{SpanFits, span_text};
+
+use crate::texts::line_of;
+use crate::thread::Thread;
+use generators::{Capture, fill_at};
+use protosocket::SendOut;
+use protothread::{Run, Says};
+use script_lang::Function;
+
+/// What is left of a piece.
+#[derive(Clone, Copy)]
+pub(crate) enum Span<'a> {
+    /// Bytes of the site, or of a fixed text.
+    Bytes {
+        world: &'a [u8],
+        send: SendOut,
+    },
+    /// The line of a content type, from place `at` on.
+    Line {
+        kind: &'a [u8],
+        at: u32,
+    },
+    /// The text of a record, from place `at` on.
+    Made {
+        capture: &'a Capture,
+        at: u32,
+        /// The text's length.
+        end: u32,
+    },
+    /// A call whose record is not taken yet.
+    Call {
+        function: Function,
+        argument: &'a [u8],
+    },
+    /// All is said.
+    End,
+}
+
+/// What a thread sees where it stands.
+#[derive(Clone, Copy)]
+pub(crate) struct Look<'a> {
+    pub span: Span<'a>,
+    /// The same place, as one inside the piece.
+    pub here: Thread,
+    /// Where the next piece begins. Behind a call it is the front of the text of its record.
+    pub next: Thread,
+}
+
+/// How many bytes are left.
+pub(crate) fn span_len(span: &Span) -> usize
+    requires { SpanFits span.now }
+    ensures length { result ≡ length (span_text span.now) }
+    ensures bound { result ≤ 16777216 }
+{
+    match span {
+        Span::Bytes { world, send } => send.left(world),
+        Span::Line { kind, at } => kind.len() + 18 - *at as usize,
+        Span::Made { at, end, .. } => (*end - *at) as usize,
+        Span::Call { .. } => 0,
+        Span::End => 0,
+    }
+}
+
+/// Writes the front of what is left, as much as `out` holds.
+pub(crate) fn write_span(span: &Span, out: &mut [u8])
+    requires fits { SpanFits span.now }
+    requires enough { length out.old ≤ length (span_text span.now) }
+    ensures { out.new ≡ take (length out.old) (span_text span.now) }
+{
+    match span {
+        Span::Bytes { world, send } => send.fill(world, out),
+        Span::Line { kind, at } => write_line(kind, *at, out),
+        Span::Made { capture, at, .. } => fill_at(capture, *at as usize, out),
+        Span::Call { .. } => {}
+        Span::End => {}
+    }
+}
+
+/// Writes the line of a content type from place `at` on.
+fn write_line(kind: &[u8], at: u32, out: &mut [u8])
+    requires short { length kind.now ≤ 64 }
+    requires enough { at + length out.old ≤ length (kind_line kind.now) }
+    ensures { out.new ≡ take (length out.old) (drop at (kind_line kind.now)) }
+{
+    let line = line_of(kind);
+    let end = line.len() as u32;
+    let send = SendOut {
+        run: Run { at, end },
+    };
+    send.fill(line.as_slice(), out);
+}
+
+/// Writes the front of what is left at a place of the buffer.
+pub(crate) fn write_at(span: &Span, out: &mut [u8], from: usize, count: usize)
+    requires fits { SpanFits span.now }
+    requires enough { count ≤ length (span_text span.now) }
+    requires room { from + count ≤ length out.old }
+    ensures { out.new ≡ take from out.old ++ take count (span_text span.now) ++ drop (from + count) out.old }
+{
+    write_span(span, &mut out[from..from + count]);
+}

@@ -1,0 +1,114 @@
+//! The texts of a reply.
+
+ghost use Rattle.std.specs.Prelude.{◌≡◌, ◌≤◌, ◌<◌, length, option_map, slice_get, None, Some};
+ghost use Rattle.site_image.specs.Files.{kind_of};
+ghost use Rattle.file_tree.specs.Site.{files_of, IsLoaded};
+ghost use Rattle.web_pages.specs.Pieces.{bytes_of, kind_line};
+ghost use Rattle.httpd.specs.Reply.{body_bytes, found_file, head_text, is_scripted, kind_text};
+ghost use Rattle.httpd.specs.Places.{IsFound};
+
+use arrayvec::ArrayVec;
+use file_tree::{FileId, Site};
+
+/// The most bytes of the line of a content type.
+const LONGEST_LINE: usize = 82;
+
+/// The head of a reply.
+pub(crate) fn head_of(site: &Site, found: Option<FileId>) -> &'static [u8]
+    requires { IsFound (files_of site.now) found }
+    ensures text { result.now ≡ head_text (found_file (files_of site.now) found) }
+    ensures short { length result.now ≤ 60 }
+{
+    match found {
+        Some(_) => b"HTTP/1.0 200 OK\r\nServer: uIP/1.0\r\nConnection: close\r\n",
+        None => b"HTTP/1.0 404 Not found\r\nServer: uIP/1.0\r\nConnection: close\r\n",
+    }
+}
+
+/// What is kept by every site.
+pub(crate) fn see_loaded(site: &Site)
+    ensures { IsLoaded site.now }
+{
+    let _ = &site.files;
+}
+
+/// The content type of a file.
+fn kind_at(site: &Site, id: FileId) -> &[u8]
+    requires { id.0 < length (files_of site.now) }
+    ensures text { Some result.now ≡ option_map kind_of (slice_get (files_of site.now) id.0) }
+    ensures short { length result.now ≤ 64 }
+{
+    see_loaded(site);
+    site.kind(id)
+}
+
+/// The bytes of a file.
+pub(crate) fn bytes_at(site: &Site, id: FileId) -> &[u8]
+    requires { id.0 < length (files_of site.now) }
+    ensures text { result.now ≡ bytes_of (slice_get (files_of site.now) id.0) }
+    ensures short { length result.now ≤ 16777216 }
+{
+    see_loaded(site);
+    site.bytes(id)
+}
+
+/// The content type of a reply.
+pub(crate) fn kind_of(site: &Site, found: Option<FileId>) -> &[u8]
+    requires { IsFound (files_of site.now) found }
+    ensures text { result.now ≡ kind_text (found_file (files_of site.now) found) }
+    ensures short { length result.now ≤ 64 }
+{
+    match found {
+        Some(id) => kind_at(site, id),
+        None => b"text/html",
+    }
+}
+
+/// The line of a content type, and the empty line that ends the header.
+pub(crate) fn line_of(kind: &[u8]) -> ArrayVec<u8, LONGEST_LINE>
+    requires { length kind.now ≤ 64 }
+    ensures { result.items ≡ kind_line kind.now }
+{
+    let mut line: ArrayVec<u8, LONGEST_LINE> = ArrayVec::new();
+    let front: &[u8] = b"Content-type: ";
+    let back: &[u8] = b"\r\n\r\n";
+    let _front_fits = line.try_extend_from_slice(front);
+    let _kind_fits = line.try_extend_from_slice(kind);
+    let _back_fits = line.try_extend_from_slice(back);
+    line
+}
+
+/// The bytes from which the body is said.
+pub(crate) fn body_of(site: &Site, found: Option<FileId>) -> &[u8]
+    requires { IsFound (files_of site.now) found }
+    ensures text { result.now ≡ body_bytes (files_of site.now) (found_file (files_of site.now) found) }
+    ensures short { length result.now ≤ 16777216 }
+{
+    match found {
+        Some(id) => bytes_at(site, id),
+        None => missing_body(site),
+    }
+}
+
+/// The body where no file has the name.
+fn missing_body(site: &Site) -> &[u8]
+    ensures text { result.now ≡ body_bytes (files_of site.now) None }
+    ensures short { length result.now ≤ 16777216 }
+{
+    let name: &[u8] = b"/404.html";
+    match site.find(name) {
+        Some(id) => bytes_at(site, id),
+        None => b"not found\n",
+    }
+}
+
+/// Whether the body is that of a script.
+pub(crate) fn is_scripted(site: &Site, found: Option<FileId>) -> bool
+    requires { IsFound (files_of site.now) found }
+    ensures { result ≡ is_scripted (found_file (files_of site.now) found) }
+{
+    match found {
+        Some(id) => site_image::is_script(site.name(id)),
+        None => false,
+    }
+}

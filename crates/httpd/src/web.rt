@@ -1,0 +1,83 @@
+//! What the connections of the web server share.
+
+ghost use Rattle.std.specs.Prelude.{◌≡◌, ◌<◌, length, replicate, option_map, IfOk, IfSome};
+ghost use Rattle.file_tree.specs.Site.{files_of};
+ghost use Rattle.site_image.specs.Files.{file_named};
+ghost use Rattle.web_pages.specs.Pages.{hits_of, place_of};
+ghost use Rattle.httpd.specs.Reply.{found_file};
+ghost use Rattle.httpd.specs.Places.{IsFound};
+ghost use Rattle.web_pages.specs.WebMeaning.{hit_at};
+
+use crate::texts::see_loaded;
+use file_tree::{FileId, Site};
+use std::alloc::{AllocError, Global};
+use std::marker::Model;
+use uip_edge::NoMemory;
+
+/// A site, and how often each of its files was asked for.
+#[derive(Drop)]
+pub struct Web {
+    pub site: Site,
+    /// The hit counts of the files, in their order.
+    pub hits: Vec<u32>,
+}
+
+impl Model for Web {
+    ghost use Rattle.httpd.specs.Web.{WebContent, IsCounted};
+
+    ghost Value = { WebContent };
+
+    ghost view = { λ web. record { site = web.site; hits = web.hits.items } };
+
+    ghost invariant = { λ web. IsCounted web.site web.hits.items };
+}
+
+/// So many zeros.
+fn zeros(alloc: Global, count: usize) -> Result<Vec<u32>, AllocError>
+    ensures { IfOk result (λ zeros. zeros.items ≡ replicate count 0) }
+{
+    vec![in alloc; 0; count]
+}
+
+impl Web {
+    /// The site with no file asked for yet. On NoMemory the site is dropped.
+    pub fn new(alloc: Global, site: Site) -> Result<Web, NoMemory>
+        ensures site { IfOk result (λ web. web.site ≡ site) }
+        ensures hits { IfOk result (λ web. web.hits ≡ replicate (length (files_of site)) 0) }
+    {
+        let hits = zeros(alloc, site.count()).map_err(|_| NoMemory)?;
+        Ok(Web { site, hits })
+    }
+}
+
+/// The hit count of the file of that name, 0 where no file has it.
+pub(crate) fn hits_of(site: &Site, hits: &[u32], name: &[u8]) -> u32
+    requires { length hits.now ≡ length (files_of site.now) }
+    ensures { result ≡ hits_of (files_of site.now) hits.now name.now }
+{
+    match place_in(site, name) {
+        Some(id) => hits[id.0 as usize],
+        None => 0,
+    }
+}
+
+/// The file of that name, by its place among the files.
+pub(crate) fn place_in(site: &Site, name: &[u8]) -> Option<FileId>
+    ensures place { option_map (λ id. id.0) result ≡ place_of (files_of site.now) name.now }
+    ensures found { IsFound (files_of site.now) result }
+    ensures file { found_file (files_of site.now) result ≡ file_named (files_of site.now) name.now }
+{
+    see_loaded(site);
+    site.find(name)
+}
+
+/// A file was asked for.
+pub(crate) fn hit(hits: &mut [u32], found: Option<FileId>)
+    requires { IfSome found (λ id. id.0 < length hits.old) }
+    ensures { hits.new ≡ hit_at hits.old (option_map (λ id. id.0) found) }
+{
+    if let Some(id) = found {
+        let at = id.0 as usize;
+        hits[at] = hits[at].wrapping_add(1);
+    }
+}
