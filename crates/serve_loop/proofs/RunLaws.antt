@@ -26,7 +26,7 @@ module _ (m : Meaning) (served : ℕ → Bool) (own : Addr) where
   run-node-append [] ys n = refl
   run-node-append (x ∷ xs) ys n = run-node-append xs ys (step m served n x).node
 
-  run-text-append : (xs ys : List Event) (n : AbstractNode)
+  pub run-text-append : (xs ys : List Event) (n : AbstractNode)
       → text_of own (run m served (xs ++ ys) n).sent ≡ text_of own (run m served xs n).sent ++ text_of own (run m served ys (run m served xs n).node).sent
   run-text-append [] ys n = refl
   run-text-append (x ∷ xs) ys n =

@@ -1,85 +1,57 @@
--- The turns of a run, put together.
-use Rattle.std.proofs.Common.{ap, refl, sym, ◌≡◌, ℕ, ◌+◌, ◌<◌, ◌≤◌, List, [], ◌++◌, Option, None, Some, length, ◌∙◌, append-nil, arith, length-append}
+-- A serving by the node of the greeting, from its opening on.
+use Rattle.std.proofs.Common.{◌≡◌, ℕ, Bool, List, [], Option, subst, sym, ap, ◌∙◌}
+use Rattle.app_events.specs.FixedMeaning.{fixed_meaning}
+use Rattle.app_events.specs.Part.{Meaning, Part}
 use Rattle.uip_edge.specs.declared.item.Item.{Item}
 use Rattle.uip_edge.specs.declared.serve_end.ServeEnd.{ServeEnd}
 use Rattle.uip_edge.specs.declared.serve_end.ServeEnd.TheVariants as ends
-use Rattle.std.specs.Io.KnownBytes.{Appends}
-use Rattle.uip_edge.specs.Coming.{Consumes}
-use Rattle.uip_edge.proofs.Told.{Appends-then, Consumes-then, prefix_by, prefix_then}
-use Rattle.uip_slip.specs.Decoding.{State}
-use Rattle.uipd.specs.declared.server.Turn.TheVariants.{Stopped}
-use Rattle.uipd.specs.Output.{output_of, bytes_of}
-use Rattle.uipd.specs.Serving.{Outside, IsDry, TookAll, Serves, ServeRuns, Ends, Unfailed, status_of}
-use Rattle.uipd.specs.Stack.{StackState}
-use Rattle.uipd.specs.Turns.{Turns, added}
-use Rattle.uipd.proofs.OutputLaws.{output_of-then}
+use Rattle.uip_edge.specs.Writing.{AppendsPrefix}
+use Rattle.uip_edge.proofs.Told.{prefix_more}
+use Rattle.uip_node.specs.declared.node.Node.{Node}
+use Rattle.uip_node.specs.Events.{Event}
+use Rattle.uip_node.specs.Node.{AbstractNode, opening, run}
+use Rattle.uip_node.specs.StandsFor.{Stands}
+use Rattle.uip_wire.specs.declared.addr.Addr.{Addr}
+use Rattle.serve_loop.specs.LineEvents.{line_events}
+use Rattle.serve_loop.specs.Outside.{Outside}
+use Rattle.serve_loop.specs.Running.{Broke, text_of}
+use Rattle.serve_loop.specs.Serving.{Serves as ServesNode, WroteBy}
+use Rattle.serve_loop.proofs.RunLaws.{run-text-append}
+use Rattle.uipd.specs.Output.{is_served}
+use Rattle.uipd.specs.Serving.{ServeRuns, Serves, Writes, status_of}
 
-took_all : (old mid : Option (List Item)) (taken : List Item) → Consumes old mid taken → IsDry mid → TookAll old taken
-took_all None mid taken c d = tt
-took_all (Some xs) None taken c d = absurd c
-took_all (Some xs) (Some ys) taken c d = c ∙ rw d (append-nil taken)
+-- where it broke off, a front of the whole output was written
+front_written : (own : Addr) (n : AbstractNode) (events : List Event) (P Q : AbstractNode → Type 0) (a b : Option (List ℕ)) → P n
+    → Broke fixed_meaning is_served own events P Q a b → AppendsPrefix a b (text_of own (run fixed_meaning is_served events n).sent)
+front_written own n events P Q a b p w =
+    let it = w.each n p in
+    prefix_more a b _ _ _
+    (sym (run-text-append fixed_meaning is_served own it.done it.later n) ∙ ap (λ l. text_of own (run fixed_meaning is_served l n).sent) (sym it.front))
+    it.written
 
--- a run that ends in a turn
-pub stopped : (own : List ℕ) (n : ℕ) (taken items : List Item) (old mid new : Outside) (decoder : State) (stack : StackState) (end : ServeEnd)
-    → Consumes old.coming mid.coming taken → length taken < n → length items + length taken ≤ n
-    → Appends old.written mid.written (output_of own taken)
-    → mid.link_faults ≡ old.link_faults → mid.sink_faults ≡ old.sink_faults
-    → Consumes mid.coming new.coming items → Turns own (bytes_of taken) mid new decoder stack items (Stopped end)
-    → Serves own n old new end
-stopped own n taken items old mid new decoder stack ends.End c below fits w l k more t = (
-  taken,
-  rw (append-nil) at (rw t.0 at (Consumes-then _ _ _ taken items c more)),
-  (
-    rw append-nil at (Appends-then old.written mid.written new.written (output_of own taken) [] w t.2),
-    took_all _ _ taken c t.1,
-    below,
-    t.3 ∙ l,
-    t.4 ∙ k,
-  ),
-)
-stopped own n taken items old mid new decoder stack ends.LinkFault c below fits w l k more t = (
-  taken,
-  rw (append-nil) at (rw t.0 at (Consumes-then _ _ _ taken items c more)),
-  (
-    rw append-nil at (Appends-then old.written mid.written new.written (output_of own taken) [] w t.1),
-    below,
-    rw l at t.2,
-    t.3 ∙ k,
-  ),
-)
-stopped own n taken items old mid new decoder stack ends.WriteFault c below fits w l k more t = (
-  taken ++ items,
-  Consumes-then _ _ _ taken items c more,
-  (
-    prefix_by _ _ (output_of own taken ++ added own (bytes_of taken) (bytes_of items)) _ (output_of-then own taken items)
-        (prefix_then old.written mid.written new.written (output_of own taken) (added own (bytes_of taken) (bytes_of items)) w t.0),
-    omega (arith, length-append taken items),
-    t.1 ∙ l,
-    rw k at t.2,
-  ),
-)
-stopped own n taken items old mid new decoder stack ends.Budget c below fits w l k more t = absurd t
+writes_by : (end : ServeEnd) (own : Addr) (pace : ℕ) (taken : List Item) (P Q : AbstractNode → Type 0) (a b : Option (List ℕ)) → P (opening own [])
+    → WroteBy end fixed_meaning is_served own (line_events own pace taken) P Q a b → Writes end own pace taken a b
+writes_by ends.End own pace taken P Q a b p w = (w.each (opening own []) p).1
+writes_by ends.Budget own pace taken P Q a b p w = (w.each (opening own []) p).1
+writes_by ends.LinkFault own pace taken P Q a b p w = (w.each (opening own []) p).1
+writes_by ends.WriteFault own pace taken P Q a b p w = front_written own (opening own []) (line_events own pace taken) P Q a b p w
 
--- a serving is a run of `serve`
-pub runs : (own : List ℕ) (n : ℕ) (old new : Outside) (end : ServeEnd) → Serves own n old new end → ServeRuns own n old new (status_of end)
-runs own n old new ends.End s = s
-runs own n old new ends.LinkFault s = s
-runs own n old new ends.WriteFault s = s
-runs own n old new ends.Budget s = s
+runs : (own : Addr) (pace n : ℕ) (old new : Outside) (end : ServeEnd) → Serves own pace n old new end → ServeRuns own pace n old new (status_of end)
+runs own pace n old new ends.End s = s
+runs own pace n old new ends.LinkFault s = s
+runs own pace n old new ends.WriteFault s = s
+runs own pace n old new ends.Budget s = s
 
-taken_within : (old new : Option (List Item)) (all taken : List Item) → old ≡ Some all → Consumes old new taken → length taken ≤ length all
-taken_within None new all taken e c = absurd (cc e)
-taken_within (Some told) None all taken e c = absurd c
-taken_within (Some told) (Some left) all taken e c =
-    let same : told ≡ all = cc e in
-    let size : length all ≡ length (taken ++ left) = ap (λ l. length l) (sym same ∙ c) in
-    omega (arith, size, length-append taken left)
-
--- an end that no fault brought is the link's, where fewer items are told than are allowed
-pub done_told : (own : List ℕ) (n : ℕ) (old new : Outside) (all taken : List Item) (end : ServeEnd) → old.coming ≡ Some all → length all < n
-    → Consumes old.coming new.coming taken → Ends own n old new taken end → Unfailed old new → end ≡ ends.End
-done_told own n old new all taken ends.End told short c e calm = refl
-done_told own n old new all taken ends.Budget told short c e calm =
-    absurd (omega (arith, taken_within old.coming new.coming all taken told c, e.1, short))
-done_told own n old new all taken ends.LinkFault told short c e calm = absurd (omega (arith, e.2, calm.link, calm.link_below))
-done_told own n old new all taken ends.WriteFault told short c e calm = absurd (omega (arith, e.3, calm.sink, calm.sink_below))
+-- what a node did that stands for the opening one, and whose application is the greeting
+pub greeted : {A S K : Type 0} (meaning : K → Meaning) (served : ℕ → Bool) (stands_for : A → K → Part → Type 0) (kept : S → K) (numbers : S → List ℕ)
+    (own : Addr) (pace n : ℕ) (before after : Node A S) (old new : Outside) (end : ServeEnd) → meaning (kept before.shared) ≡ fixed_meaning → served ≡ is_served
+    → Stands stands_for kept numbers before (opening own []) [] → ServesNode meaning served stands_for kept numbers pace n before after old new end
+    → ServeRuns own pace n old new (status_of end)
+greeted meaning served stands_for kept numbers own pace n before after old new end means serves st it =
+    let P : AbstractNode → Type 0 = λ a. Stands stands_for kept numbers before a a.past in
+    let Q : AbstractNode → Type 0 = λ a. Stands stands_for kept numbers after a a.past in
+    let one = subst (λ (m : Meaning). WroteBy end m served before.addr (line_events before.addr pace it.taken) P Q old.written new.written) means it.wrote in
+    let two = subst (λ (s : ℕ → Bool). WroteBy end fixed_meaning s before.addr (line_events before.addr pace it.taken) P Q old.written new.written) serves one in
+    let three = subst (λ (o : Addr). WroteBy end fixed_meaning is_served o (line_events o pace it.taken) P Q old.written new.written) st.addr two in
+    runs own pace n old new end
+    (record { taken = it.taken; consumed = it.consumed; ends = it.ends; written = writes_by end own pace it.taken P Q old.written new.written st three })

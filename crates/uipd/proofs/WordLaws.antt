@@ -1,12 +1,12 @@
 -- Numbers and commands in words.
-use Rattle.std.proofs.Common.{◌≡◌, ℕ, ◌^◌, ◌<◌, true, false, cond, List, [], ◌∷◌, length, nat_lt, None, Some, rules, Result, Ok, Err, refl, ◌∙◌, arith}
+use Rattle.std.proofs.Common.{◌≡◌, ℕ, ◌^◌, ◌<◌, true, false, cond, List, [], ◌∷◌, length, nat_lt, None, Some, rules, Result, Ok, Err, refl, ◌∙◌, arith, map}
 use Rattle.std.specs.Char.{is_ascii_digit}
 use Rattle.std.specs.List.{list_all}
 use Rattle.std.specs.Result.{result_ok, OkIff}
 use Rattle.std.specs.Str.Parse.{digits_value, ParsesUnsigned}
 use Rattle.std.proofs.lemmas.Bool.{ltb-true, lt-ltb}
 use Rattle.std.proofs.lemmas.Str.Parse.{IsNumeralModel, numerals_by_value, parse_digits}
-use Rattle.uipd.specs.Words.{is_number, leads_badly, number_of}
+use Rattle.uipd.specs.Words.{is_number, leads_badly, limits_at, limits_of, number_of}
 
 own : IsNumeralModel (λ ds. list_all is_ascii_digit ds ≡ true) (digits_value 10)
 own = numerals_by_value _ (search rules)
@@ -32,3 +32,9 @@ pub number_parsed : {E : Type 0} (text : List ℕ) (r : Result ℕ E) → Parses
 number_parsed text r h e =
     answered (digits_value 10 text) r (length text) (not_empty text e) (parse_digits own 64 text r h (all_digits text e))
     ∙ rw e refl
+
+-- fewer than two words name no pace
+pub few : {A : Type 0} (f : A → List ℕ) (words : List A) → length words < 2 → limits_at 0 (map f words) ≡ limits_of (map f words)
+few f [] h = refl
+few f (a ∷ []) h = refl
+few f (a ∷ b ∷ words) h = absurd (omega arith)

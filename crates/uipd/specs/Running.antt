@@ -8,7 +8,8 @@ use Rattle.site_tools.specs.Due.{Due, check_due}
 use Rattle.site_tools.specs.Ending.{Desk, Ends}
 use Rattle.uipd.specs.declared.status.Status.{Status}
 use Rattle.uipd.specs.declared.status.Status.TheVariants as status
-use Rattle.uipd.specs.Serving.{Outside as Line, ServeRuns}
+use Rattle.serve_loop.specs.Outside.{Outside as Line}
+use Rattle.uipd.specs.Serving.{ServeRuns}
 use Rattle.uipd.specs.Words.{Task, Serves, Checks, task_of}
 
 -- a shelf, a line and its output, as they are told, with the counts of their faults
@@ -63,7 +64,7 @@ SiteRuns due old new status.Budget = ⊥
 -- words without a form are told, and only they; other words are done
 abbrev pub TaskRuns : Option Task → Surroundings → Surroundings → Status → Type 0
 TaskRuns None old new result = result ≡ status.BadWords
-TaskRuns (Some (Serves own n)) old new result = ServeRuns own n (line_of old) (line_of new) result × LeavesShelf old new
+TaskRuns (Some (Serves own pace n)) old new result = ServeRuns own pace n (line_of old) (line_of new) result × LeavesShelf old new
 TaskRuns (Some (Checks site)) old new result = SiteRuns (check_due site) (desk_of old) (desk_of new) result × LeavesLine old new
 
 -- the headline of a run

@@ -2,21 +2,22 @@
 use Rattle.std.specs.Prelude.{ℕ, ◌-◌, ◌^◌, ◌==◌, ◌&&◌, nat_lt, if◌then◌else◌, Bool, true, false, List, [], ◌∷◌, Option, None, Some, codes}
 use Rattle.std.specs.Char.{is_ascii_digit}
 use Rattle.std.specs.List.{list_all}
-use Rattle.std.specs.Option.{option_or}
 use Rattle.std.specs.Str.{bytes_eq}
 use Rattle.std.specs.Str.Parse.{digits_value}
 use Rattle.uip_wire.specs.Addr.{quad_of}
+use Rattle.uip_wire.specs.declared.addr.Addr.{Addr}
 use Rattle.uipd.specs.declared.words.Command.{Command}
 use Rattle.uipd.specs.declared.words.Command.TheVariants.{Serve, Check}
+use Rattle.uipd.specs.declared.words.Limits.{Limits}
 
--- what the words ask for: to serve a line at an address, up to so many items; to look at the image of a site
+-- what the words ask for: to serve a line at an address and a pace, up to so many items; to look at the image of a site
 pub data Task : Type 0 where
-  Serves : (own : List ℕ) (items : ℕ) → Task
+  Serves : (own : Addr) (pace items : ℕ) → Task
   Checks : (site : List ℕ) → Task
 
 -- what a command of the code asks for
 abbrev pub asked : Command → Task
-asked (Serve own items) = Serves own.0 items
+asked (Serve own limits) = Serves own limits.pace limits.items
 asked (Check site) = Checks site.now
 
 -- nothing, or a zero in front of something
@@ -37,26 +38,42 @@ number_of text = if is_number text && nat_lt (digits_value 10 text) (2 ^ 64) the
 abbrev pub all_items : ℕ
 all_items = 2 ^ 64 - 1
 
-abbrev pub serve_at : Option (List ℕ) → Option ℕ → Option Task
-serve_at (Some own) (Some items) = Some (Serves own items)
+-- no more words, or `tty` alone, which says only what a read of nothing means
+abbrev pub ends_here : List (List ℕ) → Bool
+ends_here [] = true
+ends_here (word ∷ []) = bytes_eq word (codes "tty")
+ends_here (word ∷ next ∷ words) = false
+
+abbrev pub limited : ℕ → Option ℕ → Bool → Option Limits
+limited pace (Some items) true = Some (record { pace = pace; items = items })
+limited pace (Some items) false = None
+limited pace None whole = None
+
+-- behind the pace: optionally `items N`, then the end
+abbrev pub limits_at : ℕ → List (List ℕ) → Option Limits
+limits_at pace (word ∷ number ∷ words) =
+    if bytes_eq word (codes "items") then limited pace (number_of number) (ends_here words) else None
+limits_at pace words = limited pace (Some all_items) (ends_here words)
+
+abbrev pub limits_from : Option ℕ → List (List ℕ) → Option Limits
+limits_from (Some pace) words = limits_at pace words
+limits_from None words = None
+
+-- optionally `pace K`, then what stands behind the pace, which is 0 without these words
+abbrev pub limits_of : List (List ℕ) → Option Limits
+limits_of (word ∷ number ∷ words) =
+    if bytes_eq word (codes "pace") then limits_from (number_of number) words else limits_at 0 (word ∷ number ∷ words)
+limits_of words = limits_at 0 words
+
+abbrev pub serve_at : Option (List ℕ) → Option Limits → Option Task
+serve_at (Some own) (Some limits) = Some (Serves (record { 0 = own }) limits.pace limits.items)
 serve_at (Some own) None = None
-serve_at None items = None
+serve_at None limits = None
 
-abbrev pub serve_with : List ℕ → List ℕ → Option ℕ → Option Task
-serve_with site address items = if bytes_eq site (codes "-") then serve_at (quad_of address) items else None
-
--- `- ADDR`, or with `items N` behind it
-abbrev pub serve_plain : List (List ℕ) → Option Task
-serve_plain (site ∷ address ∷ []) = serve_with site address (Some all_items)
-serve_plain words = None
-
-abbrev pub serve_limited : List (List ℕ) → Option Task
-serve_limited (site ∷ address ∷ limit ∷ number ∷ []) =
-    if bytes_eq limit (codes "items") then serve_with site address (number_of number) else None
-serve_limited words = None
-
+-- `- ADDR`, and further words
 abbrev pub serve_words : List (List ℕ) → Option Task
-serve_words words = option_or (serve_plain words) (serve_limited words)
+serve_words (site ∷ address ∷ words) = if bytes_eq site (codes "-") then serve_at (quad_of address) (limits_of words) else None
+serve_words words = None
 
 -- `SITE`
 abbrev pub check_words : List (List ℕ) → Option Task

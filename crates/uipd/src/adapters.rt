@@ -3,26 +3,33 @@ ghost use Rattle.uipd.specs.Telling.{items_left};
 use std::io::{Read, Write};
 use uip_edge::{Failed, Got, Link, Sink};
 
-/// A line that is read from any reader. A read of nothing is its end.
+/// A line that is read from any reader. A read of nothing is its end, or with `tty` a silence, as a terminal gives after a
+/// time without a byte.
 #[derive(Drop)]
 pub struct ReaderLink<R: Read> {
     inner: R,
+    tty: bool,
     faults: u64,
 }
 
 impl<R: Read> ReaderLink<R> {
-    pub fn new(inner: R) -> ReaderLink<R> {
-        ReaderLink { inner, faults: 0 }
+    pub fn new(inner: R, tty: bool) -> ReaderLink<R> {
+        ReaderLink {
+            inner,
+            tty,
+            faults: 0,
+        }
     }
 }
 
 impl<R: Read> Link for ReaderLink<R> {
-    ghost coming = { λ link. items_left (R.remaining link.inner) };
+    ghost coming = { λ link. items_left link.tty (R.remaining link.inner) };
 
     ghost faults = { λ link. link.faults };
 
     fn next(&mut self, buf: &mut [u8]) -> Result<Got, Failed> {
         match self.inner.read(buf) {
+            Ok(0) if self.tty => Ok(Got::Quiet),
             Ok(0) => Ok(Got::End),
             Ok(count) => Ok(Got::Bytes(count)),
             Err(_) => {

@@ -7,10 +7,8 @@ mod adapters;
 mod file_shelf;
 mod run;
 mod serve;
-mod server;
 #[cfg(test)]
 mod site_tests;
-mod stack;
 mod status;
 #[cfg(test)]
 mod tests;
@@ -23,14 +21,16 @@ use status::Status;
 use std::process::ExitCode;
 use std::{env, io};
 
-/// Reads the words behind the program's name and does what they say.
+/// Reads the words behind the program's name and does what they say. It looks at them only to learn whether the line is a
+/// terminal, which the last word says.
 fn run_words(rt: HostRuntime) -> io::Result<Status> {
     let mut words = Vec::new(rt.alloc());
     for word in env::args(&rt)?.skip(1) {
         words.push(word)?;
     }
     let mut shelf = FileShelf::new(&rt, rt.alloc());
-    let mut link = ReaderLink::new(rt.stdin());
+    let tty = words.last().is_some_and(|word| word.as_str() == "tty");
+    let mut link = ReaderLink::new(rt.stdin(), tty);
     let mut out = WriterSink::new(rt.stdout());
     Ok(run(rt.alloc(), &words, &mut shelf, &mut link, &mut out))
 }

@@ -1,13 +1,8 @@
-ghost use Rattle.std.specs.Prelude.{◌≡◌, ◌<◌, ◌⊎◌, List, ℕ, Option, Some, length, map, string_bytes};
-ghost use Rattle.uip_edge.specs.Coming.{Consumes};
-ghost use Rattle.uip_edge.specs.declared.item.Item.{Item};
-ghost use Rattle.uip_edge.specs.declared.serve_end.ServeEnd.{ServeEnd as AnyEnd};
-ghost use Rattle.uip_edge.specs.declared.serve_end.ServeEnd.TheVariants.{Budget, End};
+ghost use Rattle.std.specs.Prelude.{◌≡◌, ◌⊎◌, Option, map, string_bytes};
 ghost use Rattle.uip_edge.specs.Shelving.{Files};
 ghost use Rattle.site_tools.specs.Due.{Due};
 ghost use Rattle.site_tools.specs.Ending.{Desk, IsCalm, IsDue, LacksFile, end_of};
 ghost use Rattle.uipd.specs.Running.{surroundings, Runs, SiteRuns, status_of_site};
-ghost use Rattle.uipd.specs.Serving.{Outside, Ends, Unfailed};
 ghost use Rattle.uipd.specs.declared.status.Status.TheVariants.{BadWords, NoMemory};
 ghost use Rattle.uipd.specs.declared.status.Status.{Status as Answer};
 
@@ -34,22 +29,10 @@ pub fn run<H: Shelf, L: Link, K: Sink>(
 {
     match command_of(words) {
         None => Status::BadWords,
-        Some(Command::Serve(own, items)) => serve(alloc, own, items, link, out),
+        Some(Command::Serve(own, limits)) => serve(alloc, own, limits, link, out),
         Some(Command::Check(site)) => worked(check(alloc, site.as_bytes(), shelf, out)),
     }
 }
-
-/// The budget is told wherever as many items were taken as were allowed and nothing failed.
-pub fn budget_is_told()
-    ensures { (own : List ℕ) (n : ℕ) (old new : Outside) (taken : List Item) (end : AnyEnd) → Ends own n old new taken end
-        → length taken ≡ n → Unfailed old new → end ≡ Budget }
-{}
-
-/// The end is told wherever the link tells fewer items than are allowed and nothing failed.
-pub fn done_is_told()
-    ensures { (own : List ℕ) (n : ℕ) (old new : Outside) (all taken : List Item) (end : AnyEnd) → old.coming ≡ Some all → length all < n
-        → Consumes old.coming new.coming taken → Ends own n old new taken end → Unfailed old new → end ≡ End }
-{}
 
 /// Work on an image ends as is due for the shelf's files wherever no count rose and no file is missing, or memory was short.
 pub fn image_is_told()

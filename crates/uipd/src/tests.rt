@@ -56,8 +56,8 @@ const LARGEST_PONG_HEAD: [u8; 29] = [
     0xFD, 0, 1, 0, 1,
 ];
 
-// A SYN to a port that nothing serves.
-const SYN: [u8; 42] = [
+// A SYN to a port that nothing serves, its refusal, and a reset, which is not answered.
+const STRAY_SYN: [u8; 42] = [
     0xC0, 0x45, 0, 0, 0x28, 0, 1, 0, 0, 0x40, 6, 0x66, 0xCD, 10, 0, 0, 2, 10, 0, 0, 1, 4, 1, 0,
     0x51, 0, 0, 3, 0xE8, 0, 0, 0, 0, 0x50, 2, 0x20, 0, 0x73, 0xA6, 0, 0, 0xC0,
 ];
@@ -72,11 +72,42 @@ const RESET: [u8; 42] = [
     0x51, 0, 0, 3, 0xE8, 0, 0, 0, 0, 0x50, 4, 0x20, 0, 0x73, 0xA4, 0, 0, 0xC0,
 ];
 
+// A SYN as a Linux host sends it, with five options; its answer, and that answer sent again.
+const SYN: [u8; 62] = [
+    0xC0, 0x45, 0, 0, 0x3C, 0, 1, 0x40, 0, 0x40, 6, 0x26, 0xB9, 0x0A, 0, 0, 2, 0x0A, 0, 0, 1, 4, 1,
+    0, 0x50, 0, 0, 3, 0xE8, 0, 0, 0, 0, 0xA0, 2, 0xFA, 0xF0, 0x32, 0xC1, 0, 0, 2, 4, 3, 0xC6, 4, 2,
+    8, 0x0A, 0, 0, 0, 1, 0, 0, 0, 0, 1, 3, 3, 7, 0xC0,
+];
+
+const SYN_ACK: [u8; 46] = [
+    0xC0, 0x45, 0, 0, 0x2C, 0, 1, 0, 0, 0x40, 6, 0x66, 0xC9, 0x0A, 0, 0, 1, 0x0A, 0, 0, 2, 0, 0x50,
+    4, 1, 0, 0, 0, 0, 0, 0, 3, 0xE9, 0x60, 0x12, 5, 0xB4, 0x76, 0x26, 0, 0, 2, 4, 5, 0xB4, 0xC0,
+];
+
+const SENT_AGAIN: [u8; 46] = [
+    0xC0, 0x45, 0, 0, 0x2C, 0, 2, 0, 0, 0x40, 6, 0x66, 0xC8, 0x0A, 0, 0, 1, 0x0A, 0, 0, 2, 0, 0x50,
+    4, 1, 0, 0, 0, 0, 0, 0, 3, 0xE9, 0x60, 0x12, 5, 0xB4, 0x76, 0x26, 0, 0, 2, 4, 5, 0xB4, 0xC0,
+];
+
+// The client's acknowledgement with one byte of text, and the greeting that it is answered with.
+const REQUEST: [u8; 43] = [
+    0xC0, 0x45, 0, 0, 0x29, 0, 2, 0, 0, 0x40, 6, 0x66, 0xCB, 0x0A, 0, 0, 2, 0x0A, 0, 0, 1, 4, 1, 0,
+    0x50, 0, 0, 3, 0xE9, 0, 0, 0, 1, 0x50, 0x18, 0x20, 0, 0xFB, 0x8D, 0, 0, 0x78, 0xC0,
+];
+
+const GREETING: [u8; 48] = [
+    0xC0, 0x45, 0, 0, 0x2E, 0, 2, 0, 0, 0x40, 6, 0x66, 0xC6, 0x0A, 0, 0, 1, 0x0A, 0, 0, 2, 0, 0x50,
+    4, 1, 0, 0, 0, 1, 0, 0, 3, 0xEA, 0x50, 0x18, 5, 0xB4, 0x49, 0xF8, 0, 0, 0x68, 0x65, 0x6C, 0x6C,
+    0x6F, 0x0A, 0xC0,
+];
+
 /// A run: its words, its link and sink, and what it has to write and answer.
 #[derive(Drop)]
 struct Row<'a> {
     words: &'a [&'a str],
     input: &'a [u8],
+    /// How many silences follow.
+    silences: usize,
     link_fails: &'a [u64],
     room: usize,
     output: &'a [u8],
@@ -88,6 +119,7 @@ impl<'a> Row<'a> {
         Row {
             words: &SERVE,
             input,
+            silences: 0,
             link_fails: &[],
             room: 4096,
             output,
@@ -104,10 +136,13 @@ pub fn words_of(alloc: Global, words: &[&str]) -> Result<Vec<String>, AllocError
     Ok(list)
 }
 
-fn items_of(alloc: Global, bytes: &[u8]) -> Result<Vec<Item>, AllocError> {
+fn items_of(alloc: Global, bytes: &[u8], silences: usize) -> Result<Vec<Item>, AllocError> {
     let mut items = Vec::new(alloc);
     for byte in bytes {
         items.push(Item::Byte(*byte))?;
+    }
+    for _ in 0..silences {
+        items.push(Item::Quiet)?;
     }
     Ok(items)
 }
@@ -116,7 +151,11 @@ fn items_of(alloc: Global, bytes: &[u8]) -> Result<Vec<Item>, AllocError> {
 fn check(rt: &impl Abort, alloc: Global, row: &Row, most: usize) -> Result<(), Fail> {
     let words = words_of(alloc, row.words)?;
     let fails = row.link_fails.to_vec(alloc)?;
-    let mut link = MemLink::new(items_of(alloc, row.input)?, most.max(1), fails);
+    let mut link = MemLink::new(
+        items_of(alloc, row.input, row.silences)?,
+        most.max(1),
+        fails,
+    );
     let Ok(mut out) = MemSink::new(alloc, row.room, Vec::new(alloc)) else {
         return Err("no memory".into());
     };
@@ -146,7 +185,7 @@ fn answers_each_datagram(rt: HostRuntime) -> Result<(), Fail> {
         Row::new(&ESCAPED_PING, &ESCAPED_PONG),
         Row::new(&STRAY_PING, &STRAY_PONG),
         Row::new(&PADDED_PING, &PONG),
-        Row::new(&SYN, &REFUSAL),
+        Row::new(&STRAY_SYN, &REFUSAL),
         Row::new(&RESET, &[]),
     ];
     for row in &rows {
@@ -172,6 +211,88 @@ fn takes_the_largest_frame(rt: HostRuntime) -> Result<(), Fail> {
     check_cuts(&rt, alloc, &Row::new(&longer, &PONG))
 }
 
+fn joined(alloc: Global, first: &[u8], second: &[u8]) -> Result<Vec<u8>, AllocError> {
+    let mut text = first.to_vec(alloc)?;
+    text.extend_from_slice(second)?;
+    Ok(text)
+}
+
+#[test]
+fn serves_the_greeting(rt: HostRuntime) -> Result<(), Fail> {
+    let alloc = rt.alloc();
+    let asked = joined(alloc, &SYN, &REQUEST)?;
+    let greeted = joined(alloc, &SYN_ACK, &GREETING)?;
+    let again = joined(alloc, &SYN_ACK, &SENT_AGAIN)?;
+    // 186 bytes without a frame: with the 62 of the SYN four times as many.
+    let longer = joined(alloc, &SYN, &[0xC0; 186])?;
+    let rows = [
+        Row::new(&asked, &greeted),
+        Row {
+            silences: 3,
+            ..Row::new(&SYN, &SYN_ACK)
+        },
+        Row {
+            silences: 4,
+            ..Row::new(&SYN, &again)
+        },
+        Row {
+            words: &["serve", "-", "10.0.0.1", "pace", "62"],
+            ..Row::new(&longer, &again)
+        },
+        Row {
+            words: &[
+                "serve", "-", "10.0.0.1", "pace", "62", "items", "247", "tty",
+            ],
+            status: Status::Budget,
+            ..Row::new(&longer, &SYN_ACK)
+        },
+    ];
+    for row in &rows {
+        check_cuts(&rt, alloc, row)?;
+    }
+    Ok(())
+}
+
+#[test]
+fn knows_its_words(rt: HostRuntime) -> Result<(), Fail> {
+    let bad: [&[&str]; 12] = [
+        &[],
+        &["serve"],
+        &["serve", "-"],
+        &["serve", "/", "10.0.0.1"],
+        &["serve", "-", "10.0.0.256"],
+        &["serve", "-", "10.0.0.1", "items", "01"],
+        &["serve", "-", "10.0.0.1", "pace"],
+        &["serve", "-", "10.0.0.1", "pace", "18446744073709551616"],
+        &["serve", "-", "10.0.0.1", "items", "2", "pace", "3"],
+        &["serve", "-", "10.0.0.1", "tty", "items", "2"],
+        &["serve", "-", "10.0.0.1", "tty", "tty"],
+        &["serve", "-", "10.0.0.1", "items", "tty"],
+    ];
+    for words in bad {
+        let row = Row {
+            words,
+            status: Status::BadWords,
+            ..Row::new(&PING, &[])
+        };
+        check(&rt, rt.alloc(), &row, 4096)?;
+    }
+    let greatest = Row {
+        words: &[
+            "serve",
+            "-",
+            "10.0.0.1",
+            "pace",
+            "18446744073709551615",
+            "items",
+            "18446744073709551615",
+            "tty",
+        ],
+        ..Row::new(&PING, &PONG)
+    };
+    check(&rt, rt.alloc(), &greatest, 4096)
+}
+
 #[test]
 fn stops_as_asked(rt: HostRuntime) -> Result<(), Fail> {
     let rows = [
@@ -192,16 +313,6 @@ fn stops_as_asked(rt: HostRuntime) -> Result<(), Fail> {
         Row {
             words: &["serve", "-", "10.0.0.1", "items", "0"],
             status: Status::Budget,
-            ..Row::new(&PING, &[])
-        },
-        Row {
-            words: &["serve", "-", "10.0.0.256"],
-            status: Status::BadWords,
-            ..Row::new(&PING, &[])
-        },
-        Row {
-            words: &["serve", "-", "10.0.0.1", "items", "01"],
-            status: Status::BadWords,
             ..Row::new(&PING, &[])
         },
         Row {

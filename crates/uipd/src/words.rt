@@ -1,17 +1,24 @@
 ghost use Rattle.std.specs.Prelude.{◌≡◌, Option, ℕ, map, option_map, string_bytes};
 ghost use Rattle.std.specs.Char.{is_ascii_digit};
 ghost use Rattle.std.specs.List.{list_all};
-ghost use Rattle.uipd.specs.Words.{asked, task_of, check_words as words_of_check, serve_words as words_of_serve, serve_limited as limited_words, serve_plain as plain_words, serve_with as serve_meant};
+ghost use Rattle.uipd.specs.Words.{asked, task_of, check_words as words_of_check, serve_words as words_of_serve};
+ghost use Rattle.uipd.specs.Words.{ends_here as no_more, limited as limits_meant, limits_at as limits_behind, limits_of as limits_spelled};
 ghost use Rattle.uipd.specs.Words.{number_of as number_meant, is_number as number_form, leads_badly as bad_lead};
 
 use uip_wire::Addr;
 
+/// At which pace the bytes of a line make ticks, where this is above 0, and how many items are taken of it at most.
+#[derive(Clone, Copy, Debug, PartialEq, Eq)]
+pub struct Limits {
+    pub pace: u64,
+    pub items: u64,
+}
+
 /// What the words ask for.
 #[derive(Clone, Copy, Debug, PartialEq, Eq)]
 pub enum Command<'a> {
-    /// `serve - ADDR`, and optionally `items N` behind it: the node without files serves the line at an address, and
-    /// takes so many items at most.
-    Serve(Addr, u64),
+    /// `serve - ADDR`, and further words: the node of the fixed greeting serves the line at an address.
+    Serve(Addr, Limits),
     /// `check SITE`: the files of an image are told, with the greatest lengths of their pages.
     Check(&'a str),
 }
@@ -28,44 +35,64 @@ pub fn command_of(words: &[String]) -> Option<Command<'_>>
     }
 }
 
-/// The words behind `serve`: `- ADDR`, or with `items N` behind it.
+/// The words behind `serve`: `- ADDR`, and further words.
 fn serve_words(words: &[String]) -> Option<Command<'_>>
     ensures { option_map asked result ≡ words_of_serve (map string_bytes words.now) }
 {
-    match serve_plain(words) {
-        Some(command) => Some(command),
-        None => serve_limited(words),
-    }
-}
-
-fn serve_plain(words: &[String]) -> Option<Command<'_>>
-    ensures { option_map asked result ≡ plain_words (map string_bytes words.now) }
-{
     match words {
-        [site, address] => serve_with(site, address, Some(u64::MAX)),
+        [site, address, words @ ..] if site.as_str() == "-" => Some(Command::Serve(
+            Addr::parse(address.as_bytes())?,
+            limits_of(words)?,
+        )),
         _ => None,
     }
 }
 
-fn serve_limited(words: &[String]) -> Option<Command<'_>>
-    ensures { option_map asked result ≡ limited_words (map string_bytes words.now) }
+/// The further words of a line: optionally `pace K`, then optionally `items N`, then optionally `tty`.
+fn limits_of(words: &[String]) -> Option<Limits>
+    ensures { result ≡ limits_spelled (map string_bytes words.now) }
 {
     match words {
-        [site, address, limit, number] if limit.as_str() == "items" => {
-            serve_with(site, address, number_of(number))
+        [word, number, rest @ ..] => {
+            if word.as_str() == "pace" {
+                return limits_at(number_of(number)?, rest);
+            }
+            limits_at(0, words)
         }
+        _ => limits_at(0, words),
+    }
+}
+
+/// The words behind the pace.
+fn limits_at(pace: u64, words: &[String]) -> Option<Limits>
+    ensures { result ≡ limits_behind pace (map string_bytes words.now) }
+{
+    match words {
+        [word, number, words @ ..] if word.as_str() == "items" => {
+            limited(pace, number_of(number), ends_here(words))
+        }
+        _ => limited(pace, Some(u64::MAX), ends_here(words)),
+    }
+}
+
+fn limited(pace: u64, items: Option<u64>, whole: bool) -> Option<Limits>
+    ensures { result ≡ limits_meant pace items whole }
+{
+    match items {
+        Some(items) if whole => Some(Limits { pace, items }),
         _ => None,
     }
 }
 
-/// The node without files at an address, with the number of items.
-fn serve_with<'a>(site: &str, address: &str, items: Option<u64>) -> Option<Command<'a>>
-    ensures { option_map asked result ≡ serve_meant site.now address.now items }
+/// Whether there are no more words, or `tty` alone, at which `main` looks.
+fn ends_here(words: &[String]) -> bool
+    ensures { result ≡ no_more (map string_bytes words.now) }
 {
-    if site != "-" {
-        return None;
+    match words {
+        [] => true,
+        [word] => word.as_str() == "tty",
+        _ => false,
     }
-    Some(Command::Serve(Addr::parse(address.as_bytes())?, items?))
 }
 
 /// The words behind `check`.
