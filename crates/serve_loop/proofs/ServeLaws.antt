@@ -95,6 +95,15 @@ module _ {A S K : Type 0} (meaning : K → Meaning) (served : ℕ → Bool) (sta
         record { done = it.done; later = it.later; front = it.front; after = it.after.stands; written = it.written };
   }
 
+  -- what was written goes on with a turn
+  pub on_wrote : (pace : ℕ) (taken items : List Item) (start node node' : Node A S) (a b c : Option (List ℕ))
+      → ((m : Meaning) (own : Addr) → Wrote m served own (line_events own pace taken) (At m own start) (At m own node) a b)
+      → ((m : Meaning) (own : Addr) → Wrote m served own (events_behind own pace (bytes_of taken) items) (At m own node) (At m own node') b c)
+      → (m : Meaning) (own : Addr) → Wrote m served own (line_events own pace (taken ++ items)) (At m own start) (At m own node') a c
+  on_wrote pace taken items start node node' a b c w t m own =
+      wrote_by m served own _ _ _ _ _ _ (events-then own pace [] taken items)
+      (wrote_then m served own (line_events own pace taken) (events_behind own pace (bytes_of taken) items) _ (At m own node) _ _ b _ (w m own) (t m own))
+
   -- a serving that ends in a turn
   pub stopped : (pace n : ℕ) (taken : List Item) (start node node' : Node A S) (old mid new : Outside) (decoder : State) (pacer : Pacer) (room : ℕ) (end : ServeEnd)
       → Consumes old.coming mid.coming taken → length taken < n → room + length taken ≤ n → mid.link_faults ≡ old.link_faults → mid.sink_faults ≡ old.sink_faults

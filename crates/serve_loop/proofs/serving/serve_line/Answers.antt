@@ -1,10 +1,10 @@
 use Rattle.std.proofs.Common.{◌++◌, [], refl, arith, ◌∙◌, length-take, length-append}
 use Rattle.uip_edge.proofs.Told.{Consumes-none, Consumes-then}
-use Rattle.serve_loop.specs.LineEvents.{bytes_of, events_behind, line_events}
+use Rattle.serve_loop.specs.LineEvents.{bytes_of}
 use Rattle.serve_loop.specs.Outside.{outside}
-use Rattle.serve_loop.proofs.EventLaws.{bytes_of-append, events-then}
-use Rattle.serve_loop.proofs.RunLaws.{wrote_by, wrote_none, wrote_then}
-use Rattle.serve_loop.proofs.ServeLaws.{spent, stopped}
+use Rattle.serve_loop.proofs.EventLaws.{bytes_of-append}
+use Rattle.serve_loop.proofs.RunLaws.{wrote_none}
+use Rattle.serve_loop.proofs.ServeLaws.{on_wrote, spent, stopped}
 use Rattle.serve_loop.proofs.serving.serve_line.Goals as goal
 
 pub loop-left-init : goal.loop-left-init
@@ -32,11 +32,11 @@ loop-left-preserved g c = record {
       let room = length-take c.min-room.result c.loop-left.buf in
       record {
         taken = inv.taken ++ turn.items;
-        consumed = Consumes-then _ _ _ inv.taken turn.items inv.consumed turn.consumed;
+        consumed = Consumes-then (g.L.Link.coming c.args.link.now) (g.L.Link.coming c.loop-left.link) (g.L.Link.coming c.turn.new.link) inv.taken turn.items inv.consumed turn.consumed;
         number = omega (arith, length-append inv.taken turn.items, turn.cause.0, inv.number, c.in-Went.ensures.fits.1, room);
         at = rw bytes_of-append turn.on;
-        wrote = λ m own. wrote_by m g.A.App.served own _ _ _ _ _ _ (events-then own pace [] inv.taken turn.items)
-            (wrote_then m g.A.App.served own (line_events own pace inv.taken) (events_behind own pace (bytes_of inv.taken) turn.items) _ _ _ _ _ _ (inv.wrote m own) (turn.wrote m own));
+        wrote = on_wrote g.A.App.meaning g.A.App.served g.A.App.stands_for g.A.App.kept g.A.App.numbers pace inv.taken turn.items c.args.node.now c.loop-left.node c.turn.new.node
+            (g.K.Sink.written c.args.sink.now) (g.K.Sink.written c.loop-left.sink) (g.K.Sink.written c.turn.new.sink) inv.wrote turn.wrote;
         link_same = turn.cause.1 ∙ inv.link_same;
         sink_same = turn.cause.2 ∙ inv.sink_same;
       };
