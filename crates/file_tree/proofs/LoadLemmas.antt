@@ -24,11 +24,11 @@ abbrev pub IsFrontOf : Option Files → List ℕ → List ℕ → Type 0
 IsFrontOf None name bytes = ⊤
 IsFrontOf (Some files) name bytes = IsFrontIn (files name) bytes
 
-pub record Loading (start now : Option Files) (before faults : ℕ) (name bytes : List ℕ) : Type 0 where
+pub record Loading (limit : ℕ) (start now : Option Files) (before faults : ℕ) (name bytes : List ℕ) : Type 0 where
   pub held : now ≡ start
   pub same : faults ≡ before
   pub front : IsFrontOf start name bytes
-  pub short : length bytes ≤ LONGEST_IMAGE + 1
+  pub short : length bytes ≤ limit + 1
 
 take-add : (k n : ℕ) (xs : List ℕ) → take k xs ++ take n (drop k xs) ≡ take (k + n) xs
 take-add k n xs =
@@ -48,41 +48,41 @@ pub front-more : (held : Option Files) (name bytes buf : List ℕ) (n : ℕ) →
 front-more None name bytes buf n front reads within = tt
 front-more (Some files) name bytes buf n front reads within = front-in-more (files name) bytes buf n front reads within
 
--- as much of a file as an image can have, and one byte more
-abbrev pub IsWhole : List ℕ → List ℕ → Type 0
-IsWhole bytes content = bytes ≡ take (LONGEST_IMAGE + 1) content
+-- as much of a file as the limit allows, and one byte more
+abbrev pub IsWhole : ℕ → List ℕ → List ℕ → Type 0
+IsWhole limit bytes content = bytes ≡ take (limit + 1) content
 
 -- at the file's end, and where enough was read
-ended-in : (o : Option (List ℕ)) (bytes buf : List ℕ) → IsFrontIn o bytes → ReadsFile o (length bytes) (Ok 0) buf → length bytes ≤ LONGEST_IMAGE + 1 → HoldsContent o (IsWhole bytes)
-ended-in None bytes buf front reads short = absurd reads
-ended-in (Some content) bytes buf front reads short =
+ended-in : (limit : ℕ) (o : Option (List ℕ)) (bytes buf : List ℕ) → IsFrontIn o bytes → ReadsFile o (length bytes) (Ok 0) buf → length bytes ≤ limit + 1 → HoldsContent o (IsWhole limit bytes)
+ended-in limit None bytes buf front reads short = absurd reads
+ended-in limit (Some content) bytes buf front reads short =
     let ended = reads.1.0 refl in
-    front ∙ take_all (length bytes) content ended ∙ sym (take_all (LONGEST_IMAGE + 1) content (omega arith))
+    front ∙ take_all (length bytes) content ended ∙ sym (take_all (limit + 1) content (omega arith))
 
-full-in : (o : Option (List ℕ)) (bytes : List ℕ) → IsFrontIn o bytes → length bytes ≡ LONGEST_IMAGE + 1 → HoldsContent o (IsWhole bytes)
-full-in None bytes front full = let none = ap length front in absurd (omega arith)
-full-in (Some content) bytes front full = front ∙ ap (λ n. take n content) full
+full-in : (limit : ℕ) (o : Option (List ℕ)) (bytes : List ℕ) → IsFrontIn o bytes → length bytes ≡ limit + 1 → HoldsContent o (IsWhole limit bytes)
+full-in limit None bytes front full = let none = ap length front in absurd (omega arith)
+full-in limit (Some content) bytes front full = front ∙ ap (λ n. take n content) full
 
-pub loading-ended : (held : Option Files) (name bytes buf : List ℕ) → IsFrontOf held name bytes → Reads held name (length bytes) (Ok 0) buf → length bytes ≤ LONGEST_IMAGE + 1 → HoldsFile held name (IsWhole bytes)
-loading-ended None name bytes buf front reads short = tt
-loading-ended (Some files) name bytes buf front reads short = ended-in (files name) bytes buf front reads short
+pub loading-ended : (limit : ℕ) (held : Option Files) (name bytes buf : List ℕ) → IsFrontOf held name bytes → Reads held name (length bytes) (Ok 0) buf → length bytes ≤ limit + 1 → HoldsFile held name (IsWhole limit bytes)
+loading-ended limit None name bytes buf front reads short = tt
+loading-ended limit (Some files) name bytes buf front reads short = ended-in limit (files name) bytes buf front reads short
 
-pub loading-full : (held : Option Files) (name bytes : List ℕ) → IsFrontOf held name bytes → length bytes ≡ LONGEST_IMAGE + 1 → HoldsFile held name (IsWhole bytes)
-loading-full None name bytes front full = tt
-loading-full (Some files) name bytes front full = full-in (files name) bytes front full
+pub loading-full : (limit : ℕ) (held : Option Files) (name bytes : List ℕ) → IsFrontOf held name bytes → length bytes ≡ limit + 1 → HoldsFile held name (IsWhole limit bytes)
+loading-full limit None name bytes front full = tt
+loading-full limit (Some files) name bytes front full = full-in limit (files name) bytes front full
 
-pub loading-stops : (start now : Option Files) (before faults : ℕ) (name bytes buf : List ℕ) (at n : ℕ) → Loading start now before faults name bytes
-    → Reads now name at (Ok n) buf → at ≡ length bytes → n ≡ 0 → HoldsFile start name (IsWhole bytes)
-loading-stops start now before faults name bytes buf at n l reads at_is none =
-    loading-ended start name bytes buf l.front
+pub loading-stops : (limit : ℕ) (start now : Option Files) (before faults : ℕ) (name bytes buf : List ℕ) (at n : ℕ) → Loading limit start now before faults name bytes
+    → Reads now name at (Ok n) buf → at ≡ length bytes → n ≡ 0 → HoldsFile start name (IsWhole limit bytes)
+loading-stops limit start now before faults name bytes buf at n l reads at_is none =
+    loading-ended limit start name bytes buf l.front
     (subst (λ k. Reads start name (length bytes) (Ok k) buf) none
     (subst (λ k. Reads start name k (Ok n) buf) at_is (subst (λ h. Reads h name at (Ok n) buf) l.held reads)))
     l.short
 
-pub loading-more : (start now next : Option Files) (before faults raised : ℕ) (name bytes buf rest more : List ℕ) (at n : ℕ) → Loading start now before faults name bytes
-    → Reads now name at (Ok n) buf → at ≡ length bytes → n ≤ length buf → length bytes + n ≤ LONGEST_IMAGE + 1 → next ≡ now → raised ≡ faults → more ≡ bytes ++ take n (buf ++ rest)
-    → Loading start next before raised name more
-loading-more start now next before faults raised name bytes buf rest more at n l reads at_is within room kept same is =
+pub loading-more : (limit : ℕ) (start now next : Option Files) (before faults raised : ℕ) (name bytes buf rest more : List ℕ) (at n : ℕ) → Loading limit start now before faults name bytes
+    → Reads now name at (Ok n) buf → at ≡ length bytes → n ≤ length buf → length bytes + n ≤ limit + 1 → next ≡ now → raised ≡ faults → more ≡ bytes ++ take n (buf ++ rest)
+    → Loading limit start next before raised name more
+loading-more limit start now next before faults raised name bytes buf rest more at n l reads at_is within room kept same is =
     let taken : take n (buf ++ rest) ≡ take n buf = take-append-le n buf rest within in
     let items : more ≡ bytes ++ take n buf = is ∙ ap (λ x. bytes ++ x) taken in
     let size : length more ≡ length bytes + n = ap length items ∙ length-append bytes (take n buf) ∙ ap (λ k. length bytes + k) (length-take-le n buf within) in
@@ -109,7 +109,7 @@ read-front content =
       | inr short ↦ ap read_image (take_all (LONGEST_IMAGE + 1) content (omega arith))
     ]
 
-whole-reads : (bytes content : List ℕ) (read : Result (List File) SiteError) → IsWhole bytes content → read_image bytes ≡ read → read_image content ≡ read
+whole-reads : (bytes content : List ℕ) (read : Result (List File) SiteError) → IsWhole LONGEST_IMAGE bytes content → read_image bytes ≡ read → read_image content ≡ read
 whole-reads bytes content read whole e = sym (read-front content) ∙ ap read_image (sym whole) ∙ e
 
 content-map : (o : Option (List ℕ)) (P Q : List ℕ → Type 0) → ((content : List ℕ) → P content → Q content) → HoldsContent o P → HoldsContent o Q
@@ -120,11 +120,11 @@ file-map : (held : Option Files) (name : List ℕ) (P Q : List ℕ → Type 0) �
 file-map None name P Q along h = tt
 file-map (Some files) name P Q along h = content-map (files name) P Q along h
 
-pub loads-by : {X : Type 0} (view : X → List File) (held : Option Files) (name bytes : List ℕ) (r : Result X LoadFault) → HoldsFile held name (IsWhole bytes) → Gives view r (read_image bytes)
+pub loads-by : {X : Type 0} (view : X → List File) (held : Option Files) (name bytes : List ℕ) (r : Result X LoadFault) → HoldsFile held name (IsWhole LONGEST_IMAGE bytes) → Gives view r (read_image bytes)
     → Loads view held name r
 loads-by view held name bytes (Ok x) whole g =
-    file-map held name (IsWhole bytes) (λ content. read_image content ≡ Ok (view x)) (λ content w. whole-reads bytes content (Ok (view x)) w g) whole
+    file-map held name (IsWhole LONGEST_IMAGE bytes) (λ content. read_image content ≡ Ok (view x)) (λ content w. whole-reads bytes content (Ok (view x)) w g) whole
 loads-by view held name bytes (Err Shelf) whole g = tt
 loads-by view held name bytes (Err NoMemory) whole g = tt
 loads-by view held name bytes (Err (Bad e)) whole g =
-    file-map held name (IsWhole bytes) (λ content. read_image content ≡ Err e) (λ content w. whole-reads bytes content (Err e) w g) whole
+    file-map held name (IsWhole LONGEST_IMAGE bytes) (λ content. read_image content ≡ Err e) (λ content w. whole-reads bytes content (Err e) w g) whole

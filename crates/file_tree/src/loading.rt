@@ -3,28 +3,29 @@ ghost use Rattle.site_image.specs.declared.TheConstants.{LONGEST_IMAGE};
 ghost use Rattle.file_tree.specs.Loading.{HoldsFile, HasLoadCause, IsOutside};
 
 use crate::load_fault::LoadFault;
-use site_image::LONGEST_IMAGE;
 use std::alloc::Global;
 use uip_edge::Shelf;
 
 /// The size of the block that a file is read by.
 const BLOCK: usize = 4096;
 
-/// The bytes of a file from its front on, to its end or to one byte more than the longest image has.
-pub(crate) fn read_file<H: Shelf>(
+/// The bytes of a file from its front on, to its end or to one byte more than the limit.
+pub fn read_file<H: Shelf>(
     alloc: Global,
     shelf: &mut H,
     name: &[u8],
+    limit: usize,
 ) -> Result<Vec<u8>, LoadFault>
-    ensures bytes { IfOk result (λ bytes. HoldsFile (H.held shelf.old) name.now (λ content. bytes.items ≡ take (LONGEST_IMAGE + 1) content)) }
+    requires { limit ≤ LONGEST_IMAGE }
+    ensures bytes { IfOk result (λ bytes. HoldsFile (H.held shelf.old) name.now (λ content. bytes.items ≡ take (limit + 1) content)) }
     ensures outside { IfErr result IsOutside }
     ensures kept { H.held shelf.new ≡ H.held shelf.old }
     ensures cause { HasLoadCause (H.faults shelf.old) (H.faults shelf.new) (H.held shelf.old) name.now result }
 {
     let mut bytes = Vec::new(alloc);
     let mut block = [0u8; BLOCK];
-    while bytes.len() <= LONGEST_IMAGE {
-        let room = BLOCK.min(LONGEST_IMAGE + 1 - bytes.len());
+    while bytes.len() <= limit {
+        let room = BLOCK.min(limit + 1 - bytes.len());
         let count = match shelf.read(name, bytes.len() as u64, &mut block[..room]) {
             Ok(count) => count,
             Err(_) => return Err(LoadFault::Shelf),

@@ -15,7 +15,7 @@ use crate::loading::read_file;
 use crate::pages::{bytes_at, page_kind};
 use crate::reading::read_table;
 use crate::table::Table;
-use site_image::Place;
+use site_image::{LONGEST_IMAGE, Place};
 use std::alloc::Global;
 use std::marker::Model;
 use uip_edge::Shelf;
@@ -68,7 +68,7 @@ impl Site {
         ensures kept { H.held shelf.new ≡ H.held shelf.old }
         ensures cause { HasLoadCause (H.faults shelf.old) (H.faults shelf.new) (H.held shelf.old) name.now result }
     {
-        let image = read_file(alloc, shelf, name)?;
+        let image = read_file(alloc, shelf, name, LONGEST_IMAGE)?;
         Site::from_image(image, alloc)
     }
 
@@ -100,6 +100,7 @@ impl Site {
     /// The file of that name, and `None` exactly where no file has it.
     pub fn find(&self, name: &[u8]) -> Option<FileId>
         ensures found { IfSome result (λ id. option_map (λ file. file.name) (slice_get (files_of self.now) id.0) ≡ Some name.now) }
+        ensures within { IfSome result (λ id. id.0 < length (files_of self.now)) }
         ensures there { is_some result ≡ has_name (files_of self.now) name.now }
         ensures file { option_and_then (λ id. slice_get (files_of self.now) id.0) result ≡ file_named (files_of self.now) name.now }
     {

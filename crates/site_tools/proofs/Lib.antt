@@ -1,2 +1,3 @@
 pub mod EndLaws
 pub mod ReportLaws
+pub mod GatherLaws

@@ -1,6 +1,14 @@
 -- What is to be written for a shelf's files, and whether something is wrong with the image.
-use Rattle.std.specs.Prelude.{ℕ, List, Option, None, Some, option_map, Result, Ok, Err}
+use Rattle.std.specs.Prelude.{◌≡◌, [], ⊤, ℕ, List, Option, None, Some, option_map, Result, Ok, Err}
 use Rattle.uip_edge.specs.Shelving.{Files}
+use Rattle.file_tree.specs.declared.load_fault.LoadFault.{LoadFault}
+use Rattle.file_tree.specs.declared.load_fault.LoadFault.TheVariants as fault
+use Rattle.file_tree.specs.Packing.{listed, packed}
+use Rattle.file_tree.specs.Upgrading.{KindContent, upgraded, second_image}
+use Rattle.site_image.specs.Faults.{◌>>=◌}
+use Rattle.site_tools.specs.declared.halt.Halt.{Halt}
+use Rattle.site_tools.specs.declared.halt.Halt.TheVariants as halt
+use Rattle.site_tools.specs.Gathering.{NamedContent, list_of}
 use Rattle.site_image.specs.declared.site_error.SiteError.{SiteError}
 use Rattle.site_image.specs.Files.{File}
 use Rattle.site_image.specs.Faults.{read_image}
@@ -19,3 +27,29 @@ checked (Err error) = record { text = bad_line error; fault = Some error }
 -- what is due for the image under the name; none where the file is missing
 abbrev pub check_due : List ℕ → Files → Option Due
 check_due name files = option_map (λ content. checked (read_image content)) (files name)
+
+-- an image, or its first fault, for which nothing is written
+abbrev pub imaged : Result (List ℕ) SiteError → Due
+imaged (Ok image) = record { text = image; fault = None }
+imaged (Err error) = record { text = []; fault = Some error }
+
+-- what is due for a list of named files: its image in version 1
+abbrev pub pack_due : List NamedContent → Files → Option Due
+pack_due named files = option_map (λ list. imaged (list >>= λ entries. packed (listed entries))) (list_of named files)
+
+-- what is due for the site under the name and the words that give content types: its image in version 2
+abbrev pub upgrade_due : List ℕ → List KindContent → Files → Option Due
+upgrade_due name words files =
+    option_map (λ content. imaged (read_image content >>= λ old. second_image (upgraded words old))) (files name)
+
+-- the image is what was made, unless memory was short
+abbrev pub MakesImage : Result (List ℕ) SiteError → Result Due Halt → Type 0
+MakesImage image (Ok made) = made ≡ imaged image
+MakesImage image (Err halt.NoMemory) = ⊤
+MakesImage image (Err halt.Shelf) = ⊥
+
+-- what is made of a fault
+abbrev pub Refuses : LoadFault → Result Due Halt → Type 0
+Refuses fault.Shelf made = made ≡ Err halt.Shelf
+Refuses (fault.Bad error) made = made ≡ Ok (imaged (Err error))
+Refuses fault.NoMemory made = made ≡ Err halt.NoMemory

@@ -1,3 +1,4 @@
+pub mod Gathering
 pub mod Report
 pub mod Due
 pub mod Ending

@@ -4,13 +4,21 @@
 
 mod checking;
 mod finish;
+mod gathering;
 mod halt;
+mod imaging;
 mod laws;
+mod named_file;
 mod outcome;
+mod packing;
 mod report;
 mod site_end;
+mod upgrading;
 
 pub use checking::check;
-pub use file_tree::{SiteError, SiteWhy};
+pub use file_tree::{KindWord, SiteError, SiteWhy};
 pub use laws::ends_as_due;
+pub use named_file::NamedFile;
+pub use packing::pack;
 pub use site_end::SiteEnd;
+pub use upgrading::upgrade;

@@ -8,10 +8,14 @@ mod counting;
 pub use counting::{Counter, Tally};
 
 #[cfg(test)]
+mod example_image;
+#[cfg(test)]
 mod fields;
 #[cfg(test)]
 mod lines;
 #[cfg(test)]
 mod site;
+#[cfg(test)]
+mod sites;
 #[cfg(test)]
 mod web;

@@ -1,3 +1,4 @@
+pub mod PartLaws
 pub mod ServeLaws
 pub mod SiteLaws
 pub mod WordLaws

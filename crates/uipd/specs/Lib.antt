@@ -1,3 +1,4 @@
+pub mod Kinds
 pub mod Output
 pub mod Running
 pub mod Serving

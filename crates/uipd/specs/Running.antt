@@ -4,13 +4,13 @@ use Rattle.uip_edge.specs.declared.item.Item.{Item}
 use Rattle.uip_edge.specs.Shelving.{Files}
 use Rattle.site_tools.specs.declared.site_end.SiteEnd.{SiteEnd}
 use Rattle.site_tools.specs.declared.site_end.SiteEnd.TheVariants as ends
-use Rattle.site_tools.specs.Due.{Due, check_due}
+use Rattle.site_tools.specs.Due.{Due, check_due, pack_due, upgrade_due}
 use Rattle.site_tools.specs.Ending.{Desk, Ends}
 use Rattle.uipd.specs.declared.status.Status.{Status}
 use Rattle.uipd.specs.declared.status.Status.TheVariants as status
 use Rattle.serve_loop.specs.Outside.{Outside as Line}
 use Rattle.uipd.specs.Serving.{ServeRuns}
-use Rattle.uipd.specs.Words.{Task, Serves, Checks, task_of}
+use Rattle.uipd.specs.Words.{Task, Serves, Checks, Packs, Upgrades, task_of}
 
 -- a shelf, a line and its output, as they are told, with the counts of their faults
 pub record Surroundings : Type 0 where
@@ -66,6 +66,8 @@ abbrev pub TaskRuns : Option Task → Surroundings → Surroundings → Status �
 TaskRuns None old new result = result ≡ status.BadWords
 TaskRuns (Some (Serves own pace n)) old new result = ServeRuns own pace n (line_of old) (line_of new) result × LeavesShelf old new
 TaskRuns (Some (Checks site)) old new result = SiteRuns (check_due site) (desk_of old) (desk_of new) result × LeavesLine old new
+TaskRuns (Some (Packs files)) old new result = SiteRuns (pack_due files) (desk_of old) (desk_of new) result × LeavesLine old new
+TaskRuns (Some (Upgrades site kinds)) old new result = SiteRuns (upgrade_due site kinds) (desk_of old) (desk_of new) result × LeavesLine old new
 
 -- the headline of a run
 abbrev pub Runs : List (List ℕ) → Surroundings → Surroundings → Status → Type 0

@@ -1,24 +1,56 @@
 -- The words of the command line.
-use Rattle.std.specs.Prelude.{ℕ, ◌-◌, ◌^◌, ◌==◌, ◌&&◌, nat_lt, if◌then◌else◌, Bool, true, false, List, [], ◌∷◌, Option, None, Some, codes}
+use Rattle.std.specs.Prelude.{ℕ, ◌-◌, ◌^◌, ◌==◌, ◌&&◌, nat_lt, if◌then◌else◌, Bool, true, false, List, [], ◌∷◌, Option, None, Some, codes, length, map, string_bytes}
 use Rattle.std.specs.Char.{is_ascii_digit}
-use Rattle.std.specs.List.{list_all}
+use Rattle.std.specs.List.{list_all, list_any, before_first, after_first}
 use Rattle.std.specs.Str.{bytes_eq}
 use Rattle.std.specs.Str.Parse.{digits_value}
 use Rattle.uip_wire.specs.Addr.{quad_of}
 use Rattle.uip_wire.specs.declared.addr.Addr.{Addr}
+use Rattle.site_image.specs.Names.{is_kind}
+use Rattle.file_tree.specs.Upgrading.{KindContent}
+use Rattle.site_tools.specs.Gathering.{NamedContent}
 use Rattle.uipd.specs.declared.words.Command.{Command}
-use Rattle.uipd.specs.declared.words.Command.TheVariants.{Serve, Check}
+use Rattle.uipd.specs.declared.words.Command.TheVariants.{Serve, Check, Pack, Upgrade}
 use Rattle.uipd.specs.declared.words.Limits.{Limits}
 
--- what the words ask for: to serve a line at an address and a pace, up to so many items; to look at the image of a site
+-- what the words ask for: to serve a line at an address and a pace, up to so many items; to look at the image of a site, to
+-- pack files into one, and to upgrade one
 pub data Task : Type 0 where
   Serves : (own : Addr) (pace items : ℕ) → Task
   Checks : (site : List ℕ) → Task
+  Packs : (files : List NamedContent) → Task
+  Upgrades : (site : List ℕ) (kinds : List KindContent) → Task
+
+-- a word of two parts, around its first `=`
+abbrev pub is_equals : ℕ → Bool
+is_equals b = b == 61
+
+abbrev pub has_parts : List ℕ → Bool
+has_parts word = list_any is_equals word
+
+abbrev pub front_part : List ℕ → List ℕ
+front_part word = before_first is_equals word
+
+abbrev pub back_part : List ℕ → List ℕ
+back_part word = after_first is_equals word
+
+-- `NAME=FILE`
+abbrev pub named_file : List ℕ → NamedContent
+named_file word = record { name = front_part word; file = back_part word }
+
+-- `NAME=TYPE`, where TYPE is a content type that is not empty
+abbrev pub is_kind_word : List ℕ → Bool
+is_kind_word word = has_parts word && nat_lt 0 (length (back_part word)) && is_kind (back_part word)
+
+abbrev pub kind_word : List ℕ → KindContent
+kind_word word = record { name = front_part word; kind = back_part word }
 
 -- what a command of the code asks for
 abbrev pub asked : Command → Task
 asked (Serve own limits) = Serves own limits.pace limits.items
 asked (Check site) = Checks site.now
+asked (Pack words) = Packs (map named_file (map string_bytes words.now))
+asked (Upgrade site words) = Upgrades site.now (map kind_word (map string_bytes words.now))
 
 -- nothing, or a zero in front of something
 abbrev pub leads_badly : List ℕ → Bool
@@ -80,10 +112,22 @@ abbrev pub check_words : List (List ℕ) → Option Task
 check_words (site ∷ []) = Some (Checks site)
 check_words words = None
 
+-- `NAME=FILE ..`, of which there is at least one
+abbrev pub pack_words : List (List ℕ) → Option Task
+pack_words [] = None
+pack_words (word ∷ words) = if list_all has_parts (word ∷ words) then Some (Packs (map named_file (word ∷ words))) else None
+
+-- `SITE NAME=TYPE ..`
+abbrev pub upgrade_words : List (List ℕ) → Option Task
+upgrade_words [] = None
+upgrade_words (site ∷ words) = if list_all is_kind_word words then Some (Upgrades site (map kind_word words)) else None
+
 -- by the command in front
 abbrev pub task_of : List (List ℕ) → Option Task
 task_of [] = None
 task_of (command ∷ words) =
     if bytes_eq command (codes "serve") then serve_words words
     else if bytes_eq command (codes "check") then check_words words
+    else if bytes_eq command (codes "pack") then pack_words words
+    else if bytes_eq command (codes "upgrade") then upgrade_words words
     else None

@@ -5,10 +5,12 @@
 
 mod adapters;
 mod file_shelf;
+mod parts;
 mod run;
 mod serve;
 #[cfg(test)]
 mod site_tests;
+mod site_work;
 mod status;
 #[cfg(test)]
 mod tests;

@@ -7,9 +7,9 @@ ghost use Rattle.uipd.specs.declared.status.Status.TheVariants.{BadWords, NoMemo
 ghost use Rattle.uipd.specs.declared.status.Status.{Status as Answer};
 
 use crate::serve::serve;
-use crate::status::{Status, worked};
+use crate::site_work::{check_site, pack_site, upgrade_site};
+use crate::status::Status;
 use crate::words::{Command, command_of};
-use site_tools::check;
 use std::alloc::Global;
 use uip_edge::{Link, Shelf, Sink};
 
@@ -30,7 +30,9 @@ pub fn run<H: Shelf, L: Link, K: Sink>(
     match command_of(words) {
         None => Status::BadWords,
         Some(Command::Serve(own, limits)) => serve(alloc, own, limits, link, out),
-        Some(Command::Check(site)) => worked(check(alloc, site.as_bytes(), shelf, out)),
+        Some(Command::Check(site)) => check_site(alloc, site, shelf, out),
+        Some(Command::Pack(words)) => pack_site(alloc, words, shelf, out),
+        Some(Command::Upgrade(site, words)) => upgrade_site(alloc, site, words, shelf, out),
     }
 }
 

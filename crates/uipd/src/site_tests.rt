@@ -12,21 +12,30 @@ use uip_edge::{Held, MemShelf, MemSink, Shelf, SureLink};
 
 const IMAGE: &[u8] = b"UIPSITE1\0\x01\x0b/index.html\0\0\0\x06hello\n";
 
-/// A run over one file `h`: its words, the calls of the shelf that fail, the sink's room, and what it has to write and answer.
+// A content type of 65 bytes.
+const LONG_KIND: &str =
+    "/index.html=aaaaaaaaaaaaaaaaaaaaaaaaaaaaaaaaaaaaaaaaaaaaaaaaaaaaaaaaaaaaaaaaa";
+
+const GOOD: &[u8] = b"/index.html 86\nfiles 1\n";
+
+/// A run over the files `h` and `i`: its words, their contents, the calls of the shelf that fail, the sink's room, and what it
+/// has to write and answer.
 #[derive(Clone, Copy, Drop)]
 struct Row<'a> {
     words: &'a [&'a str],
-    content: &'a [u8],
+    h: &'a [u8],
+    i: &'a [u8],
     fails: &'a [u64],
     room: usize,
     output: &'a [u8],
     status: Status,
 }
 
-fn checking<'a>(content: &'a [u8], output: &'a [u8], status: Status) -> Row<'a> {
+fn running<'a>(words: &'a [&'a str], h: &'a [u8], output: &'a [u8], status: Status) -> Row<'a> {
     Row {
-        words: &["check", "h"],
-        content,
+        words,
+        h,
+        i: b"hello\n",
         fails: &[],
         room: 4096,
         output,
@@ -34,16 +43,25 @@ fn checking<'a>(content: &'a [u8], output: &'a [u8], status: Status) -> Row<'a> 
     }
 }
 
+fn checking<'a>(h: &'a [u8], output: &'a [u8], status: Status) -> Row<'a> {
+    running(&["check", "h"], h, output, status)
+}
+
 fn bad(why: SiteWhy, entry: u32) -> Status {
     Status::BadSite(SiteError { why, entry })
 }
 
+fn held(alloc: Global, name: &[u8], content: &[u8]) -> Result<Held, AllocError> {
+    Ok(Held {
+        name: name.to_vec(alloc)?,
+        content: content.to_vec(alloc)?,
+    })
+}
+
 fn shelf_of(alloc: Global, row: &Row<'_>) -> Result<MemShelf, AllocError> {
     let mut files = Vec::new(alloc);
-    files.push(Held {
-        name: b"h".to_vec(alloc)?,
-        content: row.content.to_vec(alloc)?,
-    })?;
+    files.push(held(alloc, b"h", row.h)?)?;
+    files.push(held(alloc, b"i", row.i)?)?;
     Ok(MemShelf::new(files, row.fails.to_vec(alloc)?))
 }
 
@@ -60,6 +78,13 @@ fn check_row(rt: &impl Abort, alloc: Global, row: &Row<'_>) -> Result<(), Fail> 
     Ok(())
 }
 
+fn check_rows(rt: &impl Abort, alloc: Global, rows: &[Row<'_>]) -> Result<(), Fail> {
+    for row in rows {
+        check_row(rt, alloc, row)?;
+    }
+    Ok(())
+}
+
 #[test]
 fn checks_each_front_of_an_image(rt: HostRuntime) -> Result<(), Fail> {
     for len in 0..=IMAGE.len() {
@@ -67,7 +92,7 @@ fn checks_each_front_of_an_image(rt: HostRuntime) -> Result<(), Fail> {
             0..=7 => (b"bad site magic 0\n", bad(SiteWhy::Magic, 0)),
             8 | 9 => (b"bad site cut 0\n", bad(SiteWhy::Cut, 0)),
             10..=31 => (b"bad site cut 1\n", bad(SiteWhy::Cut, 1)),
-            _ => (b"/index.html 86\nfiles 1\n", Status::Done),
+            _ => (GOOD, Status::Done),
         };
         check_row(&rt, rt.alloc(), &checking(&IMAGE[..len], output, status))?;
     }
@@ -76,7 +101,6 @@ fn checks_each_front_of_an_image(rt: HostRuntime) -> Result<(), Fail> {
 
 #[test]
 fn checks_images(rt: HostRuntime) -> Result<(), Fail> {
-    let good: &[u8] = b"/index.html 86\nfiles 1\n";
     let rows = [
         checking(
             b"UIPSITE1\0\x01\x0b/index.html\0\0\0\x06hello\n!",
@@ -134,7 +158,7 @@ fn checks_images(rt: HostRuntime) -> Result<(), Fail> {
         },
         Row {
             fails: &[3],
-            ..checking(IMAGE, good, Status::Done)
+            ..checking(IMAGE, GOOD, Status::Done)
         },
         Row {
             words: &["check", "g"],
@@ -158,17 +182,185 @@ fn checks_images(rt: HostRuntime) -> Result<(), Fail> {
         },
         Row {
             room: 7,
-            ..checking(IMAGE, &good[..7], Status::WriteFault)
+            ..checking(IMAGE, &GOOD[..7], Status::WriteFault)
         },
         Row {
             room: 7,
             ..checking(b"UIPSITE", b"bad sit", Status::WriteFault)
         },
     ];
-    for row in &rows {
-        check_row(&rt, rt.alloc(), row)?;
+    check_rows(&rt, rt.alloc(), &rows)
+}
+
+/// What `check` tells of the image with the byte at a place changed by its highest bit.
+fn told_of_damage(place: usize) -> (&'static [u8], Status) {
+    match place {
+        0..=7 => (b"bad site magic 0\n", bad(SiteWhy::Magic, 0)),
+        8 => (b"bad site many 0\n", bad(SiteWhy::TooMany, 0)),
+        9 => (b"bad site cut 2\n", bad(SiteWhy::Cut, 2)),
+        10..=21 => (b"bad site name 1\n", bad(SiteWhy::Name, 1)),
+        22..=25 => (b"bad site cut 1\n", bad(SiteWhy::Cut, 1)),
+        _ => (GOOD, Status::Done),
+    }
+}
+
+#[test]
+fn checks_damaged_images(rt: HostRuntime) -> Result<(), Fail> {
+    let alloc = rt.alloc();
+    let mut image = IMAGE.to_vec(alloc)?;
+    for place in 0..image.len() {
+        image[place] ^= 0x80;
+        let (output, status) = told_of_damage(place);
+        check_row(&rt, alloc, &checking(&image, output, status))?;
+        image[place] ^= 0x80;
     }
     Ok(())
+}
+
+/// The next of some bytes without order.
+fn next_byte(state: &mut u32) -> u8 {
+    *state = state.wrapping_mul(1_664_525).wrapping_add(1_013_904_223);
+    (*state >> 24) as u8
+}
+
+#[test]
+fn checks_random_bytes(rt: HostRuntime) -> Result<(), Fail> {
+    let alloc = rt.alloc();
+    let mut state = 7;
+    let mut bytes = Vec::new(alloc);
+    for _ in 0..200 {
+        let row = checking(&bytes, b"bad site magic 0\n", bad(SiteWhy::Magic, 0));
+        check_row(&rt, alloc, &row)?;
+        bytes.push(next_byte(&mut state))?;
+    }
+    Ok(())
+}
+
+#[test]
+fn packs_files(rt: HostRuntime) -> Result<(), Fail> {
+    let hello: &[u8] = b"hello\n";
+    let rows = [
+        running(&["pack", "/index.html=h"], hello, IMAGE, Status::Done),
+        running(
+            &["pack", "/x=h", "/y=i"],
+            b"",
+            b"UIPSITE1\0\x02\x02/x\0\0\0\0\x02/y\0\0\0\x06hello\n",
+            Status::Done,
+        ),
+        running(&["pack"], hello, b"", Status::BadWords),
+        running(&["pack", "/x=h", "h"], hello, b"", Status::BadWords),
+        running(&["pack", "=h"], hello, b"", bad(SiteWhy::Name, 1)),
+        running(&["pack", "/x=h", "y=h"], hello, b"", bad(SiteWhy::Name, 2)),
+        running(
+            &["pack", "/x=h", "/x=i"],
+            hello,
+            b"",
+            bad(SiteWhy::Twice, 2),
+        ),
+        running(
+            &["pack", "/x.shtml=h"],
+            b"%!:/y",
+            b"",
+            bad(SiteWhy::Include, 1),
+        ),
+        running(&["pack", "/x=h", "/y=g"], hello, b"", Status::ShelfFault),
+        running(&["pack", "/x=h=i"], hello, b"", Status::ShelfFault),
+        running(&["pack", "/x="], hello, b"", Status::ShelfFault),
+        Row {
+            fails: &[3],
+            ..running(&["pack", "/x=h", "/y=i"], hello, b"", Status::ShelfFault)
+        },
+        Row {
+            room: 8,
+            ..running(
+                &["pack", "/index.html=h"],
+                hello,
+                &IMAGE[..8],
+                Status::WriteFault,
+            )
+        },
+    ];
+    check_rows(&rt, rt.alloc(), &rows)
+}
+
+#[test]
+fn stops_reading_where_it_is_too_long(rt: HostRuntime) -> Result<(), Fail> {
+    let alloc = rt.alloc();
+    let longest = vec![in alloc; 0u8; 16_777_216]?;
+    let (h, i): (&[u8], &[u8]) = (&longest, b"1");
+    let rows = [
+        running(&["pack", "/x=h", "/y=g"], h, b"", Status::ShelfFault),
+        running(&["pack", "/x=h", "/y=i"], h, b"", bad(SiteWhy::TooLong, 0)),
+        Row {
+            i,
+            ..running(
+                &["pack", "/x=h", "/y=i", "/z=g"],
+                h,
+                b"",
+                bad(SiteWhy::TooLong, 0),
+            )
+        },
+        running(&["pack", "/x=h"], h, b"", bad(SiteWhy::TooLong, 0)),
+    ];
+    check_rows(&rt, alloc, &rows)
+}
+
+#[test]
+fn upgrades_images(rt: HostRuntime) -> Result<(), Fail> {
+    let typed: &[u8] = b"UIPSITE2\0\x01\x0b/index.html\x09text/html\0\0\0\x06hello\n";
+    let plain: &[u8] = b"UIPSITE2\0\x01\x0b/index.html\x01 \0\0\0\x06hello\n";
+    let rows = [
+        running(&["upgrade", "h"], IMAGE, typed, Status::Done),
+        running(&["upgrade", "h"], typed, typed, Status::Done),
+        running(
+            &["upgrade", "h", "/index.html= "],
+            IMAGE,
+            plain,
+            Status::Done,
+        ),
+        running(
+            &["upgrade", "h", "/index.html=x", "/y=z", "/index.html= "],
+            typed,
+            plain,
+            Status::Done,
+        ),
+        running(
+            &["upgrade", "h", "index.html=x"],
+            IMAGE,
+            typed,
+            Status::Done,
+        ),
+        running(&["upgrade"], IMAGE, b"", Status::BadWords),
+        running(
+            &["upgrade", "h", "/index.html"],
+            IMAGE,
+            b"",
+            Status::BadWords,
+        ),
+        running(
+            &["upgrade", "h", "/index.html="],
+            IMAGE,
+            b"",
+            Status::BadWords,
+        ),
+        running(
+            &["upgrade", "h", "/index.html=\n"],
+            IMAGE,
+            b"",
+            Status::BadWords,
+        ),
+        running(&["upgrade", "h", LONG_KIND], IMAGE, b"", Status::BadWords),
+        running(&["upgrade", "g"], IMAGE, b"", Status::ShelfFault),
+        running(&["upgrade", "-"], IMAGE, b"", Status::ShelfFault),
+        running(&["upgrade", "h"], &IMAGE[..15], b"", bad(SiteWhy::Cut, 1)),
+        running(
+            &["check", "h"],
+            b"UIPSITE2\0\x01\x0b/index.html\x18text/html; charset=utf-8\0\0\0\x06hello\n",
+            b"/index.html 101\nfiles 1\n",
+            Status::Done,
+        ),
+    ];
+    check_rows(&rt, rt.alloc(), &rows)
 }
 
 /// Reads up to four bytes from a place on.

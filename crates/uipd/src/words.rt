@@ -1,10 +1,13 @@
-ghost use Rattle.std.specs.Prelude.{◌≡◌, Option, ℕ, map, option_map, string_bytes};
+ghost use Rattle.std.specs.Prelude.{◌≡◌, Option, ℕ, map, option_map, string_bytes, IfSome};
 ghost use Rattle.std.specs.Char.{is_ascii_digit};
 ghost use Rattle.std.specs.List.{list_all};
-ghost use Rattle.uipd.specs.Words.{asked, task_of, check_words as words_of_check, serve_words as words_of_serve};
+ghost use Rattle.uipd.specs.Words.{asked, task_of, check_words as words_of_check, pack_words as words_of_pack, serve_words as words_of_serve};
+ghost use Rattle.uipd.specs.Words.{upgrade_words as words_of_upgrade};
 ghost use Rattle.uipd.specs.Words.{ends_here as no_more, limited as limits_meant, limits_at as limits_behind, limits_of as limits_spelled};
+ghost use Rattle.uipd.specs.Kinds.{AllowsKinds};
 ghost use Rattle.uipd.specs.Words.{number_of as number_meant, is_number as number_form, leads_badly as bad_lead};
 
+use crate::parts::{are_kind_words, have_parts};
 use uip_wire::Addr;
 
 /// At which pace the bytes of a line make ticks, where this is above 0, and how many items are taken of it at most.
@@ -21,16 +24,23 @@ pub enum Command<'a> {
     Serve(Addr, Limits),
     /// `check SITE`: the files of an image are told, with the greatest lengths of their pages.
     Check(&'a str),
+    /// `pack NAME=FILE ..`: files are packed into an image.
+    Pack(&'a [String]),
+    /// `upgrade SITE NAME=TYPE ..`: an image is upgraded to the version that gives each file a content type.
+    Upgrade(&'a str, &'a [String]),
 }
 
 /// The command that the words spell, if they have a form.
 pub fn command_of(words: &[String]) -> Option<Command<'_>>
-    ensures { option_map asked result ≡ task_of (map string_bytes words.now) }
+    ensures task { option_map asked result ≡ task_of (map string_bytes words.now) }
+    ensures kinds { IfSome result AllowsKinds }
 {
     match words {
         [] => None,
         [command, words @ ..] if command.as_str() == "serve" => serve_words(words),
         [command, words @ ..] if command.as_str() == "check" => check_words(words),
+        [command, words @ ..] if command.as_str() == "pack" => pack_words(words),
+        [command, words @ ..] if command.as_str() == "upgrade" => upgrade_words(words),
         _ => None,
     }
 }
@@ -101,6 +111,27 @@ fn check_words(words: &[String]) -> Option<Command<'_>>
 {
     match words {
         [site] => Some(Command::Check(site)),
+        _ => None,
+    }
+}
+
+/// The words behind `pack`, of which there is at least one.
+fn pack_words(words: &[String]) -> Option<Command<'_>>
+    ensures { option_map asked result ≡ words_of_pack (map string_bytes words.now) }
+{
+    if words.is_empty() || !have_parts(words) {
+        return None;
+    }
+    Some(Command::Pack(words))
+}
+
+/// The words behind `upgrade`: the site, and words that each give a file a content type.
+fn upgrade_words(words: &[String]) -> Option<Command<'_>>
+    ensures task { option_map asked result ≡ words_of_upgrade (map string_bytes words.now) }
+    ensures kinds { IfSome result AllowsKinds }
+{
+    match words {
+        [site, kinds @ ..] if are_kind_words(kinds) => Some(Command::Upgrade(site, kinds)),
         _ => None,
     }
 }

@@ -11,17 +11,17 @@ returns-clause-bytes g c =
     let bytes = c.loop-block.bytes.items in
     elim c.loop-block-test.branch [
       | else-loop-block-test w ↦
-          loading-full held c.args.name.now bytes c.loop-block.invariant.front
+          loading-full c.args.limit held c.args.name.now bytes c.loop-block.invariant.front
           (omega (arith, short, w.loop-block-test.false, c.len.ensures, c.loop-block.bytes.ok.0))
       | then-loop-block-test+in-Ok+then-count-eq0 w ↦
-          loading-stops held (g.H.Shelf.held c.loop-block.shelf) (g.H.Shelf.faults c.args.shelf.now) (g.H.Shelf.faults c.loop-block.shelf) c.args.name.now bytes w.read.new.buf
+          loading-stops c.args.limit held (g.H.Shelf.held c.loop-block.shelf) (g.H.Shelf.faults c.args.shelf.now) (g.H.Shelf.faults c.loop-block.shelf) c.args.name.now bytes w.read.new.buf
           w.len-in-loop-block-2.result w.in-Ok.count c.loop-block.invariant w.in-Ok.ensures.bytes (w.len-in-loop-block-2.ensures ∙ c.loop-block.bytes.ok.0) w.if-count-eq0.true
     ]
 
 pub loop-block-preserved : goal.loop-block-preserved
 loop-block-preserved g c =
     let bytes = c.loop-block.bytes.items in
-    loading-more (g.H.Shelf.held c.args.shelf.now) (g.H.Shelf.held c.loop-block.shelf) (g.H.Shelf.held c.read.new.self)
+    loading-more c.args.limit (g.H.Shelf.held c.args.shelf.now) (g.H.Shelf.held c.loop-block.shelf) (g.H.Shelf.held c.read.new.self)
     (g.H.Shelf.faults c.args.shelf.now) (g.H.Shelf.faults c.loop-block.shelf) (g.H.Shelf.faults c.read.new.self) c.args.name.now
     bytes c.read.new.buf (drop c.min-room.result c.loop-block.block) c.extend_from_slice.new.self.items c.len-in-loop-block-2.result c.in-Ok.count
     c.loop-block.invariant c.in-Ok.ensures.bytes (c.len-in-loop-block-2.ensures ∙ c.loop-block.bytes.ok.0) c.in-Ok.ensures.within

@@ -1,0 +1,7 @@
+use Rattle.std.proofs.Common.{◌≡◌, true, map, take, string_bytes}
+use Rattle.std.specs.List.{list_all}
+use Rattle.uipd.specs.Words.{has_parts}
+use Rattle.uipd.proofs.parts.have_parts.Given as goal
+
+abbrev pub invariant-loop-word : goal.invariant-loop-word
+invariant-loop-word l = list_all has_parts (map string_bytes (take l.word-index l.words)) ≡ true

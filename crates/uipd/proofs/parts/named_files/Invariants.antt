@@ -1,0 +1,6 @@
+use Rattle.std.proofs.Common.{◌≡◌, map, take, string_bytes}
+use Rattle.uipd.specs.Words.{named_file}
+use Rattle.uipd.proofs.parts.named_files.Given as goal
+
+abbrev pub invariant-loop-word : goal.invariant-loop-word
+invariant-loop-word l = l.files.items ≡ map named_file (map string_bytes (take l.word-index l.words))

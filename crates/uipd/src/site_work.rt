@@ -1,0 +1,62 @@
+ghost use Rattle.std.specs.Prelude.{◌≡◌, ◌<◌, All, IsTrue, map, string_bytes};
+ghost use Rattle.site_image.specs.Names.{is_kind};
+ghost use Rattle.site_tools.specs.Due.{check_due, pack_due, upgrade_due};
+ghost use Rattle.site_tools.specs.Ending.{desk};
+ghost use Rattle.uipd.specs.Running.{SiteRuns};
+ghost use Rattle.uipd.specs.Words.{back_part, kind_word, named_file};
+
+use crate::parts::{kind_words, named_files};
+use crate::status::{Status, worked};
+use site_tools::{check, pack, upgrade};
+use std::alloc::Global;
+use uip_edge::{Shelf, Sink};
+
+/// Tells the files of the image, or its first fault.
+pub fn check_site<H: Shelf, K: Sink>(
+    alloc: Global,
+    site: &str,
+    shelf: &mut H,
+    out: &mut K,
+) -> Status
+    ensures runs { SiteRuns (check_due site.now) (desk H.held K.written H.faults K.faults shelf.old out.old)
+        (desk H.held K.written H.faults K.faults shelf.new out.new) result }
+    ensures kept { H.held shelf.new ≡ H.held shelf.old }
+{
+    worked(check(alloc, site.as_bytes(), shelf, out))
+}
+
+/// Packs the files that the words name.
+pub fn pack_site<H: Shelf, K: Sink>(
+    alloc: Global,
+    words: &[String],
+    shelf: &mut H,
+    out: &mut K,
+) -> Status
+    ensures runs { SiteRuns (pack_due (map named_file (map string_bytes words.now))) (desk H.held K.written H.faults K.faults shelf.old out.old)
+        (desk H.held K.written H.faults K.faults shelf.new out.new) result }
+    ensures kept { H.held shelf.new ≡ H.held shelf.old }
+{
+    match named_files(alloc, words) {
+        Ok(files) => worked(pack(alloc, &files, shelf, out)),
+        Err(_) => Status::NoMemory,
+    }
+}
+
+/// Upgrades the site, with the content types that the words give.
+pub fn upgrade_site<H: Shelf, K: Sink>(
+    alloc: Global,
+    site: &str,
+    words: &[String],
+    shelf: &mut H,
+    out: &mut K,
+) -> Status
+    requires { All (λ word. IsTrue (is_kind (back_part (string_bytes word)))) words.now }
+    ensures runs { SiteRuns (upgrade_due site.now (map kind_word (map string_bytes words.now))) (desk H.held K.written H.faults K.faults shelf.old out.old)
+        (desk H.held K.written H.faults K.faults shelf.new out.new) result }
+    ensures kept { H.held shelf.new ≡ H.held shelf.old }
+{
+    match kind_words(alloc, words) {
+        Ok(kinds) => worked(upgrade(alloc, site.as_bytes(), &kinds, shelf, out)),
+        Err(_) => Status::NoMemory,
+    }
+}
