@@ -1,0 +1,65 @@
+#!/usr/bin/env python3
+"""Builds the image of the example site from its files, apart from the program, and compares it with examples/site.img, which
+the program packed, and with the copy that a test of crates/trials reads.
+
+    python3 examples/image.py            # compares
+    python3 examples/image.py literal    # writes the copy anew from examples/site.img
+"""
+import os
+import sys
+
+HERE = os.path.dirname(os.path.abspath(__file__))
+COPY = os.path.join(HERE, "..", "crates", "trials", "src", "example_image.rt")
+NAMES = ["index.html", "stats.shtml", "footer.html", "style.css", "logo.png", "404.html"]
+
+
+def read(*path):
+    with open(os.path.join(HERE, *path), "rb") as f:
+        return f.read()
+
+
+def built():
+    image = b"UIPSITE1" + len(NAMES).to_bytes(2, "big")
+    for name in NAMES:
+        content = read("site", name)
+        image += bytes([len(name) + 1]) + b"/" + name.encode() + len(content).to_bytes(4, "big") + content
+    return image
+
+
+def escaped(byte):
+    if byte == 10:
+        return "\\n"
+    if byte in b'"\\':
+        return "\\" + chr(byte)
+    return chr(byte) if 32 <= byte < 127 else "\\x%02x" % byte
+
+
+def literal(image):
+    lines = ["// The image of the example site in examples/site, which examples/image.py writes and compares.",
+             "pub const IMAGE: &[u8] = b\"\\"]
+    line = ""
+    for byte in image:
+        text = escaped(byte)
+        if len(line) + len(text) > 100 or line.endswith("\\n") and text != "\\n":
+            lines.append(line + "\\")
+            line = "\\x20" if text == " " else text
+        else:
+            line += text
+    return "\n".join(lines + [line + "\";"]) + "\n"
+
+
+def main():
+    image = read("site.img")
+    if sys.argv[1:] == ["literal"]:
+        with open(COPY, "w") as f:
+            f.write(literal(image))
+        return
+    if image != built():
+        sys.exit("examples/site.img is not the image of examples/site: run examples/pack.sh")
+    with open(COPY) as f:
+        if f.read() != literal(image):
+            sys.exit("the copy in crates/trials is not examples/site.img: run examples/image.py literal")
+    print("the example image is that of its files, and so is the copy that is tested")
+
+
+main()
