@@ -4,8 +4,8 @@
     python3 bench/run.py [PROGRAM]
 
 PROGRAM is the built `uipd`, crates/uipd/out/uipd where none is named (`rt run` in crates/uipd builds it). The inputs are
-made anew each time in bench/out: the same echo request of 84 or of 1006 bytes, again and again, and clients of the greeting,
-one after another, each from its SYN to the end of its connection. Instructions are those
+made anew each time in bench/out: the same echo request of 84 or of 1006 bytes, again and again, and clients that get a page, one
+after another, each from its SYN to the end of its connection: a page of one byte, and pages of 40,000 at three segment sizes. Instructions are those
 that `valgrind --tool=callgrind` counts, where it is there, less those of a run on an empty line; they repeat to a small
 fraction of a percent. Nanoseconds are wall time, the least of some runs, and move with the machine.
 """
@@ -17,14 +17,18 @@ import time
 
 HERE = os.path.dirname(os.path.abspath(__file__))
 OUT = os.path.join(HERE, "out")
-WORDS = ["serve", "-", "10.0.0.1"]
+SITE = os.path.join(OUT, "bench.site")
+WORDS = ["serve", SITE, "10.0.0.1"]
 
 # Instructions per ping of the peers behind the same recorded line: uIP 1.0 in C with a byte-by-byte SLIP, lwIP 2.2.1 with
 # its slipif, and a C program that answers pings and does nothing else, eight bytes at a time.
 PEERS = {84: (3272, 8066, 1227), 1006: (35823, 86449, 11409)}
 
-# Instructions per received datagram of uIP where it serves a connection.
-UIP_DATAGRAM = 3066
+# Instructions of the two stacks per byte of a page, by the segment size, and per request for a page of one byte.
+PAGE_PEERS = {966: (16.3, 36.7), 536: (18.5, 46.3), 100: (39.1, 98.5)}
+REQUEST_PEERS = (21462, 32336)
+
+FILES = {"/one.html": b"1", "/long.html": b"The quick brown fox jumps over the lazy dog. " * 889}
 
 
 def checksum(data):
@@ -49,29 +53,44 @@ def ping(size):
 FIN, SYN, PSH, ACK = 1, 2, 8, 16
 
 
-def segment(port, number, expected, flags, text=b""):
+def segment(port, number, expected, flags, text=b"", options=b""):
     """A segment of a client at 10.0.0.2 to port 80."""
     source, target = bytes([10, 0, 0, 2]), bytes([10, 0, 0, 1])
     fields = port.to_bytes(2, "big") + (80).to_bytes(2, "big") + number.to_bytes(4, "big") + expected.to_bytes(4, "big")
-    body = fields + bytes([0x50, flags]) + (8192).to_bytes(2, "big") + bytes(4) + text
+    body = fields + bytes([0x50 + 4 * len(options), flags]) + (8192).to_bytes(2, "big") + bytes(4) + options + text
     pseudo = source + target + bytes([0, 6]) + len(body).to_bytes(2, "big")
     body = body[:16] + checksum(pseudo + body) + body[18:]
     head = bytes([0x45, 0]) + (20 + len(body)).to_bytes(2, "big") + bytes([0, 1, 0, 0, 64, 6, 0, 0]) + source + target
     return head[:10] + checksum(head) + head[12:] + body
 
 
-def conversation(port):
-    """A client that opens, sends one byte, takes the greeting of six bytes, and closes after the server: four datagrams."""
-    return b"".join(slip(datagram) for datagram in (
-        segment(port, 1000, 0, SYN),
-        segment(port, 1001, 1, ACK | PSH, b"x"),
-        segment(port, 1002, 7, ACK),
-        segment(port, 1002, 8, FIN | ACK),
-    ))
+def site_image():
+    """The image of the files, in version 1."""
+    image = b"UIPSITE1" + len(FILES).to_bytes(2, "big")
+    for name, content in FILES.items():
+        image += bytes([len(name)]) + name.encode() + len(content).to_bytes(4, "big") + content
+    return image
 
 
-def conversations(count):
-    return b"".join(conversation(1025 + client % 60000) for client in range(count))
+def page_length(name):
+    """The head, the line of the content type `text/html`, and the file."""
+    return 53 + 27 + len(FILES[name])
+
+
+def conversation(port, name, mss):
+    """A client that opens, asks for a file, acknowledges each segment of its page, and closes after the server."""
+    request = b"GET " + name.encode() + b" HTTP/1.0\r\n\r\n"
+    taken = 1001 + len(request)
+    datagrams = [segment(port, 1000, 0, SYN, options=bytes([2, 4]) + mss.to_bytes(2, "big")), segment(port, 1001, 1, ACK | PSH, request)]
+    for at in range(mss, page_length(name), mss):
+        datagrams.append(segment(port, taken, 1 + at, ACK))
+    datagrams.append(segment(port, taken, 1 + page_length(name), ACK))
+    datagrams.append(segment(port, taken, 2 + page_length(name), FIN | ACK))
+    return b"".join(slip(datagram) for datagram in datagrams)
+
+
+def conversations(count, name, mss):
+    return b"".join(conversation(1025 + client % 60000, name, mss) for client in range(count))
 
 
 def slip(datagram):
@@ -112,6 +131,7 @@ def main():
     if not os.access(program, os.X_OK):
         sys.exit("no program at %s: run `rt run` in crates/uipd first, or name one" % program)
     os.makedirs(OUT, exist_ok=True)
+    record("bench.site", site_image())
     empty = record("empty.slip", b"")
     has_valgrind = subprocess.run(["which", "valgrind"], stdout=subprocess.DEVNULL).returncode == 0
     base = instructions(program, empty) if has_valgrind else None
@@ -122,13 +142,21 @@ def main():
         counted = "%d" % round((instructions(program, few) - base) / count) if has_valgrind else "-"
         spent = (nanoseconds(program, many) - nanoseconds(program, empty)) / (count * 20)
         print("%4d bytes %20s %8d %8d %8d %13d" % (size, counted, *PEERS[size], round(spent)))
-    print("per datagram of a connection")
+    print("per page byte     instructions      uIP     lwIP             nanoseconds")
+    for mss, peers in PAGE_PEERS.items():
+        count, size = 10, page_length("/long.html")
+        few = record("pages%d.slip" % mss, conversations(count, "/long.html", mss))
+        many = record("many_pages%d.slip" % mss, conversations(count * 20, "/long.html", mss))
+        counted = "%.1f" % ((instructions(program, few) - base) / (count * size)) if has_valgrind else "-"
+        spent = (nanoseconds(program, many) - nanoseconds(program, empty)) / (count * 20 * size)
+        print("  MSS %4d %20s %8.1f %8.1f %22.2f" % (mss, counted, *peers, spent))
+    print("per request       instructions      uIP     lwIP             nanoseconds")
     count = 500
-    few = record("connections.slip", conversations(count))
-    many = record("many_connections.slip", conversations(count * 20))
-    counted = "%d" % round((instructions(program, few) - base) / (4 * count)) if has_valgrind else "-"
-    spent = (nanoseconds(program, many) - nanoseconds(program, empty)) / (4 * count * 20)
-    print("%31s %8d %31d" % (counted, UIP_DATAGRAM, round(spent)))
+    few = record("requests.slip", conversations(count, "/one.html", 536))
+    many = record("many_requests.slip", conversations(count * 20, "/one.html", 536))
+    counted = "%d" % round((instructions(program, few) - base) / count) if has_valgrind else "-"
+    spent = (nanoseconds(program, many) - nanoseconds(program, empty)) / (count * 20)
+    print("    1 byte %19s %8d %8d %22d" % (counted, *REQUEST_PEERS, round(spent)))
 
 
 main()

@@ -1,3 +1,4 @@
+pub mod LoadLaws
 pub mod PartLaws
 pub mod ServeLaws
 pub mod SiteLaws

@@ -1,7 +1,8 @@
--- A serving by the node of the greeting, from its opening on.
+-- A serving by the node of a site, from its opening on.
 use Rattle.std.proofs.Common.{◌≡◌, ℕ, Bool, List, [], Option, subst, sym, ap, ◌∙◌}
-use Rattle.app_events.specs.FixedMeaning.{fixed_meaning}
 use Rattle.app_events.specs.Part.{Meaning, Part}
+use Rattle.site_image.specs.Files.{File}
+use Rattle.web_pages.specs.WebMeaning.{web_meaning}
 use Rattle.uip_edge.specs.declared.item.Item.{Item}
 use Rattle.uip_edge.specs.declared.serve_end.ServeEnd.{ServeEnd}
 use Rattle.uip_edge.specs.declared.serve_end.ServeEnd.TheVariants as ends
@@ -17,41 +18,42 @@ use Rattle.serve_loop.specs.Outside.{Outside}
 use Rattle.serve_loop.specs.Running.{Broke, text_of}
 use Rattle.serve_loop.specs.Serving.{Serves as ServesNode, WroteBy}
 use Rattle.serve_loop.proofs.RunLaws.{run-text-append}
-use Rattle.uipd.specs.Output.{is_served}
+use Rattle.uipd.specs.Output.{is_served, no_hits}
 use Rattle.uipd.specs.Serving.{ServeRuns, Serves, Writes, status_of}
 
 -- where it broke off, a front of the whole output was written
-front_written : (own : Addr) (n : AbstractNode) (events : List Event) (P Q : AbstractNode → Type 0) (a b : Option (List ℕ)) → P n
-    → Broke fixed_meaning is_served own events P Q a b → AppendsPrefix a b (text_of own (run fixed_meaning is_served events n).sent)
-front_written own n events P Q a b p w =
+front_written : (files : List File) (own : Addr) (n : AbstractNode) (events : List Event) (P Q : AbstractNode → Type 0) (a b : Option (List ℕ)) → P n
+    → Broke (web_meaning files) is_served own events P Q a b → AppendsPrefix a b (text_of own (run (web_meaning files) is_served events n).sent)
+front_written files own n events P Q a b p w =
     let it = w.each n p in
     prefix_more a b _ _ _
-    (sym (run-text-append fixed_meaning is_served own it.done it.later n) ∙ ap (λ l. text_of own (run fixed_meaning is_served l n).sent) (sym it.front))
+    (sym (run-text-append (web_meaning files) is_served own it.done it.later n) ∙ ap (λ l. text_of own (run (web_meaning files) is_served l n).sent) (sym it.front))
     it.written
 
-writes_by : (end : ServeEnd) (own : Addr) (pace : ℕ) (taken : List Item) (P Q : AbstractNode → Type 0) (a b : Option (List ℕ)) → P (opening own [])
-    → WroteBy end fixed_meaning is_served own (line_events own pace taken) P Q a b → Writes end own pace taken a b
-writes_by ends.End own pace taken P Q a b p w = (w.each (opening own []) p).1
-writes_by ends.Budget own pace taken P Q a b p w = (w.each (opening own []) p).1
-writes_by ends.LinkFault own pace taken P Q a b p w = (w.each (opening own []) p).1
-writes_by ends.WriteFault own pace taken P Q a b p w = front_written own (opening own []) (line_events own pace taken) P Q a b p w
+writes_by : (end : ServeEnd) (files : List File) (own : Addr) (pace : ℕ) (taken : List Item) (P Q : AbstractNode → Type 0) (a b : Option (List ℕ)) → P (opening own (no_hits files))
+    → WroteBy end (web_meaning files) is_served own (line_events own pace taken) P Q a b → Writes end files own pace taken a b
+writes_by ends.End files own pace taken P Q a b p w = (w.each (opening own (no_hits files)) p).1
+writes_by ends.Budget files own pace taken P Q a b p w = (w.each (opening own (no_hits files)) p).1
+writes_by ends.LinkFault files own pace taken P Q a b p w = (w.each (opening own (no_hits files)) p).1
+writes_by ends.WriteFault files own pace taken P Q a b p w = front_written files own (opening own (no_hits files)) (line_events own pace taken) P Q a b p w
 
-runs : (own : Addr) (pace n : ℕ) (old new : Outside) (end : ServeEnd) → Serves own pace n old new end → ServeRuns own pace n old new (status_of end)
-runs own pace n old new ends.End s = s
-runs own pace n old new ends.LinkFault s = s
-runs own pace n old new ends.WriteFault s = s
-runs own pace n old new ends.Budget s = s
+runs : (files : List File) (own : Addr) (pace n : ℕ) (old new : Outside) (end : ServeEnd) → Serves files own pace n old new end → ServeRuns files own pace n old new (status_of end)
+runs files own pace n old new ends.End s = s
+runs files own pace n old new ends.LinkFault s = s
+runs files own pace n old new ends.WriteFault s = s
+runs files own pace n old new ends.Budget s = s
 
--- what a node did that stands for the opening one, and whose application is the greeting
-pub greeted : {A S K : Type 0} (meaning : K → Meaning) (served : ℕ → Bool) (stands_for : A → K → Part → Type 0) (kept : S → K) (numbers : S → List ℕ)
-    (own : Addr) (pace n : ℕ) (before after : Node A S) (old new : Outside) (end : ServeEnd) → meaning (kept before.shared) ≡ fixed_meaning → served ≡ is_served
-    → Stands stands_for kept numbers before (opening own []) [] → ServesNode meaning served stands_for kept numbers pace n before after old new end
-    → ServeRuns own pace n old new (status_of end)
-greeted meaning served stands_for kept numbers own pace n before after old new end means serves st it =
+-- what a node did that stands for the opening one, and whose application is the web server of a site
+pub served_pages : {A S K : Type 0} (meaning : K → Meaning) (served : ℕ → Bool) (stands_for : A → K → Part → Type 0) (kept : S → K) (numbers : S → List ℕ)
+    (files : List File) (own : Addr) (pace n : ℕ) (before after : Node A S) (old new : Outside) (end : ServeEnd) → meaning (kept before.shared) ≡ (web_meaning files) → served ≡ is_served
+    → (hits : List ℕ) → hits ≡ no_hits files → Stands stands_for kept numbers before (opening own hits) [] → ServesNode meaning served stands_for kept numbers pace n before after old new end
+    → ServeRuns files own pace n old new (status_of end)
+served_pages meaning served stands_for kept numbers files own pace n before after old new end means serves hits none stands it =
+    let st = subst (λ h. Stands stands_for kept numbers before (opening own h) []) none stands in
     let P : AbstractNode → Type 0 = λ a. Stands stands_for kept numbers before a a.past in
     let Q : AbstractNode → Type 0 = λ a. Stands stands_for kept numbers after a a.past in
     let one = subst (λ (m : Meaning). WroteBy end m served before.addr (line_events before.addr pace it.taken) P Q old.written new.written) means it.wrote in
-    let two = subst (λ (s : ℕ → Bool). WroteBy end fixed_meaning s before.addr (line_events before.addr pace it.taken) P Q old.written new.written) serves one in
-    let three = subst (λ (o : Addr). WroteBy end fixed_meaning is_served o (line_events o pace it.taken) P Q old.written new.written) st.addr two in
-    runs own pace n old new end
-    (record { taken = it.taken; consumed = it.consumed; ends = it.ends; written = writes_by end own pace it.taken P Q old.written new.written st three })
+    let two = subst (λ (s : ℕ → Bool). WroteBy end (web_meaning files) s before.addr (line_events before.addr pace it.taken) P Q old.written new.written) serves one in
+    let three = subst (λ (o : Addr). WroteBy end (web_meaning files) is_served o (line_events o pace it.taken) P Q old.written new.written) st.addr two in
+    runs files own pace n old new end
+    (record { taken = it.taken; consumed = it.consumed; ends = it.ends; written = writes_by end files own pace it.taken P Q old.written new.written st three })

@@ -1,6 +1,5 @@
 -- What a run does to the outside, by what the words ask for.
 use Rattle.std.specs.Prelude.{◌≡◌, ℕ, List, Option, None, Some}
-use Rattle.uip_edge.specs.declared.item.Item.{Item}
 use Rattle.uip_edge.specs.Shelving.{Files}
 use Rattle.site_tools.specs.declared.site_end.SiteEnd.{SiteEnd}
 use Rattle.site_tools.specs.declared.site_end.SiteEnd.TheVariants as ends
@@ -8,47 +7,9 @@ use Rattle.site_tools.specs.Due.{Due, check_due, pack_due, upgrade_due}
 use Rattle.site_tools.specs.Ending.{Desk, Ends}
 use Rattle.uipd.specs.declared.status.Status.{Status}
 use Rattle.uipd.specs.declared.status.Status.TheVariants as status
-use Rattle.serve_loop.specs.Outside.{Outside as Line}
-use Rattle.uipd.specs.Serving.{ServeRuns}
+use Rattle.uipd.specs.SiteServing.{SiteServes}
+use Rattle.uipd.specs.Surroundings.{Surroundings, LeavesLine, desk_of}
 use Rattle.uipd.specs.Words.{Task, Serves, Checks, Packs, Upgrades, task_of}
-
--- a shelf, a line and its output, as they are told, with the counts of their faults
-pub record Surroundings : Type 0 where
-  pub held : Option Files
-  pub coming : Option (List Item)
-  pub written : Option (List ℕ)
-  pub shelf_faults : ℕ
-  pub link_faults : ℕ
-  pub sink_faults : ℕ
-
-abbrev pub surroundings : {H L K : Type 0} → (H → Option Files) → (L → Option (List Item)) → (K → Option (List ℕ)) → (H → ℕ) → (L → ℕ) → (K → ℕ)
-    → H → L → K → Surroundings
-surroundings held coming written shelf_faults link_faults sink_faults shelf link sink = record {
-  held = held shelf;
-  coming = coming link;
-  written = written sink;
-  shelf_faults = shelf_faults shelf;
-  link_faults = link_faults link;
-  sink_faults = sink_faults sink;
-}
-
--- the line and its output alone
-abbrev pub line_of : Surroundings → Line
-line_of all = record { coming = all.coming; written = all.written; link_faults = all.link_faults; sink_faults = all.sink_faults }
-
--- the shelf and the output alone
-abbrev pub desk_of : Surroundings → Desk
-desk_of all = record { held = all.held; written = all.written; shelf_faults = all.shelf_faults; sink_faults = all.sink_faults }
-
--- the line was left alone
-pub record LeavesLine (old new : Surroundings) : Type 0 where
-  pub coming : new.coming ≡ old.coming
-  pub faults : new.link_faults ≡ old.link_faults
-
--- the shelf was left alone
-pub record LeavesShelf (old new : Surroundings) : Type 0 where
-  pub held : new.held ≡ old.held
-  pub faults : new.shelf_faults ≡ old.shelf_faults
 
 -- a run of work on an image ends as the work does
 abbrev pub SiteRuns : (Files → Option Due) → Desk → Desk → Status → Type 0
@@ -64,7 +25,7 @@ SiteRuns due old new status.Budget = ⊥
 -- words without a form are told, and only they; other words are done
 abbrev pub TaskRuns : Option Task → Surroundings → Surroundings → Status → Type 0
 TaskRuns None old new result = result ≡ status.BadWords
-TaskRuns (Some (Serves own pace n)) old new result = ServeRuns own pace n (line_of old) (line_of new) result × LeavesShelf old new
+TaskRuns (Some (Serves site own pace n)) old new result = SiteServes site own pace n old new result
 TaskRuns (Some (Checks site)) old new result = SiteRuns (check_due site) (desk_of old) (desk_of new) result × LeavesLine old new
 TaskRuns (Some (Packs files)) old new result = SiteRuns (pack_due files) (desk_of old) (desk_of new) result × LeavesLine old new
 TaskRuns (Some (Upgrades site kinds)) old new result = SiteRuns (upgrade_due site kinds) (desk_of old) (desk_of new) result × LeavesLine old new

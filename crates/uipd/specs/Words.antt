@@ -13,10 +13,10 @@ use Rattle.uipd.specs.declared.words.Command.{Command}
 use Rattle.uipd.specs.declared.words.Command.TheVariants.{Serve, Check, Pack, Upgrade}
 use Rattle.uipd.specs.declared.words.Limits.{Limits}
 
--- what the words ask for: to serve a line at an address and a pace, up to so many items; to look at the image of a site, to
--- pack files into one, and to upgrade one
+-- what the words ask for: to serve a line with a site, at an address and a pace, up to so many items; to look at the image of
+-- a site, to pack files into one, and to upgrade one
 pub data Task : Type 0 where
-  Serves : (own : Addr) (pace items : ℕ) → Task
+  Serves : (site : List ℕ) (own : Addr) (pace items : ℕ) → Task
   Checks : (site : List ℕ) → Task
   Packs : (files : List NamedContent) → Task
   Upgrades : (site : List ℕ) (kinds : List KindContent) → Task
@@ -47,7 +47,7 @@ kind_word word = record { name = front_part word; kind = back_part word }
 
 -- what a command of the code asks for
 abbrev pub asked : Command → Task
-asked (Serve own limits) = Serves own limits.pace limits.items
+asked (Serve site own limits) = Serves site.now own limits.pace limits.items
 asked (Check site) = Checks site.now
 asked (Pack words) = Packs (map named_file (map string_bytes words.now))
 asked (Upgrade site words) = Upgrades site.now (map kind_word (map string_bytes words.now))
@@ -97,14 +97,14 @@ limits_of (word ∷ number ∷ words) =
     if bytes_eq word (codes "pace") then limits_from (number_of number) words else limits_at 0 (word ∷ number ∷ words)
 limits_of words = limits_at 0 words
 
-abbrev pub serve_at : Option (List ℕ) → Option Limits → Option Task
-serve_at (Some own) (Some limits) = Some (Serves (record { 0 = own }) limits.pace limits.items)
-serve_at (Some own) None = None
-serve_at None limits = None
+abbrev pub serve_at : List ℕ → Option (List ℕ) → Option Limits → Option Task
+serve_at site (Some own) (Some limits) = Some (Serves site (record { 0 = own }) limits.pace limits.items)
+serve_at site (Some own) None = None
+serve_at site None limits = None
 
--- `- ADDR`, and further words
+-- `SITE ADDR`, and further words
 abbrev pub serve_words : List (List ℕ) → Option Task
-serve_words (site ∷ address ∷ words) = if bytes_eq site (codes "-") then serve_at (quad_of address) (limits_of words) else None
+serve_words (site ∷ address ∷ words) = serve_at site (quad_of address) (limits_of words)
 serve_words words = None
 
 -- `SITE`

@@ -2,7 +2,8 @@ ghost use Rattle.std.specs.Prelude.{◌≡◌, ◌⊎◌, Option, map, string_by
 ghost use Rattle.uip_edge.specs.Shelving.{Files};
 ghost use Rattle.site_tools.specs.Due.{Due};
 ghost use Rattle.site_tools.specs.Ending.{Desk, IsCalm, IsDue, LacksFile, end_of};
-ghost use Rattle.uipd.specs.Running.{surroundings, Runs, SiteRuns, status_of_site};
+ghost use Rattle.uipd.specs.Running.{Runs, SiteRuns, status_of_site};
+ghost use Rattle.uipd.specs.Surroundings.{surroundings};
 ghost use Rattle.uipd.specs.declared.status.Status.TheVariants.{BadWords, NoMemory};
 ghost use Rattle.uipd.specs.declared.status.Status.{Status as Answer};
 
@@ -29,7 +30,9 @@ pub fn run<H: Shelf, L: Link, K: Sink>(
 {
     match command_of(words) {
         None => Status::BadWords,
-        Some(Command::Serve(own, limits)) => serve(alloc, own, limits, link, out),
+        Some(Command::Serve(site, own, limits)) => {
+            serve(alloc, site.as_bytes(), own, limits, shelf, link, out)
+        }
         Some(Command::Check(site)) => check_site(alloc, site, shelf, out),
         Some(Command::Pack(words)) => pack_site(alloc, words, shelf, out),
         Some(Command::Upgrade(site, words)) => upgrade_site(alloc, site, words, shelf, out),

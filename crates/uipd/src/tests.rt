@@ -1,10 +1,11 @@
 // The worked exchanges, over a link and a sink in memory, with the items cut in every way.
 use crate::run::run;
 use crate::status::Status;
+use site_tools::{SiteError, SiteWhy};
 use std::alloc::{AllocError, Global};
 use std::process::Abort;
 use std::test::Fail;
-use uip_edge::{Item, MemLink, MemShelf, MemSink};
+use uip_edge::{Held, Item, MemLink, MemShelf, MemSink};
 
 const SERVE: [&str; 3] = ["serve", "-", "10.0.0.1"];
 
@@ -89,17 +90,37 @@ const SENT_AGAIN: [u8; 46] = [
     4, 1, 0, 0, 0, 0, 0, 0, 3, 0xE9, 0x60, 0x12, 5, 0xB4, 0x76, 0x26, 0, 0, 2, 4, 5, 0xB4, 0xC0,
 ];
 
-// The client's acknowledgement with one byte of text, and the greeting that it is answered with.
+// The client's acknowledgement with one byte of text, which decides nothing, and its acknowledgement.
 const REQUEST: [u8; 43] = [
     0xC0, 0x45, 0, 0, 0x29, 0, 2, 0, 0, 0x40, 6, 0x66, 0xCB, 0x0A, 0, 0, 2, 0x0A, 0, 0, 1, 4, 1, 0,
     0x50, 0, 0, 3, 0xE9, 0, 0, 0, 1, 0x50, 0x18, 0x20, 0, 0xFB, 0x8D, 0, 0, 0x78, 0xC0,
 ];
 
-const GREETING: [u8; 48] = [
-    0xC0, 0x45, 0, 0, 0x2E, 0, 2, 0, 0, 0x40, 6, 0x66, 0xC6, 0x0A, 0, 0, 1, 0x0A, 0, 0, 2, 0, 0x50,
-    4, 1, 0, 0, 0, 1, 0, 0, 3, 0xEA, 0x50, 0x18, 5, 0xB4, 0x49, 0xF8, 0, 0, 0x68, 0x65, 0x6C, 0x6C,
-    0x6F, 0x0A, 0xC0,
+const TAKEN: [u8; 42] = [
+    0xC0, 0x45, 0, 0, 0x28, 0, 2, 0, 0, 0x40, 6, 0x66, 0xCC, 0x0A, 0, 0, 1, 0x0A, 0, 0, 2, 0, 0x50,
+    4, 1, 0, 0, 0, 1, 0, 0, 3, 0xEA, 0x50, 0x10, 5, 0xB4, 0x8D, 0xE2, 0, 0, 0xC0,
 ];
+
+// `GET / HTTP/1.0` CR LF, and the page of a site of one file.
+const GET: [u8; 58] = [
+    0xC0, 0x45, 0x00, 0x00, 0x38, 0x00, 0x02, 0x00, 0x00, 0x40, 0x06, 0x66, 0xBC, 0x0A, 0x00, 0x00,
+    0x02, 0x0A, 0x00, 0x00, 0x01, 0x04, 0x01, 0x00, 0x50, 0x00, 0x00, 0x03, 0xE9, 0x00, 0x00, 0x00,
+    0x01, 0x50, 0x18, 0x20, 0x00, 0xA1, 0xE9, 0x00, 0x00, 0x47, 0x45, 0x54, 0x20, 0x2F, 0x20, 0x48,
+    0x54, 0x54, 0x50, 0x2F, 0x31, 0x2E, 0x30, 0x0D, 0x0A, 0xC0,
+];
+
+const PAGE: [u8; 128] = [
+    0xC0, 0x45, 0x00, 0x00, 0x7E, 0x00, 0x02, 0x00, 0x00, 0x40, 0x06, 0x66, 0x76, 0x0A, 0x00, 0x00,
+    0x01, 0x0A, 0x00, 0x00, 0x02, 0x00, 0x50, 0x04, 0x01, 0x00, 0x00, 0x00, 0x01, 0x00, 0x00, 0x03,
+    0xF9, 0x50, 0x18, 0x05, 0xB4, 0xA7, 0x5C, 0x00, 0x00, 0x48, 0x54, 0x54, 0x50, 0x2F, 0x31, 0x2E,
+    0x30, 0x20, 0x32, 0x30, 0x30, 0x20, 0x4F, 0x4B, 0x0D, 0x0A, 0x53, 0x65, 0x72, 0x76, 0x65, 0x72,
+    0x3A, 0x20, 0x75, 0x49, 0x50, 0x2F, 0x31, 0x2E, 0x30, 0x0D, 0x0A, 0x43, 0x6F, 0x6E, 0x6E, 0x65,
+    0x63, 0x74, 0x69, 0x6F, 0x6E, 0x3A, 0x20, 0x63, 0x6C, 0x6F, 0x73, 0x65, 0x0D, 0x0A, 0x43, 0x6F,
+    0x6E, 0x74, 0x65, 0x6E, 0x74, 0x2D, 0x74, 0x79, 0x70, 0x65, 0x3A, 0x20, 0x74, 0x65, 0x78, 0x74,
+    0x2F, 0x68, 0x74, 0x6D, 0x6C, 0x0D, 0x0A, 0x0D, 0x0A, 0x68, 0x65, 0x6C, 0x6C, 0x6F, 0x0A, 0xC0,
+];
+
+const SITE: &[u8] = b"UIPSITE1\0\x01\x0b/index.html\0\0\0\x06hello\n";
 
 /// A run: its words, its link and sink, and what it has to write and answer.
 #[derive(Drop)]
@@ -159,7 +180,16 @@ fn check(rt: &impl Abort, alloc: Global, row: &Row, most: usize) -> Result<(), F
     let Ok(mut out) = MemSink::new(alloc, row.room, Vec::new(alloc)) else {
         return Err("no memory".into());
     };
-    let mut shelf = MemShelf::new(Vec::new(alloc), Vec::new(alloc));
+    let mut files = Vec::new(alloc);
+    files.push(Held {
+        name: b"h".to_vec(alloc)?,
+        content: SITE.to_vec(alloc)?,
+    })?;
+    files.push(Held {
+        name: b"cut".to_vec(alloc)?,
+        content: SITE[..20].to_vec(alloc)?,
+    })?;
+    let mut shelf = MemShelf::new(files, Vec::new(alloc));
     let status = run(alloc, &words, &mut shelf, &mut link, &mut out);
     assert_eq!(rt; status, row.status);
     assert_eq!(rt; out.written(), row.output);
@@ -218,15 +248,15 @@ fn joined(alloc: Global, first: &[u8], second: &[u8]) -> Result<Vec<u8>, AllocEr
 }
 
 #[test]
-fn serves_the_greeting(rt: HostRuntime) -> Result<(), Fail> {
+fn serves_a_connection(rt: HostRuntime) -> Result<(), Fail> {
     let alloc = rt.alloc();
     let asked = joined(alloc, &SYN, &REQUEST)?;
-    let greeted = joined(alloc, &SYN_ACK, &GREETING)?;
+    let taken = joined(alloc, &SYN_ACK, &TAKEN)?;
     let again = joined(alloc, &SYN_ACK, &SENT_AGAIN)?;
     // 186 bytes without a frame: with the 62 of the SYN four times as many.
     let longer = joined(alloc, &SYN, &[0xC0; 186])?;
     let rows = [
-        Row::new(&asked, &greeted),
+        Row::new(&asked, &taken),
         Row {
             silences: 3,
             ..Row::new(&SYN, &SYN_ACK)
@@ -254,12 +284,42 @@ fn serves_the_greeting(rt: HostRuntime) -> Result<(), Fail> {
 }
 
 #[test]
+fn serves_a_site(rt: HostRuntime) -> Result<(), Fail> {
+    let alloc = rt.alloc();
+    let asked = joined(alloc, &SYN, &GET)?;
+    let paged = joined(alloc, &SYN_ACK, &PAGE)?;
+    let rows = [
+        Row {
+            words: &["serve", "h", "10.0.0.1"],
+            ..Row::new(&asked, &paged)
+        },
+        Row {
+            words: &["serve", "missing", "10.0.0.1"],
+            status: Status::ShelfFault,
+            ..Row::new(&asked, &[])
+        },
+        Row {
+            words: &["serve", "cut", "10.0.0.1"],
+            status: Status::BadSite(SiteError {
+                why: SiteWhy::Cut,
+                entry: 1,
+            }),
+            ..Row::new(&asked, &[])
+        },
+    ];
+    for row in &rows {
+        check(&rt, alloc, row, 4096)?;
+    }
+    Ok(())
+}
+
+#[test]
 fn knows_its_words(rt: HostRuntime) -> Result<(), Fail> {
     let bad: [&[&str]; 12] = [
         &[],
         &["serve"],
         &["serve", "-"],
-        &["serve", "/", "10.0.0.1"],
+        &["serve", "10.0.0.1"],
         &["serve", "-", "10.0.0.256"],
         &["serve", "-", "10.0.0.1", "items", "01"],
         &["serve", "-", "10.0.0.1", "pace"],

@@ -20,8 +20,8 @@ pub struct Limits {
 /// What the words ask for.
 #[derive(Clone, Copy, Debug, PartialEq, Eq)]
 pub enum Command<'a> {
-    /// `serve - ADDR`, and further words: the node of the fixed greeting serves the line at an address.
-    Serve(Addr, Limits),
+    /// `serve SITE ADDR`, and further words: the web server of a site serves the line at an address.
+    Serve(&'a str, Addr, Limits),
     /// `check SITE`: the files of an image are told, with the greatest lengths of their pages.
     Check(&'a str),
     /// `pack NAME=FILE ..`: files are packed into an image.
@@ -45,12 +45,13 @@ pub fn command_of(words: &[String]) -> Option<Command<'_>>
     }
 }
 
-/// The words behind `serve`: `- ADDR`, and further words.
+/// The words behind `serve`: `SITE ADDR`, and further words.
 fn serve_words(words: &[String]) -> Option<Command<'_>>
     ensures { option_map asked result ≡ words_of_serve (map string_bytes words.now) }
 {
     match words {
-        [site, address, words @ ..] if site.as_str() == "-" => Some(Command::Serve(
+        [site, address, words @ ..] => Some(Command::Serve(
+            site,
             Addr::parse(address.as_bytes())?,
             limits_of(words)?,
         )),
