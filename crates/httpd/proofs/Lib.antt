@@ -9,3 +9,5 @@ pub mod Requesting
 pub mod Standing
 pub mod Telling
 pub mod Asking
+pub mod ZeroWriting
+pub mod ZeroAsking

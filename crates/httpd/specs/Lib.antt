@@ -7,3 +7,4 @@ pub mod Hearing
 pub mod Undecided
 pub mod HttpdStands
 pub mod SameLeft
+pub mod Zero

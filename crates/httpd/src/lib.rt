@@ -12,8 +12,10 @@ mod stage;
 mod texts;
 mod thread;
 mod web;
+mod zero;
 
 pub use httpd::Httpd;
 pub use stage::Stage;
 pub use thread::Thread;
 pub use web::Web;
+pub use zero::page_zero;

@@ -1,3 +1,4 @@
 pub mod EndLaws
 pub mod ReportLaws
 pub mod GatherLaws
+pub mod PageEnds

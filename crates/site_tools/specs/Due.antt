@@ -1,5 +1,6 @@
 -- What is to be written for a shelf's files, and whether something is wrong with the image.
-use Rattle.std.specs.Prelude.{◌≡◌, [], ⊤, ℕ, List, Option, None, Some, option_map, Result, Ok, Err}
+use Rattle.std.specs.Prelude.{◌≡◌, ⊤, ℕ, List, [], codes, if◌then◌else◌, Option, None, Some, option_map, Result, Ok, Err}
+use Rattle.std.specs.Str.{bytes_eq}
 use Rattle.uip_edge.specs.Shelving.{Files}
 use Rattle.file_tree.specs.declared.load_fault.LoadFault.{LoadFault}
 use Rattle.file_tree.specs.declared.load_fault.LoadFault.TheVariants as fault
@@ -12,6 +13,7 @@ use Rattle.site_tools.specs.Gathering.{NamedContent, list_of}
 use Rattle.site_image.specs.declared.site_error.SiteError.{SiteError}
 use Rattle.site_image.specs.Files.{File}
 use Rattle.site_image.specs.Faults.{read_image}
+use Rattle.web_pages.specs.ZeroPages.{zero_page}
 use Rattle.site_tools.specs.Report.{report, bad_line}
 
 -- the text, and the first fault of the image, if it has one
@@ -53,3 +55,16 @@ abbrev pub Refuses : LoadFault → Result Due Halt → Type 0
 Refuses fault.Shelf made = made ≡ Err halt.Shelf
 Refuses (fault.Bad error) made = made ≡ Ok (imaged (Err error))
 Refuses fault.NoMemory made = made ≡ Err halt.NoMemory
+
+-- what reading the image under the name gives, and `-` is the site without files; nothing where the file is missing
+abbrev pub site_read : List ℕ → Files → Option (Result (List File) SiteError)
+site_read name files = if bytes_eq name (codes "-") then Some (Ok []) else option_map read_image (files name)
+
+-- the page of a target, as a node says it at which nothing has happened; nothing is written of an image with a fault
+abbrev pub paged : List ℕ → Result (List File) SiteError → Due
+paged target (Ok files) = record { text = zero_page files target; fault = None }
+paged target (Err error) = record { text = []; fault = Some error }
+
+-- what is due for a target of the site under the name
+abbrev pub page_due : List ℕ → List ℕ → Files → Option Due
+page_due name target files = option_map (paged target) (site_read name files)

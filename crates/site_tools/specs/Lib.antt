@@ -2,3 +2,4 @@ pub mod Gathering
 pub mod Report
 pub mod Due
 pub mod Ending
+pub mod Opening

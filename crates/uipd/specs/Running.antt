@@ -3,13 +3,13 @@ use Rattle.std.specs.Prelude.{◌≡◌, ℕ, List, Option, None, Some}
 use Rattle.uip_edge.specs.Shelving.{Files}
 use Rattle.site_tools.specs.declared.site_end.SiteEnd.{SiteEnd}
 use Rattle.site_tools.specs.declared.site_end.SiteEnd.TheVariants as ends
-use Rattle.site_tools.specs.Due.{Due, check_due, pack_due, upgrade_due}
+use Rattle.site_tools.specs.Due.{Due, check_due, page_due, pack_due, upgrade_due}
 use Rattle.site_tools.specs.Ending.{Desk, Ends}
 use Rattle.uipd.specs.declared.status.Status.{Status}
 use Rattle.uipd.specs.declared.status.Status.TheVariants as status
 use Rattle.uipd.specs.SiteServing.{SiteServes}
 use Rattle.uipd.specs.Surroundings.{Surroundings, LeavesLine, desk_of}
-use Rattle.uipd.specs.Words.{Task, Serves, Checks, Packs, Upgrades, task_of}
+use Rattle.uipd.specs.Words.{Task, Serves, Checks, Pages, Packs, Upgrades, task_of}
 
 -- a run of work on an image ends as the work does
 abbrev pub SiteRuns : (Files → Option Due) → Desk → Desk → Status → Type 0
@@ -29,6 +29,7 @@ TaskRuns (Some (Serves site own pace n)) old new result = SiteServes site own pa
 TaskRuns (Some (Checks site)) old new result = SiteRuns (check_due site) (desk_of old) (desk_of new) result × LeavesLine old new
 TaskRuns (Some (Packs files)) old new result = SiteRuns (pack_due files) (desk_of old) (desk_of new) result × LeavesLine old new
 TaskRuns (Some (Upgrades site kinds)) old new result = SiteRuns (upgrade_due site kinds) (desk_of old) (desk_of new) result × LeavesLine old new
+TaskRuns (Some (Pages site target)) old new result = SiteRuns (page_due site target) (desk_of old) (desk_of new) result × LeavesLine old new
 
 -- the headline of a run
 abbrev pub Runs : List (List ℕ) → Surroundings → Surroundings → Status → Type 0

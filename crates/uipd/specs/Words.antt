@@ -10,14 +10,15 @@ use Rattle.site_image.specs.Names.{is_kind}
 use Rattle.file_tree.specs.Upgrading.{KindContent}
 use Rattle.site_tools.specs.Gathering.{NamedContent}
 use Rattle.uipd.specs.declared.words.Command.{Command}
-use Rattle.uipd.specs.declared.words.Command.TheVariants.{Serve, Check, Pack, Upgrade}
+use Rattle.uipd.specs.declared.words.Command.TheVariants.{Serve, Check, Page, Pack, Upgrade}
 use Rattle.uipd.specs.declared.words.Limits.{Limits}
 
 -- what the words ask for: to serve a line with a site, at an address and a pace, up to so many items; to look at the image of
--- a site, to pack files into one, and to upgrade one
+-- a site, or at a page of it, to pack files into one, and to upgrade one
 pub data Task : Type 0 where
   Serves : (site : List ℕ) (own : Addr) (pace items : ℕ) → Task
   Checks : (site : List ℕ) → Task
+  Pages : (site target : List ℕ) → Task
   Packs : (files : List NamedContent) → Task
   Upgrades : (site : List ℕ) (kinds : List KindContent) → Task
 
@@ -51,6 +52,7 @@ asked (Serve site own limits) = Serves site.now own limits.pace limits.items
 asked (Check site) = Checks site.now
 asked (Pack words) = Packs (map named_file (map string_bytes words.now))
 asked (Upgrade site words) = Upgrades site.now (map kind_word (map string_bytes words.now))
+asked (Page site target) = Pages site.now target.now
 
 -- nothing, or a zero in front of something
 abbrev pub leads_badly : List ℕ → Bool
@@ -122,6 +124,11 @@ abbrev pub upgrade_words : List (List ℕ) → Option Task
 upgrade_words [] = None
 upgrade_words (site ∷ words) = if list_all is_kind_word words then Some (Upgrades site (map kind_word words)) else None
 
+-- `SITE TARGET`
+abbrev pub page_words : List (List ℕ) → Option Task
+page_words (site ∷ target ∷ []) = Some (Pages site target)
+page_words words = None
+
 -- by the command in front
 abbrev pub task_of : List (List ℕ) → Option Task
 task_of [] = None
@@ -130,4 +137,5 @@ task_of (command ∷ words) =
     else if bytes_eq command (codes "check") then check_words words
     else if bytes_eq command (codes "pack") then pack_words words
     else if bytes_eq command (codes "upgrade") then upgrade_words words
+    else if bytes_eq command (codes "page") then page_words words
     else None

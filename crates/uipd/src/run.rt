@@ -8,7 +8,7 @@ ghost use Rattle.uipd.specs.declared.status.Status.TheVariants.{BadWords, NoMemo
 ghost use Rattle.uipd.specs.declared.status.Status.{Status as Answer};
 
 use crate::serve::serve;
-use crate::site_work::{check_site, pack_site, upgrade_site};
+use crate::site_work::{check_site, pack_site, page_site, upgrade_site};
 use crate::status::Status;
 use crate::words::{Command, command_of};
 use std::alloc::Global;
@@ -36,6 +36,7 @@ pub fn run<H: Shelf, L: Link, K: Sink>(
         Some(Command::Check(site)) => check_site(alloc, site, shelf, out),
         Some(Command::Pack(words)) => pack_site(alloc, words, shelf, out),
         Some(Command::Upgrade(site, words)) => upgrade_site(alloc, site, words, shelf, out),
+        Some(Command::Page(site, target)) => page_site(alloc, site, target, shelf, out),
     }
 }
 

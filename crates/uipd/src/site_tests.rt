@@ -391,3 +391,74 @@ fn reads_files_of_the_system(rt: HostRuntime) -> Result<(), Fail> {
     fs::remove_file(&rt, path)?;
     Ok(())
 }
+
+const CORNERS: &[u8] =
+    b"UIPSITE1\0\x02\x08/a.shtml\0\0\0\x20x%y%!:/e.txt\n%! nosuch\nz%! ticks\x06/e.txt\0\0\0\0";
+
+const INCLUDE: &[u8] = b"UIPSITE1\0\x02\x08/b.shtml\0\0\0\x0ca%!:/c.txt\nb\x06/c.txt\0\0\0\x03%!x";
+
+const HITS: &[u8] = b"UIPSITE1\0\x01\x08/h.shtml\0\0\0\x17%! file-stats /h.shtml\n";
+
+const HELLO_PAGE: &[u8] =
+    b"HTTP/1.0 200 OK\r\nServer: uIP/1.0\r\nConnection: close\r\nContent-type: text/html\r\n\r\nhello\n";
+
+const MISSING_PAGE: &[u8] =
+    b"HTTP/1.0 404 Not found\r\nServer: uIP/1.0\r\nConnection: close\r\nContent-type: text/html\r\n\r\nnot found\n";
+
+fn paging<'a>(words: &'a [&'a str], content: &'a [u8], output: &'a [u8]) -> Row<'a> {
+    Row {
+        words,
+        content,
+        fails: &[],
+        room: 4096,
+        output,
+        status: Status::Done,
+    }
+}
+
+#[test]
+fn writes_pages(rt: HostRuntime) -> Result<(), Fail> {
+    let rows = [
+        paging(&["page", "h", "/?a=b"], IMAGE, HELLO_PAGE),
+        paging(&["page", "h", "/nosuch"], IMAGE, MISSING_PAGE),
+        paging(&["page", "-", "/"], IMAGE, MISSING_PAGE),
+        paging(&["page", "h", "x"], IMAGE, b""),
+        paging(&["page", "h", ""], IMAGE, b""),
+        paging(
+            &["page", "h", "/a.shtml"],
+            CORNERS,
+            b"HTTP/1.0 200 OK\r\nServer: uIP/1.0\r\nConnection: close\r\nContent-type: text/html\r\n\r\nx%yz         0",
+        ),
+        paging(
+            &["page", "h", "/b.shtml HTTP/1.0"],
+            INCLUDE,
+            b"HTTP/1.0 200 OK\r\nServer: uIP/1.0\r\nConnection: close\r\nContent-type: text/html\r\n\r\na%!xb",
+        ),
+        paging(
+            &["page", "h", "/h.shtml"],
+            HITS,
+            b"HTTP/1.0 200 OK\r\nServer: uIP/1.0\r\nConnection: close\r\nContent-type: text/html\r\n\r\n         0",
+        ),
+        Row {
+            room: 60,
+            status: Status::WriteFault,
+            ..paging(&["page", "h", "/"], IMAGE, &HELLO_PAGE[..60])
+        },
+        Row {
+            status: Status::ShelfFault,
+            ..paging(&["page", "k", "/"], IMAGE, b"")
+        },
+        Row {
+            status: bad(SiteWhy::Rest, 0),
+            ..paging(&["page", "h", "/"], b"UIPSITE1\0\0!", b"")
+        },
+        Row {
+            status: Status::BadWords,
+            ..paging(&["page", "h"], IMAGE, b"")
+        },
+    ];
+    for row in &rows {
+        check_row(&rt, rt.alloc(), row)?;
+    }
+    Ok(())
+}

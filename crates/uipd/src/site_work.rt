@@ -1,13 +1,13 @@
 ghost use Rattle.std.specs.Prelude.{◌≡◌, ◌<◌, All, IsTrue, map, string_bytes};
 ghost use Rattle.site_image.specs.Names.{is_kind};
-ghost use Rattle.site_tools.specs.Due.{check_due, pack_due, upgrade_due};
+ghost use Rattle.site_tools.specs.Due.{check_due, page_due, pack_due, upgrade_due};
 ghost use Rattle.site_tools.specs.Ending.{desk};
 ghost use Rattle.uipd.specs.Running.{SiteRuns};
 ghost use Rattle.uipd.specs.Words.{back_part, kind_word, named_file};
 
 use crate::parts::{kind_words, named_files};
 use crate::status::{Status, worked};
-use site_tools::{check, pack, upgrade};
+use site_tools::{check, pack, page, upgrade};
 use std::alloc::Global;
 use uip_edge::{Shelf, Sink};
 
@@ -23,6 +23,21 @@ pub fn check_site<H: Shelf, K: Sink>(
     ensures kept { H.held shelf.new ≡ H.held shelf.old }
 {
     worked(check(alloc, site.as_bytes(), shelf, out))
+}
+
+/// Writes the page of a target, as a node says it at which nothing has happened.
+pub fn page_site<H: Shelf, K: Sink>(
+    alloc: Global,
+    site: &str,
+    target: &str,
+    shelf: &mut H,
+    out: &mut K,
+) -> Status
+    ensures runs { SiteRuns (page_due site.now target.now) (desk H.held K.written H.faults K.faults shelf.old out.old)
+        (desk H.held K.written H.faults K.faults shelf.new out.new) result }
+    ensures kept { H.held shelf.new ≡ H.held shelf.old }
+{
+    worked(page(alloc, site.as_bytes(), target.as_bytes(), shelf, out))
 }
 
 /// Packs the files that the words name.

@@ -3,6 +3,7 @@ ghost use Rattle.std.specs.Char.{is_ascii_digit};
 ghost use Rattle.std.specs.List.{list_all};
 ghost use Rattle.uipd.specs.Words.{asked, task_of, check_words as words_of_check, pack_words as words_of_pack, serve_words as words_of_serve};
 ghost use Rattle.uipd.specs.Words.{upgrade_words as words_of_upgrade};
+ghost use Rattle.uipd.specs.Words.{page_words as words_of_page};
 ghost use Rattle.uipd.specs.Words.{ends_here as no_more, limited as limits_meant, limits_at as limits_behind, limits_of as limits_spelled};
 ghost use Rattle.uipd.specs.Kinds.{AllowsKinds};
 ghost use Rattle.uipd.specs.Words.{number_of as number_meant, is_number as number_form, leads_badly as bad_lead};
@@ -28,6 +29,8 @@ pub enum Command<'a> {
     Pack(&'a [String]),
     /// `upgrade SITE NAME=TYPE ..`: an image is upgraded to the version that gives each file a content type.
     Upgrade(&'a str, &'a [String]),
+    /// `page SITE TARGET`: the page of a target is written, as a node says it at which nothing has happened.
+    Page(&'a str, &'a str),
 }
 
 /// The command that the words spell, if they have a form.
@@ -41,6 +44,7 @@ pub fn command_of(words: &[String]) -> Option<Command<'_>>
         [command, words @ ..] if command.as_str() == "check" => check_words(words),
         [command, words @ ..] if command.as_str() == "pack" => pack_words(words),
         [command, words @ ..] if command.as_str() == "upgrade" => upgrade_words(words),
+        [command, words @ ..] if command.as_str() == "page" => page_words(words),
         _ => None,
     }
 }
@@ -133,6 +137,16 @@ fn upgrade_words(words: &[String]) -> Option<Command<'_>>
 {
     match words {
         [site, kinds @ ..] if are_kind_words(kinds) => Some(Command::Upgrade(site, kinds)),
+        _ => None,
+    }
+}
+
+/// The words behind `page`.
+fn page_words(words: &[String]) -> Option<Command<'_>>
+    ensures { option_map asked result ≡ words_of_page (map string_bytes words.now) }
+{
+    match words {
+        [site, target] => Some(Command::Page(site, target)),
         _ => None,
     }
 }

@@ -1,0 +1,49 @@
+-- What a target asks for, as it is heard.
+use Rattle.std.proofs.Common.{◌≡◌, ℕ, true, List, [], ◌∷◌, ◌++◌, Option, Some, refl, sym, ap, ◌∙◌, true≢false}
+use Rattle.std.specs.Prelude.{codes}
+use Rattle.std.proofs.lemmas.Bool.{or_right}
+use Rattle.std.proofs.lemmas.List.Folds.{list_any-append}
+use Rattle.std.specs.List.{list_any}
+use Rattle.protosocket.specs.declared.stops.Stops.TheVariants.{Space, SpaceOrLine}
+use Rattle.protosocket.specs.Line.{Line, is_stop, word_of}
+use Rattle.protosocket.specs.Line.{heard as heard_line}
+use Rattle.file_tree.specs.declared.file_id.FileId.{FileId}
+use Rattle.site_image.specs.Files.{File, file_named}
+use Rattle.web_pages.specs.Requests.{wanted, has_ended, after_method, name_in, target_of}
+use Rattle.web_pages.specs.Deciding.{ended_more, after_more, name_stays}
+use Rattle.httpd.specs.Places.{IsFound}
+use Rattle.httpd.specs.Reply.{found_file}
+use Rattle.httpd.specs.Hearing.{HearsMethod, HearsTarget, HasName}
+use Rattle.httpd.specs.Zero.{IsAsked}
+
+-- before the target comes
+pub hears_method : (line : Line) → line ≡ heard_line SpaceOrLine [] → HearsTarget line (codes "GET ")
+hears_method line e = record { method_ended = refl; method = refl; goes_on = refl; holds = e }
+
+-- a name that was heard is asked for
+pub asked_name : (files : List File) (line : Line) (request : List ℕ) (found : Option FileId) → HasName line request → IsFound files found
+    → ((bytes : List ℕ) → line ≡ heard_line SpaceOrLine bytes → found_file files found ≡ file_named files (name_in (word_of SpaceOrLine bytes)))
+    → IsAsked files (wanted request) (Some found)
+asked_name files line request found name is file = (is, (name_in (target_of request), name.wanted, file (after_method request) name.holds))
+
+-- and so it is by further bytes
+pub asked_more : (files : List File) (request more : List ℕ) (found : Option FileId) → IsAsked files (wanted request) (Some found)
+    → IsAsked files (wanted (request ++ more)) (Some found)
+asked_more files request more found is = (is.0, (is.1.0, name_stays request more is.1.0 is.1.1, is.1.2))
+
+-- the method has ended
+pub no_method : (target : List ℕ) (line : Line) → HearsMethod line (codes "GET " ++ target) → ⊥
+no_method target line is = true≢false (is.goes_on)
+
+-- the line's end ends the target
+line_ends : (request : List ℕ) (line : Line) → HearsTarget line request → has_ended SpaceOrLine (after_method (request ++ 10 ∷ [])) ≡ true
+line_ends request line is =
+    ap (has_ended SpaceOrLine) (after_more request (10 ∷ []) is.method_ended)
+    ∙ list_any-append (is_stop SpaceOrLine) (after_method request) (10 ∷ [])
+    ∙ or_right (list_any (is_stop SpaceOrLine) (after_method request)) true refl
+
+pub no_target : (request : List ℕ) (line after : Line) → HearsTarget line request → HearsTarget after (request ++ 10 ∷ []) → ⊥
+no_target request line after is goes = true≢false (sym (line_ends request line is) ∙ goes.goes_on)
+
+pub no_method_more : (request : List ℕ) (line after : Line) → HearsTarget line request → HearsMethod after (request ++ 10 ∷ []) → ⊥
+no_method_more request line after is goes = true≢false (sym (ended_more Space request (10 ∷ []) is.method_ended) ∙ goes.goes_on)
