@@ -6,7 +6,7 @@ use Rattle.uipd.specs.declared.words.Command.TheVariants.{Serve, Check, Page, Pa
 use Rattle.uipd.specs.Words.{back_part}
 
 abbrev pub AllowsKinds : Command → Type 0
-AllowsKinds (Serve own items) = ⊤
+AllowsKinds (Serve site own limits) = ⊤
 AllowsKinds (Check site) = ⊤
 AllowsKinds (Page site target) = ⊤
 AllowsKinds (Pack words) = ⊤
