@@ -405,15 +405,8 @@ const HELLO_PAGE: &[u8] =
 const MISSING_PAGE: &[u8] =
     b"HTTP/1.0 404 Not found\r\nServer: uIP/1.0\r\nConnection: close\r\nContent-type: text/html\r\n\r\nnot found\n";
 
-fn paging<'a>(words: &'a [&'a str], content: &'a [u8], output: &'a [u8]) -> Row<'a> {
-    Row {
-        words,
-        content,
-        fails: &[],
-        room: 4096,
-        output,
-        status: Status::Done,
-    }
+fn paging<'a>(words: &'a [&'a str], image: &'a [u8], output: &'a [u8]) -> Row<'a> {
+    running(words, image, output, Status::Done)
 }
 
 #[test]
