@@ -37,7 +37,18 @@ fn run_words(rt: HostRuntime) -> io::Result<Status> {
     Ok(run(rt.alloc(), &words, &mut shelf, &mut link, &mut out))
 }
 
-/// Words that are not text are no words of the program.
+/// The status where the words could not be read: words that are not text are no words of the program.
+fn unread(error: &io::Error) -> Status {
+    match error.kind() {
+        io::ErrorKind::OutOfMemory => Status::NoMemory,
+        _ => Status::BadWords,
+    }
+}
+
 fn main(rt: HostRuntime) -> ExitCode {
-    ExitCode::from(run_words(rt).unwrap_or(Status::BadWords).exit_code())
+    let status = match run_words(rt) {
+        Ok(status) => status,
+        Err(error) => unread(&error),
+    };
+    ExitCode::from(status.exit_code())
 }
