@@ -1,0 +1,4 @@
+pub mod Clients
+pub mod Digits
+pub mod Lines
+pub mod Worked

@@ -1,0 +1,60 @@
+-- How what the code has read stands for what the text means.
+use Rattle.std.specs.Prelude.{◌≡◌, ℕ, List, length, map, Result, Ok, Err}
+use Rattle.std.specs.Global.{Vec}
+use Rattle.link_schedule.specs.declared.client_plan.ClientPlan.{ClientPlan}
+use Rattle.link_schedule.specs.declared.line.Line.{Line}
+use Rattle.link_schedule.specs.declared.schedule.Schedule.{Schedule}
+use Rattle.link_schedule.specs.declared.why.Why.{Why}
+use Rattle.link_schedule.specs.declared.refusal.Refusal.{Refusal}
+use Rattle.link_schedule.specs.declared.refusal.Refusal.TheVariants.{Faulty, NoMemory}
+use Rattle.link_schedule.specs.declared.read_schedule.ReadSchedule.{ReadSchedule}
+use Rattle.link_schedule.specs.declared.read_schedule.ReadSchedule.TheVariants.{Bad, NoMemory as NoRoom}
+use Rattle.link_schedule.specs.Clients.{Plan}
+use Rattle.link_schedule.specs.Reading.{Content, BadText}
+
+abbrev pub request_at : Vec ℕ → List ℕ
+request_at request = request.items
+
+abbrev pub plan_at : ClientPlan → Plan
+plan_at plan = record {
+  side = record { addr = plan.addr; port = plan.port; mss = plan.mss; seg = plan.seg };
+  request = plan.request.items;
+}
+
+abbrev pub content_of : List ClientPlan → List Line → Content
+content_of clients lines = record { clients = map plan_at clients; lines = lines }
+
+abbrev pub content_at : Schedule → Content
+content_at schedule = content_of schedule.clients.items schedule.lines.items
+
+-- an answer is the meaning, or memory was wanting
+abbrev pub Gives : {A B : Type 0} → (A → B) → Result A Refusal → Result B Why → Type 0
+Gives at (Ok x) meant = meant ≡ Ok (at x)
+Gives at (Err (Faulty why)) meant = meant ≡ Err why
+Gives at (Err NoMemory) meant = Unit {0}
+
+abbrev pub Reads : Result Schedule ReadSchedule → Result Content BadText → Type 0
+Reads (Ok schedule) meant = meant ≡ Ok (content_at schedule)
+Reads (Err (Bad line why)) meant = meant ≡ Err (record { line = line; why = why })
+Reads (Err NoRoom) meant = Unit {0}
+
+-- a line was read into what stands after it, or refused, or memory was wanting
+abbrev pub LineGives : Result (Unit {0}) Refusal → Content → Result Content Why → Type 0
+LineGives (Ok done) after meant = meant ≡ Ok after
+LineGives (Err (Faulty why)) after meant = meant ≡ Err why
+LineGives (Err NoMemory) after meant = Unit {0}
+
+-- the same of a client's line, whatever the other lines have said
+abbrev pub ClientGives : Result (Unit {0}) Refusal → List ClientPlan → (Content → Result Content Why) → List ClientPlan → Type 0
+ClientGives result after meant before =
+    (lines : List Line) → LineGives result (content_of after lines) (meant (content_of before lines))
+
+-- the same of another line, under so many clients
+abbrev pub EventGives : Result (Unit {0}) Refusal → ℕ → List Line → (Content → Result Content Why) → List Line → Type 0
+EventGives result count after meant before =
+    (clients : List ClientPlan) → length clients ≡ count → LineGives result (content_of clients after) (meant (content_of clients before))
+
+-- a line's refusal, with its number
+abbrev pub told : ℕ → Refusal → ReadSchedule
+told line (Faulty why) = Bad line why
+told line NoMemory = NoRoom

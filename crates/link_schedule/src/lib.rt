@@ -1,0 +1,26 @@
+//! A schedule as text: the clients of a replay, and the lines that say what happens on the link. The text is read whole before any of
+//! it is run, and its first bad line is told with the reason.
+#![tactic(auto)]
+
+mod client_plan;
+mod events;
+mod laws;
+mod line;
+mod numbers;
+mod read_schedule;
+mod reading;
+mod refusal;
+mod requests;
+mod schedule;
+mod sides;
+#[cfg(test)]
+mod tests;
+mod texts;
+mod why;
+
+pub use client_plan::ClientPlan;
+pub use laws::worked_schedules;
+pub use line::Line;
+pub use read_schedule::ReadSchedule;
+pub use schedule::Schedule;
+pub use why::Why;
