@@ -1,4 +1,6 @@
 pub mod Clients
 pub mod Digits
+pub mod Keeping
+pub mod Kept
 pub mod Lines
 pub mod Worked

@@ -7,28 +7,35 @@ use Rattle.link_schedule.specs.declared.why.Why.{Why}
 use Rattle.link_schedule.specs.declared.why.Why.TheVariants.{Form}
 use Rattle.link_schedule.specs.Numbers.{◌>>=◌, within, named, address}
 
--- `tick`, `round`, `twice`, `reverse`, `half`, `lose`
+-- a form by its verb: the first that a verb names
+abbrev pub by_verb : List ℕ → List (List ℕ × Result Event Why) → Result Event Why
+by_verb verb [] = Err Form
+by_verb verb (form ∷ forms) = if bytes_eq verb form.0 then form.1 else by_verb verb forms
+
+abbrev pub bare_forms : List (List ℕ × Result Event Why)
+bare_forms =
+    (codes "tick", Ok (Tick 1)) ∷ (codes "round", Ok Round) ∷ (codes "twice", Ok Twice) ∷ (codes "reverse", Ok Reverse)
+    ∷ (codes "half", Ok Half) ∷ (codes "lose", Ok Lose) ∷ []
+
+-- a verb alone
 unfoldable pub bare : List ℕ → Result Event Why
-bare verb =
-    if bytes_eq verb (codes "tick") then Ok (Tick 1)
-    else if bytes_eq verb (codes "round") then Ok Round
-    else if bytes_eq verb (codes "twice") then Ok Twice
-    else if bytes_eq verb (codes "reverse") then Ok Reverse
-    else if bytes_eq verb (codes "half") then Ok Half
-    else if bytes_eq verb (codes "lose") then Ok Lose
-    else Err Form
+bare verb = by_verb verb bare_forms
 
 -- `open C`, `again C`, `close C`, `abort C`, `ping ADDR`, `give K`, `tick N`
+abbrev pub forms_with_one : ℕ → List ℕ → List (List ℕ × Result Event Why)
+forms_with_one clients word =
+    (codes "open", named clients word >>= λ c. Ok (Opens c))
+    ∷ (codes "again", named clients word >>= λ c. Ok (Again c))
+    ∷ (codes "close", named clients word >>= λ c. Ok (Closes c))
+    ∷ (codes "abort", named clients word >>= λ c. Ok (Aborts c))
+    ∷ (codes "ping", address word >>= λ source. Ok (Ping source))
+    ∷ (codes "give", within 0 4294967295 word >>= λ k. Ok (Give k))
+    ∷ (codes "tick", within 1 300 word >>= λ n. Ok (Tick n))
+    ∷ []
+
+-- a verb and one word
 unfoldable pub with_one : ℕ → List ℕ → List ℕ → Result Event Why
-with_one clients verb word =
-    if bytes_eq verb (codes "open") then (named clients word >>= λ c. Ok (Opens c))
-    else if bytes_eq verb (codes "again") then (named clients word >>= λ c. Ok (Again c))
-    else if bytes_eq verb (codes "close") then (named clients word >>= λ c. Ok (Closes c))
-    else if bytes_eq verb (codes "abort") then (named clients word >>= λ c. Ok (Aborts c))
-    else if bytes_eq verb (codes "ping") then (address word >>= λ source. Ok (Ping source))
-    else if bytes_eq verb (codes "give") then (within 0 4294967295 word >>= λ k. Ok (Give k))
-    else if bytes_eq verb (codes "tick") then (within 1 300 word >>= λ n. Ok (Tick n))
-    else Err Form
+with_one clients verb word = by_verb verb (forms_with_one clients word)
 
 abbrev pub window : ℕ → List ℕ → List ℕ → Result Event Why
 window clients client size = do

@@ -3,4 +3,6 @@ pub mod Events
 pub mod Clients
 pub mod Reading
 pub mod Stands
+pub mod Kept
 pub mod Worked
+pub mod Answer

@@ -3,14 +3,13 @@ use Rattle.std.specs.Prelude.{◌≡◌, ℕ, List, length, map, Result, Ok, Err
 use Rattle.std.specs.Global.{Vec}
 use Rattle.link_schedule.specs.declared.client_plan.ClientPlan.{ClientPlan}
 use Rattle.link_schedule.specs.declared.line.Line.{Line}
-use Rattle.link_schedule.specs.declared.schedule.Schedule.{Schedule}
 use Rattle.link_schedule.specs.declared.why.Why.{Why}
 use Rattle.link_schedule.specs.declared.refusal.Refusal.{Refusal}
 use Rattle.link_schedule.specs.declared.refusal.Refusal.TheVariants.{Faulty, NoMemory}
 use Rattle.link_schedule.specs.declared.read_schedule.ReadSchedule.{ReadSchedule}
 use Rattle.link_schedule.specs.declared.read_schedule.ReadSchedule.TheVariants.{Bad, NoMemory as NoRoom}
 use Rattle.link_schedule.specs.Clients.{Plan}
-use Rattle.link_schedule.specs.Reading.{Content, BadText}
+use Rattle.link_schedule.specs.Reading.{Content}
 
 abbrev pub request_at : Vec ℕ → List ℕ
 request_at request = request.items
@@ -24,19 +23,11 @@ plan_at plan = record {
 abbrev pub content_of : List ClientPlan → List Line → Content
 content_of clients lines = record { clients = map plan_at clients; lines = lines }
 
-abbrev pub content_at : Schedule → Content
-content_at schedule = content_of schedule.clients.items schedule.lines.items
-
 -- an answer is the meaning, or memory was wanting
 abbrev pub Gives : {A B : Type 0} → (A → B) → Result A Refusal → Result B Why → Type 0
 Gives at (Ok x) meant = meant ≡ Ok (at x)
 Gives at (Err (Faulty why)) meant = meant ≡ Err why
 Gives at (Err NoMemory) meant = Unit {0}
-
-abbrev pub Reads : Result Schedule ReadSchedule → Result Content BadText → Type 0
-Reads (Ok schedule) meant = meant ≡ Ok (content_at schedule)
-Reads (Err (Bad line why)) meant = meant ≡ Err (record { line = line; why = why })
-Reads (Err NoRoom) meant = Unit {0}
 
 -- a line was read into what stands after it, or refused, or memory was wanting
 abbrev pub LineGives : Result (Unit {0}) Refusal → Content → Result Content Why → Type 0

@@ -16,6 +16,7 @@ mod sides;
 #[cfg(test)]
 mod tests;
 mod texts;
+mod whole_text;
 mod why;
 
 pub use client_plan::ClientPlan;

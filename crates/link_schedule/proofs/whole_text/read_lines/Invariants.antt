@@ -1,7 +1,7 @@
 use Rattle.std.proofs.Common.{◌≡◌, ◌≤◌, ◌+◌, drop, map, vec_len, Bor, List, ℕ}
 use Rattle.link_schedule.specs.Reading.{nothing_yet, read_lines}
 use Rattle.link_schedule.specs.Stands.{content_of}
-use Rattle.link_schedule.proofs.schedule.read_lines.Given as goal
+use Rattle.link_schedule.proofs.whole_text.read_lines.Given as goal
 
 abbrev pub invariant-loop-at : goal.invariant-loop-at
 invariant-loop-at l =
