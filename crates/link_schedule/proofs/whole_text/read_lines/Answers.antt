@@ -1,4 +1,4 @@
-use Rattle.std.proofs.Common.{◌≡◌, ◌∙◌, ◌+◌, sym, ap, arith, drop, length, map, ℕ, List, [], Bor, Ok}
+use Rattle.std.proofs.Common.{◌≡◌, ◌∙◌, ◌+◌, sym, ap, arith, drop, map, ℕ, List, [], Bor, Ok}
 use Rattle.std.proofs.lemmas.List.{drop_all}
 use Rattle.link_schedule.specs.Reading.{read_lines}
 use Rattle.link_schedule.specs.Stands.{content_of}
