@@ -18,7 +18,7 @@ use app_events::{App, Now, RowList};
 use packet_buffer::Packet;
 use tcp_machine::{Step, accept, ask, on_segment, on_tick};
 use tcp_segment::Segment;
-use tcp_table::Table;
+use tcp_table::{Conn, Table};
 use uip_wire::{Addr, LARGEST_DATAGRAM};
 
 /// The connection in a slot, which is not CLOSED, takes a segment.
@@ -173,6 +173,14 @@ pub(crate) fn is_live_in<A: App>(table: &Table<A>, slot: usize) -> bool
     ensures { IsIn table.now.conns slot (λ c. result ≡ is_live c.state) }
 {
     table.conns[slot].is_live()
+}
+
+/// The connection in a slot.
+pub(crate) fn conn_in<A: App>(table: &Table<A>, slot: usize) -> &Conn<A>
+    requires { slot < 10 }
+    ensures { slice_get table.now.conns slot ≡ Some result.now }
+{
+    &table.conns[slot]
 }
 
 /// How many slots a table has.

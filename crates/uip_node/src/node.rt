@@ -5,7 +5,7 @@ ghost use Rattle.tcp_machine.specs.Segments.{is_again};
 
 use crate::counts::Counts;
 use crate::deliver::{
-    count_slots, is_live_in, open_in, rows_in, settle, speak_in, take_segment, take_tick,
+    conn_in, count_slots, is_live_in, open_in, rows_in, settle, speak_in, take_segment, take_tick,
 };
 use crate::speaking::put_reset;
 use app_events::{App, Now};
@@ -14,7 +14,7 @@ use packet_buffer::Packet;
 use std::alloc::Global;
 use tcp_machine::Step;
 use tcp_segment::{SYN, Segment, check as check_segment};
-use tcp_table::Table;
+use tcp_table::{Conn, Table};
 use uip_edge::NoMemory;
 use uip_ipv4::{IpHead, Proto, check as check_head};
 use uip_wire::{Addr, LARGEST_DATAGRAM};
@@ -92,6 +92,21 @@ impl<A: App> Node<A> {
         ensures { result.now ≡ datagram_in self.now.packet }
     {
         self.packet.bytes()
+    }
+
+    /// What the connections' applications share.
+    pub fn shared(&self) -> &A::Shared
+        ensures { result.now ≡ self.now.shared }
+    {
+        &self.shared
+    }
+
+    /// The connection in a slot below 10.
+    pub fn conn(&self, slot: usize) -> &Conn<A>
+        requires { slot < 10 }
+        ensures { slice_get self.now.table.conns slot ≡ Some result.now }
+    {
+        conn_in(&self.table, slot)
     }
 
     /// The ticks, the counters and the rows of the connections that are not CLOSED.
