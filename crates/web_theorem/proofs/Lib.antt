@@ -1,3 +1,4 @@
 pub mod Counting
 pub mod Answering
 pub mod Web
+pub mod Worked

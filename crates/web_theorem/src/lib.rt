@@ -3,6 +3,7 @@
 #![tactic(auto)]
 
 ghost use Rattle.web_theorem.specs.Web.{PagesAreReceived, HonestPages};
+ghost use Rattle.web_theorem.specs.Worked.{AreWorkedReplays};
 
 /// A client to and from which nothing stale was delivered has received a prefix of its page, and the whole page where it saw a
 /// plain close.
@@ -14,4 +15,10 @@ pub fn pages_are_received()
 /// its page, and six more.
 pub fn honest_pages()
     ensures { HonestPages }
+{}
+
+/// Whole schedules that were worked by hand are computed from the definitions: a page, two hits of one file, a request that is
+/// refused, one that is not decided, counters whose text is lost and sent again, and the table of ten connections in use.
+pub fn worked_replays()
+    ensures { AreWorkedReplays }
 {}

@@ -1,0 +1,155 @@
+-- Whole schedules of the web server, worked by hand: what each client has at the end.
+use Rattle.std.specs.Prelude.{◌≡◌, ℕ, ◌==◌, Bool, ◌+◌, List, [], ◌∷◌, ◌++◌, codes, flat_map, length, map, replicate, Option, Some, None, Result, Ok, Err}
+use Rattle.site_image.specs.Files.{File}
+use Rattle.uip_node.specs.Counters.{ticks_of}
+use Rattle.link_client.specs.declared.client_state.ClientState.{ClientState}
+use Rattle.link_client.specs.declared.client_state.ClientState.TheVariants.{Opening, Opened, Closed, Reset}
+use Rattle.link_world.specs.World.{World, Side, Sent, Content, numbered}
+use Rattle.link_world.specs.World.Content.{OfSegment, OfPing, OfEcho}
+use Rattle.link_world.specs.History.{Planned, opening_world}
+use Rattle.link_world.specs.Schedule.{plays, BadLine}
+use Rattle.link_world.specs.declared.event.Event.{Event}
+use Rattle.link_world.specs.declared.event.Event.TheVariants.{Opens, Closes, Ping, Give, Tick, Round, Lose}
+use Rattle.web_pages.specs.WebMeaning.{web_meaning}
+use Rattle.web_pages.specs.WorkedPages.{file, ok, as_html, get, hello_site, hits_site}
+
+-- a client at 10.0.0.2: its first number, its port, how many bytes it sends at a time, and its request
+abbrev pub client : ℕ → ℕ → ℕ → List ℕ → Planned
+client first port seg request = record {
+  setup = record {
+    addr = record { 0 = 10 ∷ 0 ∷ 0 ∷ 2 ∷ [] };
+    port = record { 0 = port };
+    mss = 0;
+    seg = seg;
+    iss = record { 0 = first };
+    server = record { 0 = 10 ∷ 0 ∷ 0 ∷ 1 ∷ [] };
+    server_port = record { 0 = 80 };
+  };
+  request = request;
+}
+
+-- what a client has at the end: its state, the bytes that it received, and the number of its first stale datagram
+pub record Has : Type 0 where
+  pub state : ClientState
+  pub received : List ℕ
+  pub first_stale : Option ℕ
+
+-- the end of a schedule: what the clients have, how many ticks there were, and how many datagrams
+pub record Ending : Type 0 where
+  pub clients : List Has
+  pub ticks : ℕ
+  pub datagrams : ℕ
+
+abbrev pub has_at : Side → Has
+has_at side = record { state = side.client.state; received = side.client.received; first_stale = side.first_stale }
+
+abbrev pub ending_at : World → Ending
+ending_at w = record { clients = map has_at w.sides; ticks = ticks_of w.node.past; datagrams = length w.sent }
+
+abbrev pub ending_of : Result World BadLine → Result Ending BadLine
+ending_of (Ok w) = Ok (ending_at w)
+ending_of (Err bad) = Err bad
+
+abbrev pub on_port_80 : ℕ → Bool
+on_port_80 port = port == 80
+
+-- a schedule's lines over a site of which no file was asked for before
+abbrev pub replayed : List File → List Planned → List Event → Result World BadLine
+replayed files plan lines = plays (web_meaning files) on_port_80 lines (opening_world (record { 0 = 10 ∷ 0 ∷ 0 ∷ 1 ∷ [] }) (map (λ file. 0) files) plan)
+
+abbrev pub ends_with : List File → List Planned → List Event → Result Ending BadLine
+ends_with files plan lines = ending_of (replayed files plan lines)
+
+abbrev pub text_in : Content → List ℕ
+text_in (OfSegment id segment) = segment.text
+text_in (OfPing datagram) = []
+text_in (OfEcho request) = []
+
+abbrev pub text_of : Option Sent → List ℕ
+text_of None = []
+text_of (Some sent) = text_in sent.content
+
+-- the text of the datagram with a number
+abbrev pub text_sent : ℕ → Result World BadLine → List ℕ
+text_sent k (Ok w) = text_of (numbered w.sent k)
+text_sent k (Err bad) = []
+
+abbrev pub clean : ClientState → List ℕ → Has
+clean state received = record { state = state; received = received; first_stale = None }
+
+abbrev pub ended : List Has → ℕ → Result Ending BadLine
+ended clients datagrams = Ok (record { clients = clients; ticks = 0; datagrams = datagrams })
+
+-- a page that tells one hit count of one digit
+abbrev pub hit_page : ℕ → List ℕ
+hit_page digit = ok ++ as_html ++ replicate 9 32 ++ digit ∷ []
+
+-- the counters, each of one digit, as a page tells them
+abbrev pub counter_lines : List ℕ → List ℕ
+counter_lines counters = flat_map (λ n. replicate 9 32 ++ (48 + n) ∷ 10 ∷ []) counters
+
+-- a page of the counters twice, over which the second text is lost, two strangers ask for an echo, and the timer expires
+abbrev pub counters_site : List File
+counters_site = file (codes "/s.shtml") (codes "%! net-stats\n%! net-stats\n") ∷ []
+
+abbrev pub stranger : Event
+stranger = Ping (record { 0 = 10 ∷ 0 ∷ 0 ∷ 9 ∷ [] })
+
+abbrev pub sent_again : Result World BadLine
+sent_again =
+    replayed counters_site (client 1000 1025 536 (get (codes "/s.shtml")) ∷ [])
+    (Opens 1 ∷ replicate 5 Round ++ Lose ∷ stranger ∷ stranger ∷ Round ∷ Tick 4 ∷ replicate 7 Round)
+
+abbrev pub at_first : List ℕ
+at_first = counter_lines (3 ∷ 2 ∷ replicate 12 0 ++ 3 ∷ 2 ∷ replicate 4 0)
+
+abbrev pub later : List ℕ
+later = counter_lines (6 ∷ 6 ∷ replicate 8 0 ++ 2 ∷ 2 ∷ 0 ∷ 0 ∷ 4 ∷ 4 ∷ 0 ∷ 0 ∷ 1 ∷ 0 ∷ [])
+
+-- a page of the table of connections, which all are in use
+abbrev pub table_site : List File
+table_site = file (codes "/t.shtml") (codes "%! tcp-connections") ∷ []
+
+abbrev pub eleven : List Planned
+eleven =
+    client 1000 1025 536 (get (codes "/t.shtml")) ∷ client 2000 1026 536 (get (codes "/")) ∷ client 3000 1027 536 (get (codes "/"))
+    ∷ client 4000 1028 536 (get (codes "/")) ∷ client 5000 1029 536 (get (codes "/")) ∷ client 6000 1030 536 (get (codes "/"))
+    ∷ client 7000 1031 536 (get (codes "/")) ∷ client 8000 1032 536 (get (codes "/")) ∷ client 9000 1033 536 (get (codes "/"))
+    ∷ client 10000 1034 536 (get (codes "/")) ∷ client 11000 1035 536 (get (codes "/")) ∷ []
+
+-- the row of a connection in SYN-RECEIVED whose SYN-ACK is outstanding, by the digit of its slot and the last two of its port
+abbrev pub waiting_row : ℕ → List ℕ → List ℕ
+waiting_row slot port =
+    codes "<tr><td>" ++ (48 + slot) ∷ codes "</td><td>10.0.0.2:10" ++ port ++ codes "</td><td>SYN-RCVD</td><td>0</td><td>3</td><td>*</td></tr>\r\n"
+
+abbrev pub table_page : List ℕ
+table_page =
+    ok ++ as_html ++ codes "<tr><td>0</td><td>10.0.0.2:1025</td><td>ESTABLISHED</td><td>0</td><td>0</td><td> </td></tr>\r\n"
+    ++ waiting_row 1 (codes "26") ++ waiting_row 2 (codes "27") ++ waiting_row 3 (codes "28") ++ waiting_row 4 (codes "29")
+    ++ waiting_row 5 (codes "30") ++ waiting_row 6 (codes "31") ++ waiting_row 7 (codes "32") ++ waiting_row 8 (codes "33")
+    ++ waiting_row 9 (codes "34")
+
+pub record AreWorkedReplays : Type 0 where
+  -- a page, whole
+  pub page : ends_with hello_site (client 1000 1025 536 (get (codes "/")) ∷ []) (Opens 1 ∷ replicate 14 Round)
+      ≡ ended (clean Closed (ok ++ as_html ++ codes "hello\n") ∷ []) 8
+  -- the second client sees the hit of the first
+  pub hits : ends_with hits_site (client 1000 1025 536 (get (codes "/h.shtml")) ∷ client 2000 1026 536 (get (codes "/h.shtml")) ∷ [])
+      (Opens 1 ∷ replicate 14 Round ++ Opens 2 ∷ replicate 14 Round)
+      ≡ ended (clean Closed (hit_page 49) ∷ clean Closed (hit_page 50) ∷ []) 20
+  -- a request that is refused, byte by byte: a plain close, and no page
+  pub refused : ends_with hello_site (client 1000 1025 1 (codes "POST / ") ∷ []) (Opens 1 ∷ replicate 14 Round)
+      ≡ ended (clean Closed [] ∷ []) 14
+  -- a client that closes before its request is decided is reset
+  pub undecided : ends_with hello_site (client 1000 1025 536 (codes "GET") ∷ []) (Opens 1 ∷ replicate 4 Round ++ Closes 1 ∷ replicate 2 Round)
+      ≡ ended (clean Reset [] ∷ []) 6
+  -- a generated text that is lost is sent again with the same bytes, though the counters have moved on
+  pub first_time : text_sent 6 sent_again ≡ at_first
+  pub second_time : text_sent 11 sent_again ≡ at_first
+  pub counters : ending_of sent_again
+      ≡ Ok (record { clients = clean Closed (ok ++ as_html ++ at_first ++ later) ∷ []; ticks = 4; datagrams = 17 })
+  -- the table while all ten connections are in use; the eleventh client's SYN is dropped
+  pub full_table : ends_with table_site eleven
+      (Opens 1 ∷ Opens 2 ∷ Opens 3 ∷ Opens 4 ∷ Opens 5 ∷ Opens 6 ∷ Opens 7 ∷ Opens 8 ∷ Opens 9 ∷ Opens 10 ∷ Opens 11 ∷ Round ∷ Round
+      ∷ Give 22 ∷ Give 32 ∷ Give 33 ∷ Give 34 ∷ Give 35 ∷ Give 36 ∷ Give 37 ∷ Give 38 ∷ Give 39 ∷ Give 40 ∷ [])
+      ≡ ended (clean Closed table_page ∷ replicate 9 (clean Opened []) ++ clean Opening [] ∷ []) 40
