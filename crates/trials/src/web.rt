@@ -1,6 +1,7 @@
 //! The web server over a node, on its happy path: pages that are told by no clause of one crate alone.
 
 use crate::fields::node as see_fields;
+use app_events::State;
 use file_tree::Site;
 use httpd::{Httpd, Web};
 use std::alloc::Global;
@@ -111,6 +112,9 @@ fn a_page_with_a_hit_count_is_served_and_ended(rt: HostRuntime) -> Result<(), Fa
             assert!(rt; node.packet() == HITS.as_slice());
             assert!(rt; node.input(&HITS_TAKEN) == Some(40));
             assert!(rt; node.packet() == FIN.as_slice());
+            assert!(rt; node.conn(0).state == State::FinWait1);
+            assert!(rt; node.conn(1).state == State::Closed);
+            assert!(rt; node.shared().hits.as_slice() == [1].as_slice());
             see_fields(&node);
         }
         Err(_) => assert!(rt; false),
