@@ -1,7 +1,14 @@
+ghost use Rattle.std.specs.Prelude.{◌≡◌, ◌+◌, ◌≤◌, ◌++◌, ◌&&◌, not, nat_lt, ℕ, [], List, Some, is_some, length, slice_range};
+ghost use Rattle.link_client.specs.Calls.{Did, IsClient, can_abort, has_spoken, hears, is_opened, standing, takes};
+ghost use Rattle.link_client.specs.Client.{client_aborts, client_again, client_closes, client_opens, idle, tells_window};
+
 use crate::client_state::ClientState;
 use crate::fin_at::FinAt;
+use crate::hearing::hear;
 use crate::setup::Setup;
-use uip_wire::Seq;
+use crate::steps::took;
+use crate::took::Took;
+use uip_wire::{LARGEST_DATAGRAM, Seq};
 
 /// A client.
 #[derive(Clone, Copy, Debug, PartialEq, Eq)]
@@ -16,4 +23,134 @@ pub struct Client {
     /// The number that it expects next.
     pub rcv: Seq,
     pub window: u16,
+}
+
+impl Client {
+    /// A client before its first act.
+    pub fn new(setup: Setup) -> Client
+        requires least { 1 ≤ setup.seg }
+        requires most { setup.seg ≤ 1460 }
+        ensures idle { (request : List ℕ) → standing result request [] ≡ idle setup request }
+        ensures client { (request : List ℕ) → length request ≤ 4096 → IsClient result request }
+    {
+        Client {
+            setup,
+            state: ClientState::Idle,
+            acked: 0,
+            out: 0,
+            fin: FinAt::NotSent,
+            rcv: Seq(0),
+            window: 65535,
+        }
+    }
+
+    /// Sends its SYN, and answers the length of the datagram at the front of the area.
+    #[tactic(auto, unfolding(crate::specs::Client::opens_by))]
+    pub fn open_now(&mut self, area: &mut [u8]) -> usize
+        requires idle { self.old.state ≡ ClientState.Idle }
+        requires room { LARGEST_DATAGRAM ≤ length area.old }
+        ensures client { (request : List ℕ) → IsClient self.old request → IsClient self.new request }
+        ensures setup { self.new.setup ≡ self.old.setup }
+        ensures room { length area.new ≡ length area.old }
+        ensures step { (request received : List ℕ) → Did (client_opens (standing self.old request received)) (standing self.new request received) (Some result) area.new }
+    {
+        self.state = ClientState::Opening;
+        self.send_syn(area)
+    }
+
+    /// Takes a datagram: a segment of its server, or nothing. What it sends stands at the front of the area.
+    pub fn take(&mut self, request: &[u8], datagram: &[u8], area: &mut [u8]) -> Took
+        requires client { IsClient self.old request.now }
+        requires most { length datagram.now ≤ LARGEST_DATAGRAM }
+        requires room { LARGEST_DATAGRAM ≤ length area.old }
+        ensures client { IsClient self.new request.now }
+        ensures setup { self.new.setup ≡ self.old.setup }
+        ensures room { length area.new ≡ length area.old }
+        ensures inside { result.fresh_at + result.fresh_len ≤ length datagram.now }
+        ensures none { result.fresh_len ≡ 0 → result.fresh_at ≡ 0 }
+        ensures step { (received : List ℕ) → Did (takes (standing self.old request.now received) (hears self.old.setup datagram.now)) (standing self.new request.now (received ++ slice_range datagram.now result.fresh_at (result.fresh_at + result.fresh_len))) result.sent area.new }
+    {
+        let Some(segment) = hear(&self.setup, datagram) else {
+            return Took {
+                sent: None,
+                fresh_at: 0,
+                fresh_len: 0,
+            };
+        };
+        let heard = self.take_segment(request, &segment, segment.text(datagram), area);
+        took(&segment, heard)
+    }
+
+    /// Sends again what is outstanding, or an ACK, and answers the length of the datagram at the front of the area.
+    #[tactic(auto, unfolding(crate::specs::Client::again_by))]
+    pub fn again(&mut self, request: &[u8], area: &mut [u8]) -> Option<usize>
+        requires client { IsClient self.old request.now }
+        requires room { LARGEST_DATAGRAM ≤ length area.old }
+        ensures client { IsClient self.new request.now }
+        ensures setup { self.new.setup ≡ self.old.setup }
+        ensures room { length area.new ≡ length area.old }
+        ensures answers { is_some result ≡ has_spoken self.old.state }
+        ensures step { (received : List ℕ) → Did (client_again (standing self.old request.now received)) (standing self.new request.now received) result area.new }
+    {
+        match self.state {
+            ClientState::Idle | ClientState::Reset => None,
+            ClientState::Opening => Some(self.send_syn(area)),
+            ClientState::Opened | ClientState::Closing | ClientState::Closed | ClientState::Ended =>
+                Some(self.send_again(request, area)),
+        }
+    }
+
+    /// Closes: its FIN goes out once its request is acknowledged.
+    #[tactic(auto, unfolding(crate::specs::Client::closes_by))]
+    pub fn close_now(&mut self, request: &[u8], area: &mut [u8]) -> Option<usize>
+        requires client { IsClient self.old request.now }
+        requires room { LARGEST_DATAGRAM ≤ length area.old }
+        ensures client { IsClient self.new request.now }
+        ensures setup { self.new.setup ≡ self.old.setup }
+        ensures room { length area.new ≡ length area.old }
+        ensures answers { self.old.fin ≡ FinAt.NotSent → is_some result ≡ (is_opened self.old.state && not (nat_lt 0 self.old.out)) }
+        ensures step { (received : List ℕ) → Did (client_closes (standing self.old request.now received)) (standing self.new request.now received) result area.new }
+    {
+        match self.state {
+            ClientState::Opened => {
+                self.state = ClientState::Closing;
+                self.send_next(request, false, area)
+            }
+            ClientState::Idle
+            | ClientState::Opening
+            | ClientState::Closing
+            | ClientState::Closed
+            | ClientState::Ended
+            | ClientState::Reset => None,
+        }
+    }
+
+    /// Gives its connection up with a RST.
+    #[tactic(auto, unfolding(crate::specs::Client::aborts_by))]
+    pub fn abort_now(&mut self, area: &mut [u8]) -> Option<usize>
+        requires room { LARGEST_DATAGRAM ≤ length area.old }
+        ensures client { (request : List ℕ) → IsClient self.old request → IsClient self.new request }
+        ensures setup { self.new.setup ≡ self.old.setup }
+        ensures room { length area.new ≡ length area.old }
+        ensures answers { is_some result ≡ can_abort self.old.state }
+        ensures step { (request received : List ℕ) → Did (client_aborts (standing self.old request received)) (standing self.new request received) result area.new }
+    {
+        match self.state {
+            ClientState::Opening | ClientState::Opened | ClientState::Closing => {
+                self.state = ClientState::Reset;
+                Some(self.send_reset(area))
+            }
+            ClientState::Idle | ClientState::Closed | ClientState::Ended | ClientState::Reset =>
+                None,
+        }
+    }
+
+    /// Tells this window from now on.
+    pub fn set_window(&mut self, window: u16)
+        ensures client { (request : List ℕ) → IsClient self.old request → IsClient self.new request }
+        ensures setup { self.new.setup ≡ self.old.setup }
+        ensures step { (request received : List ℕ) → (tells_window window (standing self.old request received)).client ≡ standing self.new request received }
+    {
+        self.window = window;
+    }
 }

@@ -1,0 +1,129 @@
+-- What the calls of a client of the code do: the abstract client that it stands for, what it hears in a datagram, and the
+-- datagram that it sends at the front of an area.
+use Rattle.std.specs.Prelude.{ℕ, ◌≡◌, ◌+◌, ◌≤◌, ◌==◌, ◌&&◌, ◌||◌, not, nat_lt, Bool, true, false, List, ◌++◌, length, take, if◌then◌else◌, Option, Some, None, Result, Ok, Err}
+use Rattle.std.specs.Prelude.{bytes_eq}
+use Rattle.uip_ipv4.specs.Head.{head_or_fate}
+use Rattle.uip_ipv4.specs.declared.fate.IpFate.{IpFate}
+use Rattle.uip_ipv4.specs.declared.head.IpHead.{IpHead}
+use Rattle.uip_ipv4.specs.declared.proto.Proto.{Proto}
+use Rattle.uip_ipv4.specs.declared.proto.Proto.TheVariants.{Icmp, Tcp}
+use Rattle.tcp_segment.specs.Received.{plain_of, segment_or_fate}
+use Rattle.tcp_segment.specs.Segments.{PlainSegment, Datagram, datagram_bytes}
+use Rattle.tcp_segment.specs.declared.fate.TcpFate.{TcpFate}
+use Rattle.tcp_segment.specs.declared.segment.Segment.{Segment}
+use Rattle.link_client.specs.Client.{AbstractClient, ClientStep, client_takes, fin_sent, is_receiving, keeps, may_finish, waits_for_ack}
+use Rattle.link_client.specs.declared.client.Client.{Client}
+use Rattle.link_client.specs.declared.client_state.ClientState.{ClientState}
+use Rattle.link_client.specs.declared.client_state.ClientState.TheVariants.{Idle, Opening, Opened, Closing, Closed, Ended, Reset}
+use Rattle.link_client.specs.declared.setup.Setup.{Setup}
+
+-- a client of the code beside its request and the bytes that it took, as an abstract client
+abbrev pub standing : Client → List ℕ → List ℕ → AbstractClient
+standing c request received = record {
+  setup = c.setup;
+  request = request;
+  state = c.state;
+  received = received;
+  acked = c.acked;
+  out = c.out;
+  fin = c.fin;
+  expected = c.rcv.0;
+  window = c.window;
+}
+
+-- what a client keeps beside its request
+pub record IsClient (c : Client) (request : List ℕ) : Type 0 where
+  pub least : 1 ≤ c.setup.seg
+  pub most : c.setup.seg ≤ 1460
+  pub out : c.out ≤ c.setup.seg
+  pub within : c.acked + c.out ≤ length request
+  pub short : length request ≤ 4096
+
+-- the datagram of a client's segment (RFC 791, RFC 793): identification 0
+abbrev pub datagram_of : Setup → PlainSegment → Datagram
+datagram_of setup s = record {
+  source = setup.addr.0;
+  target = setup.server.0;
+  from = setup.port.0;
+  to = setup.server_port.0;
+  id = 0;
+  segment = s;
+}
+
+-- so many bytes stand at the front of the area
+pub record StandsAtFront (bytes : List ℕ) (sent : Option ℕ) (area : List ℕ) : Type 0 where
+  pub answer : sent ≡ Some (length bytes)
+  pub front : take (length bytes) area ≡ bytes
+
+-- what is sent, if anything is, stands at the front of the area
+abbrev pub Sends : Setup → Option PlainSegment → Option ℕ → List ℕ → Type 0
+Sends setup None sent area = sent ≡ None
+Sends setup (Some s) sent area = StandsAtFront (datagram_bytes (datagram_of setup s)) sent area
+
+-- a call did this step
+pub record Did (step : ClientStep) (after : AbstractClient) (answer : Option ℕ) (area : List ℕ) : Type 0 where
+  pub client : step.client ≡ after
+  pub sent : Sends after.setup step.sent answer area
+
+-- What a client hears in a datagram: a segment of its server, or nothing.
+abbrev pub heard_in : Setup → IpHead → List ℕ → Result Segment TcpFate → Option PlainSegment
+heard_in setup head bytes (Ok s) =
+    if bytes_eq head.source.0 setup.server.0 && ((s.from.0 == setup.server_port.0) && (s.to.0 == setup.port.0)) then Some (plain_of s bytes)
+    else None
+heard_in setup head bytes (Err fate) = None
+
+abbrev pub heard_by_proto : Proto → Setup → IpHead → List ℕ → Option PlainSegment
+heard_by_proto Icmp setup head bytes = None
+heard_by_proto Tcp setup head bytes = heard_in setup head bytes (segment_or_fate head bytes)
+
+abbrev pub heard_by_head : Setup → List ℕ → Result IpHead IpFate → Option PlainSegment
+heard_by_head setup bytes (Ok head) = heard_by_proto head.proto setup head bytes
+heard_by_head setup bytes (Err fate) = None
+
+abbrev pub hears : Setup → List ℕ → Option PlainSegment
+hears setup bytes = heard_by_head setup bytes (head_or_fate bytes setup.addr.0)
+
+-- the step on a datagram
+abbrev pub takes : AbstractClient → Option PlainSegment → ClientStep
+takes c None = keeps c
+takes c (Some s) = client_takes c s
+
+-- the bytes that it took before, and the text where it takes that too
+abbrev pub received_with : Bool → List ℕ → List ℕ → List ℕ
+received_with true received text = received ++ text
+received_with false received text = received
+
+-- it has sent a segment, and was not reset
+abbrev pub has_spoken : ClientState → Bool
+has_spoken Idle = false
+has_spoken Reset = false
+has_spoken Opening = true
+has_spoken Opened = true
+has_spoken Closing = true
+has_spoken Closed = true
+has_spoken Ended = true
+
+abbrev pub is_opened : ClientState → Bool
+is_opened Opened = true
+is_opened Idle = false
+is_opened Opening = false
+is_opened Closing = false
+is_opened Closed = false
+is_opened Ended = false
+is_opened Reset = false
+
+-- it sends request bytes or its FIN next
+abbrev pub has_more_to_send : AbstractClient → Bool
+has_more_to_send c =
+    not (waits_for_ack c)
+    && ((is_receiving c.state && nat_lt c.acked (length c.request)) || (may_finish c.state && not (fin_sent c.fin)))
+
+-- it can still be given up: the server's FIN is not yet taken
+abbrev pub can_abort : ClientState → Bool
+can_abort Opening = true
+can_abort Opened = true
+can_abort Closing = true
+can_abort Idle = false
+can_abort Closed = false
+can_abort Ended = false
+can_abort Reset = false

@@ -1,0 +1,174 @@
+//! The segments that a client sends, written into an area.
+
+ghost use Rattle.std.specs.Prelude.{◌≡◌, ◌+◌, ◌≤◌, [], IsSome, Some, length, slice_range};
+ghost use Rattle.uip_wire.specs.Numbers.{wrap};
+ghost use Rattle.link_client.specs.Calls.{IsClient, Sends, standing};
+ghost use Rattle.link_client.specs.Client.{ack_of, again_by, fin_of, next_own, offered, request_of, reset_of, syn_of};
+
+use crate::client::Client;
+use crate::client_state::ClientState;
+use crate::fin_at::FinAt;
+use tcp_segment::{ACK, FIN, Out, PSH, RST, SYN, put_in};
+use uip_wire::{LARGEST_DATAGRAM, OWN_MSS, Seq};
+
+/// What of a segment's header does not stand in its client.
+#[derive(Clone, Copy, Debug, PartialEq, Eq)]
+struct Heading {
+    seq: Seq,
+    ack: Seq,
+    flags: u8,
+    mss: Option<u16>,
+}
+
+/// Copies the text of a segment to its place.
+fn put_text(area: &mut [u8], text: &[u8])
+    requires { 40 + length text.now ≤ length area.old }
+    ensures { slice_range area.new 40 (40 + length text.now) ≡ text.now }
+{
+    area[40..40 + text.len()].copy_from_slice(text);
+}
+
+/// The option of a SYN for this value.
+fn offered(mss: u16) -> Option<u16>
+    ensures { result ≡ offered mss }
+{
+    if mss == 0 { None } else { Some(mss) }
+}
+
+impl Client {
+    /// Writes a segment around its text, and answers the length of its datagram.
+    fn send(&self, heading: Heading, text: &[u8], area: &mut [u8]) -> usize
+        requires room { LARGEST_DATAGRAM ≤ length area.old }
+        requires fits { length text.now ≤ OWN_MSS }
+        requires no_text { IsSome heading.mss → length text.now ≡ 0 }
+        ensures sent { Sends self.now.setup (Some (record { seq = heading.seq.0; ack = heading.ack.0; flags = heading.flags; window = self.now.window; mss = heading.mss; text = text.now })) (Some result) area.new }
+    {
+        put_text(area, text);
+        let out = Out {
+            source: self.setup.addr,
+            target: self.setup.server,
+            from: self.setup.port,
+            to: self.setup.server_port,
+            seq: heading.seq,
+            ack: heading.ack,
+            flags: heading.flags,
+            window: self.window,
+            mss: heading.mss,
+            len: text.len(),
+            id: 0,
+        };
+        put_in(area, &out)
+    }
+
+    /// Writes a segment without text that acknowledges what it took.
+    fn send_bare(&self, seq: Seq, flags: u8, area: &mut [u8]) -> usize
+        requires room { LARGEST_DATAGRAM ≤ length area.old }
+        ensures sent { Sends self.now.setup (Some (record { seq = seq.0; ack = self.now.rcv.0; flags = flags; window = self.now.window; mss = None; text = [] })) (Some result) area.new }
+    {
+        let heading = Heading {
+            seq,
+            ack: self.rcv,
+            flags,
+            mss: None,
+        };
+        self.send(heading, &[], area)
+    }
+
+    /// The number of the first byte of its request that is not acknowledged.
+    fn first_unacked(&self) -> Seq
+        ensures { result.0 ≡ wrap (self.now.setup.iss.0 + 1 + self.now.acked) }
+    {
+        self.setup.iss.add(1).add(self.acked)
+    }
+
+    /// The number behind the bytes of its request that it sent.
+    fn after_text(&self) -> Seq
+        ensures { result.0 ≡ wrap (self.now.setup.iss.0 + 1 + self.now.acked + self.now.out) }
+    {
+        self.first_unacked().add(u32::from(self.out))
+    }
+
+    /// The number behind all that it sent.
+    pub(crate) fn next_own(&self) -> Seq
+        ensures { result.0 ≡ next_own (standing self.now [] []) }
+    {
+        match self.fin {
+            FinAt::NotSent => self.after_text(),
+            FinAt::Out | FinAt::Acked => self.after_text().add(1),
+        }
+    }
+
+    /// Its SYN.
+    pub(crate) fn send_syn(&self, area: &mut [u8]) -> usize
+        requires room { LARGEST_DATAGRAM ≤ length area.old }
+        ensures sent { Sends self.now.setup (Some (syn_of (standing self.now [] []))) (Some result) area.new }
+    {
+        let heading = Heading {
+            seq: self.setup.iss,
+            ack: Seq(0),
+            flags: SYN,
+            mss: offered(self.setup.mss),
+        };
+        self.send(heading, &[], area)
+    }
+
+    /// An acknowledgement without text.
+    pub(crate) fn send_ack(&self, area: &mut [u8]) -> usize
+        requires room { LARGEST_DATAGRAM ≤ length area.old }
+        ensures sent { Sends self.now.setup (Some (ack_of (standing self.now [] []))) (Some result) area.new }
+    {
+        self.send_bare(self.next_own(), ACK, area)
+    }
+
+    /// The bytes of its request that are outstanding.
+    pub(crate) fn send_request(&self, request: &[u8], area: &mut [u8]) -> usize
+        requires client { IsClient self.now request.now }
+        requires room { LARGEST_DATAGRAM ≤ length area.old }
+        ensures sent { Sends self.now.setup (Some (request_of (standing self.now request.now []))) (Some result) area.new }
+    {
+        let heading = Heading {
+            seq: self.first_unacked(),
+            ack: self.rcv,
+            flags: ACK + PSH,
+            mss: None,
+        };
+        let start = self.acked as usize;
+        self.send(
+            heading,
+            &request[start..start + usize::from(self.out)],
+            area,
+        )
+    }
+
+    /// What it sends again once it is open: what is outstanding, or an acknowledgement.
+    #[tactic(auto, unfolding(crate::specs::Client::again_by))]
+    pub(crate) fn send_again(&self, request: &[u8], area: &mut [u8]) -> usize
+        requires client { IsClient self.now request.now }
+        requires room { LARGEST_DATAGRAM ≤ length area.old }
+        ensures sent { Sends self.now.setup (again_by ClientState.Opened (standing self.now request.now [])).sent (Some result) area.new }
+    {
+        if self.out > 0 {
+            return self.send_request(request, area);
+        }
+        if self.fin == FinAt::Out {
+            return self.send_fin(area);
+        }
+        self.send_ack(area)
+    }
+
+    /// Its FIN.
+    pub(crate) fn send_fin(&self, area: &mut [u8]) -> usize
+        requires room { LARGEST_DATAGRAM ≤ length area.old }
+        ensures sent { Sends self.now.setup (Some (fin_of (standing self.now [] []))) (Some result) area.new }
+    {
+        self.send_bare(self.after_text(), FIN + ACK, area)
+    }
+
+    /// The RST by which it gives its connection up.
+    pub(crate) fn send_reset(&self, area: &mut [u8]) -> usize
+        requires room { LARGEST_DATAGRAM ≤ length area.old }
+        ensures sent { Sends self.now.setup (Some (reset_of (standing self.now [] []))) (Some result) area.new }
+    {
+        self.send_bare(self.next_own(), RST + ACK, area)
+    }
+}

@@ -1,0 +1,316 @@
+//! The steps of a client on a segment of its server (RFC 793, section 3.9).
+
+ghost use Rattle.std.specs.Prelude.{◌≡◌, ◌+◌, ◌≤◌, ◌==◌, ◌&&◌, ◌||◌, ◌++◌, is_some, false, not, nat_lt, ℕ, [], List, true, if◌then◌else◌, slice_range, length};
+ghost use Rattle.tcp_segment.specs.Received.{plain_of};
+ghost use Rattle.tcp_machine.specs.Segments.{has_place};
+ghost use Rattle.tcp_machine.specs.Stands.{plain};
+ghost use Rattle.link_client.specs.Calls.{Did, IsClient, has_more_to_send, received_with, standing};
+ghost use Rattle.link_client.specs.Client.{after_fin, client_takes, fin_heard, fin_sent, hears_ack, is_receiving, is_reset_by, may_finish, sends_next, takes_by, takes_in_order, takes_text, waits_for_ack};
+
+use crate::client::Client;
+use crate::client_state::ClientState;
+use crate::fin_at::FinAt;
+use crate::took::Took;
+use tcp_segment::Segment;
+use uip_wire::LARGEST_DATAGRAM;
+
+/// What a client did with a segment.
+#[derive(Clone, Copy, Debug, PartialEq, Eq)]
+pub(crate) struct Heard {
+    /// The length of the datagram that it sends.
+    pub sent: Option<usize>,
+    /// It took the segment's text.
+    pub took_text: bool,
+}
+
+/// It did not take the text.
+fn without_text(sent: Option<usize>) -> Heard
+    ensures { result ≡ record { sent = sent; took_text = false } }
+{
+    Heard {
+        sent,
+        took_text: false,
+    }
+}
+
+/// It took the text.
+fn with_text(sent: Option<usize>) -> Heard
+    ensures { result ≡ record { sent = sent; took_text = true } }
+{
+    Heard {
+        sent,
+        took_text: true,
+    }
+}
+
+/// What was sent, and the place of the text in its datagram where it was taken.
+pub(crate) fn took(segment: &Segment, heard: Heard) -> Took
+    ensures sent { result.sent ≡ heard.sent }
+    ensures inside { result.fresh_at + result.fresh_len ≤ segment.now.text_at + segment.now.text_len }
+    ensures none { result.fresh_len ≡ 0 → result.fresh_at ≡ 0 }
+    ensures fresh { (received bytes : List ℕ) → received ++ slice_range bytes result.fresh_at (result.fresh_at + result.fresh_len) ≡ received_with heard.took_text received (plain_of segment.now bytes).text }
+{
+    if heard.took_text && segment.text_len > 0 {
+        return Took {
+            sent: heard.sent,
+            fresh_at: segment.text_at,
+            fresh_len: segment.text_len,
+        };
+    }
+    Took {
+        sent: heard.sent,
+        fresh_at: 0,
+        fresh_len: 0,
+    }
+}
+
+/// What was out of the FIN is acknowledged.
+fn fin_heard(fin: FinAt) -> FinAt
+    ensures { result ≡ fin_heard fin }
+{
+    match fin {
+        FinAt::NotSent => FinAt::NotSent,
+        FinAt::Out | FinAt::Acked => FinAt::Acked,
+    }
+}
+
+/// The state after the server's FIN.
+fn after_fin(state: ClientState) -> ClientState
+    ensures { result ≡ after_fin state }
+{
+    match state {
+        ClientState::Opened => ClientState::Closed,
+        ClientState::Closing => ClientState::Ended,
+        _ => state,
+    }
+}
+
+/// What stands in its order: text, a SYN or a FIN.
+fn has_place(segment: &Segment, piece: &[u8]) -> bool
+    ensures { result ≡ has_place (plain segment.now piece.now) }
+{
+    !piece.is_empty() || segment.has_syn() || segment.has_fin()
+}
+
+impl Client {
+    /// Something of its own is outstanding.
+    fn waits_for_ack(&self) -> bool
+        ensures { result ≡ waits_for_ack (standing self.now [] []) }
+    {
+        self.out > 0 || self.fin == FinAt::Out
+    }
+
+    /// It takes text.
+    fn is_receiving(&self) -> bool
+        ensures { result ≡ is_receiving self.now.state }
+    {
+        matches!(self.state, ClientState::Opened | ClientState::Closing)
+    }
+
+    /// Bytes of its request may be sent.
+    fn has_text_to_send(&self, len: usize) -> bool
+        ensures { result ≡ (not (waits_for_ack (standing self.now [] [])) && (is_receiving self.now.state && nat_lt self.now.acked len)) }
+    {
+        !self.waits_for_ack() && self.is_receiving() && (self.acked as usize) < len
+    }
+
+    /// It has nothing more to ask for.
+    fn may_finish(&self) -> bool
+        ensures { result ≡ may_finish self.now.state }
+    {
+        matches!(
+            self.state,
+            ClientState::Closing | ClientState::Closed | ClientState::Ended
+        )
+    }
+
+    /// Its FIN may be sent.
+    fn has_fin_to_send(&self) -> bool
+        ensures { result ≡ (not (waits_for_ack (standing self.now [] [])) && (may_finish self.now.state && not (fin_sent self.now.fin))) }
+    {
+        !self.waits_for_ack() && self.may_finish() && self.fin == FinAt::NotSent
+    }
+
+    /// What it sends next: request bytes, its FIN, or a bare ACK where one is owed.
+    #[tactic(auto, unfolding(crate::specs::Client::sends_next))]
+    pub(crate) fn send_next(&mut self, request: &[u8], owed: bool, area: &mut [u8]) -> Option<usize>
+        requires client { IsClient self.old request.now }
+        requires room { LARGEST_DATAGRAM ≤ length area.old }
+        ensures client { IsClient self.new request.now }
+        ensures setup { self.new.setup ≡ self.old.setup }
+        ensures answers { is_some result ≡ (has_more_to_send (standing self.old request.now []) || owed) }
+        ensures step { (received : List ℕ) → Did (sends_next owed (standing self.old request.now received)) (standing self.new request.now received) result area.new }
+    {
+        if self.has_text_to_send(request.len()) {
+            let left = request.len() - self.acked as usize;
+            self.out = usize::from(self.setup.seg).min(left) as u16;
+            return Some(self.send_request(request, area));
+        }
+        if self.has_fin_to_send() {
+            self.fin = FinAt::Out;
+            return Some(self.send_fin(area));
+        }
+        if owed {
+            return Some(self.send_ack(area));
+        }
+        None
+    }
+
+    /// What is outstanding is acknowledged where the number is its next own one.
+    fn hear_ack(&mut self, segment: &Segment)
+        requires fits { self.old.acked + self.old.out ≤ 4096 }
+        ensures setup { self.new.setup ≡ self.old.setup }
+        ensures state { self.new.state ≡ self.old.state }
+        ensures client { (request : List ℕ) → IsClient self.old request → IsClient self.new request }
+        ensures heard { (request received text : List ℕ) → hears_ack (standing self.old request received) (plain segment.now text) ≡ standing self.new request received }
+    {
+        if segment.has_ack() && self.waits_for_ack() && segment.ack.0 == self.next_own().0 {
+            self.acked += u32::from(self.out);
+            self.out = 0;
+            self.fin = fin_heard(self.fin);
+        }
+    }
+
+    /// The text of a segment at the expected number, and then its FIN.
+    fn take_text(&mut self, segment: &Segment, piece: &[u8])
+        requires short { length piece.now ≤ LARGEST_DATAGRAM }
+        ensures setup { self.new.setup ≡ self.old.setup }
+        ensures client { (request : List ℕ) → IsClient self.old request → IsClient self.new request }
+        ensures taken { (request received : List ℕ) → takes_text (standing self.old request received) (plain segment.now piece.now) ≡ standing self.new request (received_with true received piece.now) }
+    {
+        let count = piece.len() as u32;
+        if segment.has_fin() {
+            self.rcv = self.rcv.add(count + 1);
+            self.state = after_fin(self.state);
+            return;
+        }
+        self.rcv = self.rcv.add(count);
+    }
+
+    /// The segment stands at the expected number, and its text is taken.
+    fn is_next(&self, segment: &Segment) -> bool
+        ensures { result ≡ ((segment.now.seq.0 == self.now.rcv.0) && is_receiving self.now.state) }
+    {
+        segment.seq.0 == self.rcv.0 && self.is_receiving()
+    }
+
+    /// A segment whose acknowledgement was heard.
+    #[tactic(auto, unfolding(crate::specs::Client::takes_in_order))]
+    fn take_in_order(
+        &mut self,
+        request: &[u8],
+        segment: &Segment,
+        piece: &[u8],
+        area: &mut [u8],
+    ) -> Heard
+        requires client { IsClient self.old request.now }
+        requires short { length piece.now ≤ LARGEST_DATAGRAM }
+        requires room { LARGEST_DATAGRAM ≤ length area.old }
+        ensures client { IsClient self.new request.now }
+        ensures setup { self.new.setup ≡ self.old.setup }
+        ensures step { (received : List ℕ) → Did (takes_in_order (standing self.old request.now received) (plain segment.now piece.now)) (standing self.new request.now (received_with result.took_text received piece.now)) result.sent area.new }
+    {
+        if segment.has_syn() {
+            return without_text(self.send_next(request, true, area));
+        }
+        if !has_place(segment, piece) {
+            return without_text(self.send_next(request, false, area));
+        }
+        if self.is_next(segment) {
+            self.take_text(segment, piece);
+            return with_text(self.send_next(request, true, area));
+        }
+        without_text(self.send_next(request, true, area))
+    }
+
+    /// A segment that is heard before the SYN is answered.
+    #[tactic(auto, unfolding(crate::specs::Client::takes_by))]
+    fn take_opening(&mut self, request: &[u8], segment: &Segment, area: &mut [u8]) -> Option<usize>
+        requires client { IsClient self.old request.now }
+        requires room { LARGEST_DATAGRAM ≤ length area.old }
+        ensures client { IsClient self.new request.now }
+        ensures setup { self.new.setup ≡ self.old.setup }
+        ensures step { (received text : List ℕ) → Did (takes_by ClientState.Opening (standing self.old request.now received) (plain segment.now text)) (standing self.new request.now received) result area.new }
+    {
+        if segment.has_syn() && segment.has_ack() && segment.ack.0 == self.setup.iss.add(1).0 {
+            self.state = ClientState::Opened;
+            self.rcv = segment.seq.add(1);
+            return self.send_next(request, true, area);
+        }
+        None
+    }
+
+    /// A segment without RST.
+    #[tactic(auto, unfolding(crate::specs::Client::takes_by))]
+    fn take_by_state(
+        &mut self,
+        request: &[u8],
+        segment: &Segment,
+        piece: &[u8],
+        area: &mut [u8],
+    ) -> Heard
+        requires client { IsClient self.old request.now }
+        requires short { length piece.now ≤ LARGEST_DATAGRAM }
+        requires room { LARGEST_DATAGRAM ≤ length area.old }
+        ensures client { IsClient self.new request.now }
+        ensures setup { self.new.setup ≡ self.old.setup }
+        ensures step { (received : List ℕ) → Did (takes_by self.old.state (standing self.old request.now received) (plain segment.now piece.now)) (standing self.new request.now (received_with result.took_text received piece.now)) result.sent area.new }
+    {
+        match self.state {
+            ClientState::Idle | ClientState::Reset => without_text(None),
+            ClientState::Opening => without_text(self.take_opening(request, segment, area)),
+            ClientState::Opened | ClientState::Closing | ClientState::Closed | ClientState::Ended =>
+                {
+                    self.hear_ack(segment);
+                    self.take_in_order(request, segment, piece, area)
+                }
+        }
+    }
+
+    /// A RST counts where it answers the SYN, and afterwards at the expected number.
+    fn is_reset_by(&self, segment: &Segment) -> bool
+        ensures { (request received text : List ℕ) → is_reset_by self.now.state (standing self.now request received) (plain segment.now text) ≡ result }
+    {
+        match self.state {
+            ClientState::Opening => {
+                segment.has_ack() && segment.ack.0 == self.setup.iss.add(1).0
+            }
+            ClientState::Opened | ClientState::Closing => segment.seq.0 == self.rcv.0,
+            _ => false,
+        }
+    }
+
+    /// A RST.
+    fn take_reset(&mut self, segment: &Segment)
+        ensures setup { self.new.setup ≡ self.old.setup }
+        ensures client { (request : List ℕ) → IsClient self.old request → IsClient self.new request }
+        ensures reset { (request received text : List ℕ) → (if is_reset_by self.old.state (standing self.old request received) (plain segment.now text) then record (standing self.old request received) { state = ClientState.Reset } else standing self.old request received) ≡ standing self.new request received }
+    {
+        if self.is_reset_by(segment) {
+            self.state = ClientState::Reset;
+        }
+    }
+
+    /// A segment of its server; `piece` is the segment's text.
+    #[tactic(auto, unfolding(crate::specs::Client::client_takes))]
+    pub(crate) fn take_segment(
+        &mut self,
+        request: &[u8],
+        segment: &Segment,
+        piece: &[u8],
+        area: &mut [u8],
+    ) -> Heard
+        requires client { IsClient self.old request.now }
+        requires short { length piece.now ≤ LARGEST_DATAGRAM }
+        requires room { LARGEST_DATAGRAM ≤ length area.old }
+        ensures client { IsClient self.new request.now }
+        ensures setup { self.new.setup ≡ self.old.setup }
+        ensures step { (received : List ℕ) → Did (client_takes (standing self.old request.now received) (plain segment.now piece.now)) (standing self.new request.now (received_with result.took_text received piece.now)) result.sent area.new }
+    {
+        if segment.has_rst() {
+            self.take_reset(segment);
+            return without_text(None);
+        }
+        self.take_by_state(request, segment, piece, area)
+    }
+}
