@@ -1,0 +1,37 @@
+-- What a client's code hears in a datagram is what the world says that it hears.
+use Rattle.std.specs.Prelude.{ℕ, List, Option, Some, None, Result, Ok, Err}
+use Rattle.std.proofs.Common.{◌≡◌, refl}
+use Rattle.uip_ipv4.specs.Head.{head_or_fate, payload_of}
+use Rattle.uip_ipv4.specs.declared.fate.IpFate.{IpFate}
+use Rattle.uip_ipv4.specs.declared.head.IpHead.{IpHead}
+use Rattle.uip_ipv4.specs.declared.proto.Proto.{Proto}
+use Rattle.uip_ipv4.specs.declared.proto.Proto.TheVariants.{Icmp, Tcp}
+use Rattle.icmp_echo.specs.Echo.{echo_fate}
+use Rattle.icmp_echo.specs.declared.fate.IcmpFate.{IcmpFate}
+use Rattle.tcp_segment.specs.Received.{segment_or_fate}
+use Rattle.tcp_segment.specs.declared.fate.TcpFate.{TcpFate}
+use Rattle.tcp_segment.specs.declared.segment.Segment.{Segment}
+use Rattle.uip_node.specs.Edge.{by_echo, by_head, by_proto, by_segment}
+use Rattle.link_client.specs.declared.setup.Setup.{Setup}
+use Rattle.link_client.specs.Calls.{heard_in, heard_by_proto, heard_by_head, hears}
+use Rattle.link_world.specs.Bytes.{heard_by, hears as world_hears}
+
+of_segment : (setup : Setup) (head : IpHead) (bytes : List ℕ) (r : Result Segment TcpFate) → heard_in setup head bytes r ≡ heard_by setup (by_segment head bytes r)
+of_segment setup head bytes (Ok s) = refl
+of_segment setup head bytes (Err fate) = refl
+
+of_echo : (setup : Setup) (head : IpHead) (bytes : List ℕ) (o : Option IcmpFate) → heard_by_proto Icmp setup head bytes ≡ heard_by setup (by_echo head bytes o)
+of_echo setup head bytes None = refl
+of_echo setup head bytes (Some fate) = refl
+
+of_proto : (p : Proto) (setup : Setup) (head : IpHead) (bytes : List ℕ) → heard_by_proto p setup head bytes ≡ heard_by setup (by_proto p head bytes)
+of_proto Icmp setup head bytes = of_echo setup head bytes (echo_fate (payload_of head bytes))
+of_proto Tcp setup head bytes = of_segment setup head bytes (segment_or_fate head bytes)
+
+of_head : (setup : Setup) (bytes : List ℕ) (r : Result IpHead IpFate) → heard_by_head setup bytes r ≡ heard_by setup (by_head bytes r)
+of_head setup bytes (Ok head) = of_proto head.proto setup head bytes
+of_head setup bytes (Err fate) = refl
+
+-- what the client's code hears is what the world says that it hears
+pub same_hearing : (setup : Setup) (bytes : List ℕ) → hears setup bytes ≡ world_hears setup bytes
+same_hearing setup bytes = of_head setup bytes (head_or_fate bytes setup.addr.0)
