@@ -38,3 +38,6 @@ pub mod HonestClient
 pub mod HonestNode
 pub mod HonestRun
 pub mod Honest
+pub mod Senders
+pub mod Reading
+pub mod OneMore

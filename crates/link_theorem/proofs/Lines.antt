@@ -140,7 +140,7 @@ module _ (m : Meaning) (served : ℕ → Bool) (x : ℕ) where
   done_mark w None = refl
   done_mark w (Some f) = refl
 
-  acts_mark : (w : World) (act : Act) → acts m served (at_mark x w) act ≡ with_mark x (acts m served w act)
+  pub acts_mark : (w : World) (act : Act) → acts m served (at_mark x w) act ≡ with_mark x (acts m served w act)
   acts_mark w act =
       ap (λ (v : World). done_or v (fault_of (at_mark x w) act)) (does_mark w act) ∙ ap (λ (f : Option StepFault). done_or (at_mark x (does m served w act)) f) (fault_mark w act) ∙ done_mark (does m served w act) (fault_of w act)
 
@@ -149,7 +149,7 @@ module _ (m : Meaning) (served : ℕ → Bool) (x : ℕ) where
   then_mark more h (Ok v) = h v
   then_mark more h (Err f) = refl
 
-  runs_mark : (schedule : List Act) (w : World) → runs m served schedule (at_mark x w) ≡ with_mark x (runs m served schedule w)
+  pub runs_mark : (schedule : List Act) (w : World) → runs m served schedule (at_mark x w) ≡ with_mark x (runs m served schedule w)
   runs_mark [] w = refl
   runs_mark (act ∷ more) w = ap (λ r. and_then (runs m served more) r) (acts_mark w act) ∙ then_mark more (λ v. runs_mark more v) (acts m served w act)
 
@@ -158,7 +158,7 @@ module _ (m : Meaning) (served : ℕ → Bool) where
   same_mark w u (Ok v) h e = let q : v ≡ u = cc in let z : v ≡ at_mark w.mark v = cc in ap (λ (y : World). y.mark) (sym q) ∙ ap (λ (y : World). y.mark) z
   same_mark w u (Err f) h e = absurd (cc)
 
-  keeps_mark : (schedule : List Act) (w u : World) → runs m served schedule w ≡ Ok u → u.mark ≡ w.mark
+  pub keeps_mark : (schedule : List Act) (w u : World) → runs m served schedule w ≡ Ok u → u.mark ≡ w.mark
   keeps_mark schedule w u e = same_mark w u (runs m served schedule w) (runs_mark m served w.mark schedule w) e
 
   then_joined : (front back : List Act) → ((w : World) → runs m served (front ++ back) w ≡ and_then (runs m served back) (runs m served front w)) → (r : Result World StepFault) →
@@ -166,7 +166,7 @@ module _ (m : Meaning) (served : ℕ → Bool) where
   then_joined front back h (Ok v) = h v
   then_joined front back h (Err f) = refl
 
-  runs_joined : (front back : List Act) (w : World) → runs m served (front ++ back) w ≡ and_then (runs m served back) (runs m served front w)
+  pub runs_joined : (front back : List Act) (w : World) → runs m served (front ++ back) w ≡ and_then (runs m served back) (runs m served front w)
   runs_joined [] back w = refl
   runs_joined (act ∷ front) back w = then_joined front back (λ v. runs_joined front back v) (acts m served w act)
 
@@ -200,7 +200,7 @@ module _ (m : Meaning) (served : ℕ → Bool) where
   one : (P : Act → Type 0) (act : Act) → P act → All P (act ∷ [])
   one P act h = all_cons P act [] h (all_nil P)
 
-  line_acts : (P : Act → Type 0) (w : World) (e : Event) → OfLine P e → All P (acts_of w e)
+  pub line_acts : (P : Act → Type 0) (w : World) (e : Event) → OfLine P e → All P (acts_of w e)
   line_acts P w (Event.Opens n) h = one P (Act.Opens n) h
   line_acts P w (Event.Again n) h = one P (Act.Again n) h
   line_acts P w (Event.Closes n) h = one P (Act.Closes n) h

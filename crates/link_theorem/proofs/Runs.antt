@@ -102,14 +102,20 @@ module _ (m : Meaning) (pages : Pages) (lawful : IsPaged m pages) (served : ℕ 
   fine schedule a b k d l = (a k d l, elim b [ inl page ↦ inl page | inr plain ↦ inr (plain k d l) ])
 
   schedule_keeps : (addr : Addr) (numbers : List ℕ) (plan : List Planned) (schedule : List Act) (w : World) → IsAddr addr → All IsWord numbers → IsPlan plan → All Fine schedule →
-      runs m served schedule (opening_world addr numbers plan) ≡ Ok w → P (opening_world addr numbers plan) → P w
+      runs m served schedule (opening_world addr numbers plan) ≡ Ok w → P (opening_world addr numbers plan) → Kept w
   schedule_keeps addr numbers plan schedule w a n is f e p =
-      (run_keeps m served Fine Kept act_keeps schedule (opening_world addr numbers plan) w f
-      record { fact = p; fits = opening_fits addr numbers plan n is; sound = λ page. opening_sound addr numbers plan a is } e).fact
+      run_keeps m served Fine Kept act_keeps schedule (opening_world addr numbers plan) w f
+      record { fact = p; fits = opening_fits addr numbers plan n is; sound = λ page. opening_sound addr numbers plan a is } e
 
 -- any fact that each harmless act keeps
 pub reached : (m : Meaning) (pages : Pages) → IsPaged m pages → (P : World → Type 0) → ((served : ℕ → Bool) (w : World) (act : Act) → Harmless m served w act → P w → FitWorld w → P (does m served w act)) →
     ((addr : Addr) (numbers : List ℕ) (plan : List Planned) → IsPlan plan → P (opening_world addr numbers plan)) → (w : World) → IsReached m pages w → P w
 reached m pages lawful P step opening w r =
-    schedule_keeps m pages lawful r.served P (step r.served) r.addr r.numbers r.plan r.schedule w r.is_addr r.in_range r.is_plan
-    (fine m pages lawful r.served P (step r.served) r.schedule r.are_acts r.bytes) r.accepted (opening r.addr r.numbers r.plan r.is_plan)
+    (schedule_keeps m pages lawful r.served P (step r.served) r.addr r.numbers r.plan r.schedule w r.is_addr r.in_range r.is_plan
+    (fine m pages lawful r.served P (step r.served) r.schedule r.are_acts r.bytes) r.accepted (opening r.addr r.numbers r.plan r.is_plan)).fact
+
+-- every world that is reached is sound
+pub reached_sound : (m : Meaning) (pages : Pages) → IsPaged m pages → HasBytes pages → (w : World) → IsReached m pages w → SoundWorld w
+reached_sound m pages lawful page w r =
+    (schedule_keeps m pages lawful r.served (λ v. Unit {0}) (λ v act h p f. tt) r.addr r.numbers r.plan r.schedule w r.is_addr r.in_range r.is_plan
+    (fine m pages lawful r.served (λ v. Unit {0}) (λ v act h p f. tt) r.schedule r.are_acts r.bytes) r.accepted tt).sound page

@@ -41,7 +41,7 @@ same_or_more : (a b : ℕ) → a ≤ b → (a ≡ b) ⊎ (a < b)
 same_or_more a b h = grind arith
 
 -- the list with one more at its end keeps what it had
-get_older : {X : Type 0} (xs : List X) (y x : X) (k : ℕ) → slice_get xs k ≡ Some x → slice_get (xs ++ y ∷ []) k ≡ Some x
+pub get_older : {X : Type 0} (xs : List X) (y x : X) (k : ℕ) → slice_get xs k ≡ Some x → slice_get (xs ++ y ∷ []) k ≡ Some x
 get_older [] y x k h = absurd (cc)
 get_older (a ∷ xs) y x Rattle.std.proofs.Common.zero h = h
 get_older (a ∷ xs) y x (suc k) h = get_older xs y x k h

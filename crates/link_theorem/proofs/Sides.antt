@@ -77,14 +77,15 @@ none_both (Some x) b n h = absurd (cc)
 pub clean_before : (side : Side) (n : ℕ) (e : Sent) → is_clean (marked side n e) ≡ true → (is_clean side ≡ true) × (e.epoch ≡ epoch side)
 clean_before side n e h = let p = none_both side.first_stale _ n h in (p.0, eqb-eq e.epoch (epoch side) p.1)
 
-record FindsOne (at : ℕ) (peer : Sockets) (sides : List Side) : Type 0 where
-  index : ℕ
-  is : addressed at peer sides ≡ at + index
-  side : Side
-  get : slice_get sides index ≡ Some side
-  same : peer ≡ sockets_of side
+-- a client is addressed, though maybe not the only one with these sockets
+pub record FindsOne (at : ℕ) (peer : Sockets) (sides : List Side) : Type 0 where
+  pub index : ℕ
+  pub is : addressed at peer sides ≡ at + index
+  pub side : Side
+  pub get : slice_get sides index ≡ Some side
+  pub same : peer ≡ sockets_of side
 
-finds_one : (at : ℕ) (peer : Sockets) (k : ℕ) (side : Side) (sides : List Side) → slice_get sides k ≡ Some side → peer ≡ sockets_of side → FindsOne at peer sides
+pub finds_one : (at : ℕ) (peer : Sockets) (k : ℕ) (side : Side) (sides : List Side) → slice_get sides k ≡ Some side → peer ≡ sockets_of side → FindsOne at peer sides
 finds_one at peer k side [] h e = absurd (cc)
 finds_one at peer k side (s ∷ ss) h e =
     both_ways (same_sockets peer (sockets_of s))

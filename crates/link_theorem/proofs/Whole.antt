@@ -7,7 +7,8 @@ use Rattle.uip_wire.specs.Checksum.{folded, checksum_of}
 use Rattle.uip_wire.specs.Fields.{bytes_of}
 use Rattle.uip_wire.specs.declared.addr.Addr.{Addr}
 use Rattle.uip_wire.proofs.Words.{length-bytes_of}
-use Rattle.uip_ipv4.specs.Head.{head_bytes, head_with, number_of}
+use Rattle.uip_ipv4.specs.Head.{head_bytes, head_with, number_of, payload_of, IsHeadOf}
+use Rattle.uip_ipv4.specs.declared.head.IpHead.{IpHead}
 use Rattle.uip_ipv4.specs.declared.proto.Proto.{Proto}
 use Rattle.uip_ipv4.specs.declared.proto.Proto.TheVariants.{Icmp, Tcp}
 use Rattle.icmp_echo.specs.Echo.{echo_fate}
@@ -121,9 +122,16 @@ whole_length d p =
     length-append (head_bytes (20 + length (segment_bytes d)) d.id Tcp d.source d.target) (segment_bytes d)
     ∙ ap (λ n. n + length (segment_bytes d)) (length-head_bytes (20 + length (segment_bytes d)) d.id Tcp d.source d.target p.source p.target)
 
+-- it is no longer than the largest datagram
+pub datagram_short : (d : Datagram) → IsPlace d → IsSoundSegment d.segment → length (datagram_bytes d) ≤ 1500
+datagram_short d p h = let n = whole_length d p in let s = size_low d h in omega (arith, n, s)
+
+pub datagram_back : (d : Datagram) → IsPlace d → IsSoundSegment d.segment → IsReadBack d
+datagram_back d p h = segment_back d record { source = p.source; target = p.target; from = p.from; to = p.to; id = p.id; seq = h.seq; ack = h.ack; flags = h.flags; window = h.window; mss = h.mss; size = size_low d h }
+
 pub datagram_whole : (d : Datagram) → IsPlace d → IsSoundSegment d.segment → IsWhole (datagram_bytes d)
 datagram_whole d p h =
-    let b : IsReadBack d = segment_back d record { source = p.source; target = p.target; from = p.from; to = p.to; id = p.id; seq = h.seq; ack = h.ack; flags = h.flags; window = h.window; mss = h.mss; size = size_low d h } in
+    let b : IsReadBack d = datagram_back d p h in
     record {
       head = head_of d;
       is = b.head;
@@ -132,20 +140,46 @@ datagram_whole d p h =
       all_bytes = bytes_low d p h;
     }
 
-request_passes : echo_fate (8 ∷ 0 ∷ 247 ∷ 253 ∷ 0 ∷ 1 ∷ 0 ∷ 1 ∷ []) ≡ None
+-- the message of a ping
+abbrev ping : List ℕ
+ping = 8 ∷ 0 ∷ 247 ∷ 253 ∷ 0 ∷ 1 ∷ 0 ∷ 1 ∷ []
+
+request_passes : echo_fate ping ≡ None
 unfolding folded
 request_passes = refl
 
-pub ping_whole : (source addr : Addr) → IsAddr source → IsAddr addr → IsWhole (ping_from source addr)
+abbrev pub ping_head : Addr → Addr → IpHead
+ping_head source addr = record { total = 28; proto = Icmp; source = source; target = addr }
+
+-- what is read of a ping
+pub record IsPingBack (source addr : Addr) : Type 0 where
+  pub head : IsHeadOf (ping_head source addr) (ping_from source addr)
+  pub long : length (ping_from source addr) ≡ 28
+  pub passes : echo_fate (payload_of (ping_head source addr) (ping_from source addr)) ≡ None
+
+pub ping_back : (source addr : Addr) → IsAddr source → IsAddr addr → IsPingBack source addr
 unfolding ping_from
-ping_whole source addr s a =
-    let rest : List ℕ = 8 ∷ 0 ∷ 247 ∷ 253 ∷ 0 ∷ 1 ∷ 0 ∷ 1 ∷ [] in
+ping_back source addr s a =
     let n : length (head_bytes 28 1 Icmp source.0 addr.0) ≡ 20 = length-head_bytes 28 1 Icmp source.0 addr.0 s.four a.four in
     record {
-      head = record { total = 28; proto = Icmp; source = source; target = addr };
-      is = reads_back 28 1 Icmp source.0 addr.0 rest s.four a.four (omega arith) (omega arith);
-      total = sym (length-append (head_bytes 28 1 Icmp source.0 addr.0) rest ∙ ap (λ x. x + 8) n);
-      passes = ap (λ l. echo_fate (take 8 l)) (drop_at (head_bytes 28 1 Icmp source.0 addr.0) rest 20 n) ∙ request_passes;
-      all_bytes = (let low : Each IsByte rest = (omega arith, (omega arith, (omega arith, (omega arith, (omega arith, (omega arith, (omega arith, (omega arith, tt)))))))) in
-          All-append IsByte (head_bytes 28 1 Icmp source.0 addr.0) rest (head_bytes_low 28 1 Icmp source.0 addr.0 (omega arith) (omega arith) s.all_bytes a.all_bytes) (each_all IsByte rest low));
+      head = reads_back 28 1 Icmp source.0 addr.0 ping s.four a.four (omega arith) (omega arith);
+      long = length-append (head_bytes 28 1 Icmp source.0 addr.0) ping ∙ ap (λ x. x + 8) n;
+      passes = ap (λ l. echo_fate (take 8 l)) (drop_at (head_bytes 28 1 Icmp source.0 addr.0) ping 20 n) ∙ request_passes;
+    }
+
+ping_low : (source addr : Addr) → IsAddr source → IsAddr addr → All IsByte (ping_from source addr)
+unfolding ping_from
+ping_low source addr s a =
+    let low : Each IsByte ping = (omega arith, (omega arith, (omega arith, (omega arith, (omega arith, (omega arith, (omega arith, (omega arith, tt)))))))) in
+    All-append IsByte (head_bytes 28 1 Icmp source.0 addr.0) ping (head_bytes_low 28 1 Icmp source.0 addr.0 (omega arith) (omega arith) s.all_bytes a.all_bytes) (each_all IsByte ping low)
+
+pub ping_whole : (source addr : Addr) → IsAddr source → IsAddr addr → IsWhole (ping_from source addr)
+ping_whole source addr s a =
+    let b : IsPingBack source addr = ping_back source addr s a in
+    record {
+      head = ping_head source addr;
+      is = b.head;
+      total = sym b.long;
+      passes = b.passes;
+      all_bytes = ping_low source addr s a;
     }

@@ -1,3 +1,4 @@
 pub mod Headline
 pub mod Parts
 pub mod Honest
+pub mod Reading

@@ -5,6 +5,7 @@
 
 ghost use Rattle.link_theorem.specs.Parts.{CleanParts};
 ghost use Rattle.link_theorem.specs.Honest.{HonestLink};
+ghost use Rattle.link_theorem.specs.Reading.{BytesAreRead, SentToClients};
 ghost use Rattle.link_theorem.specs.Headline.{PrefixAndWhole, SameBytes, AgainExactly, Tick, DamageIsLoss, OneSegment, LinesAreActs};
 
 /// A clean client has received a prefix of its page, and the whole page where it took the server's FIN in sequence.
@@ -51,4 +52,14 @@ pub fn clean_parts()
 /// its page, and six more.
 pub fn honest_link()
     ensures { HonestLink }
+{}
+
+/// The bytes of each datagram say to its receiver what was sent, and are no more than the largest datagram has.
+pub fn bytes_are_read()
+    ensures { BytesAreRead }
+{}
+
+/// Each segment is of a client or to one: the node speaks to clients alone.
+pub fn sent_to_clients()
+    ensures { SentToClients }
 {}
