@@ -1,0 +1,109 @@
+-- The clients of the code and those over plain data, by their sockets.
+use Rattle.std.proofs.Common.{◌≡◌, ℕ, ◌+◌, ◌-◌, ◌<◌, ◌≤◌, Bool, true, false, if◌then◌else◌, List, [], ◌∷◌, ◌++◌, length, length-append, length-set, map, set, take, drop, append-nil, slice_get, slice_index_or, refl, sym, ap, ◌∙◌, subst, add-zero, arith, Some}
+use Rattle.std.specs.List.{Any}
+use Rattle.std.proofs.lemmas.List.{drop_all, get_or-append-add, get_or-drop, get_or_default, length-map, length-take-le, take_all, take_rest}
+use Rattle.std.proofs.lemmas.Option.{slice_get-get_or}
+use Rattle.tcp_machine.specs.Connection.{Sockets, Connection, same_sockets}
+use Rattle.link_client.specs.Client.{AbstractClient}
+use Rattle.link_world.specs.World.{Side, addressed, buries, buries_in, sockets_of}
+use Rattle.link_theorem.proofs.Tables.{get_set, here, there}
+use Rattle.link_replay.specs.Epochs.{IsAtLast, OnlyEpoch, buried, sockets_for}
+use Rattle.link_replay.specs.Matched.{Matched}
+use Rattle.link_replay.specs.Noting.{pair_at, sockets_at}
+use Rattle.link_replay.specs.Stands.{SideStands}
+use Rattle.link_replay.specs.declared.side.Side.{Side as CodeSide}
+use Rattle.link_replay.specs.declared.socket_pair.SocketPair.{SocketPair}
+use Rattle.link_replay.proofs.Matching.{matched_cons, matched_head, matched_nil, matched_same, matched_tail}
+
+-- a client of the code has the sockets of the one over plain data
+has_same : (p : Sockets) (x : CodeSide) (s : Side) → SideStands x s → same_sockets p (sockets_for x.client.setup) ≡ same_sockets p (sockets_of s)
+has_same p x s h = ap (λ (c : AbstractClient). same_sockets p (sockets_for c.setup)) h.client
+
+-- its number is the first one's, or it is sought among the others
+pub addressed_none : (number : ℕ) (p : SocketPair) (ss : List Side) → Matched SideStands [] ss → 0 ≡ addressed number (sockets_at p) ss
+addressed_none number p [] h = refl
+addressed_none number p (s ∷ ss) h = absurd (omega (arith, h.same_length))
+
+pub addressed_here : (number : ℕ) (p : SocketPair) (xs : List CodeSide) (x : CodeSide) (ss : List Side) → 1 ≤ length xs → x ≡ slice_index_or xs 0 x →
+    same_sockets (sockets_at p) (sockets_for x.client.setup) ≡ true → Matched SideStands xs ss → number ≡ addressed number (sockets_at p) ss
+addressed_here number p [] x ss l at e h = absurd (omega (arith, l))
+addressed_here number p (y ∷ ys) x [] l at e h = absurd (omega (arith, h.same_length))
+addressed_here number p (y ∷ ys) x (s ∷ ss) l at e h =
+    let f : same_sockets (sockets_at p) (sockets_of s) ≡ true =
+    sym (has_same (sockets_at p) y s (matched_head SideStands y s ys ss h)) ∙ sym (ap (λ (z : CodeSide). same_sockets (sockets_at p) (sockets_for z.client.setup)) at) ∙ e in
+    sym (ap (λ (b : Bool). if b then number else addressed (number + 1) (sockets_at p) ss) f)
+
+pub addressed_later : (number : ℕ) (p : SocketPair) (xs : List CodeSide) (x : CodeSide) (found : ℕ) (ss : List Side) → 1 ≤ length xs → x ≡ slice_index_or xs 0 x →
+    same_sockets (sockets_at p) (sockets_for x.client.setup) ≡ false → ((rest : List Side) → Matched SideStands (take (length xs - 1) (drop 1 xs)) rest → found ≡ addressed (number + 1) (sockets_at p) rest) →
+    Matched SideStands xs ss → found ≡ addressed number (sockets_at p) ss
+addressed_later number p [] x found ss l at e later h = absurd (omega (arith, l))
+addressed_later number p (y ∷ ys) x found [] l at e later h = absurd (omega (arith, h.same_length))
+addressed_later number p (y ∷ ys) x found (s ∷ ss) l at e later h =
+    let f : same_sockets (sockets_at p) (sockets_of s) ≡ false =
+    sym (has_same (sockets_at p) y s (matched_head SideStands y s ys ss h)) ∙ sym (ap (λ (z : CodeSide). same_sockets (sockets_at p) (sockets_for z.client.setup)) at) ∙ e in
+    later ss (subst (λ (l : List CodeSide). Matched SideStands l ss) (sym (take_rest (y ∷ ys) 1)) (matched_tail SideStands y s ys ss h)) ∙ sym (ap (λ (b : Bool). if b then number else addressed (number + 1) (sockets_at p) ss) f)
+
+buried_by : (b : Bool) (g : Connection) (x : CodeSide) (s : Side) → SideStands x s →
+    SideStands (if b then record x { epoch = x.epoch + 1 } else x) (if b then record s { past = s.past ++ record { first = g.first; captures = g.part.captures } ∷ [] } else s)
+buried_by true g x s h = record {
+  client = h.client;
+  epoch = (let e = h.epoch in let f = length-append s.past (record { first = g.first; captures = g.part.captures } ∷ []) in omega (arith, e, f));
+  first_stale = h.first_stale;
+}
+buried_by false g x s h = h
+
+-- a client that is one epoch on stands for one that is
+buried_stands : (g : Connection) (x : CodeSide) (s : Side) → SideStands x s → SideStands (buried (pair_at g.sockets) x) (buries_in g s)
+buried_stands g x s h =
+    let e : same_sockets g.sockets (sockets_for x.client.setup) ≡ same_sockets g.sockets (sockets_of s) = has_same g.sockets x s h in
+    subst (λ (b : Bool). SideStands (buried (pair_at g.sockets) x) (if b then record s { past = s.past ++ record { first = g.first; captures = g.part.captures } ∷ [] } else s)) e
+    (buried_by (same_sockets g.sockets (sockets_for x.client.setup)) g x s h)
+
+pub all_buried : (gone : SocketPair) (g : Connection) (xs : List CodeSide) (ss : List Side) → pair_at g.sockets ≡ gone → Matched SideStands xs ss → Matched SideStands (map (buried gone) xs) (buries (Some g) ss)
+all_buried gone g [] [] e h = matched_nil SideStands
+all_buried gone g [] (s ∷ ss) e h = absurd (omega (arith, h.same_length))
+all_buried gone g (x ∷ xs) [] e h = absurd (omega (arith, h.same_length))
+all_buried gone g (x ∷ xs) (s ∷ ss) e h =
+    matched_cons SideStands (buried gone x) (buries_in g s) (map (buried gone) xs) (buries (Some g) ss)
+    (subst (λ (p : SocketPair). SideStands (buried p x) (buries_in g s)) e (buried_stands g x s (matched_head SideStands x s xs ss h)))
+    (all_buried gone g xs ss e (matched_tail SideStands x s xs ss h))
+
+stays : (x : CodeSide) → OnlyEpoch x x
+stays x = record { client = refl; request = refl; received = refl; first_stale = refl }
+
+-- at first nothing is changed
+pub kept_first : (xs : List CodeSide) → Matched OnlyEpoch xs xs
+kept_first xs = matched_same OnlyEpoch xs stays
+
+then_stays : (x y z : CodeSide) → OnlyEpoch x y → OnlyEpoch y z → OnlyEpoch x z
+then_stays x y z h g = record { client = g.client ∙ h.client; request = g.request ∙ h.request; received = g.received ∙ h.received; first_stale = g.first_stale ∙ h.first_stale }
+
+-- one more client is changed
+pub kept_more : (xs ys : List CodeSide) (i : ℕ) (d z : CodeSide) → Matched OnlyEpoch xs ys → i < length ys → OnlyEpoch (slice_index_or ys i d) z → Matched OnlyEpoch xs (set ys i z)
+kept_more xs ys i d z h l e = record {
+  same_length = h.same_length ∙ sym (length-set ys i z);
+  each = λ j a b f g. elim (get_set ys i z j b g) [
+    | here p q ↦ subst (λ (w : CodeSide). OnlyEpoch a w) q (then_stays a (slice_index_or ys i d) z (h.each i a (slice_index_or ys i d) (sym (ap (slice_get xs) p) ∙ f) (slice_get-get_or ys i d l)) e)
+    | there n q ↦ h.each j a b f q
+  ];
+}
+
+-- after the last client all are changed
+pub all_done : (gone : SocketPair) (xs ys : List CodeSide) (i : ℕ) → length xs ≤ i → ys ≡ map (buried gone) (take i xs) ++ drop i xs → ys ≡ map (buried gone) xs
+all_done gone xs ys i l e =
+    e ∙ ap (λ (zs : List CodeSide). map (buried gone) zs ++ drop i xs) (take_all i xs l) ∙ ap (λ (zs : List CodeSide). map (buried gone) xs ++ zs) (drop_all i xs l) ∙ append-nil (map (buried gone) xs)
+
+-- the clients from a place on are not changed yet
+unchanged : (gone : SocketPair) (xs ys : List CodeSide) (i : ℕ) (d : CodeSide) → i < length xs → ys ≡ map (buried gone) (take i xs) ++ drop i xs → slice_index_or ys i d ≡ slice_index_or xs i d
+unchanged gone xs ys i d l e =
+    let long : length (map (buried gone) (take i xs)) ≡ i = length-map (take i xs) (buried gone) ∙ length-take-le i xs (omega (arith, l)) in
+    ap (λ (zs : List CodeSide). slice_index_or zs i d) e
+    ∙ ap (λ (j : ℕ). slice_index_or (map (buried gone) (take i xs) ++ drop i xs) j d) (sym long ∙ sym (add-zero (length (map (buried gone) (take i xs)))))
+    ∙ get_or-append-add (map (buried gone) (take i xs)) (drop i xs) 0 d
+    ∙ get_or-drop i xs 0 d
+    ∙ ap (λ (j : ℕ). slice_index_or xs j d) (add-zero i)
+
+-- the client that could not be changed
+pub last_found : (gone : SocketPair) (xs ys : List CodeSide) (i : ℕ) (d : CodeSide) → i < length xs → ys ≡ map (buried gone) (take i xs) ++ drop i xs → IsAtLast gone (slice_index_or ys i d) → Any (IsAtLast gone) xs
+last_found gone xs ys i d l e last =
+    (i, slice_index_or xs i d, l, get_or_default xs i (slice_index_or xs i d) d l, subst (λ (x : CodeSide). IsAtLast gone x) (unchanged gone xs ys i d l e) last)

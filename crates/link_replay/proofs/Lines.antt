@@ -1,0 +1,47 @@
+-- The acts of a line, and the world after it.
+use Rattle.std.specs.List.{All}
+use Rattle.std.proofs.Common.{◌≡◌, ℕ, zero, suc, List, [], length, replicate, refl, sym, ap, subst, Bool, Result, Ok, false}
+use Rattle.app_events.specs.Part.{Meaning, Part}
+use Rattle.uip_node.specs.Node.{opening}
+use Rattle.link_world.specs.World.{World}
+use Rattle.link_world.specs.World.Content.{OfPing}
+use Rattle.link_world.specs.Schedule.{acts_of, mark_after, plays_line, with_mark}
+use Rattle.link_world.specs.Acts.{runs}
+use Rattle.link_world.specs.declared.act.Act.{Act}
+use Rattle.link_world.specs.declared.event.Event.{Event}
+use Rattle.link_world.specs.declared.step_fault.StepFault.{StepFault}
+use Rattle.link_world.specs.declared.who.Who.TheVariants.{Pinger}
+use Rattle.link_theorem.specs.Headline.{IsAct, OfLine}
+use Rattle.link_theorem.proofs.Lines.{line_acts}
+use Rattle.link_replay.specs.Stands.{WorldStands}
+use Rattle.link_replay.specs.declared.world.World.{World as CodeWorld}
+use Rattle.link_replay.proofs.Places.{link_marked}
+
+length_same : {X : Type 0} (n : ℕ) (x : X) → length (replicate n x) ≡ n
+length_same zero x = refl
+length_same (suc n) x = ap suc (length_same n x)
+
+-- some world with a mark and so many datagrams
+some_world : ℕ → ℕ → World
+some_world mark sent = record {
+  node = opening (record { 0 = [] }) [];
+  sides = [];
+  sent = replicate sent (record { who = Pinger; tick = 0; epoch = 0; again = false; content = OfPing [] });
+  mark = mark;
+}
+
+-- the acts of a line fit where it does
+pub all_acts : (m : Meaning) (served : ℕ → Bool) (items : List Act) (event : Event) (mark sent : ℕ) → ((w : World) → w.mark ≡ mark → length w.sent ≡ sent → items ≡ acts_of w event) → OfLine IsAct event → All IsAct items
+unfolding some_world
+all_acts m served items event mark sent is h =
+    subst (λ (xs : List Act). All IsAct xs) (sym (is (some_world mark sent) refl (length_same sent _))) (line_acts m served IsAct (some_world mark sent) event h)
+
+module _ {A S K : Type 0} (stands_for : A → K → Part → Type 0) (kept : S → K) (numbers : S → List ℕ) where
+  -- the acts of a line are done, and the mark moves
+  pub line_done : (m : Meaning) (served : ℕ → Bool) (world : CodeWorld A S) (w u : World) (event : Event) (mark : ℕ) → runs m served (acts_of w event) w ≡ Ok u → mark ≡ mark_after w event → WorldStands stands_for kept numbers world u
+      → (v : World) × (plays_line m served w event ≡ Ok v) × WorldStands stands_for kept numbers (record world { mark = mark }) v
+  line_done m served world w u event mark e k h = (
+    record u { mark = mark_after w event },
+    ap (λ (r : Result World StepFault). with_mark (mark_after w event) r) e,
+    record { node = h.node; link = link_marked world.link u (mark_after w event) h.link; home = h.home; mark = k; fresh = h.fresh },
+  )

@@ -1,0 +1,209 @@
+-- The opening world: each client stands for the one that is planned, and the plan is one.
+use Rattle.std.specs.List.{All, list_all, list_any}
+use Rattle.std.specs.Global.{Vec}
+use Rattle.std.proofs.Common.{◌≡◌, ℕ, zero, suc, ◌+◌, ◌<◌, ◌≤◌, Bool, true, false, not, ◌&&◌, List, [], ◌∷◌, ◌++◌, length, map, refl, sym, ap, ◌∙◌, subst, arith, Some, None, slice_get, eqb, leb, lit<}
+use Rattle.std.proofs.lemmas.List.{length-map}
+use Rattle.std.proofs.lemmas.Bool.{and_parts, and_from, eq-eqb, leb-true, not-true, or_parts}
+use Rattle.std.specs.Str.{bytes_eq}
+use Rattle.std.proofs.lemmas.Option.{slice_get_within}
+use Rattle.uip_wire.specs.declared.addr.Addr.{Addr}
+use Rattle.uip_wire.specs.declared.port.Port.{Port}
+use Rattle.uip_wire.specs.declared.sizes.TheConstants.{LARGEST_DATAGRAM}
+use Rattle.app_events.specs.Pages.{IsAddr, IsByte}
+use Rattle.uip_node.proofs.Stepping.{slice_get-element}
+use Rattle.link_client.specs.Calls.{IsClient, standing}
+use Rattle.link_client.specs.Client.{idle}
+use Rattle.link_client.specs.declared.client.Client.{Client}
+use Rattle.link_client.specs.declared.setup.Setup.{Setup}
+use Rattle.link_schedule.specs.Clients.{Plan}
+use Rattle.link_schedule.specs.Kept.{are_apart, client_in_range, is_between}
+use Rattle.link_schedule.specs.Reading.{meets}
+use Rattle.tcp_machine.specs.Connection.{Sockets}
+use Rattle.link_schedule.specs.Stands.{plan_at}
+use Rattle.link_schedule.specs.declared.client_plan.ClientPlan.{ClientPlan}
+use Rattle.link_world.specs.World.{World}
+use Rattle.link_world.specs.History.{Planned, IsPlan, IsPlanned, fresh_side, sockets_in}
+use Rattle.link_theorem.proofs.Basics.{get_push}
+use Rattle.link_theorem.proofs.Basics.AtEnd.{older, newest}
+use Rattle.link_theorem.proofs.Fits.{all_nil, all_cons}
+use Rattle.link_theorem.proofs.Tables.{get_map}
+use Rattle.link_replay.specs.Matched.{Matched}
+use Rattle.link_replay.specs.Opening.{AreFresh, IsFresh, plan_from, planned, server}
+use Rattle.link_replay.specs.Stands.{IsLink, SentStands, SideStands}
+use Rattle.link_replay.specs.declared.sent.Sent.{Sent as CodeSent}
+use Rattle.link_replay.specs.declared.link.Link.{Link}
+use Rattle.link_replay.specs.declared.side.Side.{Side as CodeSide}
+
+pub server_is_addr : IsAddr server
+server_is_addr = record {
+  four = refl;
+  all_bytes = all_cons IsByte 10 (0 ∷ 0 ∷ 1 ∷ []) (lit< tt) (all_cons IsByte 0 (0 ∷ 1 ∷ []) (lit< tt) (all_cons IsByte 0 (1 ∷ []) (lit< tt) (all_cons IsByte 1 [] (lit< tt) (all_nil IsByte))));
+}
+
+-- one client
+pub fresh : (number : ℕ) (plan : ClientPlan) (setup : Setup) (client : Client) (request received : Vec ℕ) → number ≤ 64 → client_in_range (plan_at plan) ≡ true
+    → setup ≡ (planned number (plan_at plan)).setup → IsAddr plan.addr → plan.port.0 < 65536 → plan.mss < 65536 → All IsByte plan.request.items
+    → request.items ≡ plan.request.items → received.items ≡ [] → ((r : List ℕ) → standing client r [] ≡ idle setup r) → ((r : List ℕ) → length r ≤ 4096 → IsClient client r)
+    → IsFresh number (plan_at plan) (record { client = client; request = request; received = received; epoch = 0; first_stale = None })
+fresh number plan setup client request received few range e addr port mss bytes asked none is_idle is_client =
+    let parts = and_parts (is_between 1 65535 plan.port.0 && is_between 1 1460 plan.seg) (is_between 1 4096 (length plan.request.items)) range in
+    let sizes = and_parts (leb 1 (length plan.request.items)) (leb (length plan.request.items) 4096) parts.1 in
+    let segs = and_parts (leb 1 plan.seg) (leb plan.seg 1460) (and_parts (is_between 1 65535 plan.port.0) (is_between 1 1460 plan.seg) parts.0).1 in
+    let short : length plan.request.items ≤ 4096 = leb-true (length plan.request.items) 4096 sizes.1 in
+    record {
+      stands = record {
+        client = ap (λ (r : List ℕ). standing client r received.items) asked ∙ ap (λ (r : List ℕ). standing client plan.request.items r) none
+            ∙ is_idle plan.request.items ∙ ap (λ (s : Setup). idle s plan.request.items) e;
+        epoch = refl;
+        first_stale = refl;
+      };
+      client = is_client request.items (subst (λ (r : List ℕ). length r ≤ 4096) (sym asked) short);
+      at_server = ap (λ c. c.setup.server) (is_idle []) ∙ ap (λ (s : Setup). s.server) e;
+      in_range = record {
+        addr = addr;
+        port = port;
+        server = server_is_addr;
+        server_port = lit< tt;
+        offered = mss;
+        first = omega (arith, few);
+        short = short;
+        all_bytes = bytes;
+        seg = (leb-true 1 plan.seg segs.0, leb-true plan.seg 1460 segs.1);
+      };
+    }
+
+pub in_range_at : (clients : List ClientPlan) (i : ℕ) (plan : ClientPlan) → list_all client_in_range (map plan_at clients) ≡ true → slice_get clients i ≡ Some plan → client_in_range (plan_at plan) ≡ true
+in_range_at [] i plan h g = absurd (cc)
+in_range_at (x ∷ xs) zero plan h g =
+    let e : x ≡ plan = cc in
+    ap (λ (p : ClientPlan). client_in_range (plan_at p)) (sym e) ∙ (and_parts (client_in_range (plan_at x)) (list_all client_in_range (map plan_at xs)) h).0
+in_range_at (x ∷ xs) (suc i) plan h g = in_range_at xs i plan (and_parts (client_in_range (plan_at x)) (list_all client_in_range (map plan_at xs)) h).1 g
+
+-- the clients so far
+abbrev pub FreshTo : List Plan → List CodeSide → Type 0
+FreshTo plans sides = (i : ℕ) (plan : Plan) (side : CodeSide) → slice_get plans i ≡ Some plan → slice_get sides i ≡ Some side → IsFresh (suc i) plan side
+
+plan_there : (clients : List ClientPlan) (i : ℕ) (plan : ClientPlan) (p : Plan) → slice_get clients i ≡ Some plan → slice_get (map plan_at clients) i ≡ Some p → plan_at plan ≡ p
+plan_there clients i plan p g h =
+    let m = get_map plan_at clients i p h in
+    let from = m.get in
+    let e : m.from ≡ plan = cc in
+    ap plan_at (sym e) ∙ m.is
+
+-- one client more
+pub one_more : (clients : List ClientPlan) (sides : List CodeSide) (at : ℕ) (plan : ClientPlan) (new : CodeSide) → slice_get clients at ≡ Some plan → length sides ≡ at
+    → IsFresh (at + 1) (plan_at plan) new → FreshTo (map plan_at clients) sides → FreshTo (map plan_at clients) (sides ++ new ∷ [])
+one_more clients sides at plan new there size is h i p side g s =
+    elim (get_push sides new i side s) [
+      | older old ↦ h i p side g old
+      | newest j q ↦ (let here : i ≡ at = j ∙ size in
+          let number : at + 1 ≡ suc i = omega (arith, here) in
+          let meant : plan_at plan ≡ p = plan_there clients i plan p (ap (slice_get clients) here ∙ there) g in
+          subst (λ (n : ℕ). IsFresh n p side) number (subst (λ (x : Plan). IsFresh (at + 1) x side) meant (subst (λ (x : CodeSide). IsFresh (at + 1) (plan_at plan) x) q is)))
+    ]
+
+-- what stands at a place of a plan
+pub record PlannedAt (number : ℕ) (plans : List Plan) (i : ℕ) (p : Planned) : Type 0 where
+  pub plan : Plan
+  pub get : slice_get plans i ≡ Some plan
+  pub is : p ≡ planned (number + i) plan
+
+pub planned_at : (number : ℕ) (plans : List Plan) (i : ℕ) (p : Planned) → slice_get (plan_from number plans) i ≡ Some p → PlannedAt number plans i p
+planned_at number [] i p g = absurd (cc)
+planned_at number (x ∷ xs) zero p g = record {
+  plan = x;
+  get = refl;
+  is = (let e : planned number x ≡ p = cc in sym e ∙ ap (λ (n : ℕ). planned n x) (let z : number ≡ number + 0 = omega arith in z));
+}
+planned_at number (x ∷ xs) (suc i) p g =
+    let r = planned_at (number + 1) xs i p g in
+    record { plan = r.plan; get = r.get; is = r.is ∙ ap (λ (n : ℕ). planned n r.plan) (let z : number + 1 + i ≡ number + suc i = omega arith in z) }
+
+plan_length : (number : ℕ) (plans : List Plan) → length (plan_from number plans) ≡ length plans
+plan_length number [] = refl
+plan_length number (x ∷ xs) = ap suc (plan_length (number + 1) xs)
+
+first_number : (i : ℕ) → 1 + i ≡ suc i
+first_number i = omega arith
+
+pub all_planned : (plans : List Plan) (sides : List CodeSide) → AreFresh plans sides → (k : ℕ) (p : Planned) → slice_get (plan_from 1 plans) k ≡ Some p → IsPlanned p
+all_planned plans sides h k p g =
+    let r = planned_at 1 plans k p g in
+    let l = slice_get_within plans k r.plan r.get in
+    let s = slice_get-element sides k (omega (arith, l, h.same_length)) in
+    subst IsPlanned (sym (r.is ∙ ap (λ (n : ℕ). planned n r.plan) (first_number k))) (h.each k r.plan s.0 r.get s.1).in_range
+
+pub sides_stand : (plans : List Plan) (sides : List CodeSide) → AreFresh plans sides → Matched SideStands sides (map fresh_side (plan_from 1 plans))
+sides_stand plans sides h = record {
+  same_length = h.same_length ∙ sym (length-map (plan_from 1 plans) fresh_side ∙ plan_length 1 plans);
+  each = λ i x y g f.
+      (let m = get_map fresh_side (plan_from 1 plans) i y f in
+      let r = planned_at 1 plans i m.from m.get in
+      subst (SideStands x) (ap (λ (n : ℕ). fresh_side (planned n r.plan)) (sym (first_number i)) ∙ ap fresh_side (sym r.is) ∙ m.is) (h.each i r.plan x r.get g).stands);
+}
+
+fresh_at : (plans : List Plan) (sides : List CodeSide) → AreFresh plans sides → (i : ℕ) (side : CodeSide) → slice_get sides i ≡ Some side → (plan : Plan) × IsFresh (suc i) plan side
+fresh_at plans sides h i side g =
+    let l = slice_get_within sides i side g in
+    let p = slice_get-element plans i (omega (arith, l, h.same_length)) in
+    (p.0, h.each i p.0 side p.1 g)
+
+pub link_opened : (addr : Addr) (link : Link) (plans : List Plan) → AreFresh plans link.sides.items → length plans ≤ 64 → length link.area.items ≡ LARGEST_DATAGRAM → link.sent.items ≡ [] → addr ≡ server → IsLink addr link
+link_opened addr link plans h few area none at = record {
+  area = area;
+  few = omega (arith, few, h.same_length);
+  clients = λ i side g. (fresh_at plans link.sides.items h i side g).1.client;
+  servers = λ i side g. (fresh_at plans link.sides.items h i side g).1.at_server ∙ sym at;
+  many = omega (arith, ap length none);
+  sizes = λ i sent g. absurd (let e = ap (λ xs. slice_get xs i) none in (cc));
+}
+
+-- the clients of a schedule are a plan: no two have the same sockets
+any_at : (f : Plan → Bool) (plans : List Plan) (i : ℕ) (p : Plan) → list_any f plans ≡ false → slice_get plans i ≡ Some p → f p ≡ true → ⊥
+any_at f [] i p h g t = cc
+any_at f (x ∷ xs) zero p h g t =
+    let e : x ≡ p = cc in
+    let l = or_parts (f x) (list_any f xs) h in
+    let there : f x ≡ true = ap f e ∙ t in
+    absurd (cc (l.0, there))
+any_at f (x ∷ xs) (suc i) p h g t = any_at f xs i p (or_parts (f x) (list_any f xs) h).1 g t
+
+bytes_same : (xs : List ℕ) → bytes_eq xs xs ≡ true
+bytes_same [] = refl
+bytes_same (x ∷ xs) = and_from (eqb x x) (bytes_eq xs xs) (eq-eqb x x refl) (bytes_same xs)
+
+meets_same : (p q : Plan) → p.side.addr ≡ q.side.addr → p.side.port ≡ q.side.port → meets p q ≡ true
+meets_same p q a b =
+    and_from (bytes_eq p.side.addr.0 q.side.addr.0) (eqb p.side.port.0 q.side.port.0)
+    (ap (λ (z : Addr). bytes_eq p.side.addr.0 z.0) (sym a) ∙ bytes_same p.side.addr.0) (eq-eqb p.side.port.0 q.side.port.0 (ap (λ (z : Port). z.0) b))
+
+later_apart : (plans : List Plan) → are_apart plans ≡ true → (j k : ℕ) (p q : Plan) → slice_get plans j ≡ Some p → slice_get plans k ≡ Some q → j < k → meets p q ≡ true → ⊥
+later_apart [] h j k p q g f l m = cc
+later_apart (x ∷ xs) h zero zero p q g f l m = omega (arith, l)
+later_apart (x ∷ xs) h zero (suc k) p q g f l m =
+    let e : x ≡ p = cc in
+    let parts = and_parts (not (list_any (λ later. meets x later) xs)) (are_apart xs) h in
+    any_at (λ later. meets x later) xs k q (not-true (list_any (λ later. meets x later) xs) parts.0) f (ap (λ (z : Plan). meets z q) e ∙ m)
+later_apart (x ∷ xs) h (suc j) zero p q g f l m = omega (arith, l)
+later_apart (x ∷ xs) h (suc j) (suc k) p q g f l m =
+    later_apart xs (and_parts (not (list_any (λ later. meets x later) xs)) (are_apart xs) h).1 j k p q g f (omega (arith, l)) m
+
+one_place : (j k : ℕ) → (j < k → ⊥) → (k < j → ⊥) → j ≡ k
+one_place j k a b = omega (arith, a, b)
+
+pub is_plan : (plans : List Plan) → are_apart plans ≡ true → ((k : ℕ) (p : Planned) → slice_get (plan_from 1 plans) k ≡ Some p → IsPlanned p) → IsPlan (plan_from 1 plans)
+is_plan plans apart each = record {
+  each = each;
+  apart = λ j k p q g f e.
+      (let a = planned_at 1 plans j p g in
+      let b = planned_at 1 plans k q f in
+      let same : sockets_in (planned (1 + j) a.plan) ≡ sockets_in (planned (1 + k) b.plan) = ap sockets_in (sym a.is) ∙ e ∙ ap sockets_in b.is in
+      let addr : a.plan.side.addr ≡ b.plan.side.addr = ap (λ (s : Sockets). s.peer) same in
+      let port : a.plan.side.port ≡ b.plan.side.port = ap (λ (s : Sockets). s.peer_port) same in
+      one_place j k (λ l. later_apart plans apart j k a.plan b.plan a.get b.get l (meets_same a.plan b.plan addr port))
+      (λ l. later_apart plans apart k j b.plan a.plan b.get a.get l (meets_same b.plan a.plan (sym addr) (sym port))));
+}
+
+-- no datagram
+pub none_stand : (w : World) (sent : List CodeSent) → sent ≡ [] → Matched (SentStands w) sent []
+none_stand w sent none = record { same_length = ap length none; each = λ i x y g h. absurd (cc) }

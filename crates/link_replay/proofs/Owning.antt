@@ -1,0 +1,34 @@
+-- A client opens where it is idle, and nowhere else.
+use Rattle.std.proofs.Common.{◌≡◌, ℕ, List, true, false, refl, sym, ap, ◌∙◌, subst, None}
+use Rattle.link_client.specs.Client.{AbstractClient, ClientStep, keeps, opens_by, client_opens}
+use Rattle.link_client.specs.declared.client_state.ClientState.{ClientState}
+use Rattle.link_client.specs.declared.client_state.ClientState.TheVariants.{Idle, Opening, Opened, Closing, Closed, Ended, Reset}
+use Rattle.link_world.specs.Acts.{is_idle}
+use Rattle.link_world.specs.World.{Side}
+use Rattle.link_replay.specs.declared.side.Side.{Side as CodeSide}
+use Rattle.link_replay.specs.Stands.{SideStands}
+use Rattle.link_replay.specs.Owning.{Stepped}
+
+pub idle_is : (st : ClientState) → is_idle st ≡ true → st ≡ Idle
+idle_is Idle h = refl
+idle_is Opening h = absurd (cc)
+idle_is Opened h = absurd (cc)
+idle_is Closing h = absurd (cc)
+idle_is Closed h = absurd (cc)
+idle_is Ended h = absurd (cc)
+idle_is Reset h = absurd (cc)
+
+rests : (st : ClientState) (c : AbstractClient) → is_idle st ≡ false → opens_by st c ≡ keeps c
+unfolding opens_by
+rests Idle c h = absurd (cc)
+rests Opening c h = refl
+rests Opened c h = refl
+rests Closing c h = refl
+rests Closed c h = refl
+rests Ended c h = refl
+rests Reset c h = refl
+
+pub not_opened : (s : Side) (side : CodeSide) (area : List ℕ) → is_idle side.client.state ≡ false → SideStands side s → Stepped (client_opens s.client) s side None area
+not_opened s side area i h =
+    let e : client_opens s.client ≡ keeps s.client = rests s.client.state s.client (ap (λ (k : AbstractClient). is_idle k.state) (sym h.client) ∙ i) in
+    subst (λ (step : ClientStep). Stepped step s side None area) (sym e) record { stands = record { client = h.client; epoch = h.epoch; first_stale = h.first_stale }; sent = refl }

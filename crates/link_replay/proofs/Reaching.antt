@@ -1,0 +1,88 @@
+-- Where accepted acts lead from a world of a replay.
+use Rattle.std.specs.List.{All}
+use Rattle.std.proofs.Common.{◌≡◌, ℕ, List, [], ◌∷◌, ◌++◌, sym, ap, ◌∙◌, inl, Bool, Result, Ok}
+use Rattle.std.proofs.lemmas.List.Elements.{All-append}
+use Rattle.app_events.specs.Part.{Meaning}
+use Rattle.link_world.specs.World.{World}
+use Rattle.link_world.specs.Acts.{acts, runs, and_then}
+use Rattle.link_world.specs.Schedule.{with_mark}
+use Rattle.link_world.specs.History.{opening_world}
+use Rattle.link_world.specs.declared.act.Act.{Act}
+use Rattle.link_world.specs.declared.step_fault.StepFault.{StepFault}
+use Rattle.link_theorem.specs.Headline.{IsAct, IsReached}
+use Rattle.link_theorem.proofs.Lines.{runs_mark, runs_joined}
+use Rattle.link_theorem.proofs.Fits.{all_nil, all_cons}
+use Rattle.link_replay.specs.Reaching.{IsAt, Steps}
+
+module _ (m : Meaning) (served : ℕ → Bool) where
+  -- acts in turn
+  pub at_run : (w v : World) (more : List Act) → IsAt m served w → All IsAct more → runs m served more w ≡ Ok v → IsAt m served v
+  at_run w v more h a e = record {
+    pages = h.pages;
+    lawful = h.lawful;
+    bytes = h.bytes;
+    addr = h.addr;
+    is_addr = h.is_addr;
+    numbers = h.numbers;
+    in_range = h.in_range;
+    plan = h.plan;
+    is_plan = h.is_plan;
+    schedule = h.schedule ++ more;
+    are_acts = All-append IsAct h.schedule more h.are_acts a;
+    accepted = runs_joined m served h.schedule more (opening_world h.addr h.numbers h.plan)
+        ∙ ap (λ (r : Result World StepFault). and_then (runs m served more) r) h.accepted
+        ∙ runs_mark m served 0 more w
+        ∙ ap (λ (r : Result World StepFault). with_mark 0 r) e;
+  }
+
+  -- the mark alone
+  pub at_marked : (w : World) (k : ℕ) → IsAt m served w → IsAt m served (record w { mark = k })
+  at_marked w k h = record {
+    pages = h.pages;
+    lawful = h.lawful;
+    bytes = h.bytes;
+    addr = h.addr;
+    is_addr = h.is_addr;
+    numbers = h.numbers;
+    in_range = h.in_range;
+    plan = h.plan;
+    is_plan = h.is_plan;
+    schedule = h.schedule;
+    are_acts = h.are_acts;
+    accepted = h.accepted;
+  }
+
+  -- what every law of reached worlds asks for
+  pub reached_at : (w : World) → (h : IsAt m served w) → IsReached m h.pages (record w { mark = 0 })
+  reached_at w h = record {
+    served = served;
+    addr = h.addr;
+    is_addr = h.is_addr;
+    numbers = h.numbers;
+    in_range = h.in_range;
+    plan = h.plan;
+    is_plan = h.is_plan;
+    schedule = h.schedule;
+    are_acts = h.are_acts;
+    bytes = inl h.bytes;
+    accepted = h.accepted;
+  }
+
+  -- what holds in the midst of acts in turn
+  pub record Amid (Now : World → Type 0) (left : List Act) (end : Result World StepFault) : Type 0 where
+    pub world : World
+    pub rest : runs m served left world ≡ end
+    pub at : IsAt m served world
+    pub now : Now world
+
+  -- one act further
+  pub further : (Before Now : World → Type 0) (act : Act) (left : List Act) (end : Result World StepFault) (done : Unit {0}) → IsAct act →
+      ((w : World) → IsAt m served w → Before w → Steps Now w (Ok done) (acts m served w act)) → Amid Before (act ∷ left) end → Amid Now left end
+  further Before Now act left end done a f h =
+      let s = f h.world h.at h.now in
+      record {
+        world = s.0;
+        rest = sym (ap (λ (r : Result World StepFault). and_then (runs m served left) r) s.1) ∙ h.rest;
+        at = at_run h.world s.0 (act ∷ []) h.at (all_cons IsAct act [] a (all_nil IsAct)) (ap (λ (r : Result World StepFault). and_then (runs m served []) r) s.1);
+        now = s.2;
+      }

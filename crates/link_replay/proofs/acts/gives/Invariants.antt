@@ -1,0 +1,6 @@
+use Rattle.std.proofs.Common.{◌≡◌, ◌++◌, drop, map}
+use Rattle.link_world.specs.declared.act.Act.{Act}
+use Rattle.link_replay.proofs.acts.gives.Given as goal
+
+abbrev pub invariant-loop-number : goal.invariant-loop-number
+invariant-loop-number l = l.acts.items ++ map Act.Give (drop l.number-index l.numbers) ≡ map Act.Give l.numbers

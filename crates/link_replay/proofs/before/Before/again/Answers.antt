@@ -1,0 +1,12 @@
+use Rattle.std.proofs.Common.{ℕ, ◌∙◌, ap, not, nat_eq}
+use Rattle.uip_node.specs.Node.{step}
+use Rattle.link_replay.specs.Noting.{resent}
+use Rattle.link_replay.proofs.Counting.{resent_differs}
+use Rattle.link_replay.proofs.before.Before.again.Goals as goal
+
+-- src/before.rt
+pub returns : goal.returns
+returns g c = λ m served n event before stands.
+    ap (λ (x : ℕ). not (nat_eq x c.resent_of.result)) before.resent
+    ∙ ap (λ (x : ℕ). not (nat_eq (resent n.past) x)) (c.resent_of.ensures (step m served n event).node.past stands.counts)
+    ∙ resent_differs m served n event

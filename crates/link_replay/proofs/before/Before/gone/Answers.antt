@@ -1,0 +1,9 @@
+use Rattle.std.proofs.Common.{◌∙◌}
+use Rattle.link_replay.proofs.Losing.{lost_is_gone}
+use Rattle.link_replay.proofs.before.Before.gone.Goals as goal
+
+-- src/before.rt
+pub returns : goal.returns
+returns g c = λ m served n event before stands.
+    c.lost_in.ensures
+    ∙ lost_is_gone g.A.App.stands_for (g.A.App.kept c.args.node.now.shared) c.args.node.now.table.conns c.deref.result.now m served n event (c.deref.ensures.0 ∙ before.pairs) stands.slots

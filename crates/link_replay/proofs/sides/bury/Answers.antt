@@ -1,0 +1,33 @@
+use Rattle.std.proofs.Common.{◌∙◌, List, Some, set, sym, ap, subst, arith}
+use Rattle.std.specs.List.{Any}
+use Rattle.uip_edge.proofs.Told.{on_err}
+use Rattle.std.proofs.lemmas.List.Edits.{map_over_more}
+use Rattle.link_world.specs.World.{buries}
+use Rattle.link_replay.specs.Epochs.{IsAtLast, buried}
+use Rattle.link_replay.specs.Matched.{Matched}
+use Rattle.link_replay.specs.Stands.{SideStands}
+use Rattle.link_replay.specs.declared.side.Side.{Side}
+use Rattle.link_replay.proofs.Epochs.{all_buried, all_done, kept_more, last_found}
+use Rattle.link_replay.proofs.sides.bury.Goals as goal
+
+-- src/sides.rt
+pub returns-in_err-bury_one-clause-kept : goal.returns-in_err-bury_one-clause-kept
+returns-in_err-bury_one-clause-kept c = kept_more c.args.sides.now c.loop-side.sides c.loop-side.side-index c.side-item.result c.bury_one.new.side c.loop-side.invariant.kept (omega arith) c.bury_one.ensures.kept
+
+pub returns-in_err-bury_one-clause-last : goal.returns-in_err-bury_one-clause-last
+returns-in_err-bury_one-clause-last c =
+    on_err {P = Any (IsAtLast c.args.gone) c.args.sides.now} c.from_residual.result
+    (last_found c.args.gone c.args.sides.now c.loop-side.sides c.loop-side.side-index c.side-item.result (omega arith) c.loop-side.invariant.so_far c.in_err-bury_one.ensures.last)
+
+pub loop-side-preserved : goal.loop-side-preserved
+loop-side-preserved c = record {
+  kept = kept_more c.args.sides.now c.loop-side.sides c.loop-side.side-index c.side-item.result c.bury_one.new.side c.loop-side.invariant.kept (omega arith) c.bury_one.ensures.kept;
+  so_far = (let new = c.in_ok-bury_one.ensures.buried in
+      ap (set c.loop-side.sides c.loop-side.side-index) (new ∙ ap (buried c.args.gone) (sym c.side-item.is))
+      ∙ map_over_more (buried c.args.gone) c.args.sides.now c.loop-side.sides c.loop-side.side-index c.side-item.result (omega arith) c.loop-side.invariant.so_far c.side-item.is);
+}
+
+pub returns-clause-stands : goal.returns-clause-stands
+returns-clause-stands c = λ ss g e h.
+    subst (λ (l : List Side). Matched SideStands l (buries (Some g) ss)) (sym (all_done c.args.gone c.args.sides.now c.loop-side.sides c.loop-side.side-index c.loop-side-test.false c.loop-side.invariant.so_far))
+    (all_buried c.args.gone g c.args.sides.now ss e h)

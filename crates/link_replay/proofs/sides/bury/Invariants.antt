@@ -1,0 +1,10 @@
+use Rattle.std.proofs.Common.{◌≡◌, ◌++◌, drop, map, take}
+use Rattle.link_replay.specs.Epochs.{OnlyEpoch, buried}
+use Rattle.link_replay.specs.Matched.{Matched}
+use Rattle.link_replay.proofs.sides.bury.Given as goal
+
+abbrev pub invariant-loop-side : goal.invariant-loop-side
+invariant-loop-side l = record {
+  kept : Matched OnlyEpoch l.initial.sides l.sides;
+  so_far : l.sides ≡ map (buried l.gone) (take l.side-index l.initial.sides) ++ drop l.side-index l.initial.sides;
+}

@@ -1,0 +1,46 @@
+use Rattle.std.proofs.Common.{◌≡◌, ℕ, ◌-◌, ◌<◌, ◌≤◌, length, List, Option, Some, slice_get, sym, ap, ◌∙◌, arith, subst, rules, tests}
+use Rattle.uip_node.specs.Edge.{event_of}
+use Rattle.uip_node.specs.Events.{Reply}
+use Rattle.uip_node.specs.Node.{step}
+use Rattle.link_world.specs.Acts.{damages_at, hands_over}
+use Rattle.link_world.specs.Bytes.{bytes_of, changed}
+use Rattle.link_world.specs.World.{World, Sent, numbered}
+use Rattle.link_world.specs.declared.who.Who.{Who}
+use Rattle.link_replay.specs.Stands.{SentStands, WorldStands}
+use Rattle.link_replay.specs.Telling.{AnswersTo}
+use Rattle.link_replay.specs.declared.sent.Sent.{Sent as CodeSent}
+use Rattle.link_replay.proofs.Damaging.{damage_answers}
+use Rattle.link_replay.proofs.Pairs.{numbered_at, partner, there_is}
+use Rattle.link_replay.proofs.Sending.{area_is}
+use Rattle.link_replay.proofs.world.World.damage.Goals as goal
+
+pub returns-clause-damaged : goal.returns-clause-damaged
+returns-clause-damaged g c = λ w h f s.
+    let a = g.A.App in
+    let m = a.meaning (a.kept c.args.self.now.node.shared) in
+    let sent : List CodeSent = c.args.self.now.link.sent.items in
+    let number : ℕ = c.args.number in
+    let n : ℕ = number - 1 in
+    let above : 0 < number = omega arith in
+    let code : CodeSent = c.index-sent.result.now in
+    let at : slice_get sent n ≡ Some code = there_is sent n code c.index-sent.ensures (omega arith) in
+    let p = partner (SentStands w) sent w.sent n code s.link.sent at in
+    let e : Sent = p.other in
+    let there : numbered w.sent number ≡ Some e = numbered_at w.sent number above ∙ p.get in
+    let items : c.in-Ok.bytes.items ≡ c.as_slice.result.now = search (rules, tests) in
+    let old : c.as_mut_slice.result.now ≡ bytes_of w e = c.as_mut_slice.ensures.value ∙ items ∙ c.as_slice.ensures.value ∙ p.pair.bytes in
+    let whole = area_is c.change.new.bytes c.in-Ok.bytes.items c.in-Ok.bytes.len (c.change.auto.bytes ∙ ap length c.as_mut_slice.ensures.value) (sym c.as_mut_slice.ensures.len ∙ ap length c.as_mut_slice.ensures.value) in
+    let bytes : c.as_slice-2.result.now ≡ changed (bytes_of w e) c.args.at c.args.mask
+    = c.as_slice-2.ensures.value ∙ whole ∙ c.change.ensures ∙ ap (λ (xs : List ℕ). changed xs c.from.result c.args.mask) old ∙ ap (λ i. changed (bytes_of w e) i c.args.mask) c.from.ensures in
+    let low : 1 ≤ c.args.mask = c.requires.mask in
+    let high : c.args.mask < 256 = omega arith in
+    let answer : Option Reply = (step m a.served w.node (event_of w.node.addr c.as_slice-2.result.now)).sent in
+    let answers : AnswersTo w code.who answer
+    = subst (λ (who : Who). AnswersTo w who answer) (sym p.pair.who)
+    (subst (λ (b : List ℕ). AnswersTo w e.who (step m a.served w.node (event_of w.node.addr b)).sent) (sym bytes)
+    (damage_answers m a.served w number c.args.at c.args.mask e h low high f there)) in
+    let same : hands_over m a.served w c.as_slice-2.result.now code.who ≡ damages_at m a.served w c.args.at c.args.mask (numbered w.sent number)
+    = ap (λ (b : List ℕ). hands_over m a.served w b code.who) bytes
+    ∙ ap (λ (who : Who). hands_over m a.served w (changed (bytes_of w e) c.args.at c.args.mask) who) p.pair.who
+    ∙ sym (ap (λ (x : Option Sent). damages_at m a.served w c.args.at c.args.mask x) there) in
+    subst (λ (u : World). WorldStands a.stands_for a.kept a.numbers c.hand.new.self u) same (c.in_ok-hand.ensures.handed w s answers)

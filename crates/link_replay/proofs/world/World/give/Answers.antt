@@ -1,0 +1,63 @@
+use Rattle.std.proofs.Common.{◌≡◌, ℕ, ◌-◌, ◌≤◌, ◌<◌, List, Option, Some, length, slice_get, sym, ap, ◌∙◌, arith, subst, rules, tests}
+use Rattle.uip_wire.specs.declared.sizes.TheConstants.{LARGEST_DATAGRAM}
+use Rattle.uip_node.specs.Edge.{event_of}
+use Rattle.uip_node.specs.Events.{Reply}
+use Rattle.uip_node.specs.Node.{step}
+use Rattle.link_world.specs.Acts.{hands_over}
+use Rattle.link_world.specs.Bytes.{bytes_of}
+use Rattle.link_world.specs.World.{World, Sent, gives, numbered}
+use Rattle.link_world.specs.declared.who.Who.{Who}
+use Rattle.link_replay.specs.Stands.{LinkStands, SentStands, WorldStands}
+use Rattle.link_replay.specs.Telling.{AnswersTo, client_of, sees}
+use Rattle.link_replay.specs.declared.sent.Sent.{Sent as CodeSent}
+use Rattle.link_replay.proofs.Delivered.{answers_seen, hands, seen, speaks_to}
+use Rattle.link_replay.proofs.Pairs.{numbered_at, partner, there_is}
+use Rattle.link_replay.proofs.Readable.{read_at, sent_at}
+use Rattle.link_replay.proofs.world.World.give.Goals as goal
+
+pub hand-requires-clause-kept : goal.hand-requires-clause-kept
+hand-requires-clause-kept g c = record {
+  node = c.requires.kept.node;
+  link = (c.requires.kept.link.0, c.see.ensures.kept c.requires.kept.link.0 c.requires.kept.link.1);
+}
+
+pub hand-requires-clause-most : goal.hand-requires-clause-most
+hand-requires-clause-most g c =
+    let sent : List CodeSent = c.args.self.now.link.sent.items in
+    let n : ℕ = c.args.number - 1 in
+    let at : slice_get sent n ≡ Some c.index-sent.result.now = there_is sent n c.index-sent.result.now c.index-sent.ensures (omega arith) in
+    let items : c.in-Ok.bytes.items ≡ c.as_slice.result.now = search (rules, tests) in
+    let all : c.as_slice-2.result.now ≡ c.index-sent.result.now.bytes.items = c.as_slice-2.ensures.value ∙ items ∙ c.as_slice.ensures.value in
+    subst (λ (xs : List ℕ). length xs ≤ LARGEST_DATAGRAM) (sym all) (c.requires.kept.link.1.sizes n c.index-sent.result.now at)
+
+pub returns-clause-given : goal.returns-clause-given
+returns-clause-given g c = λ w h s.
+    let a = g.A.App in
+    let m = a.meaning (a.kept c.args.self.now.node.shared) in
+    let sent : List CodeSent = c.args.self.now.link.sent.items in
+    let number : ℕ = c.args.number in
+    let n : ℕ = number - 1 in
+    let above : 0 < number = omega arith in
+    let code : CodeSent = c.index-sent.result.now in
+    let at : slice_get sent n ≡ Some code = there_is sent n code c.index-sent.ensures (omega arith) in
+    let p = partner (SentStands w) sent w.sent n code s.link.sent at in
+    let e : Sent = p.other in
+    let items : c.in-Ok.bytes.items ≡ c.as_slice.result.now = search (rules, tests) in
+    let bytes : c.as_slice-2.result.now ≡ bytes_of w e = c.as_slice-2.ensures.value ∙ items ∙ c.as_slice.ensures.value ∙ p.pair.bytes in
+    let client : c.client_of.result ≡ client_of e.who = c.client_of.ensures ∙ ap client_of p.pair.who in
+    let v : World = sees w (client_of e.who) number e (numbered w.sides (client_of e.who)) in
+    let facts = hands m a.served w number e (speaks_to c.args.self.now.link w s.link s.home) e.who e.content (bytes_of w e) (read_at m a.served w h n e p.get) (sent_at m a.served w h n e p.get) in
+    let stands : WorldStands a.stands_for a.kept a.numbers (record c.args.self.now { link = c.see.new.self }) v
+    = seen a.stands_for a.kept a.numbers c.args.self.now c.see.new.self w (client_of e.who) number e (numbered w.sides (client_of e.who)) s
+    (subst (λ k. LinkStands c.see.new.self (sees w k number e (numbered w.sides k))) client (c.see.ensures.stands w e s.link p.pair.epoch)) (c.see.ensures.kept w.node.addr s.home) in
+    let answer : Option Reply = (step m a.served v.node (event_of v.node.addr c.as_slice-2.result.now)).sent in
+    let answers : AnswersTo v code.who answer
+    = subst (λ (who : Who). AnswersTo v who answer) (sym p.pair.who)
+    (subst (λ (b : List ℕ). AnswersTo v e.who (step m a.served v.node (event_of v.node.addr b)).sent) (sym bytes)
+    (answers_seen m a.served w (client_of e.who) number e (numbered w.sides (client_of e.who)) e.who (bytes_of w e) facts.answers)) in
+    let same : hands_over m a.served v c.as_slice-2.result.now code.who ≡ gives m a.served w number (numbered w.sent number)
+    = ap (λ (b : List ℕ). hands_over m a.served v b code.who) bytes
+    ∙ ap (λ (who : Who). hands_over m a.served v (bytes_of w e) who) p.pair.who
+    ∙ facts.same
+    ∙ sym (ap (λ (x : Option Sent). gives m a.served w number x) (numbered_at w.sent number above ∙ p.get)) in
+    subst (λ (u : World). WorldStands a.stands_for a.kept a.numbers c.hand.new.self u) same (c.in_ok-hand.ensures.handed v stands answers)

@@ -1,0 +1,28 @@
+use Rattle.std.proofs.Common.{sym, subst}
+use Rattle.link_world.specs.Acts.{hands_over}
+use Rattle.link_world.specs.World.{numbered}
+use Rattle.link_world.specs.declared.who.Who.{Who}
+use Rattle.link_replay.specs.Stands.{WorldStands}
+use Rattle.link_replay.proofs.Handling.{handed_done}
+use Rattle.link_replay.proofs.world.World.hand.Goals as goal
+
+pub returns-in_err-hear-in-FromNode-clause-kept : goal.returns-in_err-hear-in-FromNode-clause-kept
+returns-in_err-hear-in-FromNode-clause-kept g c = record {
+  node = c.requires.kept.node;
+  link = (c.requires.kept.link.0, c.hear.ensures.kept c.requires.kept.link.0 c.requires.kept.link.1);
+}
+
+pub returns-in_ok-hear-in-FromNode-clause-kept : goal.returns-in_ok-hear-in-FromNode-clause-kept
+returns-in_ok-hear-in-FromNode-clause-kept g c = record {
+  node = c.requires.kept.node;
+  link = (c.requires.kept.link.0, c.hear.ensures.kept c.requires.kept.link.0 c.requires.kept.link.1);
+}
+
+pub returns-in_ok-hear-in-FromNode-clause-handed : goal.returns-in_ok-hear-in-FromNode-clause-handed
+returns-in_ok-hear-in-FromNode-clause-handed g c = λ w s to.
+    let a = g.A.App in
+    let m = a.meaning (a.kept c.args.self.now.node.shared) in
+    let number = c.in-FromNode.client in
+    subst (λ (who : Who). WorldStands a.stands_for a.kept a.numbers (record c.args.self.now { link = c.hear.new.self }) (hands_over m a.served w c.args.bytes.now who)) (sym c.in-FromNode.is)
+    (handed_done a.stands_for a.kept a.numbers c.args.self.now c.hear.new.self w number c.args.bytes.now (numbered w.sides number) s
+    (c.in_ok-hear-in-FromNode.ensures.heard w s.link s.node.counts.ticks) (c.hear.ensures.kept w.node.addr s.home))

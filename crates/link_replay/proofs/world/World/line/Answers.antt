@@ -1,0 +1,26 @@
+use Rattle.std.proofs.Common.{◌≡◌, List, sym, ap, ◌∙◌, subst, Ok, arith, length}
+use Rattle.std.specs.List.{All}
+use Rattle.link_world.specs.Acts.{runs}
+use Rattle.link_world.specs.Schedule.{acts_of}
+use Rattle.link_world.specs.declared.act.Act.{Act}
+use Rattle.link_theorem.specs.Headline.{IsAct}
+use Rattle.link_replay.specs.Reaching.{Ends}
+use Rattle.link_replay.specs.Stands.{WorldStands}
+use Rattle.link_replay.proofs.Lines.{all_acts, line_done}
+use Rattle.link_replay.proofs.world.World.line.Goals as goal
+
+pub run-requires-clause-acts : goal.run-requires-clause-acts
+run-requires-clause-acts g c =
+    subst (λ (xs : List Act). All IsAct xs) (sym c.as_slice.ensures.value)
+    (all_acts (g.A.App.meaning (g.A.App.kept c.args.self.now.node.shared)) g.A.App.served c.in-Ok.acts.items c.args.event.now c.args.self.now.mark c.len-sent.result c.in-Ok.ensures c.requires.event)
+
+pub returns-clause-line : goal.returns-clause-line
+returns-clause-line g c = λ w h s.
+    let a = g.A.App in
+    let m = a.meaning (a.kept c.args.self.now.node.shared) in
+    let sent : length w.sent ≡ c.len-sent.result = omega (arith, s.link.sent.same_length, c.len-sent.ensures) in
+    let acts : c.as_slice.result.now ≡ acts_of w c.args.event.now = c.as_slice.ensures.value ∙ c.in-Ok.ensures w (sym s.mark) sent in
+    let ran : Ends (WorldStands a.stands_for a.kept a.numbers c.run.new.self) (Ok c.in_ok-run.field-0) (runs m a.served c.as_slice.result.now w)
+    = subst (λ r. Ends (WorldStands a.stands_for a.kept a.numbers c.run.new.self) r (runs m a.served c.as_slice.result.now w)) c.in_ok-run.was (c.run.ensures.run w h s) in
+    line_done a.stands_for a.kept a.numbers m a.served c.run.new.self w ran.0 c.args.event.now c.mark_after-self.result
+    (ap (λ xs. runs m a.served xs w) (sym acts) ∙ ran.1) (c.mark_after-self.ensures w (sym s.mark) sent) ran.2

@@ -1,0 +1,18 @@
+use Rattle.std.proofs.Common.{◌≡◌, drop}
+use Rattle.uip_node.specs.Events.{tick}
+use Rattle.link_world.specs.Acts.{handles_all}
+use Rattle.link_world.specs.World.{World}
+use Rattle.link_replay.specs.Stands.{IsKept, WorldStands}
+use Rattle.link_replay.proofs.world.World.tick.Given as goal
+
+abbrev pub invariant-loop-slot : goal.invariant-loop-slot
+invariant-loop-slot g l =
+    let a = g.A.App in
+    let m = a.meaning (a.kept l.fn.self.node.shared) in
+    record {
+      kept : IsKept a.meaning a.stands_for a.kept l.self;
+      same : a.kept l.self.node.shared ≡ a.kept l.fn.self.node.shared;
+      mark : l.self.mark ≡ l.fn.self.mark;
+      so_far : (w : World) → WorldStands a.stands_for a.kept a.numbers l.fn.self w
+          → (v : World) × WorldStands a.stands_for a.kept a.numbers l.self v × (handles_all m a.served (drop l.slot tick) v ≡ handles_all m a.served tick w);
+    }

@@ -1,0 +1,9 @@
+pub mod Matched
+pub mod Owning
+pub mod Reaching
+pub mod Noting
+pub mod Epochs
+pub mod Stands
+pub mod Telling
+pub mod Opening
+pub mod Playing

@@ -1,0 +1,61 @@
+-- What is looked at before a call of the node, and what a call is found to have done.
+use Rattle.std.specs.Prelude.{◌≡◌, ℕ, Bool, false, List, [], ◌∷◌, map, Option, Some, None, if◌then◌else◌}
+use Rattle.uip_wire.specs.Numbers.{wrap}
+use Rattle.tcp_table.specs.Connections.{is_at}
+use Rattle.tcp_table.specs.declared.conn.Conn.{Conn}
+use Rattle.tcp_machine.specs.Connection.{Connection, Sockets, is_live}
+use Rattle.uip_node.specs.Counters.{is_spoken_again, times}
+use Rattle.uip_node.specs.Events.{Past, Reply}
+use Rattle.uip_node.specs.Events.Reply.{Echo, Tcp}
+use Rattle.uip_node.specs.Node.{AbstractNode}
+use Rattle.link_replay.specs.declared.before.Before.{Before}
+use Rattle.link_replay.specs.declared.socket_pair.SocketPair.{SocketPair}
+
+abbrev pub sockets_at : SocketPair → Sockets
+sockets_at pair = record { peer = pair.peer; peer_port = pair.peer_port; own_port = pair.own_port }
+
+abbrev pub pair_at : Sockets → SocketPair
+pair_at s = record { peer = s.peer; peer_port = s.peer_port; own_port = s.own_port }
+
+-- the sockets of a connection that is not CLOSED
+abbrev pub owner : Connection → Option SocketPair
+owner c = if is_live c.state then Some (pair_at c.sockets) else None
+
+-- the same of a connection of the code
+abbrev pub owner_in : {A : Type 0} → Conn A → Option SocketPair
+owner_in c = if is_live c.state then Some (record { peer = c.peer; peer_port = c.peer_port; own_port = c.own_port }) else None
+
+-- how often the node has sent again what was outstanding, as it counts
+abbrev pub resent : List Past → ℕ
+resent past = wrap (times (λ p. is_spoken_again p.answer) past)
+
+-- the owners of all slots, and the count of what was sent again
+pub record IsBefore (before : Before) (n : AbstractNode) : Type 0 where
+  pub pairs : before.pairs.items ≡ map owner n.connections
+  pub resent : before.resent ≡ resent n.past
+
+-- an owner whose slot does not serve it any more
+abbrev pub lost_at : {A : Type 0} → Option SocketPair → Conn A → Option SocketPair
+lost_at None c = None
+lost_at (Some pair) c = if is_at pair.peer pair.peer_port pair.own_port c then None else Some pair
+
+abbrev pub or_pair : Option SocketPair → Option SocketPair → Option SocketPair
+or_pair (Some pair) other = Some pair
+or_pair None other = other
+
+-- the first such, by the slots
+abbrev pub lost : {A : Type 0} → List (Option SocketPair) → List (Conn A) → Option SocketPair
+lost [] cs = None
+lost (pair ∷ pairs) [] = None
+lost (pair ∷ pairs) (c ∷ cs) = or_pair (lost_at pair c) (lost pairs cs)
+
+-- the sockets of the connection that became CLOSED by a step
+abbrev pub gone_pair : Option Connection → Option SocketPair
+gone_pair None = None
+gone_pair (Some gone) = Some (pair_at gone.sockets)
+
+-- a step sent again what was outstanding
+abbrev pub is_sent_again : Option Reply → Bool
+is_sent_again None = false
+is_sent_again (Some (Echo request)) = false
+is_sent_again (Some (Tcp sockets id again segment)) = again

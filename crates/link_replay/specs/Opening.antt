@@ -1,0 +1,49 @@
+-- The world before the first line: the server, and the clients of a schedule.
+use Rattle.std.specs.Prelude.{◌≡◌, ℕ, suc, ◌+◌, ◌*◌, List, [], ◌∷◌, length, Some, slice_get}
+use Rattle.uip_wire.specs.declared.addr.Addr.{Addr}
+use Rattle.link_client.specs.Calls.{IsClient}
+use Rattle.link_schedule.specs.Clients.{Plan}
+use Rattle.link_world.specs.World.{World}
+use Rattle.link_world.specs.History.{Planned, IsPlanned, fresh_side, opening_world}
+use Rattle.link_replay.specs.Stands.{SideStands}
+use Rattle.link_replay.specs.declared.side.Side.{Side as CodeSide}
+
+-- 10.0.0.1
+abbrev pub server : Addr
+server = record { 0 = 10 ∷ 0 ∷ 0 ∷ 1 ∷ [] }
+
+-- The client with a number: the first number that it sends is 1000 times its own, and it asks port 80 of the server.
+abbrev pub planned : ℕ → Plan → Planned
+planned number plan = record {
+  setup = record {
+    addr = plan.side.addr;
+    port = plan.side.port;
+    mss = plan.side.mss;
+    seg = plan.side.seg;
+    iss = record { 0 = 1000 * number };
+    server = server;
+    server_port = record { 0 = 80 };
+  };
+  request = plan.request;
+}
+
+-- clients in order, numbered from a number on
+abbrev pub plan_from : ℕ → List Plan → List Planned
+plan_from number [] = []
+plan_from number (plan ∷ plans) = planned number plan ∷ plan_from (number + 1) plans
+
+-- every client idle, and no datagram sent
+abbrev pub opening : List ℕ → List Plan → World
+opening numbers plans = opening_world server numbers (plan_from 1 plans)
+
+-- a client of the code before its first act
+pub record IsFresh (number : ℕ) (plan : Plan) (side : CodeSide) : Type 0 where
+  pub stands : SideStands side (fresh_side (planned number plan))
+  pub client : IsClient side.client side.request.items
+  pub at_server : side.client.setup.server ≡ server
+  pub in_range : IsPlanned (planned number plan)
+
+-- the clients of the code in order, numbered from 1
+pub record AreFresh (plans : List Plan) (sides : List CodeSide) : Type 0 where
+  pub same_length : length sides ≡ length plans
+  pub each : (i : ℕ) (plan : Plan) (side : CodeSide) → slice_get plans i ≡ Some plan → slice_get sides i ≡ Some side → IsFresh (suc i) plan side

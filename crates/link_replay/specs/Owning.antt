@@ -1,0 +1,20 @@
+-- What a client does by itself.
+use Rattle.std.specs.Prelude.{ℕ, Option, List}
+use Rattle.link_client.specs.Calls.{Sends}
+use Rattle.link_client.specs.Client.{AbstractClient, ClientStep, client_opens, client_again, client_closes, client_aborts}
+use Rattle.link_world.specs.World.{Side, with_client}
+use Rattle.link_replay.specs.declared.own.Own.{Own}
+use Rattle.link_replay.specs.declared.own.Own.TheVariants as own
+use Rattle.link_replay.specs.declared.side.Side.{Side as CodeSide}
+use Rattle.link_replay.specs.Stands.{SideStands}
+
+abbrev pub own_step : Own → AbstractClient → ClientStep
+own_step own.Opens = client_opens
+own_step own.Again = client_again
+own_step own.Closes = client_closes
+own_step own.Aborts = client_aborts
+
+-- a client of the code took this step, and what it sends stands at the front of the area
+pub record Stepped (step : ClientStep) (s : Side) (side : CodeSide) (answer : Option ℕ) (area : List ℕ) : Type 0 where
+  pub stands : SideStands side (with_client s step.client)
+  pub sent : Sends s.client.setup step.sent answer area

@@ -1,0 +1,56 @@
+-- What the lines of a schedule do, and which of them is refused.
+use Rattle.std.specs.Prelude.{◌≡◌, ℕ, Bool, List, map, Result, Ok, Err, Some, slice_get, ⊤}
+use Rattle.app_events.specs.Part.{Meaning}
+use Rattle.link_schedule.specs.Reading.{Content}
+use Rattle.link_schedule.specs.declared.line.Line.{Line}
+use Rattle.link_schedule.specs.declared.read_schedule.ReadSchedule.{ReadSchedule}
+use Rattle.link_schedule.specs.declared.read_schedule.ReadSchedule.TheVariants.{Bad, NoMemory as NoRoom}
+use Rattle.link_schedule.specs.declared.why.Why.{Why}
+use Rattle.link_world.specs.World.{World}
+use Rattle.link_world.specs.Schedule.{BadLine, plays}
+use Rattle.link_world.specs.declared.event.Event.{Event}
+use Rattle.link_world.specs.declared.step_fault.StepFault.{StepFault}
+use Rattle.link_world.specs.declared.step_fault.StepFault.TheVariants.{NoDatagram, NoByte, AlreadyOpen, NotOpen, Full, NoMemory}
+use Rattle.link_replay.specs.Opening.{opening}
+use Rattle.link_replay.specs.Reaching.{IsAt}
+
+-- a line's refusal, with its number
+abbrev pub refusal_at : ℕ → StepFault → ReadSchedule
+refusal_at line NoDatagram = Bad line Why.NoDatagram
+refusal_at line NoByte = Bad line Why.NoByte
+refusal_at line AlreadyOpen = Bad line Why.AlreadyOpen
+refusal_at line NotOpen = Bad line Why.NotOpen
+refusal_at line Full = Bad line Why.Full
+refusal_at line NoMemory = NoRoom
+
+abbrev pub event_at : Line → Event
+event_at line = line.event
+
+-- lines reach a world
+pub record Reaches (m : Meaning) (served : ℕ → Bool) (Now : World → Type 0) (meant : Result World BadLine) : Type 0 where
+  pub world : World
+  pub meant_so : meant ≡ Ok world
+  pub at : IsAt m served world
+  pub now : Now world
+
+-- the first line that is refused has this number, and is refused for this reason
+pub record Refuses (lines : List Line) (meant : Result World BadLine) (number : ℕ) (why : Why) : Type 0 where
+  pub place : ℕ
+  pub fault : StepFault
+  pub meant_so : meant ≡ Err (record { place = place; why = fault })
+  pub line : Line
+  pub there : slice_get lines place ≡ Some line
+  pub numbered : line.at ≡ number
+  pub told : refusal_at number fault ≡ Bad number why
+
+-- lines in turn: the world of the code stands for the one that is reached, or one of them is refused; where memory was wanting
+-- nothing is said
+abbrev pub LinesEnd : {X : Type 0} → Meaning → (ℕ → Bool) → (X → World → Type 0) → List Line → Result X ReadSchedule → Result World BadLine → Type 0
+LinesEnd m served Now lines (Ok x) meant = Reaches m served (Now x) meant
+LinesEnd m served Now lines (Err (Bad number why)) meant = Refuses lines meant number why
+LinesEnd m served Now lines (Err NoRoom) meant = ⊤
+
+-- a schedule, from the opening world of its clients on
+abbrev pub Plays : {X : Type 0} → Meaning → (ℕ → Bool) → List ℕ → Content → (X → World → Type 0) → Result X ReadSchedule → Type 0
+Plays m served numbers content Now result =
+    LinesEnd m served Now content.lines result (plays m served (map event_at content.lines) (opening numbers content.clients))

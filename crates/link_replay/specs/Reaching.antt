@@ -1,0 +1,49 @@
+-- The worlds that a replay goes through, and what an act of the code does.
+use Rattle.std.specs.List.{All}
+use Rattle.std.specs.Prelude.{◌≡◌, ℕ, Bool, List, Result, Ok, Err, ⊤}
+use Rattle.uip_wire.specs.declared.addr.Addr.{Addr}
+use Rattle.app_events.specs.Part.{Meaning}
+use Rattle.app_events.specs.Pages.{Pages, IsPaged, IsWord, IsAddr}
+use Rattle.link_world.specs.World.{World}
+use Rattle.link_world.specs.Acts.{runs}
+use Rattle.link_world.specs.History.{Planned, IsPlan, opening_world}
+use Rattle.link_world.specs.declared.act.Act.{Act}
+use Rattle.link_world.specs.declared.step_fault.StepFault.{StepFault}
+use Rattle.link_world.specs.declared.step_fault.StepFault.TheVariants.{NoDatagram, NoByte, AlreadyOpen, NotOpen, Full, NoMemory}
+use Rattle.link_theorem.specs.Headline.{IsAct, HasBytes}
+
+-- A world that accepted acts reach from the opening one, of a server whose pages are bytes. No act speaks of the mark.
+pub record IsAt (m : Meaning) (served : ℕ → Bool) (w : World) : Type 0 where
+  pub pages : Pages
+  pub lawful : IsPaged m pages
+  pub bytes : HasBytes pages
+  pub addr : Addr
+  pub is_addr : IsAddr addr
+  pub numbers : List ℕ
+  pub in_range : All IsWord numbers
+  pub plan : List Planned
+  pub is_plan : IsPlan plan
+  pub schedule : List Act
+  pub are_acts : All IsAct schedule
+  pub accepted : runs m served schedule (opening_world addr numbers plan) ≡ Ok (record w { mark = 0 })
+
+-- the world of the code stands for the one that is meant, or for the one before where the act is refused; of a world that memory was
+-- wanting for nothing is said
+abbrev pub Steps : (World → Type 0) → World → Result (Unit {0}) StepFault → Result World StepFault → Type 0
+Steps Now before (Ok done) meant = (w : World) × (meant ≡ Ok w) × Now w
+Steps Now before (Err NoMemory) meant = ⊤
+Steps Now before (Err NoDatagram) meant = (meant ≡ Err NoDatagram) × Now before
+Steps Now before (Err NoByte) meant = (meant ≡ Err NoByte) × Now before
+Steps Now before (Err AlreadyOpen) meant = (meant ≡ Err AlreadyOpen) × Now before
+Steps Now before (Err NotOpen) meant = (meant ≡ Err NotOpen) × Now before
+Steps Now before (Err Full) meant = (meant ≡ Err Full) × Now before
+
+-- acts in turn: the world of the code stands for the one that is reached, or one of them is refused
+abbrev pub Ends : (World → Type 0) → Result (Unit {0}) StepFault → Result World StepFault → Type 0
+Ends Now (Ok done) meant = (w : World) × (meant ≡ Ok w) × Now w
+Ends Now (Err NoMemory) meant = ⊤
+Ends Now (Err NoDatagram) meant = meant ≡ Err NoDatagram
+Ends Now (Err NoByte) meant = meant ≡ Err NoByte
+Ends Now (Err AlreadyOpen) meant = meant ≡ Err AlreadyOpen
+Ends Now (Err NotOpen) meant = meant ≡ Err NotOpen
+Ends Now (Err Full) meant = meant ≡ Err Full

@@ -1,0 +1,55 @@
+-- What it means that a world of the code stands for a world over plain data.
+use Rattle.std.specs.Prelude.{◌≡◌, ℕ, ◌≤◌, false, List, length, Some, slice_get}
+use Rattle.uip_wire.specs.declared.addr.Addr.{Addr}
+use Rattle.uip_wire.specs.declared.sizes.TheConstants.{LARGEST_DATAGRAM}
+use Rattle.app_events.specs.Part.{Meaning, Part}
+use Rattle.uip_node.specs.StandsFor.{Stands, IsWhole}
+use Rattle.link_client.specs.Calls.{standing, IsClient}
+use Rattle.link_world.specs.World.{World, Side, Sent, epoch}
+use Rattle.link_world.specs.Bytes.{bytes_of}
+use Rattle.link_replay.specs.Matched.{Matched}
+use Rattle.link_replay.specs.declared.sent.Sent.{Sent as CodeSent}
+use Rattle.link_replay.specs.declared.side.Side.{Side as CodeSide}
+use Rattle.link_replay.specs.declared.link.Link.{Link}
+use Rattle.link_replay.specs.declared.world.World.{World as CodeWorld}
+
+-- a client of the code for one over plain data
+pub record SideStands (side : CodeSide) (s : Side) : Type 0 where
+  pub client : standing side.client side.request.items side.received.items ≡ s.client
+  pub epoch : side.epoch ≡ epoch s
+  pub first_stale : side.first_stale ≡ s.first_stale
+
+-- a datagram of the code for one over plain data, which has these bytes in that world
+pub record SentStands (w : World) (sent : CodeSent) (e : Sent) : Type 0 where
+  pub who : sent.who ≡ e.who
+  pub tick : sent.tick ≡ e.tick
+  pub epoch : sent.epoch ≡ e.epoch
+  pub again : sent.again ≡ e.again
+  pub bytes : sent.bytes.items ≡ bytes_of w e
+
+-- clients and datagrams for those of a world
+pub record LinkStands (link : Link) (w : World) : Type 0 where
+  pub sides : Matched SideStands link.sides.items w.sides
+  pub sent : Matched (SentStands w) link.sent.items w.sent
+
+-- What clients and datagrams keep: a client's datagram has room, each datagram has a number, none is longer than the
+-- largest, and all clients speak to one server.
+pub record IsLink (addr : Addr) (link : Link) : Type 0 where
+  pub area : length link.area.items ≡ LARGEST_DATAGRAM
+  pub few : length link.sides.items ≤ 64
+  pub clients : (i : ℕ) (side : CodeSide) → slice_get link.sides.items i ≡ Some side → IsClient side.client side.request.items
+  pub servers : (i : ℕ) (side : CodeSide) → slice_get link.sides.items i ≡ Some side → side.client.setup.server ≡ addr
+  pub many : length link.sent.items ≤ 65535
+  pub sizes : (i : ℕ) (sent : CodeSent) → slice_get link.sent.items i ≡ Some sent → length sent.bytes.items ≤ LARGEST_DATAGRAM
+
+pub record WorldStands {A S K : Type 0} (stands_for : A → K → Part → Type 0) (kept : S → K) (numbers : S → List ℕ) (world : CodeWorld A S) (w : World) : Type 0 where
+  pub node : Stands stands_for kept numbers world.node w.node w.node.past
+  pub link : LinkStands world.link w
+  pub home : IsLink w.node.addr world.link
+  pub mark : world.mark ≡ w.mark
+  pub fresh : world.spent ≡ false
+
+-- What every world of the code keeps, one that is spent too.
+pub record IsKept {A S K : Type 0} (meaning : K → Meaning) (stands_for : A → K → Part → Type 0) (kept : S → K) (world : CodeWorld A S) : Type 0 where
+  pub node : IsWhole meaning stands_for kept world.node
+  pub link : (addr : Addr) × IsLink addr world.link

@@ -1,0 +1,244 @@
+//! What an act does that is not refused.
+
+ghost use Rattle.std.specs.Prelude.{◌≡◌, ◌<◌, ◌≤◌, ℕ, false, None, OnOk, length};
+ghost use Rattle.uip_node.specs.Edge.{event_of};
+ghost use Rattle.uip_node.specs.Events.{tick};
+ghost use Rattle.uip_node.specs.Events.Event.{Periodic};
+ghost use Rattle.uip_node.specs.Node.{step};
+ghost use Rattle.link_world.specs.Acts.{client_acts, damages_at, does, fault_of, handles_all, hands_over};
+ghost use Rattle.link_world.specs.Bytes.{changed, ping_from};
+ghost use Rattle.link_world.specs.World.{World as PlainWorld, gives, node_handles, numbered, posts};
+ghost use Rattle.link_world.specs.World.Content.{OfPing};
+ghost use Rattle.link_world.specs.declared.who.Who.TheVariants.{Pinger};
+ghost use Rattle.link_replay.specs.Owning.{own_step};
+ghost use Rattle.link_theorem.specs.Headline.{IsAct};
+ghost use Rattle.link_replay.specs.Reaching.{IsAt};
+ghost use Rattle.link_replay.specs.Stands.{IsKept, WorldStands};
+ghost use Rattle.link_replay.specs.Telling.{AnswersTo, AreTo, client_of};
+
+use crate::before::Before;
+use crate::own::Own;
+use crate::socket_pair::SocketPair;
+use crate::telling::tell;
+use crate::world::World;
+use app_events::App;
+use link_world::{Act, Who};
+use uip_edge::NoMemory;
+use uip_ipv4::{Proto, put_head};
+use uip_wire::{Addr, LARGEST_DATAGRAM};
+
+impl<A: App> World<A> {
+    /// Bytes come to the node. What it answers goes to the client with these sockets, or is an echo reply.
+    fn node_hears(&mut self, bytes: &[u8], to: Option<SocketPair>) -> Result<(), NoMemory>
+        requires kept { IsKept A.meaning A.stands_for A.kept self.old }
+        requires most { length bytes.now ≤ LARGEST_DATAGRAM }
+        ensures kept { IsKept A.meaning A.stands_for A.kept self.new }
+        ensures same { A.kept self.new.node.shared ≡ A.kept self.old.node.shared }
+        ensures mark { self.new.mark ≡ self.old.mark }
+        ensures heard { OnOk result ((w : PlainWorld) → WorldStands A.stands_for A.kept A.numbers self.old w
+            → AreTo to (step (A.meaning (A.kept self.old.node.shared)) A.served w.node (event_of w.node.addr bytes.now)).sent
+            → WorldStands A.stands_for A.kept A.numbers self.new (node_handles (A.meaning (A.kept self.old.node.shared)) A.served w (event_of w.node.addr bytes.now))) }
+    {
+        let before = Before::of(&self.node);
+        let sent = self.node.input(bytes);
+        tell(&self.node, &mut self.link, &before, sent, to)?;
+        Ok(())
+    }
+
+    /// The periodic call of the connection in a slot below 10.
+    fn node_ticks(&mut self, slot: usize) -> Result<(), NoMemory>
+        requires kept { IsKept A.meaning A.stands_for A.kept self.old }
+        requires within { slot < 10 }
+        ensures kept { IsKept A.meaning A.stands_for A.kept self.new }
+        ensures same { A.kept self.new.node.shared ≡ A.kept self.old.node.shared }
+        ensures mark { self.new.mark ≡ self.old.mark }
+        ensures ticked { OnOk result ((w : PlainWorld) → WorldStands A.stands_for A.kept A.numbers self.old w
+            → WorldStands A.stands_for A.kept A.numbers self.new (node_handles (A.meaning (A.kept self.old.node.shared)) A.served w (Periodic slot))) }
+    {
+        let before = Before::of(&self.node);
+        let sent = self.node.periodic(slot);
+        tell(&self.node, &mut self.link, &before, sent, before.pair(slot))?;
+        Ok(())
+    }
+
+    /// A tick: the periodic calls of all slots in turn.
+    fn tick(&mut self) -> Result<(), NoMemory>
+        requires kept { IsKept A.meaning A.stands_for A.kept self.old }
+        ensures kept { IsKept A.meaning A.stands_for A.kept self.new }
+        ensures same { A.kept self.new.node.shared ≡ A.kept self.old.node.shared }
+        ensures mark { self.new.mark ≡ self.old.mark }
+        ensures ticked { OnOk result ((w : PlainWorld) → WorldStands A.stands_for A.kept A.numbers self.old w
+            → WorldStands A.stands_for A.kept A.numbers self.new (handles_all (A.meaning (A.kept self.old.node.shared)) A.served tick w)) }
+    {
+        for slot in 0..10 {
+            self.node_ticks(slot)?;
+        }
+        Ok(())
+    }
+
+    /// A client does something by itself.
+    fn own(&mut self, number: u8, own: Own) -> Result<(), NoMemory>
+        requires kept { IsKept A.meaning A.stands_for A.kept self.old }
+        ensures kept { IsKept A.meaning A.stands_for A.kept self.new }
+        ensures same { A.kept self.new.node.shared ≡ A.kept self.old.node.shared }
+        ensures mark { self.new.mark ≡ self.old.mark }
+        ensures acted { OnOk result ((w : PlainWorld) → WorldStands A.stands_for A.kept A.numbers self.old w
+            → WorldStands A.stands_for A.kept A.numbers self.new (client_acts w number (own_step own) (numbered w.sides number))) }
+    {
+        self.link.act(number, own, self.node.counts.ticks)?;
+        Ok(())
+    }
+
+    /// An echo request is sent.
+    fn ping(&mut self, source: Addr) -> Result<(), NoMemory>
+        requires kept { IsKept A.meaning A.stands_for A.kept self.old }
+        ensures kept { IsKept A.meaning A.stands_for A.kept self.new }
+        ensures same { A.kept self.new.node.shared ≡ A.kept self.old.node.shared }
+        ensures mark { self.new.mark ≡ self.old.mark }
+        ensures sent { OnOk result ((w : PlainWorld) → WorldStands A.stands_for A.kept A.numbers self.old w
+            → WorldStands A.stands_for A.kept A.numbers self.new (posts w Pinger false (OfPing (ping_from source w.node.addr)))) }
+    {
+        let Ok(bytes) = echo_request(source, self.node.addr)
+            .as_slice()
+            .to_vec(self.link.alloc)
+        else {
+            return Err(NoMemory);
+        };
+        self.link
+            .post(Who::Pinger, self.node.counts.ticks, false, bytes)?;
+        Ok(())
+    }
+
+    /// A datagram's bytes are handed over: to the node, or to the client that it was sent to.
+    fn hand(&mut self, who: Who, bytes: &[u8]) -> Result<(), NoMemory>
+        requires kept { IsKept A.meaning A.stands_for A.kept self.old }
+        requires most { length bytes.now ≤ LARGEST_DATAGRAM }
+        ensures kept { IsKept A.meaning A.stands_for A.kept self.new }
+        ensures same { A.kept self.new.node.shared ≡ A.kept self.old.node.shared }
+        ensures mark { self.new.mark ≡ self.old.mark }
+        ensures handed { OnOk result ((w : PlainWorld) → WorldStands A.stands_for A.kept A.numbers self.old w
+            → AnswersTo w who (step (A.meaning (A.kept self.old.node.shared)) A.served w.node (event_of w.node.addr bytes.now)).sent
+            → WorldStands A.stands_for A.kept A.numbers self.new (hands_over (A.meaning (A.kept self.old.node.shared)) A.served w bytes.now who)) }
+    {
+        match who {
+            Who::Pinger => {
+                self.node_hears(bytes, None)?;
+                Ok(())
+            }
+            Who::FromClient(client) => {
+                let to = self.link.pair_of(client);
+                self.node_hears(bytes, to)?;
+                Ok(())
+            }
+            Who::FromNode(client) => {
+                self.link.hear(client, bytes, self.node.counts.ticks)?;
+                Ok(())
+            }
+        }
+    }
+
+    /// The datagram with a number, counted from 1, is delivered.
+    fn give(&mut self, number: u32) -> Result<(), NoMemory>
+        requires kept { IsKept A.meaning A.stands_for A.kept self.old }
+        ensures kept { IsKept A.meaning A.stands_for A.kept self.new }
+        ensures same { A.kept self.new.node.shared ≡ A.kept self.old.node.shared }
+        ensures mark { self.new.mark ≡ self.old.mark }
+        ensures given { OnOk result ((w : PlainWorld) → IsAt (A.meaning (A.kept self.old.node.shared)) A.served w → WorldStands A.stands_for A.kept A.numbers self.old w
+            → WorldStands A.stands_for A.kept A.numbers self.new (gives (A.meaning (A.kept self.old.node.shared)) A.served w number (numbered w.sent number))) }
+    {
+        let place = number as usize;
+        if place == 0 || place > self.link.sent.len() {
+            return Ok(());
+        }
+        let sent = &self.link.sent[place - 1];
+        let who = sent.who;
+        let epoch = sent.epoch;
+        let Ok(bytes) = sent.bytes.as_slice().to_vec(self.link.alloc) else {
+            return Err(NoMemory);
+        };
+        self.link.see(client_of(who), number, epoch);
+        self.hand(who, bytes.as_slice())?;
+        Ok(())
+    }
+
+    /// The datagram with a number is handed over with one byte changed.
+    fn damage(&mut self, number: u32, at: u16, mask: u8) -> Result<(), NoMemory>
+        requires kept { IsKept A.meaning A.stands_for A.kept self.old }
+        requires mask { 1 ≤ mask }
+        ensures kept { IsKept A.meaning A.stands_for A.kept self.new }
+        ensures same { A.kept self.new.node.shared ≡ A.kept self.old.node.shared }
+        ensures mark { self.new.mark ≡ self.old.mark }
+        ensures damaged { OnOk result ((w : PlainWorld) → IsAt (A.meaning (A.kept self.old.node.shared)) A.served w → fault_of w (Act.Damage number at mask) ≡ None
+            → WorldStands A.stands_for A.kept A.numbers self.old w
+            → WorldStands A.stands_for A.kept A.numbers self.new (damages_at (A.meaning (A.kept self.old.node.shared)) A.served w at mask (numbered w.sent number))) }
+    {
+        let place = number as usize;
+        if place == 0 || place > self.link.sent.len() {
+            return Ok(());
+        }
+        let sent = &self.link.sent[place - 1];
+        let who = sent.who;
+        let Ok(mut bytes) = sent.bytes.as_slice().to_vec(self.link.alloc) else {
+            return Err(NoMemory);
+        };
+        change(bytes.as_mut_slice(), usize::from(at), mask);
+        self.hand(who, bytes.as_slice())?;
+        Ok(())
+    }
+
+    /// What an act does that is not refused.
+    pub(crate) fn perform(&mut self, act: &Act) -> Result<(), NoMemory>
+        requires kept { IsKept A.meaning A.stands_for A.kept self.old }
+        requires act { IsAct act.now }
+        ensures kept { IsKept A.meaning A.stands_for A.kept self.new }
+        ensures same { A.kept self.new.node.shared ≡ A.kept self.old.node.shared }
+        ensures mark { self.new.mark ≡ self.old.mark }
+        ensures done { OnOk result ((w : PlainWorld) → IsAt (A.meaning (A.kept self.old.node.shared)) A.served w → fault_of w act.now ≡ None → WorldStands A.stands_for A.kept A.numbers self.old w
+            → WorldStands A.stands_for A.kept A.numbers self.new (does (A.meaning (A.kept self.old.node.shared)) A.served w act.now)) }
+    {
+        match *act {
+            Act::Opens(number) => self.own(number, Own::Opens),
+            Act::Again(number) => self.own(number, Own::Again),
+            Act::Closes(number) => self.own(number, Own::Closes),
+            Act::Aborts(number) => self.own(number, Own::Aborts),
+            Act::Window(number, window) => {
+                self.link.tell_window(number, window);
+                Ok(())
+            }
+            Act::Ping(source) => self.ping(source),
+            Act::Give(number) => self.give(number),
+            Act::Damage { number, at, mask } => self.damage(number, at, mask),
+            Act::Tick => self.tick(),
+        }
+    }
+}
+
+/// The client that a datagram concerns, by its sender; 0 where it concerns none.
+fn client_of(who: Who) -> u8
+    ensures { result ≡ client_of who }
+{
+    match who {
+        Who::FromClient(client) | Who::FromNode(client) => client,
+        Who::Pinger => 0,
+    }
+}
+
+/// The byte at a place, if there is one, is changed by exclusive or with the mask.
+fn change(bytes: &mut [u8], at: usize, mask: u8)
+    ensures { bytes.new ≡ changed bytes.old at mask }
+{
+    if at < bytes.len() {
+        bytes[at] ^= mask;
+    }
+}
+
+/// An echo request without payload, with identifier and number 1 (RFC 792).
+#[tactic(auto, unfolding(link_world::specs::Bytes::ping_from))]
+fn echo_request(source: Addr, target: Addr) -> [u8; 28]
+    ensures { result ≡ ping_from source target }
+{
+    let mut datagram = [0u8; 28];
+    datagram[20..].copy_from_slice(&[8, 0, 247, 253, 0, 1, 0, 1]);
+    put_head(&mut datagram, 28, 1, Proto::Icmp, source, target);
+    datagram
+}

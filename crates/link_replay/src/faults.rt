@@ -1,0 +1,117 @@
+//! Why an act is refused.
+
+ghost use Rattle.std.specs.Prelude.{◌≡◌, ℕ, List, length};
+ghost use Rattle.link_world.specs.Acts.{fault_of, if_idle, is_idle, named_fault, no_byte, no_datagram, or_full, state_at};
+ghost use Rattle.link_world.specs.World.{Side as PlainSide, World as PlainWorld, numbered};
+ghost use Rattle.link_replay.specs.Matched.{Matched};
+ghost use Rattle.link_replay.specs.Stands.{LinkStands, SideStands};
+
+use crate::acts::needs;
+use crate::link::Link;
+use crate::side::Side;
+use link_client::ClientState;
+use link_world::{Act, StepFault};
+
+/// Datagrams are numbered up to this.
+pub(crate) const MOST_DATAGRAMS: usize = 65535;
+
+/// Whether a client in this state is idle.
+pub(crate) fn is_idle_state(state: ClientState) -> bool
+    ensures { result ≡ is_idle state }
+{
+    match state {
+        ClientState::Idle => true,
+        ClientState::Opening
+        | ClientState::Opened
+        | ClientState::Closing
+        | ClientState::Closed
+        | ClientState::Ended
+        | ClientState::Reset => false,
+    }
+}
+
+/// Whether the client with a number is idle, or there is none.
+fn is_idle(sides: &[Side], number: u8) -> bool
+    ensures { (ss : List PlainSide) → Matched SideStands sides.now ss → result ≡ is_idle (state_at (numbered ss number)) }
+{
+    let place = usize::from(number);
+    if place == 0 || place > sides.len() {
+        return true;
+    }
+    is_idle_state(sides[place - 1].client.state)
+}
+
+/// An act of a client that is idle.
+fn if_idle(sides: &[Side], number: u8) -> Option<StepFault>
+    ensures { (ss : List PlainSide) → Matched SideStands sides.now ss → result ≡ if_idle (numbered ss number) }
+{
+    if is_idle(sides, number) {
+        Some(StepFault::NotOpen)
+    } else {
+        None
+    }
+}
+
+impl Link {
+    /// The datagram with a number is not yet sent.
+    fn no_datagram(&self, number: u32) -> Option<StepFault>
+        ensures { (w : PlainWorld) → LinkStands self.now w → result ≡ no_datagram (numbered w.sent number) }
+    {
+        if number == 0 || number as usize > self.sent.len() {
+            Some(StepFault::NoDatagram)
+        } else {
+            None
+        }
+    }
+
+    /// The datagram with a number is not yet sent, or has no byte at this place.
+    fn no_byte(&self, number: u32, at: u16) -> Option<StepFault>
+        ensures { (w : PlainWorld) → LinkStands self.now w → result ≡ no_byte w at (numbered w.sent number) }
+    {
+        if number == 0 || number as usize > self.sent.len() {
+            return Some(StepFault::NoDatagram);
+        }
+        if usize::from(at) < self.sent[number as usize - 1].bytes.len() {
+            None
+        } else {
+            Some(StepFault::NoByte)
+        }
+    }
+
+    /// Why an act is refused, apart from want of numbers.
+    fn named_fault(&self, act: &Act) -> Option<StepFault>
+        ensures { (w : PlainWorld) → LinkStands self.now w → result ≡ named_fault w act.now }
+    {
+        match *act {
+            Act::Opens(number) => {
+                if is_idle(self.sides.as_slice(), number) {
+                    None
+                } else {
+                    Some(StepFault::AlreadyOpen)
+                }
+            }
+            Act::Again(number) | Act::Closes(number) | Act::Aborts(number) => {
+                if_idle(self.sides.as_slice(), number)
+            }
+            Act::Give(number) => self.no_datagram(number),
+            Act::Damage { number, at, .. } => self.no_byte(number, at),
+            Act::Window(..) | Act::Ping(_) | Act::Tick => None,
+        }
+    }
+
+    /// Why an act is refused.
+    pub(crate) fn fault_of(&self, act: &Act) -> Option<StepFault>
+        ensures { (w : PlainWorld) → LinkStands self.now w → result ≡ fault_of w act.now }
+    {
+        match self.named_fault(act) {
+            Some(fault) => Some(fault),
+            None => {
+                if self.sent.len() > MOST_DATAGRAMS - needs(act) {
+                    Some(StepFault::Full)
+                } else {
+                    None
+                }
+            }
+        }
+    }
+}

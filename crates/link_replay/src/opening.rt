@@ -1,0 +1,124 @@
+//! The world before the first line.
+
+ghost use Rattle.std.specs.List.{list_all};
+ghost use Rattle.std.specs.Prelude.{◌≡◌, ◌<◌, ◌≤◌, ℕ, Some, true, IfOk, length, map, slice_get};
+ghost use Rattle.app_events.specs.Pages.{IsAddr};
+ghost use Rattle.link_schedule.specs.Kept.{client_in_range};
+ghost use Rattle.link_schedule.specs.Stands.{plan_at};
+ghost use Rattle.link_world.specs.History.{IsPlanned, Planned};
+ghost use Rattle.link_replay.specs.Opening.{AreFresh, IsFresh, opening, plan_from, planned};
+ghost use Rattle.link_replay.specs.Stands.{IsKept, WorldStands};
+
+use crate::link::Link;
+use crate::side::Side;
+use crate::types::{is_addr, is_bytes, is_short};
+use crate::world::World;
+use app_events::App;
+use link_client::{Client, Setup};
+use link_schedule::ClientPlan;
+use std::alloc::Global;
+use uip_edge::NoMemory;
+use uip_node::Node;
+use uip_wire::{Addr, LARGEST_DATAGRAM, Port, Seq};
+
+/// The address of the node.
+const SERVER: Addr = Addr([10, 0, 0, 1]);
+
+/// The port that every client asks.
+const SERVER_PORT: Port = Port(80);
+
+/// Each client's first number is so many times its own.
+const FIRST_NUMBERS: u32 = 1000;
+
+/// What the client with a number is given.
+fn setup_for(number: u16, plan: &ClientPlan) -> Setup
+    requires { number ≤ 64 }
+    ensures setup { result ≡ (planned number (plan_at plan.now)).setup }
+    ensures addr { IsAddr plan.now.addr }
+    ensures port { plan.now.port.0 < 65536 }
+    ensures mss { plan.now.mss < 65536 }
+{
+    is_addr(plan.addr);
+    is_short(plan.port.0);
+    is_short(plan.mss);
+    Setup {
+        addr: plan.addr,
+        port: plan.port,
+        mss: plan.mss,
+        seg: plan.seg,
+        iss: Seq(FIRST_NUMBERS * u32::from(number)),
+        server: SERVER,
+        server_port: SERVER_PORT,
+    }
+}
+
+/// The client with a number, before its first act.
+fn side_for(alloc: Global, number: u16, plan: &ClientPlan) -> Result<Side, NoMemory>
+    requires few { number ≤ 64 }
+    requires range { client_in_range (plan_at plan.now) ≡ true }
+    ensures { IfOk result (λ side. IsFresh number (plan_at plan.now) side) }
+{
+    let setup = setup_for(number, plan);
+    let asked = plan.request.as_slice();
+    is_bytes(asked);
+    let Ok(request) = asked.to_vec(alloc) else {
+        return Err(NoMemory);
+    };
+    Ok(Side {
+        client: Client::new(setup),
+        request,
+        received: Vec::new(alloc),
+        epoch: 0,
+        first_stale: None,
+    })
+}
+
+/// The clients of a schedule in order, numbered from 1.
+fn sides_for(alloc: Global, clients: &[ClientPlan]) -> Result<Vec<Side>, NoMemory>
+    requires few { length clients.now ≤ 64 }
+    requires ranges { list_all client_in_range (map plan_at clients.now) ≡ true }
+    ensures { IfOk result (λ sides. AreFresh (map plan_at clients.now) sides.items) }
+{
+    let mut sides = Vec::new(alloc);
+    for (at, plan) in clients.iter().enumerate() {
+        let side = side_for(alloc, at as u16 + 1, plan)?;
+        if sides.push(side).is_err() {
+            return Err(NoMemory);
+        }
+    }
+    Ok(sides)
+}
+
+impl<A: App> World<A> {
+    /// The opening world: the node at 10.0.0.1, every client idle, and no datagram sent. On NoMemory `shared` is dropped.
+    pub fn new(
+        alloc: Global,
+        clients: &[ClientPlan],
+        shared: A::Shared,
+    ) -> Result<World<A>, NoMemory>
+        requires few { length clients.now ≤ 64 }
+        requires ranges { list_all client_in_range (map plan_at clients.now) ≡ true }
+        ensures kept { IfOk result (λ world. IsKept A.meaning A.stands_for A.kept world) }
+        ensures stands { IfOk result (λ world. WorldStands A.stands_for A.kept A.numbers world (opening (A.numbers shared) (map plan_at clients.now))) }
+        ensures shared { IfOk result (λ world. world.node.shared ≡ shared) }
+        ensures planned { IfOk result (λ world. (k : ℕ) (p : Planned) → slice_get (plan_from 1 (map plan_at clients.now)) k ≡ Some p → IsPlanned p) }
+    {
+        let sides = sides_for(alloc, clients)?;
+        let Ok(area) = vec![in alloc; 0u8; LARGEST_DATAGRAM] else {
+            return Err(NoMemory);
+        };
+        let node = Node::new(alloc, SERVER, shared)?;
+        let link = Link {
+            sides,
+            sent: Vec::new(alloc),
+            area,
+            alloc,
+        };
+        Ok(World {
+            node,
+            link,
+            mark: 0,
+            spent: false,
+        })
+    }
+}

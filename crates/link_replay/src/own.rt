@@ -1,0 +1,78 @@
+//! What a client does, and what it hears.
+
+ghost use Rattle.std.specs.Prelude.{◌≡◌, ◌≤◌, OnOk, IfSome, IfOk, ℕ, List, length, Some};
+ghost use Rattle.link_client.specs.Calls.{IsClient, Sends, hears, takes};
+ghost use Rattle.link_client.specs.Client.{tells_window};
+ghost use Rattle.link_world.specs.World.{Side as PlainSide, with_client};
+ghost use Rattle.link_replay.specs.Owning.{Stepped, own_step};
+ghost use Rattle.link_replay.specs.Stands.{SideStands};
+
+use crate::faults::is_idle_state;
+use crate::side::Side;
+use uip_edge::NoMemory;
+use uip_wire::LARGEST_DATAGRAM;
+
+/// What a client does by itself.
+#[derive(Clone, Copy)]
+pub(crate) enum Own {
+    Opens,
+    Again,
+    Closes,
+    Aborts,
+}
+
+impl Side {
+    /// Something that the client does by itself. What it sends stands at the front of the area.
+    pub(crate) fn act(&mut self, own: Own, area: &mut [u8]) -> Option<usize>
+        requires client { IsClient self.old.client self.old.request.items }
+        requires room { LARGEST_DATAGRAM ≤ length area.old }
+        ensures client { IsClient self.new.client self.new.request.items }
+        ensures setup { self.new.client.setup ≡ self.old.client.setup }
+        ensures room { length area.new ≡ length area.old }
+        ensures step { (s : PlainSide) → SideStands self.old s → Stepped (own_step own s.client) s self.new result area.new }
+    {
+        match own {
+            Own::Opens => {
+                if is_idle_state(self.client.state) {
+                    Some(self.client.open_now(area))
+                } else {
+                    None
+                }
+            }
+            Own::Again => self.client.again(self.request.as_slice(), area),
+            Own::Closes => self.client.close_now(self.request.as_slice(), area),
+            Own::Aborts => self.client.abort_now(area),
+        }
+    }
+
+    /// The client tells a window from now on.
+    pub(crate) fn tell_window(&mut self, window: u16)
+        ensures client { IsClient self.old.client self.old.request.items → IsClient self.new.client self.new.request.items }
+        ensures setup { self.new.client.setup ≡ self.old.client.setup }
+        ensures step { (s : PlainSide) → SideStands self.old s → SideStands self.new (with_client s (tells_window window s.client).client) }
+    {
+        self.client.set_window(window);
+    }
+
+    /// The client is handed bytes: it takes them where they are a segment of its server.
+    pub(crate) fn hear(
+        &mut self,
+        datagram: &[u8],
+        area: &mut [u8],
+    ) -> Result<Option<usize>, NoMemory>
+        requires client { IsClient self.old.client self.old.request.items }
+        requires most { length datagram.now ≤ LARGEST_DATAGRAM }
+        requires room { LARGEST_DATAGRAM ≤ length area.old }
+        ensures client { IsClient self.new.client self.new.request.items }
+        ensures setup { self.new.client.setup ≡ self.old.client.setup }
+        ensures room { length area.new ≡ length area.old }
+        ensures step { IfOk result (λ sent. (s : PlainSide) → SideStands self.old s → Stepped (takes s.client (hears s.client.setup datagram.now)) s self.new sent area.new) }
+    {
+        let took = self.client.take(self.request.as_slice(), datagram, area);
+        let fresh = &datagram[took.fresh_at..took.fresh_at + took.fresh_len];
+        if self.received.extend_from_slice(fresh).is_err() {
+            return Err(NoMemory);
+        }
+        Ok(took.sent)
+    }
+}

@@ -1,0 +1,92 @@
+//! A schedule, line by line.
+
+ghost use Rattle.std.specs.List.{All, list_all};
+ghost use Rattle.std.specs.Prelude.{◌≡◌, ℕ, true, IfOk, List, length, map};
+ghost use Rattle.app_events.specs.Pages.{IsPaged, IsWord, Pages};
+ghost use Rattle.link_schedule.specs.Answer.{content_at};
+ghost use Rattle.link_schedule.specs.Kept.{event_in_range};
+ghost use Rattle.link_theorem.specs.Headline.{HasBytes, IsAct, OfLine};
+ghost use Rattle.link_world.specs.Schedule.{plays as played};
+ghost use Rattle.link_world.specs.World.{World as PlainWorld};
+ghost use Rattle.link_replay.specs.Playing.{LinesEnd, Plays, event_at, refusal_at};
+ghost use Rattle.link_replay.specs.Reaching.{IsAt};
+ghost use Rattle.link_replay.specs.Stands.{IsKept, WorldStands};
+
+use crate::types::{is_addr, is_short};
+use crate::world::World;
+use app_events::App;
+use link_schedule::{Line, ReadSchedule, Schedule, Why};
+use link_world::{Event, StepFault};
+use std::alloc::Global;
+
+/// The numbers of an event fit their types, and a mask that is in its range changes a byte.
+fn event_fits(event: &Event)
+    ensures { (clients : ℕ) → event_in_range clients event.now ≡ true → OfLine IsAct event.now }
+{
+    match *event {
+        Event::Window(_, window) => is_short(window),
+        Event::Ping(source) => is_addr(source),
+        Event::Opens(_)
+        | Event::Again(_)
+        | Event::Closes(_)
+        | Event::Aborts(_)
+        | Event::Give(_)
+        | Event::Damage { .. }
+        | Event::Tick(_)
+        | Event::Round
+        | Event::Twice
+        | Event::Reverse
+        | Event::Half
+        | Event::Lose => (),
+    }
+}
+
+/// A line's refusal, with its number.
+fn refused(line: u32, fault: StepFault) -> ReadSchedule
+    ensures { result ≡ refusal_at line fault }
+{
+    let why = match fault {
+        StepFault::NoDatagram => Why::NoDatagram,
+        StepFault::NoByte => Why::NoByte,
+        StepFault::AlreadyOpen => Why::AlreadyOpen,
+        StepFault::NotOpen => Why::NotOpen,
+        StepFault::Full => Why::Full,
+        StepFault::NoMemory => return ReadSchedule::NoMemory,
+    };
+    ReadSchedule::Bad { line, why }
+}
+
+/// The lines in turn, up to the first that is refused.
+fn play_lines<A: App>(world: &mut World<A>, lines: &[Line]) -> Result<(), ReadSchedule>
+    requires kept { IsKept A.meaning A.stands_for A.kept world.old }
+    requires ranges { (clients : ℕ) × (list_all (λ line. event_in_range clients line.event) lines.now ≡ true) }
+    ensures kept { IsKept A.meaning A.stands_for A.kept world.new }
+    ensures played { (w : PlainWorld) → IsAt (A.meaning (A.kept world.old.node.shared)) A.served w → WorldStands A.stands_for A.kept A.numbers world.old w
+        → LinesEnd (A.meaning (A.kept world.old.node.shared)) A.served (λ done. WorldStands A.stands_for A.kept A.numbers world.new) lines.now result (played (A.meaning (A.kept world.old.node.shared)) A.served (map event_at lines.now) w) }
+{
+    for line in lines.iter() {
+        event_fits(&line.event);
+        if let Err(fault) = world.line(&line.event) {
+            return Err(refused(line.at, fault));
+        }
+    }
+    Ok(())
+}
+
+/// The world that a schedule's lines reach, or the first line that is refused, with the reason. After a refusal and after NoMemory
+/// `shared` is dropped.
+pub fn play<A: App>(
+    alloc: Global,
+    schedule: &Schedule,
+    shared: A::Shared,
+) -> Result<World<A>, ReadSchedule>
+    ensures kept { IfOk result (λ world. IsKept A.meaning A.stands_for A.kept world) }
+    ensures plays { (pages : Pages) → IsPaged (A.meaning (A.kept shared)) pages → HasBytes pages → All IsWord (A.numbers shared)
+        → Plays (A.meaning (A.kept shared)) A.served (A.numbers shared) (content_at schedule.now) (WorldStands A.stands_for A.kept A.numbers) result }
+{
+    let Ok(mut world) = World::new(alloc, schedule.clients.as_slice(), shared) else {
+        return Err(ReadSchedule::NoMemory);
+    };
+    play_lines(&mut world, schedule.lines.as_slice())?;
+    Ok(world)
+}

@@ -1,0 +1,14 @@
+use link_client::Client;
+
+/// A client of a replay, and what is kept of it.
+#[derive(Debug, Drop)]
+pub struct Side {
+    pub client: Client,
+    pub request: Vec<u8>,
+    /// The bytes of its page that it took.
+    pub received: Vec<u8>,
+    /// How often the server's connection with it has become CLOSED.
+    pub epoch: u32,
+    /// The number of the first stale datagram that was delivered from or to it.
+    pub first_stale: Option<u32>,
+}

@@ -1,0 +1,71 @@
+//! The clients by their sockets at the server.
+
+ghost use Rattle.std.specs.List.{Any};
+ghost use Rattle.std.specs.Prelude.{◌≡◌, ◌+◌, ◌≤◌, List, length, Some, OnErr, OnOk};
+ghost use Rattle.tcp_machine.specs.Connection.{Connection, same_sockets};
+ghost use Rattle.link_world.specs.World.{Side as PlainSide, addressed, buries};
+ghost use Rattle.link_replay.specs.Epochs.{IsAtLast, OnlyEpoch, buried, sockets_for};
+ghost use Rattle.link_replay.specs.Matched.{Matched};
+ghost use Rattle.link_replay.specs.Noting.{pair_at, sockets_at};
+ghost use Rattle.link_replay.specs.Stands.{SideStands};
+
+use crate::side::Side;
+use crate::socket_pair::SocketPair;
+use link_client::Setup;
+use uip_edge::NoMemory;
+
+/// Whether a client has these sockets at the server.
+fn has_sockets(setup: &Setup, pair: SocketPair) -> bool
+    ensures { result ≡ same_sockets (sockets_at pair) (sockets_for setup.now) }
+{
+    pair.peer == setup.addr && pair.peer_port == setup.port && pair.own_port == setup.server_port
+}
+
+/// A client whose connection was lost is one epoch on.
+fn bury_one(side: &mut Side, gone: SocketPair) -> Result<(), NoMemory>
+    ensures kept { OnlyEpoch side.old side.new }
+    ensures buried { OnOk result (side.new ≡ buried gone side.old) }
+    ensures last { OnErr result (IsAtLast gone side.old) }
+{
+    if has_sockets(&side.client.setup, gone) {
+        side.epoch = side.epoch.checked_add(1).ok_or(NoMemory)?;
+    }
+    Ok(())
+}
+
+/// Each client whose connection was lost is one epoch on. NoMemory where a client's count of epochs has no higher number.
+pub(crate) fn bury(sides: &mut [Side], gone: SocketPair) -> Result<(), NoMemory>
+    ensures kept { Matched OnlyEpoch sides.old sides.new }
+    ensures stands { OnOk result ((ss : List PlainSide) (g : Connection) → pair_at g.sockets ≡ gone → Matched SideStands sides.old ss → Matched SideStands sides.new (buries (Some g) ss)) }
+    ensures last { OnErr result (Any (IsAtLast gone) sides.old) }
+{
+    for side in sides.iter_mut() {
+        bury_one(side, gone)?;
+    }
+    Ok(())
+}
+
+/// The number of the client with these sockets, where the first of them has this number; 0 where there is none.
+fn addressed_from(number: u8, sides: &[Side], pair: SocketPair) -> u8
+    requires { number + length sides.now ≤ 255 }
+    ensures { (ss : List PlainSide) → Matched SideStands sides.now ss → result ≡ addressed number (sockets_at pair) ss }
+{
+    match sides {
+        [] => 0,
+        [first, rest @ ..] => {
+            if has_sockets(&first.client.setup, pair) {
+                number
+            } else {
+                addressed_from(number + 1, rest, pair)
+            }
+        }
+    }
+}
+
+/// The number of the client with these sockets at the server; 0 where there is none.
+pub(crate) fn addressed(sides: &[Side], pair: SocketPair) -> u8
+    requires { length sides.now ≤ 64 }
+    ensures { (ss : List PlainSide) → Matched SideStands sides.now ss → result ≡ addressed 1 (sockets_at pair) ss }
+{
+    addressed_from(1, sides, pair)
+}

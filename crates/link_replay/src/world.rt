@@ -1,0 +1,98 @@
+//! A world and its acts.
+
+ghost use Rattle.std.specs.List.{All};
+ghost use Rattle.std.specs.Prelude.{◌≡◌, ℕ, true, OnErr, OnOk, Ok, Err, None, IfOk, length};
+ghost use Rattle.app_events.specs.Part.{Meaning};
+ghost use Rattle.uip_wire.specs.declared.addr.Addr.{Addr as Address};
+ghost use Rattle.link_world.specs.Acts.{acts as acted, runs};
+ghost use Rattle.link_world.specs.Schedule.{plays_line};
+ghost use Rattle.link_world.specs.World.{World as PlainWorld};
+ghost use Rattle.link_theorem.specs.Headline.{IsAct, OfLine};
+ghost use Rattle.link_replay.specs.Reaching.{Ends, IsAt, Steps};
+ghost use Rattle.link_replay.specs.Stands.{IsKept, WorldStands};
+
+use crate::acts::{acts_of, mark_after};
+use crate::link::Link;
+use app_events::App;
+use link_world::{Act, Event, StepFault};
+use uip_node::Node;
+
+/// The world of a replay.
+#[derive(Drop)]
+pub struct World<A: App> {
+    pub node: Node<A>,
+    pub link: Link,
+    /// The highest number that a round has gone past.
+    pub mark: u32,
+    /// An allocation failed in an act: nothing is claimed of the world any more.
+    pub spent: bool,
+}
+
+impl<A: App> World<A> {
+    /// One act. After a refusal that is not NoMemory the world is as it was; after NoMemory it is spent, and each later act answers
+    /// NoMemory too.
+    pub fn step(&mut self, act: &Act) -> Result<(), StepFault>
+        requires kept { IsKept A.meaning A.stands_for A.kept self.old }
+        requires act { IsAct act.now }
+        ensures kept { IsKept A.meaning A.stands_for A.kept self.new }
+        ensures same { A.kept self.new.node.shared ≡ A.kept self.old.node.shared }
+        ensures mark { self.new.mark ≡ self.old.mark }
+        ensures spent { self.old.spent ≡ true → result ≡ Err StepFault.NoMemory }
+        ensures step { (w : PlainWorld) → IsAt (A.meaning (A.kept self.old.node.shared)) A.served w → WorldStands A.stands_for A.kept A.numbers self.old w
+            → Steps (WorldStands A.stands_for A.kept A.numbers self.new) w result (acted (A.meaning (A.kept self.old.node.shared)) A.served w act.now) }
+    {
+        if self.spent {
+            return Err(StepFault::NoMemory);
+        }
+        if let Some(fault) = self.link.fault_of(act) {
+            return Err(fault);
+        }
+        if self.perform(act).is_err() {
+            self.spent = true;
+            return Err(StepFault::NoMemory);
+        }
+        Ok(())
+    }
+
+    /// Acts in turn, up to the first that is refused.
+    fn run(&mut self, acts: &[Act]) -> Result<(), StepFault>
+        requires kept { IsKept A.meaning A.stands_for A.kept self.old }
+        requires acts { All IsAct acts.now }
+        ensures kept { IsKept A.meaning A.stands_for A.kept self.new }
+        ensures same { A.kept self.new.node.shared ≡ A.kept self.old.node.shared }
+        ensures mark { self.new.mark ≡ self.old.mark }
+        ensures run { (w : PlainWorld) → IsAt (A.meaning (A.kept self.old.node.shared)) A.served w → WorldStands A.stands_for A.kept A.numbers self.old w
+            → Ends (WorldStands A.stands_for A.kept A.numbers self.new) result (runs (A.meaning (A.kept self.old.node.shared)) A.served acts.now w) }
+    {
+        for act in acts.iter() {
+            self.step(act)?;
+        }
+        Ok(())
+    }
+
+    /// The acts of a line in turn, up to the first that is refused; then the mark moves. After a refusal that is not NoMemory the acts
+    /// before it stand, and the mark is as before the line.
+    pub fn line(&mut self, event: &Event) -> Result<(), StepFault>
+        requires kept { IsKept A.meaning A.stands_for A.kept self.old }
+        requires event { OfLine IsAct event.now }
+        ensures kept { IsKept A.meaning A.stands_for A.kept self.new }
+        ensures same { A.kept self.new.node.shared ≡ A.kept self.old.node.shared }
+        ensures mark { OnErr result (self.new.mark ≡ self.old.mark) }
+        ensures spent { self.old.spent ≡ true → result ≡ Err StepFault.NoMemory }
+        ensures line { (w : PlainWorld) → IsAt (A.meaning (A.kept self.old.node.shared)) A.served w → WorldStands A.stands_for A.kept A.numbers self.old w
+            → Ends (WorldStands A.stands_for A.kept A.numbers self.new) result (plays_line (A.meaning (A.kept self.old.node.shared)) A.served w event.now) }
+    {
+        if self.spent {
+            return Err(StepFault::NoMemory);
+        }
+        let mark = self.mark;
+        let sent = self.link.sent.len() as u32;
+        let Ok(acts) = acts_of(self.link.alloc, event, mark, sent) else {
+            self.spent = true;
+            return Err(StepFault::NoMemory);
+        };
+        self.run(acts.as_slice())?;
+        self.mark = mark_after(event, mark, sent);
+        Ok(())
+    }
+}
