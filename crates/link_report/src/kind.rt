@@ -1,0 +1,8 @@
+/// What a datagram is, as far as a report tells it.
+#[derive(Clone, Copy, Debug, PartialEq, Eq)]
+pub enum Kind {
+    /// A segment with its flags, its sequence number and the length of its text.
+    Segment { flags: u8, seq: u32, len: usize },
+    EchoRequest,
+    EchoReply,
+}
