@@ -22,5 +22,6 @@ pub use laws::ends_as_due;
 pub use named_file::NamedFile;
 pub use packing::pack;
 pub use paging::{open_site, page};
+pub use report::bad_line;
 pub use site_end::SiteEnd;
 pub use upgrading::upgrade;

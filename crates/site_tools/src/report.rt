@@ -51,7 +51,7 @@ fn push_number(text: &mut Vec<u8>, number: usize) -> Result<(), AllocError>
 }
 
 /// The line that tells what is wrong with an image.
-pub(crate) fn bad_line(alloc: Global, error: SiteError) -> Result<Vec<u8>, AllocError>
+pub fn bad_line(alloc: Global, error: SiteError) -> Result<Vec<u8>, AllocError>
     ensures { IfOk result (λ text. text.items ≡ bad_line_of error) }
 {
     let mut text = Vec::from_slice(alloc, b"bad site ")?;

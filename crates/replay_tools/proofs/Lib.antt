@@ -1,0 +1,4 @@
+pub mod Kept
+pub mod Played
+pub mod Texts
+pub mod Told

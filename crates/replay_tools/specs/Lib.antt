@@ -1,0 +1,4 @@
+pub mod Ending
+pub mod Playing
+pub mod Promises
+pub mod Telling

@@ -1,0 +1,55 @@
+-- What a schedule's text does with the web server of a site.
+use Rattle.std.specs.Prelude.{◌≡◌, ◌==◌, ◌⊎◌, ◌++◌, ℕ, Bool, List, codes, decimal, length, map, replicate, Result, Ok, Err}
+use Rattle.site_image.specs.Files.{File}
+use Rattle.web_pages.specs.WebMeaning.{web_meaning}
+use Rattle.link_world.specs.World.{World}
+use Rattle.link_world.specs.Schedule.{BadLine, plays}
+use Rattle.link_schedule.specs.Reading.{Content, read_text}
+use Rattle.link_schedule.specs.declared.why.Why.{Why}
+use Rattle.link_schedule.specs.declared.why.Why.TheVariants as why
+use Rattle.link_replay.specs.Opening.{opening}
+use Rattle.link_replay.specs.Playing.{event_at, Refuses}
+
+-- pages are served at port 80 alone
+abbrev pub is_served : ℕ → Bool
+is_served port = port == 80
+
+-- no file was asked for yet
+abbrev pub no_hits : List File → List ℕ
+no_hits files = replicate (length files) 0
+
+-- what the lines reach from the opening world on, or the first that is refused
+abbrev pub outcome : List File → Content → Result World BadLine
+outcome files content = plays (web_meaning files) is_served (map event_at content.lines) (opening (no_hits files) content.clients)
+
+-- this text is played to its end
+pub record IsPlayed (files : List File) (text : List ℕ) (w : World) : Type 0 where
+  pub content : Content
+  pub reads : read_text text ≡ Ok content
+  pub plays : outcome files content ≡ Ok w
+
+-- this line of the text is the first that does not read, or else the first that is refused
+pub record IsRefused (files : List File) (text : List ℕ) (line : ℕ) (reason : Why) : Type 0 where
+  pub content : Content
+  pub reads : read_text text ≡ Ok content
+  pub refuses : Refuses content.lines (outcome files content) line reason
+
+abbrev pub IsFirstBad : List File → List ℕ → ℕ → Why → Type 0
+IsFirstBad files text line reason = (read_text text ≡ Err (record { line = line; why = reason })) ⊎ IsRefused files text line reason
+
+-- the word of a reason
+abbrev pub why_word : Why → List ℕ
+why_word why.Long = codes "long"
+why_word why.Form = codes "form"
+why_word why.Clients = codes "clients"
+why_word why.Ports = codes "ports"
+why_word why.NoClient = codes "client"
+why_word why.NoDatagram = codes "datagram"
+why_word why.NoByte = codes "byte"
+why_word why.AlreadyOpen = codes "opened"
+why_word why.NotOpen = codes "idle"
+why_word why.Full = codes "full"
+
+-- the line of a bad schedule
+abbrev pub bad_schedule : ℕ → Why → List ℕ
+bad_schedule line reason = codes "bad schedule " ++ why_word reason ++ codes " " ++ decimal line ++ codes "\n"

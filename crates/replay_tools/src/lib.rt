@@ -1,0 +1,14 @@
+//! A replay from its two files: the image of a site and the text of a schedule are read from a shelf, the schedule is played by the
+//! web server of the site, and the report is written to a sink. The contract of `replay` has the headline: what each client received.
+#![tactic(auto)]
+
+mod lines;
+mod playing;
+mod replay_end;
+mod replaying;
+mod seeing;
+
+pub use file_tree::{SiteError, SiteWhy};
+pub use link_schedule::Why;
+pub use replay_end::ReplayEnd;
+pub use replaying::replay;
