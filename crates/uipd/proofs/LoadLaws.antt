@@ -52,6 +52,7 @@ told_by site own pace n old new (status.BadSite error) files image e f calm runs
     inr (subst (λ r. AnswersRead r (status.BadSite error)) (sym read) refl)
 told_by site own pace n old new status.NoMemory files image e f calm runs = inl refl
 told_by site own pace n old new status.BadWords files image e f calm runs = absurd runs
+told_by site own pace n old new (status.BadSchedule line why) files image e f calm runs = absurd runs
 
 pub site_is_told : SiteIsTold
 site_is_told site own pace n old new result files image named e f calm runs =

@@ -32,3 +32,4 @@ site_told due old new status.NoMemory e calm there = told due old new ends.NoMem
 site_told due old new status.BadWords e calm there = absurd e
 site_told due old new status.LinkFault e calm there = absurd e
 site_told due old new status.Budget e calm there = absurd e
+site_told due old new (status.BadSchedule line why) e calm there = absurd e

@@ -38,6 +38,7 @@ ServeRuns files own pace n old new status.NoMemory = new ≡ old
 ServeRuns files own pace n old new status.BadWords = ⊥
 ServeRuns files own pace n old new status.ShelfFault = ⊥
 ServeRuns files own pace n old new (status.BadSite error) = ⊥
+ServeRuns files own pace n old new (status.BadSchedule line why) = ⊥
 
 -- the status of a run that served a line to this end
 abbrev pub status_of : ServeEnd → Status

@@ -39,6 +39,7 @@ LoadRuns site own pace n old new (status.BadSite error) =
     HoldsFile old.held site (λ content. read_image content ≡ Err error) × LeavesShelf old new × (line_of new ≡ line_of old)
 LoadRuns site own pace n old new status.NoMemory = LeavesShelf old new × (line_of new ≡ line_of old)
 LoadRuns site own pace n old new status.BadWords = ⊥
+LoadRuns site own pace n old new (status.BadSchedule line why) = ⊥
 
 -- with the site without files, or with one that is loaded
 abbrev pub ServesBy : Bool → List ℕ → Addr → ℕ → ℕ → Surroundings → Surroundings → Status → Type 0

@@ -10,17 +10,18 @@ use Rattle.site_image.specs.Names.{is_kind}
 use Rattle.file_tree.specs.Upgrading.{KindContent}
 use Rattle.site_tools.specs.Gathering.{NamedContent}
 use Rattle.uipd.specs.declared.words.Command.{Command}
-use Rattle.uipd.specs.declared.words.Command.TheVariants.{Serve, Check, Page, Pack, Upgrade}
+use Rattle.uipd.specs.declared.words.Command.TheVariants.{Serve, Check, Page, Pack, Upgrade, Replay}
 use Rattle.uipd.specs.declared.words.Limits.{Limits}
 
 -- what the words ask for: to serve a line with a site, at an address and a pace, up to so many items; to look at the image of
--- a site, or at a page of it, to pack files into one, and to upgrade one
+-- a site, or at a page of it, to pack files into one, and to upgrade one; to play a schedule by a site, and to show its datagrams
 pub data Task : Type 0 where
   Serves : (site : List ℕ) (own : Addr) (pace items : ℕ) → Task
   Checks : (site : List ℕ) → Task
   Pages : (site target : List ℕ) → Task
   Packs : (files : List NamedContent) → Task
   Upgrades : (site : List ℕ) (kinds : List KindContent) → Task
+  Replays : (site schedule : List ℕ) (show : Bool) → Task
 
 -- a word of two parts, around its first `=`
 abbrev pub is_equals : ℕ → Bool
@@ -53,6 +54,7 @@ asked (Check site) = Checks site.now
 asked (Pack words) = Packs (map named_file (map string_bytes words.now))
 asked (Upgrade site words) = Upgrades site.now (map kind_word (map string_bytes words.now))
 asked (Page site target) = Pages site.now target.now
+asked (Replay site schedule show) = Replays site.now schedule.now show
 
 -- nothing, or a zero in front of something
 abbrev pub leads_badly : List ℕ → Bool
@@ -129,6 +131,12 @@ abbrev pub page_words : List (List ℕ) → Option Task
 page_words (site ∷ target ∷ []) = Some (Pages site target)
 page_words words = None
 
+-- `SITE SCHEDULE`, and optionally `show`
+abbrev pub replay_words : List (List ℕ) → Option Task
+replay_words (site ∷ schedule ∷ []) = Some (Replays site schedule false)
+replay_words (site ∷ schedule ∷ word ∷ []) = if bytes_eq word (codes "show") then Some (Replays site schedule true) else None
+replay_words words = None
+
 -- by the command in front
 abbrev pub task_of : List (List ℕ) → Option Task
 task_of [] = None
@@ -138,4 +146,5 @@ task_of (command ∷ words) =
     else if bytes_eq command (codes "pack") then pack_words words
     else if bytes_eq command (codes "upgrade") then upgrade_words words
     else if bytes_eq command (codes "page") then page_words words
+    else if bytes_eq command (codes "replay") then replay_words words
     else None

@@ -1,4 +1,4 @@
-//! The program `uipd`: it serves a serial line and works on the images of sites. It reads its words, and reaches its files,
+//! The program `uipd`: it serves a serial line, works on the images of sites and plays schedules. It reads its words, and reaches its files,
 //! its line and its output through the traits of `uip_edge` alone, so that everything it does is said of `run`. This file
 //! only makes the real adapters and turns the answer of `run` into the process's status.
 #![tactic(auto)]
@@ -6,6 +6,9 @@
 mod adapters;
 mod file_shelf;
 mod parts;
+#[cfg(test)]
+mod replay_tests;
+mod replay_work;
 mod run;
 mod serve;
 #[cfg(test)]

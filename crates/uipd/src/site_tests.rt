@@ -10,7 +10,7 @@ use std::process::Abort;
 use std::test::Fail;
 use uip_edge::{Held, MemShelf, MemSink, Shelf, SureLink};
 
-const IMAGE: &[u8] = b"UIPSITE1\0\x01\x0b/index.html\0\0\0\x06hello\n";
+pub const IMAGE: &[u8] = b"UIPSITE1\0\x01\x0b/index.html\0\0\0\x06hello\n";
 
 // A content type of 65 bytes.
 const LONG_KIND: &str =
@@ -21,17 +21,17 @@ const GOOD: &[u8] = b"/index.html 86\nfiles 1\n";
 /// A run over the files `h` and `i`: its words, their contents, the calls of the shelf that fail, the sink's room, and what it
 /// has to write and answer.
 #[derive(Clone, Copy, Drop)]
-struct Row<'a> {
-    words: &'a [&'a str],
-    h: &'a [u8],
-    i: &'a [u8],
-    fails: &'a [u64],
-    room: usize,
-    output: &'a [u8],
-    status: Status,
+pub struct Row<'a> {
+    pub words: &'a [&'a str],
+    pub h: &'a [u8],
+    pub i: &'a [u8],
+    pub fails: &'a [u64],
+    pub room: usize,
+    pub output: &'a [u8],
+    pub status: Status,
 }
 
-fn running<'a>(words: &'a [&'a str], h: &'a [u8], output: &'a [u8], status: Status) -> Row<'a> {
+pub fn running<'a>(words: &'a [&'a str], h: &'a [u8], output: &'a [u8], status: Status) -> Row<'a> {
     Row {
         words,
         h,
@@ -47,7 +47,7 @@ fn checking<'a>(h: &'a [u8], output: &'a [u8], status: Status) -> Row<'a> {
     running(&["check", "h"], h, output, status)
 }
 
-fn bad(why: SiteWhy, entry: u32) -> Status {
+pub fn bad(why: SiteWhy, entry: u32) -> Status {
     Status::BadSite(SiteError { why, entry })
 }
 
@@ -78,7 +78,7 @@ fn check_row(rt: &impl Abort, alloc: Global, row: &Row<'_>) -> Result<(), Fail> 
     Ok(())
 }
 
-fn check_rows(rt: &impl Abort, alloc: Global, rows: &[Row<'_>]) -> Result<(), Fail> {
+pub fn check_rows(rt: &impl Abort, alloc: Global, rows: &[Row<'_>]) -> Result<(), Fail> {
     for row in rows {
         check_row(rt, alloc, row)?;
     }
@@ -397,7 +397,7 @@ const CORNERS: &[u8] =
 
 const INCLUDE: &[u8] = b"UIPSITE1\0\x02\x08/b.shtml\0\0\0\x0ca%!:/c.txt\nb\x06/c.txt\0\0\0\x03%!x";
 
-const HITS: &[u8] = b"UIPSITE1\0\x01\x08/h.shtml\0\0\0\x17%! file-stats /h.shtml\n";
+pub const HITS: &[u8] = b"UIPSITE1\0\x01\x08/h.shtml\0\0\0\x17%! file-stats /h.shtml\n";
 
 const HELLO_PAGE: &[u8] =
     b"HTTP/1.0 200 OK\r\nServer: uIP/1.0\r\nConnection: close\r\nContent-type: text/html\r\n\r\nhello\n";

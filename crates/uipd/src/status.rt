@@ -1,7 +1,8 @@
 ghost use Rattle.std.specs.Prelude.{◌≡◌};
-ghost use Rattle.uipd.specs.Running.{exit_code_of, status_of_site};
+ghost use Rattle.uipd.specs.Running.{exit_code_of, status_of_replay, status_of_site};
 ghost use Rattle.uipd.specs.Serving.{status_of};
 
+use replay_tools::{ReplayEnd, Why};
 use site_tools::{SiteEnd, SiteError};
 use uip_edge::ServeEnd;
 
@@ -22,6 +23,8 @@ pub enum Status {
     Budget,
     /// The image, or the list that is to be made into one, has this first fault.
     BadSite(SiteError),
+    /// This line of the schedule is the first bad one, for this reason.
+    BadSchedule { line: u32, why: Why },
     /// There was not enough memory.
     NoMemory,
 }
@@ -39,6 +42,7 @@ impl Status {
             Status::WriteFault => 4,
             Status::Budget => 5,
             Status::BadSite(_) => 6,
+            Status::BadSchedule { .. } => 7,
             Status::NoMemory => 8,
         }
     }
@@ -66,5 +70,19 @@ pub fn worked(end: SiteEnd) -> Status
         SiteEnd::WriteFault => Status::WriteFault,
         SiteEnd::Bad(error) => Status::BadSite(error),
         SiteEnd::NoMemory => Status::NoMemory,
+    }
+}
+
+/// The status of a replay that ended so.
+pub fn replayed(end: ReplayEnd) -> Status
+    ensures { result ≡ status_of_replay end }
+{
+    match end {
+        ReplayEnd::Done => Status::Done,
+        ReplayEnd::ShelfFault => Status::ShelfFault,
+        ReplayEnd::WriteFault => Status::WriteFault,
+        ReplayEnd::BadSite(error) => Status::BadSite(error),
+        ReplayEnd::BadSchedule { line, why } => Status::BadSchedule { line, why },
+        ReplayEnd::NoMemory => Status::NoMemory,
     }
 }

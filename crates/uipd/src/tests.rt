@@ -315,7 +315,7 @@ fn serves_a_site(rt: HostRuntime) -> Result<(), Fail> {
 
 #[test]
 fn knows_its_words(rt: HostRuntime) -> Result<(), Fail> {
-    let bad: [&[&str]; 12] = [
+    let bad: [&[&str]; 16] = [
         &[],
         &["serve"],
         &["serve", "-"],
@@ -328,6 +328,10 @@ fn knows_its_words(rt: HostRuntime) -> Result<(), Fail> {
         &["serve", "-", "10.0.0.1", "tty", "items", "2"],
         &["serve", "-", "10.0.0.1", "tty", "tty"],
         &["serve", "-", "10.0.0.1", "items", "tty"],
+        &["replay"],
+        &["replay", "a"],
+        &["replay", "a", "b", "c"],
+        &["replay", "a", "b", "show", "x"],
     ];
     for words in bad {
         let row = Row {

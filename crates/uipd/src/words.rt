@@ -3,7 +3,7 @@ ghost use Rattle.std.specs.Char.{is_ascii_digit};
 ghost use Rattle.std.specs.List.{list_all};
 ghost use Rattle.uipd.specs.Words.{asked, task_of, check_words as words_of_check, pack_words as words_of_pack, serve_words as words_of_serve};
 ghost use Rattle.uipd.specs.Words.{upgrade_words as words_of_upgrade};
-ghost use Rattle.uipd.specs.Words.{page_words as words_of_page};
+ghost use Rattle.uipd.specs.Words.{page_words as words_of_page, replay_words as words_of_replay};
 ghost use Rattle.uipd.specs.Words.{ends_here as no_more, limited as limits_meant, limits_at as limits_behind, limits_of as limits_spelled};
 ghost use Rattle.uipd.specs.Kinds.{AllowsKinds};
 ghost use Rattle.uipd.specs.Words.{number_of as number_meant, is_number as number_form, leads_badly as bad_lead};
@@ -31,6 +31,8 @@ pub enum Command<'a> {
     Upgrade(&'a str, &'a [String]),
     /// `page SITE TARGET`: the page of a target is written, as a node says it at which nothing has happened.
     Page(&'a str, &'a str),
+    /// `replay SITE SCHEDULE`, and optionally `show`: a schedule is played by the web server of a site, and the report is written.
+    Replay(&'a str, &'a str, bool),
 }
 
 /// The command that the words spell, if they have a form.
@@ -45,6 +47,7 @@ pub fn command_of(words: &[String]) -> Option<Command<'_>>
         [command, words @ ..] if command.as_str() == "pack" => pack_words(words),
         [command, words @ ..] if command.as_str() == "upgrade" => upgrade_words(words),
         [command, words @ ..] if command.as_str() == "page" => page_words(words),
+        [command, words @ ..] if command.as_str() == "replay" => replay_words(words),
         _ => None,
     }
 }
@@ -147,6 +150,19 @@ fn page_words(words: &[String]) -> Option<Command<'_>>
 {
     match words {
         [site, target] => Some(Command::Page(site, target)),
+        _ => None,
+    }
+}
+
+/// The words behind `replay`: the site and the schedule, and optionally `show`.
+fn replay_words(words: &[String]) -> Option<Command<'_>>
+    ensures { option_map asked result ≡ words_of_replay (map string_bytes words.now) }
+{
+    match words {
+        [site, schedule] => Some(Command::Replay(site, schedule, false)),
+        [site, schedule, word] if word.as_str() == "show" => {
+            Some(Command::Replay(site, schedule, true))
+        }
         _ => None,
     }
 }
