@@ -12,6 +12,7 @@ mod marks;
 mod opening;
 mod own;
 mod playing;
+mod readers;
 mod sent;
 mod side;
 mod sides;

@@ -1,0 +1,78 @@
+//! What a world tells of its clients and datagrams.
+
+ghost use Rattle.std.specs.Prelude.{◌≡◌, ◌≤◌, Some, length};
+ghost use Rattle.link_client.specs.Calls.{standing};
+ghost use Rattle.link_world.specs.World.{Side as PlainSide, World as PlainWorld, is_clean, numbered};
+ghost use Rattle.uip_node.specs.Counters.{ticks_of};
+ghost use Rattle.link_replay.specs.Stands.{SideStands, WorldStands};
+
+use crate::sent::Sent;
+use crate::side::Side;
+use crate::world::World;
+use app_events::App;
+use link_client::Client;
+
+impl<A: App> World<A> {
+    /// The client with a number, counted from 1, and what is kept of it.
+    pub fn side(&self, number: u8) -> &Side
+        requires least { 1 ≤ number }
+        requires most { number ≤ length self.now.link.sides.items }
+        ensures { (w : PlainWorld) (s : PlainSide) → WorldStands A.stands_for A.kept A.numbers self.now w → numbered w.sides number ≡ Some s → SideStands result.now s }
+    {
+        &self.link.sides[usize::from(number) - 1]
+    }
+
+    /// The client with a number, counted from 1.
+    pub fn client(&self, number: u8) -> &Client
+        requires least { 1 ≤ number }
+        requires most { number ≤ length self.now.link.sides.items }
+        ensures { (w : PlainWorld) (s : PlainSide) → WorldStands A.stands_for A.kept A.numbers self.now w → numbered w.sides number ≡ Some s
+            → standing result.now s.client.request s.client.received ≡ s.client }
+    {
+        &self.side(number).client
+    }
+
+    /// The bytes of its page that the client with a number took.
+    pub fn received(&self, number: u8) -> &[u8]
+        requires least { 1 ≤ number }
+        requires most { number ≤ length self.now.link.sides.items }
+        ensures { (w : PlainWorld) (s : PlainSide) → WorldStands A.stands_for A.kept A.numbers self.now w → numbered w.sides number ≡ Some s → result.now ≡ s.client.received }
+    {
+        self.side(number).received.as_slice()
+    }
+
+    /// Whether no stale datagram was delivered from or to the client with a number.
+    pub fn clean(&self, number: u8) -> bool
+        requires least { 1 ≤ number }
+        requires most { number ≤ length self.now.link.sides.items }
+        ensures { (w : PlainWorld) (s : PlainSide) → WorldStands A.stands_for A.kept A.numbers self.now w → numbered w.sides number ≡ Some s → result ≡ is_clean s }
+    {
+        match self.side(number).first_stale {
+            None => true,
+            Some(_) => false,
+        }
+    }
+
+    /// The number of the first stale datagram that was delivered from or to the client with a number.
+    pub fn first_stale(&self, number: u8) -> Option<u32>
+        requires least { 1 ≤ number }
+        requires most { number ≤ length self.now.link.sides.items }
+        ensures { (w : PlainWorld) (s : PlainSide) → WorldStands A.stands_for A.kept A.numbers self.now w → numbered w.sides number ≡ Some s → result ≡ s.first_stale }
+    {
+        self.side(number).first_stale
+    }
+
+    /// Every datagram that was sent, numbered from 1.
+    pub fn sent(&self) -> &[Sent]
+        ensures { result.now ≡ self.now.link.sent.items }
+    {
+        self.link.sent.as_slice()
+    }
+
+    /// The ticks so far, modulo 2^32.
+    pub fn ticks(&self) -> u32
+        ensures { (w : PlainWorld) → WorldStands A.stands_for A.kept A.numbers self.now w → result ≡ ticks_of w.node.past }
+    {
+        self.node.counts.ticks
+    }
+}
