@@ -1,4 +1,9 @@
+pub mod HexBytes
+pub mod Honest
 pub mod Kept
 pub mod Played
+pub mod Quads
 pub mod Texts
 pub mod Told
+pub mod Typed
+pub mod Undisturbed

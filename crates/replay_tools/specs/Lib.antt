@@ -1,4 +1,5 @@
 pub mod Ending
+pub mod Laws
 pub mod Playing
 pub mod Promises
 pub mod Telling

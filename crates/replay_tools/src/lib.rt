@@ -2,6 +2,7 @@
 //! web server of the site, and the report is written to a sink. The contract of `replay` has the headline: what each client received.
 #![tactic(auto)]
 
+mod laws;
 mod lines;
 mod playing;
 mod replay_end;
@@ -9,6 +10,7 @@ mod replaying;
 mod seeing;
 
 pub use file_tree::{SiteError, SiteWhy};
+pub use laws::{honest_replay, replay_is_told};
 pub use link_schedule::Why;
 pub use replay_end::ReplayEnd;
 pub use replaying::replay;

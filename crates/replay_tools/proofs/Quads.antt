@@ -1,0 +1,58 @@
+-- A dotted quad spells an address.
+use Rattle.std.specs.Prelude.{IfSome}
+use Rattle.std.proofs.Common.{◌≡◌, ℕ, ◌+◌, ◌*◌, ◌-◌, ◌≤◌, Bool, true, false, cond, not, ◌&&◌, List, [], ◌∷◌, Option, Some, None, refl, arith, eqb, leb, ltb}
+use Rattle.std.proofs.lemmas.Bool.{and_parts, leb-true, ltb-true}
+use Rattle.std.proofs.lemmas.List.Elements.{All-cons, All-nil}
+use Rattle.uip_wire.specs.Addr.{cut_at_dot, is_digit, number_of, quad_of, ◌>>=◌}
+use Rattle.app_events.specs.Pages.{IsAddr, IsByte}
+
+-- what passes a test
+tested : (P : ℕ → Type 0) (b : Bool) (x : ℕ) → (b ≡ true → P x) → IfSome (cond b (Some x) None) P
+tested P true x p = p refl
+tested P false x p = tt
+
+most_digit : (c : ℕ) → is_digit c ≡ true → c ≤ 57
+most_digit c e = leb-true c 57 (and_parts (leb 48 c) (leb c 57) e).1
+
+byte_of : (text : List ℕ) → IfSome (number_of text) IsByte
+byte_of [] = tt
+byte_of (a ∷ []) = tested IsByte (is_digit a) (a - 48) (λ e. let d = most_digit a e in omega (arith, d))
+byte_of (a ∷ b ∷ []) =
+    tested IsByte (is_digit a && is_digit b && not (eqb a 48)) ((a - 48) * 10 + (b - 48))
+    (λ e.
+    let both = and_parts (is_digit a) (is_digit b) (and_parts (is_digit a && is_digit b) (not (eqb a 48)) e).0 in
+    let d = most_digit a both.0 in
+    let f = most_digit b both.1 in
+    omega (arith, d, f))
+byte_of (a ∷ b ∷ c ∷ []) =
+    let n : ℕ = (a - 48) * 100 + (b - 48) * 10 + (c - 48) in
+    tested IsByte (is_digit a && is_digit b && is_digit c && not (eqb a 48) && ltb n 256) n
+    (λ e. ltb-true n 256 (and_parts (is_digit a && is_digit b && is_digit c && not (eqb a 48)) (ltb n 256) e).1)
+byte_of (a ∷ b ∷ c ∷ d ∷ rest) = tt
+
+abbrev IsQuad : List ℕ → Type 0
+IsQuad quad = IsAddr (record { 0 = quad })
+
+of_bytes : (a b c d : Option ℕ) → IfSome a IsByte → IfSome b IsByte → IfSome c IsByte → IfSome d IsByte
+    → IfSome (a >>= λ w. b >>= λ x. c >>= λ y. d >>= λ z. Some (w ∷ x ∷ y ∷ z ∷ [])) IsQuad
+of_bytes (Some w) (Some x) (Some y) (Some z) p q r s = record {
+  four = refl;
+  all_bytes = All-cons IsByte w (x ∷ y ∷ z ∷ []) p (All-cons IsByte x (y ∷ z ∷ []) q (All-cons IsByte y (z ∷ []) r (All-cons IsByte z [] s (All-nil IsByte))));
+}
+of_bytes (Some w) (Some x) (Some y) None p q r s = tt
+of_bytes (Some w) (Some x) None d p q r s = tt
+of_bytes (Some w) None c d p q r s = tt
+of_bytes None b c d p q r s = tt
+
+-- behind a cut
+cut : {A B : Type 0} (P : B → Type 0) (r : Option A) (f : A → Option B) → ((x : A) → IfSome (f x) P) → IfSome (r >>= f) P
+cut P (Some x) f p = p x
+cut P None f p = tt
+
+pub quad_is_addr : (text : List ℕ) → IfSome (quad_of text) IsQuad
+unfolding quad_of
+quad_is_addr text =
+    cut IsQuad (cut_at_dot text) _
+    (λ first. cut IsQuad (cut_at_dot first.1) _
+    (λ second. cut IsQuad (cut_at_dot second.1) _
+    (λ third. of_bytes (number_of first.0) (number_of second.0) (number_of third.0) (number_of third.1) (byte_of first.0) (byte_of second.0) (byte_of third.0) (byte_of third.1))))
