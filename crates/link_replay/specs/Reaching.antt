@@ -27,6 +27,15 @@ pub record IsAt (m : Meaning) (served : ℕ → Bool) (w : World) : Type 0 where
   pub are_acts : All IsAct schedule
   pub accepted : runs m served schedule (opening_world addr numbers plan) ≡ Ok (record w { mark = 0 })
 
+-- a refusal that an act is given by name, which want of memory is not
+abbrev pub IsNamed : StepFault → Type 0
+IsNamed NoMemory = ⊥
+IsNamed NoDatagram = ⊤
+IsNamed NoByte = ⊤
+IsNamed AlreadyOpen = ⊤
+IsNamed NotOpen = ⊤
+IsNamed Full = ⊤
+
 -- the world of the code stands for the one that is meant, or for the one before where the act is refused; of a world that memory was
 -- wanting for nothing is said
 abbrev pub Steps : (World → Type 0) → World → Result (Unit {0}) StepFault → Result World StepFault → Type 0

@@ -1,9 +1,10 @@
 //! Why an act is refused.
 
-ghost use Rattle.std.specs.Prelude.{◌≡◌, ℕ, List, length};
+ghost use Rattle.std.specs.Prelude.{◌≡◌, ℕ, List, IfSome, length};
 ghost use Rattle.link_world.specs.Acts.{fault_of, if_idle, is_idle, named_fault, no_byte, no_datagram, or_full, state_at};
 ghost use Rattle.link_world.specs.World.{Side as PlainSide, World as PlainWorld, numbered};
 ghost use Rattle.link_replay.specs.Matched.{Matched};
+ghost use Rattle.link_replay.specs.Reaching.{IsNamed};
 ghost use Rattle.link_replay.specs.Stands.{LinkStands, SideStands};
 
 use crate::acts::needs;
@@ -43,7 +44,8 @@ fn is_idle(sides: &[Side], number: u8) -> bool
 
 /// An act of a client that is idle.
 fn if_idle(sides: &[Side], number: u8) -> Option<StepFault>
-    ensures { (ss : List PlainSide) → Matched SideStands sides.now ss → result ≡ if_idle (numbered ss number) }
+    ensures exact { (ss : List PlainSide) → Matched SideStands sides.now ss → result ≡ if_idle (numbered ss number) }
+    ensures named { IfSome result IsNamed }
 {
     if is_idle(sides, number) {
         Some(StepFault::NotOpen)
@@ -55,7 +57,8 @@ fn if_idle(sides: &[Side], number: u8) -> Option<StepFault>
 impl Link {
     /// The datagram with a number is not yet sent.
     fn no_datagram(&self, number: u32) -> Option<StepFault>
-        ensures { (w : PlainWorld) → LinkStands self.now w → result ≡ no_datagram (numbered w.sent number) }
+        ensures exact { (w : PlainWorld) → LinkStands self.now w → result ≡ no_datagram (numbered w.sent number) }
+        ensures named { IfSome result IsNamed }
     {
         if number == 0 || number as usize > self.sent.len() {
             Some(StepFault::NoDatagram)
@@ -66,7 +69,8 @@ impl Link {
 
     /// The datagram with a number is not yet sent, or has no byte at this place.
     fn no_byte(&self, number: u32, at: u16) -> Option<StepFault>
-        ensures { (w : PlainWorld) → LinkStands self.now w → result ≡ no_byte w at (numbered w.sent number) }
+        ensures exact { (w : PlainWorld) → LinkStands self.now w → result ≡ no_byte w at (numbered w.sent number) }
+        ensures named { IfSome result IsNamed }
     {
         if number == 0 || number as usize > self.sent.len() {
             return Some(StepFault::NoDatagram);
@@ -80,7 +84,8 @@ impl Link {
 
     /// Why an act is refused, apart from want of numbers.
     fn named_fault(&self, act: &Act) -> Option<StepFault>
-        ensures { (w : PlainWorld) → LinkStands self.now w → result ≡ named_fault w act.now }
+        ensures exact { (w : PlainWorld) → LinkStands self.now w → result ≡ named_fault w act.now }
+        ensures named { IfSome result IsNamed }
     {
         match *act {
             Act::Opens(number) => {
@@ -101,7 +106,8 @@ impl Link {
 
     /// Why an act is refused.
     pub(crate) fn fault_of(&self, act: &Act) -> Option<StepFault>
-        ensures { (w : PlainWorld) → LinkStands self.now w → result ≡ fault_of w act.now }
+        ensures exact { (w : PlainWorld) → LinkStands self.now w → result ≡ fault_of w act.now }
+        ensures named { IfSome result IsNamed }
     {
         match self.named_fault(act) {
             Some(fault) => Some(fault),

@@ -38,6 +38,7 @@ impl<A: App> World<A> {
         ensures same { A.kept self.new.node.shared ≡ A.kept self.old.node.shared }
         ensures mark { self.new.mark ≡ self.old.mark }
         ensures spent { self.old.spent ≡ true → result ≡ Err StepFault.NoMemory }
+        ensures spends { result ≡ Err StepFault.NoMemory → self.new.spent ≡ true }
         ensures step { (w : PlainWorld) → IsAt (A.meaning (A.kept self.old.node.shared)) A.served w → WorldStands A.stands_for A.kept A.numbers self.old w
             → Steps (WorldStands A.stands_for A.kept A.numbers self.new) w result (acted (A.meaning (A.kept self.old.node.shared)) A.served w act.now) }
     {
@@ -61,6 +62,7 @@ impl<A: App> World<A> {
         ensures kept { IsKept A.meaning A.stands_for A.kept self.new }
         ensures same { A.kept self.new.node.shared ≡ A.kept self.old.node.shared }
         ensures mark { self.new.mark ≡ self.old.mark }
+        ensures spends { result ≡ Err StepFault.NoMemory → self.new.spent ≡ true }
         ensures run { (w : PlainWorld) → IsAt (A.meaning (A.kept self.old.node.shared)) A.served w → WorldStands A.stands_for A.kept A.numbers self.old w
             → Ends (WorldStands A.stands_for A.kept A.numbers self.new) result (runs (A.meaning (A.kept self.old.node.shared)) A.served acts.now w) }
     {
@@ -79,6 +81,7 @@ impl<A: App> World<A> {
         ensures same { A.kept self.new.node.shared ≡ A.kept self.old.node.shared }
         ensures mark { OnErr result (self.new.mark ≡ self.old.mark) }
         ensures spent { self.old.spent ≡ true → result ≡ Err StepFault.NoMemory }
+        ensures spends { result ≡ Err StepFault.NoMemory → self.new.spent ≡ true }
         ensures line { (w : PlainWorld) → IsAt (A.meaning (A.kept self.old.node.shared)) A.served w → WorldStands A.stands_for A.kept A.numbers self.old w
             → Ends (WorldStands A.stands_for A.kept A.numbers self.new) result (plays_line (A.meaning (A.kept self.old.node.shared)) A.served w event.now) }
     {
