@@ -1,0 +1,57 @@
+-- The schedule that a number makes.
+use Rattle.std.specs.Prelude.{ℕ, ◌+◌, ◌/◌, ◌%◌, ◌==◌, nat_le, Bool, List, [], ◌∷◌, ◌++◌, map, flat_map, replicate, if◌then◌else◌, codes}
+use Rattle.std.specs.List.{range_with_len}
+use Rattle.rand_core.specs.Steps.{first_words}
+use Rattle.rand_pcg.specs.Lcg.{increment_of, started}
+use Rattle.rand_pcg.specs.Pcg.{multiplier_64, pcg32}
+use Rattle.link_world.specs.declared.event.Event.{Event}
+use Rattle.link_world.specs.declared.event.Event.TheVariants.{Opens, Again, Tick, Round, Twice, Reverse, Half, Lose}
+use Rattle.link_schedule.specs.declared.line.Line.{Line}
+use Rattle.link_schedule.specs.Clients.{Plan}
+use Rattle.link_schedule.specs.Reading.{Content}
+
+-- the page that a client asks for: an odd one the front page, an even one the script
+abbrev pub request_by : Bool → List ℕ
+request_by odd = if odd then codes "GET / HTTP/1.0\r\n\r\n" else codes "GET /stats.shtml HTTP/1.0\r\n\r\n"
+
+-- client k, at 10.0.1.k and port 1024 + k: an odd one tells no segment size, an even one tells 200
+abbrev pub client_of : ℕ → Plan
+client_of k = record {
+  side = record { addr = record { 0 = 10 ∷ 0 ∷ 1 ∷ k ∷ [] }; port = record { 0 = 1024 + k }; mss = if k % 2 == 1 then 0 else 200; seg = 16 };
+  request = request_by (k % 2 == 1);
+}
+
+-- three of eight words let all through, and the others disturb the link
+abbrev pub event_by : ℕ → ℕ → Event
+event_by rest client =
+    if nat_le rest 2 then Round
+    else if rest == 3 then Twice
+    else if rest == 4 then Reverse
+    else if rest == 5 then Half
+    else if rest == 6 then Lose
+    else Again client
+
+-- what a word makes happen, and a tick
+abbrev pub happens : ℕ → ℕ → List Event
+happens clients word = event_by (word % 8) (1 + word / 8 % clients) ∷ Tick 1 ∷ []
+
+-- the words that a seed gives, from the first on
+abbrev pub words_from : ℕ → List ℕ
+words_from seed = first_words pcg32 200 (started 64 multiplier_64 seed (increment_of 64 54))
+
+-- each client opens, two hundred words are drawn, and forty rounds let the link come to rest
+abbrev pub events_of : ℕ → ℕ → List Event
+events_of seed clients =
+    map (λ k. Opens k) (range_with_len 1 clients) ++ flat_map (happens clients) (words_from seed) ++ replicate 40 Round
+
+-- lines from a number on
+abbrev pub numbered_from : ℕ → List Event → List Line
+numbered_from number [] = []
+numbered_from number (event ∷ events) = record { at = number; event = event } ∷ numbered_from (number + 1) events
+
+-- the lines stand behind those of the clients
+abbrev pub workload_of : ℕ → ℕ → Content
+workload_of seed clients = record {
+  clients = map client_of (range_with_len 1 clients);
+  lines = numbered_from (clients + 1) (events_of seed clients);
+}

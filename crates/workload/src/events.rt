@@ -1,0 +1,121 @@
+//! What happens in the schedule that a number makes.
+
+ghost use Rattle.std.specs.Prelude.{◌≡◌, ◌≤◌, ◌/◌, ◌%◌, ◌+◌, ◌++◌, ◌∷◌, [], OnOk, IfOk, flat_map, length, map, replicate};
+ghost use Rattle.std.specs.List.{range_with_len};
+ghost use Rattle.rand_core.specs.Steps.{first_words};
+ghost use Rattle.rand_pcg.specs.Pcg.{pcg32};
+ghost use Rattle.link_world.specs.declared.event.Event.TheVariants.{Opens, Round as RoundEvent};
+ghost use Rattle.workload.specs.Workload.{event_by as event_meant, happens as meant, numbered_from};
+
+use link_schedule::Line;
+use link_world::Event;
+use rand_core::utils::NextWord;
+use rand_pcg::Pcg32;
+use std::alloc::Global;
+use uip_edge::NoMemory;
+
+/// What a word makes happen.
+fn event_by(rest: u32, client: u8) -> Event
+    ensures { result ≡ event_meant rest client }
+{
+    if rest <= 2 {
+        return Event::Round;
+    }
+    if rest == 3 {
+        return Event::Twice;
+    }
+    if rest == 4 {
+        return Event::Reverse;
+    }
+    if rest == 5 {
+        return Event::Half;
+    }
+    if rest == 6 {
+        return Event::Lose;
+    }
+    Event::Again(client)
+}
+
+/// One event more.
+fn push(events: &mut Vec<Event>, event: Event) -> Result<(), NoMemory>
+    ensures { OnOk result (events.new.items ≡ events.old.items ++ event ∷ []) }
+{
+    if events.push(event).is_err() {
+        return Err(NoMemory);
+    }
+    Ok(())
+}
+
+/// Each client opens.
+pub(crate) fn push_opens(events: &mut Vec<Event>, clients: u8) -> Result<(), NoMemory>
+    requires { clients ≤ 64 }
+    ensures { OnOk result (events.new.items ≡ events.old.items ++ map (λ k. Opens k) (range_with_len 1 clients)) }
+{
+    for place in 0..clients {
+        push(events, Event::Opens(place + 1))?;
+    }
+    Ok(())
+}
+
+/// What the next words make happen, so many.
+pub(crate) fn push_drawn(
+    events: &mut Vec<Event>,
+    clients: u8,
+    words: &mut Pcg32,
+    left: u8,
+) -> Result<(), NoMemory>
+    requires some { 1 ≤ clients }
+    requires few { clients ≤ 64 }
+    ensures { OnOk result (events.new.items ≡ events.old.items ++ flat_map (meant clients) (first_words pcg32 left words.old)) }
+{
+    if left == 0 {
+        return Ok(());
+    }
+    let word = words.next_word();
+    push(events, event_by(word % 8, client_by(clients, word)))?;
+    push(events, Event::Tick(1))?;
+    push_drawn(events, clients, words, left - 1)
+}
+
+/// The client that a word names.
+fn client_by(clients: u8, word: u32) -> u8
+    requires some { 1 ≤ clients }
+    requires few { clients ≤ 64 }
+    ensures { result ≡ 1 + word / 8 % clients }
+{
+    1 + (word / 8 % u32::from(clients)) as u8
+}
+
+/// Rounds that let the link come to rest.
+pub(crate) fn push_rounds(events: &mut Vec<Event>) -> Result<(), NoMemory>
+    ensures { OnOk result (events.new.items ≡ events.old.items ++ replicate 40 RoundEvent) }
+{
+    if events.extend_from_slice(&[Event::Round; 40]).is_err() {
+        return Err(NoMemory);
+    }
+    Ok(())
+}
+
+/// A line with its number.
+fn line_at(number: u32, event: &Event) -> Line
+    ensures { result ≡ record { at = number; event = event.now } }
+{
+    Line {
+        at: number,
+        event: *event,
+    }
+}
+
+/// The lines of what happens, from a number on.
+pub(crate) fn lines_from(alloc: Global, first: u32, events: &[Event]) -> Result<Vec<Line>, NoMemory>
+    requires { first + length events.now ≤ 4294967295 }
+    ensures { IfOk result (λ lines. lines.items ≡ numbered_from first events.now) }
+{
+    let mut lines = Vec::new(alloc);
+    for (place, event) in events.iter().enumerate() {
+        if lines.push(line_at(first + place as u32, event)).is_err() {
+            return Err(NoMemory);
+        }
+    }
+    Ok(lines)
+}
