@@ -14,6 +14,8 @@ mod fields;
 #[cfg(test)]
 mod lines;
 #[cfg(test)]
+mod loads;
+#[cfg(test)]
 mod site;
 #[cfg(test)]
 mod sites;
