@@ -1,6 +1,7 @@
 -- A delivery hands over the bytes of a datagram, once its client has seen it.
 use Rattle.std.proofs.Common.{◌≡◌, ℕ, zero, suc, ◌<◌, Bool, List, [], ◌∷◌, length, set, refl, sym, ap, ◌∙◌, subst, arith, Option, Some, None, slice_get}
-use Rattle.app_events.specs.Part.{Meaning, Part}
+use Rattle.app_events.specs.Part.{Meaning}
+use Rattle.app_events.specs.declared.app.App.{Ghosts}
 use Rattle.tcp_segment.specs.Segments.{PlainSegment}
 use Rattle.uip_node.specs.Edge.{event_of}
 use Rattle.uip_node.specs.Events.{Event}
@@ -104,10 +105,10 @@ sees_mark : (w : World) (client k : ℕ) (e : Sent) (side : Option Side) → (se
 sees_mark w client k e None = refl
 sees_mark w client k e (Some side) = refl
 
-module _ {A S K : Type 0} (stands_for : A → K → Part → Type 0) (kept : S → K) (numbers : S → List ℕ) where
-  pub seen : (world : CodeWorld A S) (link : Link) (w : World) (client k : ℕ) (e : Sent) (side : Option Side) → WorldStands stands_for kept numbers world w → LinkStands link (sees w client k e side) → IsLink w.node.addr link
-      → WorldStands stands_for kept numbers (record world { link = link }) (sees w client k e side)
-  seen world link w client k e side s l i = linked stands_for kept numbers world link w (sees w client k e side) s (sees_node w client k e side) (sees_mark w client k e side) l i
+module _ {A S : Type 0} (g : Ghosts A S) where
+  pub seen : (world : CodeWorld A S) (link : Link) (w : World) (client k : ℕ) (e : Sent) (side : Option Side) → WorldStands g world w → LinkStands link (sees w client k e side) → IsLink w.node.addr link
+      → WorldStands g (record world { link = link }) (sees w client k e side)
+  seen world link w client k e side s l i = linked g world link w (sees w client k e side) s (sees_node w client k e side) (sees_mark w client k e side) l i
 
 -- what the node answers does not depend on what a client has seen
 pub answers_seen : (m : Meaning) (served : ℕ → Bool) (w : World) (client k : ℕ) (e : Sent) (side : Option Side) (who : Who) (bytes : List ℕ) →

@@ -1,6 +1,7 @@
 -- The world after a step of its node.
 use Rattle.std.proofs.Common.{◌≡◌, ℕ, zero, suc, ◌<◌, get_or, drop, ◌+◌, ◌++◌, ◌∷◌, [], Bool, false, List, length, refl, sym, ap, ◌∙◌, subst, arith, Option, Some, None, length-append, if◌then◌else◌}
-use Rattle.app_events.specs.Part.{Meaning, Part}
+use Rattle.app_events.specs.Part.{Meaning}
+use Rattle.app_events.specs.declared.app.App.{Ghosts}
 use Rattle.tcp_segment.specs.Segments.{PlainSegment}
 use Rattle.tcp_machine.specs.Connection.{Sockets}
 use Rattle.uip_node.specs.Events.{Event, Reply, tick}
@@ -32,15 +33,15 @@ reply_mark w None = refl
 reply_mark w (Some (Echo request)) = refl
 reply_mark w (Some (Tcp sockets id again s)) = refl
 
-module _ {A S K : Type 0} (stands_for : A → K → Part → Type 0) (kept : S → K) (numbers : S → List ℕ) where
-  pub handled : (m : Meaning) (served : ℕ → Bool) (event : Event) (world : CodeWorld A S) (w : World) → Stands stands_for kept numbers world.node (step m served w.node event).node (step m served w.node event).node.past →
-      LinkStands world.link (node_handles m served w event) → IsLink w.node.addr world.link → world.mark ≡ w.mark → world.spent ≡ false → WorldStands stands_for kept numbers world (node_handles m served w event)
+module _ {A S : Type 0} (g : Ghosts A S) where
+  pub handled : (m : Meaning) (served : ℕ → Bool) (event : Event) (world : CodeWorld A S) (w : World) → Stands g world.node (step m served w.node event).node (step m served w.node event).node.past →
+      LinkStands world.link (node_handles m served w event) → IsLink w.node.addr world.link → world.mark ≡ w.mark → world.spent ≡ false → WorldStands g world (node_handles m served w event)
   handled m served event world w n l i k f =
       let r : NodeStep = step m served w.node event in
       let v : World = record w { node = r.node; sides = buries r.gone w.sides } in
       let same : (posts_reply v r.sent).node ≡ r.node = reply_node v r.sent in
       record {
-        node = subst (λ (x : AbstractNode). Stands stands_for kept numbers world.node x x.past) (sym same) n;
+        node = subst (λ (x : AbstractNode). Stands g world.node x x.past) (sym same) n;
         link = l;
         home = subst (λ a. IsLink a world.link) (sym (ap (λ (x : AbstractNode). x.addr) same ∙ step_addr m served w.node event)) i;
         mark = k ∙ sym (reply_mark v r.sent);
@@ -96,29 +97,29 @@ acts_mark w number act (Some side) = posted_mark (with_side w number (with_clien
     posted_mark w number None = refl
     posted_mark w number (Some s) = refl
 
-module _ {A S K : Type 0} (stands_for : A → K → Part → Type 0) (kept : S → K) (numbers : S → List ℕ) where
+module _ {A S : Type 0} (g : Ghosts A S) where
   -- the node and the mark stay
-  pub linked : (world : CodeWorld A S) (link : Link) (w v : World) → WorldStands stands_for kept numbers world w → v.node ≡ w.node → v.mark ≡ w.mark → LinkStands link v → IsLink w.node.addr link
-      → WorldStands stands_for kept numbers (record world { link = link }) v
+  pub linked : (world : CodeWorld A S) (link : Link) (w v : World) → WorldStands g world w → v.node ≡ w.node → v.mark ≡ w.mark → LinkStands link v → IsLink w.node.addr link
+      → WorldStands g (record world { link = link }) v
   linked world link w v s n k l i = record {
-    node = subst (λ (x : AbstractNode). Stands stands_for kept numbers world.node x x.past) (sym n) s.node;
+    node = subst (λ (x : AbstractNode). Stands g world.node x x.past) (sym n) s.node;
     link = l;
     home = subst (λ a. IsLink a link) (sym (ap (λ (x : AbstractNode). x.addr) n)) i;
     mark = s.mark ∙ sym k;
     fresh = s.fresh;
   }
 
-  pub own_done : (world : CodeWorld A S) (link : Link) (w : World) (number : ℕ) (act : AbstractClient → ClientStep) (side : Option Side) → WorldStands stands_for kept numbers world w → LinkStands link (client_acts w number act side) → IsLink w.node.addr link
-      → WorldStands stands_for kept numbers (record world { link = link }) (client_acts w number act side)
+  pub own_done : (world : CodeWorld A S) (link : Link) (w : World) (number : ℕ) (act : AbstractClient → ClientStep) (side : Option Side) → WorldStands g world w → LinkStands link (client_acts w number act side) → IsLink w.node.addr link
+      → WorldStands g (record world { link = link }) (client_acts w number act side)
   own_done world link w number act side s l i = linked world link w (client_acts w number act side) s (acts_node w number act side) (acts_mark w number act side) l i
 
-  client_handed_done : (world : CodeWorld A S) (link : Link) (w : World) (number : ℕ) (side : Side) (o : Option PlainSegment) → WorldStands stands_for kept numbers world w → LinkStands link (client_handed w number side o) → IsLink w.node.addr link
-      → WorldStands stands_for kept numbers (record world { link = link }) (client_handed w number side o)
+  client_handed_done : (world : CodeWorld A S) (link : Link) (w : World) (number : ℕ) (side : Side) (o : Option PlainSegment) → WorldStands g world w → LinkStands link (client_handed w number side o) → IsLink w.node.addr link
+      → WorldStands g (record world { link = link }) (client_handed w number side o)
   client_handed_done world link w number side None s l i = linked world link w w s refl refl l i
   client_handed_done world link w number side (Some x) s l i = own_done world link w number (λ c. client_takes c x) (Some side) s l i
 
-  pub handed_done : (world : CodeWorld A S) (link : Link) (w : World) (number : ℕ) (bytes : List ℕ) (side : Option Side) → WorldStands stands_for kept numbers world w → LinkStands link (handed w number bytes side) → IsLink w.node.addr link
-      → WorldStands stands_for kept numbers (record world { link = link }) (handed w number bytes side)
+  pub handed_done : (world : CodeWorld A S) (link : Link) (w : World) (number : ℕ) (bytes : List ℕ) (side : Option Side) → WorldStands g world w → LinkStands link (handed w number bytes side) → IsLink w.node.addr link
+      → WorldStands g (record world { link = link }) (handed w number bytes side)
   handed_done world link w number bytes None s l i = linked world link w w s refl refl l i
   handed_done world link w number bytes (Some side) s l i = client_handed_done world link w number side (hears side.client.setup bytes) s l i
 

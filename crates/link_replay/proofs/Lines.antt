@@ -1,7 +1,8 @@
 -- The acts of a line, and the world after it.
 use Rattle.std.specs.List.{All}
 use Rattle.std.proofs.Common.{◌≡◌, ℕ, zero, suc, List, [], length, replicate, refl, sym, ap, subst, Bool, Result, Ok, false}
-use Rattle.app_events.specs.Part.{Meaning, Part}
+use Rattle.app_events.specs.Part.{Meaning}
+use Rattle.app_events.specs.declared.app.App.{Ghosts}
 use Rattle.uip_node.specs.Node.{opening}
 use Rattle.link_world.specs.World.{World}
 use Rattle.link_world.specs.World.Content.{OfPing}
@@ -36,10 +37,10 @@ unfolding some_world
 all_acts m served items event mark sent is h =
     subst (λ (xs : List Act). All IsAct xs) (sym (is (some_world mark sent) refl (length_same sent _))) (line_acts m served IsAct (some_world mark sent) event h)
 
-module _ {A S K : Type 0} (stands_for : A → K → Part → Type 0) (kept : S → K) (numbers : S → List ℕ) where
+module _ {A S : Type 0} (g : Ghosts A S) where
   -- the acts of a line are done, and the mark moves
-  pub line_done : (m : Meaning) (served : ℕ → Bool) (world : CodeWorld A S) (w u : World) (event : Event) (mark : ℕ) → runs m served (acts_of w event) w ≡ Ok u → mark ≡ mark_after w event → WorldStands stands_for kept numbers world u
-      → (v : World) × (plays_line m served w event ≡ Ok v) × WorldStands stands_for kept numbers (record world { mark = mark }) v
+  pub line_done : (m : Meaning) (served : ℕ → Bool) (world : CodeWorld A S) (w u : World) (event : Event) (mark : ℕ) → runs m served (acts_of w event) w ≡ Ok u → mark ≡ mark_after w event → WorldStands g world u
+      → (v : World) × (plays_line m served w event ≡ Ok v) × WorldStands g (record world { mark = mark }) v
   line_done m served world w u event mark e k h = (
     record u { mark = mark_after w event },
     ap (λ (r : Result World StepFault). with_mark (mark_after w event) r) e,

@@ -1,7 +1,8 @@
 -- Of an abstract step at most one slot is written, and a slot that lost its owner is that of the connection that became CLOSED.
 use Rattle.std.proofs.Common.{◌≡◌, ℕ, zero, suc, Bool, true, false, not, if◌then◌else◌, ◌&&◌, ◌==◌, bytes_eq, List, [], ◌∷◌, length, map, set, refl, sym, ap, ◌∙◌, arith, Option, Some, None, position, slice_get, slice_index_or}
 use Rattle.tcp_segment.specs.Segments.{PlainSegment, has_rst}
-use Rattle.app_events.specs.Part.{Meaning, Part}
+use Rattle.app_events.specs.Part.{Meaning}
+use Rattle.app_events.specs.declared.app.App.{Ghosts}
 use Rattle.tcp_table.specs.Connections.{is_at}
 use Rattle.tcp_table.specs.declared.conn.Conn.{Conn}
 use Rattle.tcp_machine.specs.Connection.{Sockets, Connection, closed, is_live, same_sockets, serves}
@@ -147,8 +148,8 @@ abbrev pair_of : {A : Type 0} → Conn A → SocketPair
 pair_of c = record { peer = c.peer; peer_port = c.peer_port; own_port = c.own_port }
 
 -- a connection of the code is at the sockets that the one over plain data serves
-at_serves : {A K : Type 0} (stands : A → K → Part → Type 0) (k : K) (c : Conn A) (a : Connection) (p : SocketPair) → ConnStands stands k c a → is_at p.peer p.peer_port p.own_port c ≡ serves (sockets_at p) a
-at_serves stands k c a p h =
+at_serves : {A S : Type 0} (g : Ghosts A S) (k : g.Kept) (c : Conn A) (a : Connection) (p : SocketPair) → ConnStands g k c a → is_at p.peer p.peer_port p.own_port c ≡ serves (sockets_at p) a
+at_serves g k c a p h =
     both_ways (is_live a.state)
     (λ e. (let l = h.numbers.like e in
     let state = h.numbers.state in
@@ -159,33 +160,33 @@ at_serves stands k c a p h =
     (λ e. (let f : is_live c.state ≡ false = ap is_live h.numbers.state ∙ e in
     ap (λ (b : Bool). b && has_sockets p c) f ∙ sym (ap (λ (b : Bool). b && same_sockets a.sockets (sockets_at p)) e)))
 
-lost_by : {A K : Type 0} (stands : A → K → Part → Type 0) (k : K) (c : Conn A) (a : Connection) (pair : Option SocketPair) → ConnStands stands k c a → lost_at pair c ≡ left_by pair a
-lost_by stands k c a None h = refl
-lost_by stands k c a (Some p) h = ap (λ (b : Bool). if b then None else Some p) (at_serves stands k c a p h)
+lost_by : {A S : Type 0} (g : Ghosts A S) (k : g.Kept) (c : Conn A) (a : Connection) (pair : Option SocketPair) → ConnStands g k c a → lost_at pair c ≡ left_by pair a
+lost_by g k c a None h = refl
+lost_by g k c a (Some p) h = ap (λ (b : Bool). if b then None else Some p) (at_serves g k c a p h)
 
-abbrev AllStand : {A K : Type 0} → (A → K → Part → Type 0) → K → List (Conn A) → List Connection → Type 0
-AllStand {A} stands k cs abstracts = (i : ℕ) (c : Conn A) (a : Connection) → slice_get cs i ≡ Some c → slice_get abstracts i ≡ Some a → ConnStands stands k c a
+abbrev AllStand : {A S : Type 0} (g : Ghosts A S) → g.Kept → List (Conn A) → List Connection → Type 0
+AllStand {A} g k cs abstracts = (i : ℕ) (c : Conn A) (a : Connection) → slice_get cs i ≡ Some c → slice_get abstracts i ≡ Some a → ConnStands g k c a
 
-lost_agrees : {A K : Type 0} (stands : A → K → Part → Type 0) (k : K) (pairs : List (Option SocketPair)) (cs : List (Conn A)) (abstracts : List Connection) → length abstracts ≡ length cs →
-    AllStand stands k cs abstracts → lost pairs cs ≡ left pairs abstracts
-lost_agrees stands k [] cs abstracts e h = refl
-lost_agrees stands k (p ∷ pairs) [] [] e h = refl
-lost_agrees stands k (p ∷ pairs) [] (a ∷ abstracts) e h = absurd (omega (arith, e))
-lost_agrees stands k (p ∷ pairs) (c ∷ cs) [] e h = absurd (omega (arith, e))
-lost_agrees stands k (p ∷ pairs) (c ∷ cs) (a ∷ abstracts) e h =
-    ap (λ (o : Option SocketPair). or_pair o (lost pairs cs)) (lost_by stands k c a p (h 0 c a refl refl))
-    ∙ ap (or_pair (left_by p a)) (lost_agrees stands k pairs cs abstracts (omega (arith, e)) (λ i d b f g. h (suc i) d b f g))
+lost_agrees : {A S : Type 0} (g : Ghosts A S) (k : g.Kept) (pairs : List (Option SocketPair)) (cs : List (Conn A)) (abstracts : List Connection) → length abstracts ≡ length cs →
+    AllStand g k cs abstracts → lost pairs cs ≡ left pairs abstracts
+lost_agrees g k [] cs abstracts e h = refl
+lost_agrees g k (p ∷ pairs) [] [] e h = refl
+lost_agrees g k (p ∷ pairs) [] (a ∷ abstracts) e h = absurd (omega (arith, e))
+lost_agrees g k (p ∷ pairs) (c ∷ cs) [] e h = absurd (omega (arith, e))
+lost_agrees g k (p ∷ pairs) (c ∷ cs) (a ∷ abstracts) e h =
+    ap (λ (o : Option SocketPair). or_pair o (lost pairs cs)) (lost_by g k c a p (h 0 c a refl refl))
+    ∙ ap (or_pair (left_by p a)) (lost_agrees g k pairs cs abstracts (omega (arith, e)) (λ i d b f g. h (suc i) d b f g))
 
 -- what is lost from the slots of the code is the connection that became CLOSED by the step
-pub lost_is_gone : {A K : Type 0} (stands : A → K → Part → Type 0) (k : K) (cs : List (Conn A)) (pairs : List (Option SocketPair)) (m : Meaning) (served : ℕ → Bool) (n : AbstractNode) (event : Event) →
-    pairs ≡ map owner n.connections → SlotsStand stands k cs (step m served n event).node.connections → lost pairs cs ≡ gone_pair (step m served n event).gone
-lost_is_gone stands k cs pairs m served n event e h =
+pub lost_is_gone : {A S : Type 0} (g : Ghosts A S) (k : g.Kept) (cs : List (Conn A)) (pairs : List (Option SocketPair)) (m : Meaning) (served : ℕ → Bool) (n : AbstractNode) (event : Event) →
+    pairs ≡ map owner n.connections → SlotsStand g k cs (step m served n event).node.connections → lost pairs cs ≡ gone_pair (step m served n event).gone
+lost_is_gone g k cs pairs m served n event e h =
     ap (λ (ps : List (Option SocketPair)). lost ps cs) e
-    ∙ lost_agrees stands k (map owner n.connections) cs (step m served n event).node.connections h.same_length h.each
+    ∙ lost_agrees g k (map owner n.connections) cs (step m served n event).node.connections h.same_length h.each
     ∙ step_leaves m served n event
 
-owner_agrees : {A K : Type 0} (stands : A → K → Part → Type 0) (k : K) (c : Conn A) (a : Connection) → ConnStands stands k c a → owner_in c ≡ owner a
-owner_agrees stands k c a h =
+owner_agrees : {A S : Type 0} (g : Ghosts A S) (k : g.Kept) (c : Conn A) (a : Connection) → ConnStands g k c a → owner_in c ≡ owner a
+owner_agrees g k c a h =
     both_ways (is_live a.state)
     (λ e. (let l = h.numbers.like e in
     let state = h.numbers.state in
@@ -196,15 +197,15 @@ owner_agrees stands k c a h =
     (λ e. (let f : is_live c.state ≡ false = ap is_live h.numbers.state ∙ e in
     ap (λ (b : Bool). if b then Some (pair_of c) else None) f ∙ sym (owner_dead a e)))
 
-owners_agree : {A K : Type 0} (stands : A → K → Part → Type 0) (k : K) (cs : List (Conn A)) (abstracts : List Connection) → length abstracts ≡ length cs →
-    AllStand stands k cs abstracts → map owner_in cs ≡ map owner abstracts
-owners_agree stands k [] [] e h = refl
-owners_agree stands k [] (a ∷ abstracts) e h = absurd (omega (arith, e))
-owners_agree stands k (c ∷ cs) [] e h = absurd (omega (arith, e))
-owners_agree stands k (c ∷ cs) (a ∷ abstracts) e h =
-    ap (λ (o : Option SocketPair). o ∷ map owner_in cs) (owner_agrees stands k c a (h 0 c a refl refl))
-    ∙ ap (λ (os : List (Option SocketPair)). owner a ∷ os) (owners_agree stands k cs abstracts (omega (arith, e)) (λ i d b f g. h (suc i) d b f g))
+owners_agree : {A S : Type 0} (g : Ghosts A S) (k : g.Kept) (cs : List (Conn A)) (abstracts : List Connection) → length abstracts ≡ length cs →
+    AllStand g k cs abstracts → map owner_in cs ≡ map owner abstracts
+owners_agree g k [] [] e h = refl
+owners_agree g k [] (a ∷ abstracts) e h = absurd (omega (arith, e))
+owners_agree g k (c ∷ cs) [] e h = absurd (omega (arith, e))
+owners_agree g k (c ∷ cs) (a ∷ abstracts) e h =
+    ap (λ (o : Option SocketPair). o ∷ map owner_in cs) (owner_agrees g k c a (h 0 c a refl refl))
+    ∙ ap (λ (os : List (Option SocketPair)). owner a ∷ os) (owners_agree g k cs abstracts (omega (arith, e)) (λ i d b f g. h (suc i) d b f g))
 
 -- the owners of the slots of the code are those of the slots over plain data
-pub owners_stand : {A K : Type 0} (stands : A → K → Part → Type 0) (k : K) (cs : List (Conn A)) (abstracts : List Connection) → SlotsStand stands k cs abstracts → map owner_in cs ≡ map owner abstracts
-owners_stand stands k cs abstracts h = owners_agree stands k cs abstracts h.same_length h.each
+pub owners_stand : {A S : Type 0} (g : Ghosts A S) (k : g.Kept) (cs : List (Conn A)) (abstracts : List Connection) → SlotsStand g k cs abstracts → map owner_in cs ≡ map owner abstracts
+owners_stand g k cs abstracts h = owners_agree g k cs abstracts h.same_length h.each

@@ -2,7 +2,8 @@
 use Rattle.std.specs.List.{All}
 use Rattle.std.proofs.Common.{◌≡◌, ℕ, ◌+◌, Bool, List, [], ◌∷◌, map, refl, sym, ap, ◌∙◌, subst, Some, slice_get, Result, Ok, Err, IsErr}
 use Rattle.std.specs.Result.{IsErrAnd}
-use Rattle.app_events.specs.Part.{Meaning, Part}
+use Rattle.app_events.specs.Part.{Meaning}
+use Rattle.app_events.specs.declared.app.App.{Ghosts}
 use Rattle.app_events.specs.Pages.{Pages, IsPaged, IsWord}
 use Rattle.link_schedule.specs.Answer.{content_at}
 use Rattle.link_schedule.specs.Clients.{Plan}
@@ -122,24 +123,24 @@ pub handed_on : {X : Type 0} (r : Result X ReadSchedule) (e : ReadSchedule) → 
 handed_on (Ok x) e h k = absurd (cc)
 handed_on (Err f) e h k = ap Err k
 
-module _ {A S K : Type 0} (meaning : K → Meaning) (stands_for : A → K → Part → Type 0) (kept : S → K) (numbers : S → List ℕ) (served : ℕ → Bool) where
+module _ {A S : Type 0} (g : Ghosts A S) where
   -- the lines of a schedule, from the opening world of its clients on
   pub whole_schedule : (world : CodeWorld A S) (After : World → Type 0) (shared : S) (schedule : Schedule) (clients : List ClientPlan) (lines : List Line) (answer : Result (Unit {0}) ReadSchedule)
       → clients ≡ schedule.clients.items → lines ≡ schedule.lines.items → world.node.shared ≡ shared
-      → ((k : ℕ) (p : Planned) → slice_get (plan_from 1 (map plan_at clients)) k ≡ Some p → IsPlanned p) → WorldStands stands_for kept numbers world (opening (numbers shared) (map plan_at clients))
-      → ((w : World) → IsAt (meaning (kept world.node.shared)) served w → WorldStands stands_for kept numbers world w
-      → LinesEnd (meaning (kept world.node.shared)) served (λ (done : Unit {0}). After) lines answer (plays (meaning (kept world.node.shared)) served (map event_at lines) w))
-      → (pages : Pages) → IsPaged (meaning (kept shared)) pages → HasBytes pages → All IsWord (numbers shared)
-      → Plays (meaning (kept shared)) served (numbers shared) (content_at schedule) (λ (done : Unit {0}). After) answer
+      → ((k : ℕ) (p : Planned) → slice_get (plan_from 1 (map plan_at clients)) k ≡ Some p → IsPlanned p) → WorldStands g world (opening (g.numbers shared) (map plan_at clients))
+      → ((w : World) → IsAt (g.meaning (g.kept world.node.shared)) g.served w → WorldStands g world w
+      → LinesEnd (g.meaning (g.kept world.node.shared)) g.served (λ (done : Unit {0}). After) lines answer (plays (g.meaning (g.kept world.node.shared)) g.served (map event_at lines) w))
+      → (pages : Pages) → IsPaged (g.meaning (g.kept shared)) pages → HasBytes pages → All IsWord (g.numbers shared)
+      → Plays (g.meaning (g.kept shared)) g.served (g.numbers shared) (content_at schedule) (λ (done : Unit {0}). After) answer
   whole_schedule world After shared schedule clients lines answer same_clients same_lines same_shared each stands ends pages lawful bytes words =
-      let m = meaning (kept shared) in
+      let m = g.meaning (g.kept shared) in
       let plans = map plan_at schedule.clients.items in
-      let w = opening (numbers shared) plans in
+      let w = opening (g.numbers shared) plans in
       let planned : (k : ℕ) (p : Planned) → slice_get (plan_from 1 plans) k ≡ Some p → IsPlanned p
       = subst (λ (cs : List ClientPlan). (k : ℕ) (p : Planned) → slice_get (plan_from 1 (map plan_at cs)) k ≡ Some p → IsPlanned p) same_clients each in
-      let at : IsAt m served w = at_opening m served pages (numbers shared) plans lawful bytes words (is_plan plans schedule.kept.apart planned) in
-      let now : WorldStands stands_for kept numbers world w
-      = subst (λ (cs : List ClientPlan). WorldStands stands_for kept numbers world (opening (numbers shared) (map plan_at cs))) same_clients stands in
-      subst (λ (ls : List Line). LinesEnd m served (λ (done : Unit {0}). After) ls answer (plays m served (map event_at ls) w)) same_lines
-      (subst (λ (s : S). IsAt (meaning (kept s)) served w → LinesEnd (meaning (kept s)) served (λ (done : Unit {0}). After) lines answer (plays (meaning (kept s)) served (map event_at lines) w)) same_shared
+      let at : IsAt m g.served w = at_opening m g.served pages (g.numbers shared) plans lawful bytes words (is_plan plans schedule.kept.apart planned) in
+      let now : WorldStands g world w
+      = subst (λ (cs : List ClientPlan). WorldStands g world (opening (g.numbers shared) (map plan_at cs))) same_clients stands in
+      subst (λ (ls : List Line). LinesEnd m g.served (λ (done : Unit {0}). After) ls answer (plays m g.served (map event_at ls) w)) same_lines
+      (subst (λ (s : S). IsAt (g.meaning (g.kept s)) g.served w → LinesEnd (g.meaning (g.kept s)) g.served (λ (done : Unit {0}). After) lines answer (plays (g.meaning (g.kept s)) g.served (map event_at lines) w)) same_shared
       (λ h. ends w h now) at)

@@ -2,7 +2,7 @@
 use Rattle.std.specs.Prelude.{◌≡◌, ℕ, ◌≤◌, false, List, length, Some, slice_get}
 use Rattle.uip_wire.specs.declared.addr.Addr.{Addr}
 use Rattle.uip_wire.specs.declared.sizes.TheConstants.{LARGEST_DATAGRAM}
-use Rattle.app_events.specs.Part.{Meaning, Part}
+use Rattle.app_events.specs.declared.app.App.{Ghosts}
 use Rattle.uip_node.specs.StandsFor.{Stands, IsWhole}
 use Rattle.link_client.specs.Calls.{standing, IsClient}
 use Rattle.link_world.specs.World.{World, Side, Sent, epoch}
@@ -42,14 +42,14 @@ pub record IsLink (addr : Addr) (link : Link) : Type 0 where
   pub many : length link.sent.items ≤ 65535
   pub sizes : (i : ℕ) (sent : CodeSent) → slice_get link.sent.items i ≡ Some sent → length sent.bytes.items ≤ LARGEST_DATAGRAM
 
-pub record WorldStands {A S K : Type 0} (stands_for : A → K → Part → Type 0) (kept : S → K) (numbers : S → List ℕ) (world : CodeWorld A S) (w : World) : Type 0 where
-  pub node : Stands stands_for kept numbers world.node w.node w.node.past
+pub record WorldStands {A S : Type 0} (g : Ghosts A S) (world : CodeWorld A S) (w : World) : Type 0 where
+  pub node : Stands g world.node w.node w.node.past
   pub link : LinkStands world.link w
   pub home : IsLink w.node.addr world.link
   pub mark : world.mark ≡ w.mark
   pub fresh : world.spent ≡ false
 
 -- What every world of the code keeps, one that is spent too.
-pub record IsKept {A S K : Type 0} (meaning : K → Meaning) (stands_for : A → K → Part → Type 0) (kept : S → K) (world : CodeWorld A S) : Type 0 where
-  pub node : IsWhole meaning stands_for kept world.node
+pub record IsKept {A S : Type 0} (g : Ghosts A S) (world : CodeWorld A S) : Type 0 where
+  pub node : IsWhole g world.node
   pub link : (addr : Addr) × IsLink addr world.link

@@ -98,7 +98,7 @@ fn lost_in<A: App>(pairs: &[Option<SocketPair>], table: &Table<A>) -> Option<Soc
 impl Before {
     /// A look at a node.
     pub(crate) fn of<A: App>(node: &Node<A>) -> Before
-        ensures { (n : AbstractNode) → Stands A.stands_for A.kept A.numbers node.now n n.past → IsBefore result n }
+        ensures { (n : AbstractNode) → Stands A.App node.now n n.past → IsBefore result n }
     {
         Before {
             pairs: owners_in(&node.table),
@@ -109,7 +109,7 @@ impl Before {
     /// The sockets of the connection that became CLOSED since, if one did.
     pub(crate) fn gone<A: App>(&self, node: &Node<A>) -> Option<SocketPair>
         ensures { (m : Meaning) (served : ℕ → Bool) (n : AbstractNode) (event : Event) → IsBefore self.now n
-            → Stands A.stands_for A.kept A.numbers node.now (step m served n event).node (step m served n event).node.past
+            → Stands A.App node.now (step m served n event).node (step m served n event).node.past
             → result ≡ gone_pair (step m served n event).gone }
     {
         lost_in(&self.pairs, &node.table)
@@ -118,7 +118,7 @@ impl Before {
     /// Whether it has sent again since.
     pub(crate) fn again<A: App>(&self, node: &Node<A>) -> bool
         ensures { (m : Meaning) (served : ℕ → Bool) (n : AbstractNode) (event : Event) → IsBefore self.now n
-            → Stands A.stands_for A.kept A.numbers node.now (step m served n event).node (step m served n event).node.past
+            → Stands A.App node.now (step m served n event).node (step m served n event).node.past
             → result ≡ is_sent_again (step m served n event).sent }
     {
         self.resent != resent_of(&node.counts)

@@ -30,14 +30,14 @@ use uip_wire::{Addr, LARGEST_DATAGRAM};
 impl<A: App> World<A> {
     /// Bytes come to the node. What it answers goes to the client with these sockets, or is an echo reply.
     fn node_hears(&mut self, bytes: &[u8], to: Option<SocketPair>) -> Result<(), NoMemory>
-        requires kept { IsKept A.meaning A.stands_for A.kept self.old }
+        requires kept { IsKept A.App self.old }
         requires most { length bytes.now ≤ LARGEST_DATAGRAM }
-        ensures kept { IsKept A.meaning A.stands_for A.kept self.new }
+        ensures kept { IsKept A.App self.new }
         ensures same { A.kept self.new.node.shared ≡ A.kept self.old.node.shared }
         ensures mark { self.new.mark ≡ self.old.mark }
-        ensures heard { OnOk result ((w : PlainWorld) → WorldStands A.stands_for A.kept A.numbers self.old w
+        ensures heard { OnOk result ((w : PlainWorld) → WorldStands A.App self.old w
             → AreTo to (step (A.meaning (A.kept self.old.node.shared)) A.served w.node (event_of w.node.addr bytes.now)).sent
-            → WorldStands A.stands_for A.kept A.numbers self.new (node_handles (A.meaning (A.kept self.old.node.shared)) A.served w (event_of w.node.addr bytes.now))) }
+            → WorldStands A.App self.new (node_handles (A.meaning (A.kept self.old.node.shared)) A.served w (event_of w.node.addr bytes.now))) }
     {
         let before = Before::of(&self.node);
         let sent = self.node.input(bytes);
@@ -47,13 +47,13 @@ impl<A: App> World<A> {
 
     /// The periodic call of the connection in a slot below 10.
     fn node_ticks(&mut self, slot: usize) -> Result<(), NoMemory>
-        requires kept { IsKept A.meaning A.stands_for A.kept self.old }
+        requires kept { IsKept A.App self.old }
         requires within { slot < 10 }
-        ensures kept { IsKept A.meaning A.stands_for A.kept self.new }
+        ensures kept { IsKept A.App self.new }
         ensures same { A.kept self.new.node.shared ≡ A.kept self.old.node.shared }
         ensures mark { self.new.mark ≡ self.old.mark }
-        ensures ticked { OnOk result ((w : PlainWorld) → WorldStands A.stands_for A.kept A.numbers self.old w
-            → WorldStands A.stands_for A.kept A.numbers self.new (node_handles (A.meaning (A.kept self.old.node.shared)) A.served w (Periodic slot))) }
+        ensures ticked { OnOk result ((w : PlainWorld) → WorldStands A.App self.old w
+            → WorldStands A.App self.new (node_handles (A.meaning (A.kept self.old.node.shared)) A.served w (Periodic slot))) }
     {
         let before = Before::of(&self.node);
         let sent = self.node.periodic(slot);
@@ -63,12 +63,12 @@ impl<A: App> World<A> {
 
     /// A tick: the periodic calls of all slots in turn.
     fn tick(&mut self) -> Result<(), NoMemory>
-        requires kept { IsKept A.meaning A.stands_for A.kept self.old }
-        ensures kept { IsKept A.meaning A.stands_for A.kept self.new }
+        requires kept { IsKept A.App self.old }
+        ensures kept { IsKept A.App self.new }
         ensures same { A.kept self.new.node.shared ≡ A.kept self.old.node.shared }
         ensures mark { self.new.mark ≡ self.old.mark }
-        ensures ticked { OnOk result ((w : PlainWorld) → WorldStands A.stands_for A.kept A.numbers self.old w
-            → WorldStands A.stands_for A.kept A.numbers self.new (handles_all (A.meaning (A.kept self.old.node.shared)) A.served tick w)) }
+        ensures ticked { OnOk result ((w : PlainWorld) → WorldStands A.App self.old w
+            → WorldStands A.App self.new (handles_all (A.meaning (A.kept self.old.node.shared)) A.served tick w)) }
     {
         for slot in 0..10 {
             self.node_ticks(slot)?;
@@ -78,12 +78,12 @@ impl<A: App> World<A> {
 
     /// A client does something by itself.
     fn own(&mut self, number: u8, own: Own) -> Result<(), NoMemory>
-        requires kept { IsKept A.meaning A.stands_for A.kept self.old }
-        ensures kept { IsKept A.meaning A.stands_for A.kept self.new }
+        requires kept { IsKept A.App self.old }
+        ensures kept { IsKept A.App self.new }
         ensures same { A.kept self.new.node.shared ≡ A.kept self.old.node.shared }
         ensures mark { self.new.mark ≡ self.old.mark }
-        ensures acted { OnOk result ((w : PlainWorld) → WorldStands A.stands_for A.kept A.numbers self.old w
-            → WorldStands A.stands_for A.kept A.numbers self.new (client_acts w number (own_step own) (numbered w.sides number))) }
+        ensures acted { OnOk result ((w : PlainWorld) → WorldStands A.App self.old w
+            → WorldStands A.App self.new (client_acts w number (own_step own) (numbered w.sides number))) }
     {
         self.link.act(number, own, self.node.counts.ticks)?;
         Ok(())
@@ -91,12 +91,12 @@ impl<A: App> World<A> {
 
     /// An echo request is sent.
     fn ping(&mut self, source: Addr) -> Result<(), NoMemory>
-        requires kept { IsKept A.meaning A.stands_for A.kept self.old }
-        ensures kept { IsKept A.meaning A.stands_for A.kept self.new }
+        requires kept { IsKept A.App self.old }
+        ensures kept { IsKept A.App self.new }
         ensures same { A.kept self.new.node.shared ≡ A.kept self.old.node.shared }
         ensures mark { self.new.mark ≡ self.old.mark }
-        ensures sent { OnOk result ((w : PlainWorld) → WorldStands A.stands_for A.kept A.numbers self.old w
-            → WorldStands A.stands_for A.kept A.numbers self.new (posts w Pinger false (OfPing (ping_from source w.node.addr)))) }
+        ensures sent { OnOk result ((w : PlainWorld) → WorldStands A.App self.old w
+            → WorldStands A.App self.new (posts w Pinger false (OfPing (ping_from source w.node.addr)))) }
     {
         let Ok(bytes) = echo_request(source, self.node.addr)
             .as_slice()
@@ -111,14 +111,14 @@ impl<A: App> World<A> {
 
     /// A datagram's bytes are handed over: to the node, or to the client that it was sent to.
     fn hand(&mut self, who: Who, bytes: &[u8]) -> Result<(), NoMemory>
-        requires kept { IsKept A.meaning A.stands_for A.kept self.old }
+        requires kept { IsKept A.App self.old }
         requires most { length bytes.now ≤ LARGEST_DATAGRAM }
-        ensures kept { IsKept A.meaning A.stands_for A.kept self.new }
+        ensures kept { IsKept A.App self.new }
         ensures same { A.kept self.new.node.shared ≡ A.kept self.old.node.shared }
         ensures mark { self.new.mark ≡ self.old.mark }
-        ensures handed { OnOk result ((w : PlainWorld) → WorldStands A.stands_for A.kept A.numbers self.old w
+        ensures handed { OnOk result ((w : PlainWorld) → WorldStands A.App self.old w
             → AnswersTo w who (step (A.meaning (A.kept self.old.node.shared)) A.served w.node (event_of w.node.addr bytes.now)).sent
-            → WorldStands A.stands_for A.kept A.numbers self.new (hands_over (A.meaning (A.kept self.old.node.shared)) A.served w bytes.now who)) }
+            → WorldStands A.App self.new (hands_over (A.meaning (A.kept self.old.node.shared)) A.served w bytes.now who)) }
     {
         match who {
             Who::Pinger => {
@@ -139,12 +139,12 @@ impl<A: App> World<A> {
 
     /// The datagram with a number, counted from 1, is delivered.
     fn give(&mut self, number: u32) -> Result<(), NoMemory>
-        requires kept { IsKept A.meaning A.stands_for A.kept self.old }
-        ensures kept { IsKept A.meaning A.stands_for A.kept self.new }
+        requires kept { IsKept A.App self.old }
+        ensures kept { IsKept A.App self.new }
         ensures same { A.kept self.new.node.shared ≡ A.kept self.old.node.shared }
         ensures mark { self.new.mark ≡ self.old.mark }
-        ensures given { OnOk result ((w : PlainWorld) → IsAt (A.meaning (A.kept self.old.node.shared)) A.served w → WorldStands A.stands_for A.kept A.numbers self.old w
-            → WorldStands A.stands_for A.kept A.numbers self.new (gives (A.meaning (A.kept self.old.node.shared)) A.served w number (numbered w.sent number))) }
+        ensures given { OnOk result ((w : PlainWorld) → IsAt (A.meaning (A.kept self.old.node.shared)) A.served w → WorldStands A.App self.old w
+            → WorldStands A.App self.new (gives (A.meaning (A.kept self.old.node.shared)) A.served w number (numbered w.sent number))) }
     {
         let place = number as usize;
         if place == 0 || place > self.link.sent.len() {
@@ -163,14 +163,14 @@ impl<A: App> World<A> {
 
     /// The datagram with a number is handed over with one byte changed.
     fn damage(&mut self, number: u32, at: u16, mask: u8) -> Result<(), NoMemory>
-        requires kept { IsKept A.meaning A.stands_for A.kept self.old }
+        requires kept { IsKept A.App self.old }
         requires mask { 1 ≤ mask }
-        ensures kept { IsKept A.meaning A.stands_for A.kept self.new }
+        ensures kept { IsKept A.App self.new }
         ensures same { A.kept self.new.node.shared ≡ A.kept self.old.node.shared }
         ensures mark { self.new.mark ≡ self.old.mark }
         ensures damaged { OnOk result ((w : PlainWorld) → IsAt (A.meaning (A.kept self.old.node.shared)) A.served w → fault_of w (Act.Damage number at mask) ≡ None
-            → WorldStands A.stands_for A.kept A.numbers self.old w
-            → WorldStands A.stands_for A.kept A.numbers self.new (damages_at (A.meaning (A.kept self.old.node.shared)) A.served w at mask (numbered w.sent number))) }
+            → WorldStands A.App self.old w
+            → WorldStands A.App self.new (damages_at (A.meaning (A.kept self.old.node.shared)) A.served w at mask (numbered w.sent number))) }
     {
         let place = number as usize;
         if place == 0 || place > self.link.sent.len() {
@@ -188,13 +188,13 @@ impl<A: App> World<A> {
 
     /// What an act does that is not refused.
     pub(crate) fn perform(&mut self, act: &Act) -> Result<(), NoMemory>
-        requires kept { IsKept A.meaning A.stands_for A.kept self.old }
+        requires kept { IsKept A.App self.old }
         requires act { IsAct act.now }
-        ensures kept { IsKept A.meaning A.stands_for A.kept self.new }
+        ensures kept { IsKept A.App self.new }
         ensures same { A.kept self.new.node.shared ≡ A.kept self.old.node.shared }
         ensures mark { self.new.mark ≡ self.old.mark }
-        ensures done { OnOk result ((w : PlainWorld) → IsAt (A.meaning (A.kept self.old.node.shared)) A.served w → fault_of w act.now ≡ None → WorldStands A.stands_for A.kept A.numbers self.old w
-            → WorldStands A.stands_for A.kept A.numbers self.new (does (A.meaning (A.kept self.old.node.shared)) A.served w act.now)) }
+        ensures done { OnOk result ((w : PlainWorld) → IsAt (A.meaning (A.kept self.old.node.shared)) A.served w → fault_of w act.now ≡ None → WorldStands A.App self.old w
+            → WorldStands A.App self.new (does (A.meaning (A.kept self.old.node.shared)) A.served w act.now)) }
     {
         match *act {
             Act::Opens(number) => self.own(number, Own::Opens),

@@ -98,8 +98,8 @@ impl<A: App> World<A> {
     ) -> Result<World<A>, NoMemory>
         requires few { length clients.now ≤ 64 }
         requires ranges { list_all client_in_range (map plan_at clients.now) ≡ true }
-        ensures kept { IfOk result (λ world. IsKept A.meaning A.stands_for A.kept world) }
-        ensures stands { IfOk result (λ world. WorldStands A.stands_for A.kept A.numbers world (opening (A.numbers shared) (map plan_at clients.now))) }
+        ensures kept { IfOk result (λ world. IsKept A.App world) }
+        ensures stands { IfOk result (λ world. WorldStands A.App world (opening (A.numbers shared) (map plan_at clients.now))) }
         ensures shared { IfOk result (λ world. world.node.shared ≡ shared) }
         ensures planned { IfOk result (λ world. (k : ℕ) (p : Planned) → slice_get (plan_from 1 (map plan_at clients.now)) k ≡ Some p → IsPlanned p) }
     {

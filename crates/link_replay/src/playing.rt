@@ -58,11 +58,11 @@ fn refused(line: u32, fault: StepFault) -> ReadSchedule
 
 /// The lines in turn, up to the first that is refused.
 fn play_lines<A: App>(world: &mut World<A>, lines: &[Line]) -> Result<(), ReadSchedule>
-    requires kept { IsKept A.meaning A.stands_for A.kept world.old }
+    requires kept { IsKept A.App world.old }
     requires ranges { (clients : ℕ) × (list_all (λ line. event_in_range clients line.event) lines.now ≡ true) }
-    ensures kept { IsKept A.meaning A.stands_for A.kept world.new }
-    ensures played { (w : PlainWorld) → IsAt (A.meaning (A.kept world.old.node.shared)) A.served w → WorldStands A.stands_for A.kept A.numbers world.old w
-        → LinesEnd (A.meaning (A.kept world.old.node.shared)) A.served (λ done. WorldStands A.stands_for A.kept A.numbers world.new) lines.now result (played (A.meaning (A.kept world.old.node.shared)) A.served (map event_at lines.now) w) }
+    ensures kept { IsKept A.App world.new }
+    ensures played { (w : PlainWorld) → IsAt (A.meaning (A.kept world.old.node.shared)) A.served w → WorldStands A.App world.old w
+        → LinesEnd (A.meaning (A.kept world.old.node.shared)) A.served (λ done. WorldStands A.App world.new) lines.now result (played (A.meaning (A.kept world.old.node.shared)) A.served (map event_at lines.now) w) }
 {
     for line in lines.iter() {
         event_fits(&line.event);
@@ -80,9 +80,9 @@ pub fn play<A: App>(
     schedule: &Schedule,
     shared: A::Shared,
 ) -> Result<World<A>, ReadSchedule>
-    ensures kept { IfOk result (λ world. IsKept A.meaning A.stands_for A.kept world) }
+    ensures kept { IfOk result (λ world. IsKept A.App world) }
     ensures plays { (pages : Pages) → IsPaged (A.meaning (A.kept shared)) pages → HasBytes pages → All IsWord (A.numbers shared)
-        → Plays (A.meaning (A.kept shared)) A.served (A.numbers shared) (content_at schedule.now) (WorldStands A.stands_for A.kept A.numbers) result }
+        → Plays (A.meaning (A.kept shared)) A.served (A.numbers shared) (content_at schedule.now) (WorldStands A.App) result }
 {
     let Ok(mut world) = World::new(alloc, schedule.clients.as_slice(), shared) else {
         return Err(ReadSchedule::NoMemory);

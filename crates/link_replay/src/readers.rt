@@ -17,7 +17,7 @@ impl<A: App> World<A> {
     pub fn side(&self, number: u8) -> &Side
         requires least { 1 ≤ number }
         requires most { number ≤ length self.now.link.sides.items }
-        ensures { (w : PlainWorld) (s : PlainSide) → WorldStands A.stands_for A.kept A.numbers self.now w → numbered w.sides number ≡ Some s → SideStands result.now s }
+        ensures { (w : PlainWorld) (s : PlainSide) → WorldStands A.App self.now w → numbered w.sides number ≡ Some s → SideStands result.now s }
     {
         &self.link.sides[usize::from(number) - 1]
     }
@@ -26,7 +26,7 @@ impl<A: App> World<A> {
     pub fn client(&self, number: u8) -> &Client
         requires least { 1 ≤ number }
         requires most { number ≤ length self.now.link.sides.items }
-        ensures { (w : PlainWorld) (s : PlainSide) → WorldStands A.stands_for A.kept A.numbers self.now w → numbered w.sides number ≡ Some s
+        ensures { (w : PlainWorld) (s : PlainSide) → WorldStands A.App self.now w → numbered w.sides number ≡ Some s
             → standing result.now s.client.request s.client.received ≡ s.client }
     {
         &self.side(number).client
@@ -36,7 +36,7 @@ impl<A: App> World<A> {
     pub fn received(&self, number: u8) -> &[u8]
         requires least { 1 ≤ number }
         requires most { number ≤ length self.now.link.sides.items }
-        ensures { (w : PlainWorld) (s : PlainSide) → WorldStands A.stands_for A.kept A.numbers self.now w → numbered w.sides number ≡ Some s → result.now ≡ s.client.received }
+        ensures { (w : PlainWorld) (s : PlainSide) → WorldStands A.App self.now w → numbered w.sides number ≡ Some s → result.now ≡ s.client.received }
     {
         self.side(number).received.as_slice()
     }
@@ -45,7 +45,7 @@ impl<A: App> World<A> {
     pub fn clean(&self, number: u8) -> bool
         requires least { 1 ≤ number }
         requires most { number ≤ length self.now.link.sides.items }
-        ensures { (w : PlainWorld) (s : PlainSide) → WorldStands A.stands_for A.kept A.numbers self.now w → numbered w.sides number ≡ Some s → result ≡ is_clean s }
+        ensures { (w : PlainWorld) (s : PlainSide) → WorldStands A.App self.now w → numbered w.sides number ≡ Some s → result ≡ is_clean s }
     {
         match self.side(number).first_stale {
             None => true,
@@ -57,7 +57,7 @@ impl<A: App> World<A> {
     pub fn first_stale(&self, number: u8) -> Option<u32>
         requires least { 1 ≤ number }
         requires most { number ≤ length self.now.link.sides.items }
-        ensures { (w : PlainWorld) (s : PlainSide) → WorldStands A.stands_for A.kept A.numbers self.now w → numbered w.sides number ≡ Some s → result ≡ s.first_stale }
+        ensures { (w : PlainWorld) (s : PlainSide) → WorldStands A.App self.now w → numbered w.sides number ≡ Some s → result ≡ s.first_stale }
     {
         self.side(number).first_stale
     }
@@ -71,7 +71,7 @@ impl<A: App> World<A> {
 
     /// The ticks so far, modulo 2^32.
     pub fn ticks(&self) -> u32
-        ensures { (w : PlainWorld) → WorldStands A.stands_for A.kept A.numbers self.now w → result ≡ ticks_of w.node.past }
+        ensures { (w : PlainWorld) → WorldStands A.App self.now w → result ≡ ticks_of w.node.past }
     {
         self.node.counts.ticks
     }

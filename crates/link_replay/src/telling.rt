@@ -78,11 +78,11 @@ pub(crate) fn tell<A: App>(
     sent: Option<usize>,
     to: Option<SocketPair>,
 ) -> Result<(), NoMemory>
-    requires whole { IsWhole A.meaning A.stands_for A.kept node.now }
+    requires whole { IsWhole A.App node.now }
     requires few { length link.old.sides.items ≤ 64 }
     ensures kept { (addr : Address) → IsLink addr link.old → IsLink addr link.new }
     ensures told { OnOk result ((m : Meaning) (served : ℕ → Bool) (w : PlainWorld) (event : NodeEvent) → IsBefore before.now w.node → AreTo to (step m served w.node event).sent
-        → Stands A.stands_for A.kept A.numbers node.now (step m served w.node event).node (step m served w.node event).node.past
+        → Stands A.App node.now (step m served w.node event).node (step m served w.node event).node.past
         → IsSent node.now.addr (step m served w.node event).sent sent node.now.packet → LinkStands link.old w → LinkStands link.new (node_stepped w (step m served w.node event))) }
 {
     let again = before.again(node);

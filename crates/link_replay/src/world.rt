@@ -32,15 +32,15 @@ impl<A: App> World<A> {
     /// One act. After a refusal that is not NoMemory the world is as it was; after NoMemory it is spent, and each later act answers
     /// NoMemory too.
     pub fn step(&mut self, act: &Act) -> Result<(), StepFault>
-        requires kept { IsKept A.meaning A.stands_for A.kept self.old }
+        requires kept { IsKept A.App self.old }
         requires act { IsAct act.now }
-        ensures kept { IsKept A.meaning A.stands_for A.kept self.new }
+        ensures kept { IsKept A.App self.new }
         ensures same { A.kept self.new.node.shared ≡ A.kept self.old.node.shared }
         ensures mark { self.new.mark ≡ self.old.mark }
         ensures spent { self.old.spent ≡ true → result ≡ Err StepFault.NoMemory }
         ensures spends { result ≡ Err StepFault.NoMemory → self.new.spent ≡ true }
-        ensures step { (w : PlainWorld) → IsAt (A.meaning (A.kept self.old.node.shared)) A.served w → WorldStands A.stands_for A.kept A.numbers self.old w
-            → Steps (WorldStands A.stands_for A.kept A.numbers self.new) w result (acted (A.meaning (A.kept self.old.node.shared)) A.served w act.now) }
+        ensures step { (w : PlainWorld) → IsAt (A.meaning (A.kept self.old.node.shared)) A.served w → WorldStands A.App self.old w
+            → Steps (WorldStands A.App self.new) w result (acted (A.meaning (A.kept self.old.node.shared)) A.served w act.now) }
     {
         if self.spent {
             return Err(StepFault::NoMemory);
@@ -57,14 +57,14 @@ impl<A: App> World<A> {
 
     /// Acts in turn, up to the first that is refused.
     fn run(&mut self, acts: &[Act]) -> Result<(), StepFault>
-        requires kept { IsKept A.meaning A.stands_for A.kept self.old }
+        requires kept { IsKept A.App self.old }
         requires acts { All IsAct acts.now }
-        ensures kept { IsKept A.meaning A.stands_for A.kept self.new }
+        ensures kept { IsKept A.App self.new }
         ensures same { A.kept self.new.node.shared ≡ A.kept self.old.node.shared }
         ensures mark { self.new.mark ≡ self.old.mark }
         ensures spends { result ≡ Err StepFault.NoMemory → self.new.spent ≡ true }
-        ensures run { (w : PlainWorld) → IsAt (A.meaning (A.kept self.old.node.shared)) A.served w → WorldStands A.stands_for A.kept A.numbers self.old w
-            → Ends (WorldStands A.stands_for A.kept A.numbers self.new) result (runs (A.meaning (A.kept self.old.node.shared)) A.served acts.now w) }
+        ensures run { (w : PlainWorld) → IsAt (A.meaning (A.kept self.old.node.shared)) A.served w → WorldStands A.App self.old w
+            → Ends (WorldStands A.App self.new) result (runs (A.meaning (A.kept self.old.node.shared)) A.served acts.now w) }
     {
         for act in acts.iter() {
             self.step(act)?;
@@ -75,15 +75,15 @@ impl<A: App> World<A> {
     /// The acts of a line in turn, up to the first that is refused; then the mark moves. After a refusal that is not NoMemory the acts
     /// before it stand, and the mark is as before the line.
     pub fn line(&mut self, event: &Event) -> Result<(), StepFault>
-        requires kept { IsKept A.meaning A.stands_for A.kept self.old }
+        requires kept { IsKept A.App self.old }
         requires event { OfLine IsAct event.now }
-        ensures kept { IsKept A.meaning A.stands_for A.kept self.new }
+        ensures kept { IsKept A.App self.new }
         ensures same { A.kept self.new.node.shared ≡ A.kept self.old.node.shared }
         ensures mark { OnErr result (self.new.mark ≡ self.old.mark) }
         ensures spent { self.old.spent ≡ true → result ≡ Err StepFault.NoMemory }
         ensures spends { result ≡ Err StepFault.NoMemory → self.new.spent ≡ true }
-        ensures line { (w : PlainWorld) → IsAt (A.meaning (A.kept self.old.node.shared)) A.served w → WorldStands A.stands_for A.kept A.numbers self.old w
-            → Ends (WorldStands A.stands_for A.kept A.numbers self.new) result (plays_line (A.meaning (A.kept self.old.node.shared)) A.served w event.now) }
+        ensures line { (w : PlainWorld) → IsAt (A.meaning (A.kept self.old.node.shared)) A.served w → WorldStands A.App self.old w
+            → Ends (WorldStands A.App self.new) result (plays_line (A.meaning (A.kept self.old.node.shared)) A.served w event.now) }
     {
         if self.spent {
             return Err(StepFault::NoMemory);

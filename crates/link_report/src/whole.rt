@@ -20,9 +20,9 @@ use uip_edge::{Failed, Sink};
 /// Writes the report of a world, and where all is shown a line for each datagram and the bytes that each client received. No
 /// call in it is given an allocator. A failed call has written a front of the report.
 pub fn report<A: App, K: Sink>(world: &World<A>, show: bool, sink: &mut K) -> Result<(), Failed>
-    ensures ok { OnOk result ((m : Meaning) (served : ℕ → Bool) (w : PlainWorld) → WorldStands A.stands_for A.kept A.numbers world.now w → IsAt m served w
+    ensures ok { OnOk result ((m : Meaning) (served : ℕ → Bool) (w : PlainWorld) → WorldStands A.App world.now w → IsAt m served w
         → Appends (K.written sink.old) (K.written sink.new) (report_of show w)) }
-    ensures err { OnErr result ((m : Meaning) (served : ℕ → Bool) (w : PlainWorld) → WorldStands A.stands_for A.kept A.numbers world.now w → IsAt m served w
+    ensures err { OnErr result ((m : Meaning) (served : ℕ → Bool) (w : PlainWorld) → WorldStands A.App world.now w → IsAt m served w
         → AppendsPrefix (K.written sink.old) (K.written sink.new) (report_of show w)) }
     ensures cause { HasCause (K.faults sink.old) (K.faults sink.new) result }
 {
@@ -31,7 +31,7 @@ pub fn report<A: App, K: Sink>(world: &World<A>, show: bool, sink: &mut K) -> Re
 
 /// Writes the report of a world.
 fn write_report<A: App, K: Sink>(world: &World<A>, show: bool, sink: &mut K) -> Result<(), Failed>
-    ensures wrote { (m : Meaning) (served : ℕ → Bool) (w : PlainWorld) → WorldStands A.stands_for A.kept A.numbers world.now w → IsAt m served w
+    ensures wrote { (m : Meaning) (served : ℕ → Bool) (w : PlainWorld) → WorldStands A.App world.now w → IsAt m served w
         → Wrote (K.written sink.old) (K.written sink.new) result (report_of show w) }
     ensures cause { HasCause (K.faults sink.old) (K.faults sink.new) result }
 {

@@ -66,7 +66,7 @@ fn play_schedule<K: Sink>(
 
 /// Writes the report of a world.
 fn tell<A: App, K: Sink>(world: &World<A>, show: bool, out: &mut K) -> ReplayEnd
-    ensures { (m : Meaning) (served : ℕ → Bool) (w : PlainWorld) → WorldStands A.stands_for A.kept A.numbers world.now w → IsAt m served w
+    ensures { (m : Meaning) (served : ℕ → Bool) (w : PlainWorld) → WorldStands A.App world.now w → IsAt m served w
         → Writes (report_of show w) ends.Done (K.written out.old) (K.written out.new) (K.faults out.old) (K.faults out.new) result }
 {
     match report(world, show, out) {

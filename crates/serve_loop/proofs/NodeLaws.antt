@@ -2,7 +2,8 @@
 use Rattle.std.proofs.Common.{◌≡◌, ℕ, ◌≤◌, ◌<◌, ◌+◌, ◌-◌, Bool, List, [], ◌∷◌, ◌++◌, Option, Result, Ok, Err, OnErr, suc, zero, refl, sym, ap, ◌∙◌, subst, add-one, add-suc, add-zero, append-nil, append_assoc, arith}
 use Rattle.std.specs.Io.KnownBytes.{Appends}
 use Rattle.uip_wire.specs.declared.addr.Addr.{Addr}
-use Rattle.app_events.specs.Part.{Meaning, Part}
+use Rattle.app_events.specs.Part.{Meaning}
+use Rattle.app_events.specs.declared.app.App.{Ghosts}
 use Rattle.uip_edge.specs.Writing.{AppendsPrefix}
 use Rattle.uip_node.specs.declared.node.Node.{Node}
 use Rattle.uip_node.specs.Events.{Event, Reply, tick}
@@ -18,37 +19,37 @@ pub on_err_weaker : {T E P Q : Type 0} (r : Result T E) → (P → Q) → OnErr 
 on_err_weaker (Ok x) f p = tt
 on_err_weaker (Err e) f p = f p
 
-module _ {A S K : Type 0} (meaning : K → Meaning) (served : ℕ → Bool) (stands_for : A → K → Part → Type 0) (kept : S → K) (numbers : S → List ℕ) where
+module _ {A S : Type 0} (g : Ghosts A S) where
   abbrev At : Meaning → Addr → Node A S → AbstractNode → Type 0
-  At m own node n = IsNode meaning stands_for kept numbers m own node n
+  At m own node n = IsNode g m own node n
 
   -- a step of the node is the step of each abstract node that it stands for
-  node_step : (m : Meaning) (own : Addr) (old new : Node A S) (result : Option ℕ) (event : Event) (n : AbstractNode) → kept new.shared ≡ kept old.shared
-      → Steps stands_for kept numbers new result (step (meaning (kept old.shared)) served n event) → At m own old n
-      → At m own new (step m served n event).node × IsSent own (step m served n event).sent result new.packet
+  node_step : (m : Meaning) (own : Addr) (old new : Node A S) (result : Option ℕ) (event : Event) (n : AbstractNode) → g.kept new.shared ≡ g.kept old.shared
+      → Steps g new result (step (g.meaning (g.kept old.shared)) g.served n event) → At m own old n
+      → At m own new (step m g.served n event).node × IsSent own (step m g.served n event).sent result new.packet
   node_step m own old new result event n same s p =
-      let t : Steps stands_for kept numbers new result (step m served n event) =
-      subst (λ (k : Meaning). Steps stands_for kept numbers new result (step k served n event)) p.meant s in
-      let kept_addr : (step m served n event).node.addr ≡ own = step-addr m served n event ∙ p.address in (
-        record { meant = ap (λ k. meaning k) same ∙ p.meant; address = kept_addr; stands = t.stands },
-        subst (λ (a : Addr). IsSent a (step m served n event).sent result new.packet) (t.stands.addr ∙ kept_addr) t.sent,
+      let t : Steps g new result (step m g.served n event) =
+      subst (λ (k : Meaning). Steps g new result (step k g.served n event)) p.meant s in
+      let kept_addr : (step m g.served n event).node.addr ≡ own = step-addr m g.served n event ∙ p.address in (
+        record { meant = ap (λ k. g.meaning k) same ∙ p.meant; address = kept_addr; stands = t.stands },
+        subst (λ (a : Addr). IsSent a (step m g.served n event).sent result new.packet) (t.stands.addr ∙ kept_addr) t.sent,
       )
 
-  pub call_wrote : (m : Meaning) (own : Addr) (old new : Node A S) (result : Option ℕ) (event : Event) (a b : Option (List ℕ)) → kept new.shared ≡ kept old.shared
-      → ((n : AbstractNode) → At m own old n → Steps stands_for kept numbers new result (step (meaning (kept old.shared)) served n event))
+  pub call_wrote : (m : Meaning) (own : Addr) (old new : Node A S) (result : Option ℕ) (event : Event) (a b : Option (List ℕ)) → g.kept new.shared ≡ g.kept old.shared
+      → ((n : AbstractNode) → At m own old n → Steps g new result (step (g.meaning (g.kept old.shared)) g.served n event))
       → ((own : Addr) (reply : Option Reply) → IsSent own reply result new.packet → Appends a b (text_for own reply))
-      → Wrote m served own (event ∷ []) (At m own old) (At m own new) a b
+      → Wrote m g.served own (event ∷ []) (At m own old) (At m own new) a b
   call_wrote m own old new result event a b same steps wrote =
-      wrote_one m served own event (At m own old) (At m own new) a b
-      (λ n p. let both = node_step m own old new result event n same (steps n p) p in (both.0, wrote own (step m served n event).sent both.1))
+      wrote_one m g.served own event (At m own old) (At m own new) a b
+      (λ n p. let both = node_step m own old new result event n same (steps n p) p in (both.0, wrote own (step m g.served n event).sent both.1))
 
-  pub call_broke : (m : Meaning) (own : Addr) (old new : Node A S) (result : Option ℕ) (event : Event) (a b : Option (List ℕ)) → kept new.shared ≡ kept old.shared
-      → ((n : AbstractNode) → At m own old n → Steps stands_for kept numbers new result (step (meaning (kept old.shared)) served n event))
+  pub call_broke : (m : Meaning) (own : Addr) (old new : Node A S) (result : Option ℕ) (event : Event) (a b : Option (List ℕ)) → g.kept new.shared ≡ g.kept old.shared
+      → ((n : AbstractNode) → At m own old n → Steps g new result (step (g.meaning (g.kept old.shared)) g.served n event))
       → ((own : Addr) (reply : Option Reply) → IsSent own reply result new.packet → AppendsPrefix a b (text_for own reply))
-      → Broke m served own (event ∷ []) (At m own old) (At m own new) a b
+      → Broke m g.served own (event ∷ []) (At m own old) (At m own new) a b
   call_broke m own old new result event a b same steps wrote =
-      broke_one m served own event (At m own old) (At m own new) a b
-      (λ n p. let both = node_step m own old new result event n same (steps n p) p in (both.0, wrote own (step m served n event).sent both.1))
+      broke_one m g.served own event (At m own old) (At m own new) a b
+      (λ n p. let both = node_step m own old new result event n same (steps n p) p in (both.0, wrote own (step m g.served n event).sent both.1))
 
 -- the periodic calls of the first slots
 abbrev pub calls : ℕ → List Event

@@ -1,7 +1,8 @@
 -- The turns of a serving, put together.
 use Rattle.std.proofs.Common.{ap, refl, sym, ◌≡◌, ℕ, ◌+◌, ◌<◌, ◌≤◌, Bool, List, [], ◌++◌, Option, None, Some, length, ◌∙◌, append-nil, arith, length-append}
 use Rattle.uip_wire.specs.declared.addr.Addr.{Addr}
-use Rattle.app_events.specs.Part.{Meaning, Part}
+use Rattle.app_events.specs.Part.{Meaning}
+use Rattle.app_events.specs.declared.app.App.{Ghosts}
 use Rattle.uip_edge.specs.declared.item.Item.{Item}
 use Rattle.uip_edge.specs.declared.serve_end.ServeEnd.{ServeEnd}
 use Rattle.uip_edge.specs.declared.serve_end.ServeEnd.TheVariants as ends
@@ -67,25 +68,25 @@ end_told n old new all taken ends.Budget told short c e calm =
 end_told n old new all taken ends.LinkFault told short c e calm = absurd (omega (arith, e.1, calm.link, calm.link_below))
 end_told n old new all taken ends.WriteFault told short c e calm = absurd (omega (arith, e.2, calm.sink, calm.sink_below))
 
-module _ {A S K : Type 0} (meaning : K → Meaning) (served : ℕ → Bool) (stands_for : A → K → Part → Type 0) (kept : S → K) (numbers : S → List ℕ) where
+module _ {A S : Type 0} (g : Ghosts A S) where
   -- a node stands in the public sense where it stands with its meaning and its address
-  enters : (node : Node A S) (n : AbstractNode) → Stands stands_for kept numbers node n n.past → IsNode meaning stands_for kept numbers (meaning (kept node.shared)) node.addr node n
+  enters : (node : Node A S) (n : AbstractNode) → Stands g node n n.past → IsNode g (g.meaning (g.kept node.shared)) node.addr node n
   enters node n s = record { meant = refl; address = sym s.addr; stands = s }
 
   abbrev At : Meaning → Addr → Node A S → AbstractNode → Type 0
-  At m own node n = IsNode meaning stands_for kept numbers m own node n
+  At m own node n = IsNode g m own node n
 
   abbrev StandsAt : Node A S → AbstractNode → Type 0
-  StandsAt node n = Stands stands_for kept numbers node n n.past
+  StandsAt node n = Stands g node n n.past
 
   all_public : (events : List Event) (before after : Node A S) (a b : Option (List ℕ))
-      → Wrote (meaning (kept before.shared)) served before.addr events (At (meaning (kept before.shared)) before.addr before) (At (meaning (kept before.shared)) before.addr after) a b
-      → Wrote (meaning (kept before.shared)) served before.addr events (StandsAt before) (StandsAt after) a b
+      → Wrote (g.meaning (g.kept before.shared)) g.served before.addr events (At (g.meaning (g.kept before.shared)) before.addr before) (At (g.meaning (g.kept before.shared)) before.addr after) a b
+      → Wrote (g.meaning (g.kept before.shared)) g.served before.addr events (StandsAt before) (StandsAt after) a b
   all_public events before after a b w = record { each = λ n s. let it = w.each n (enters before n s) in (it.0.stands, it.1) }
 
   public_wrote : (end : ServeEnd) (events : List Event) (before after : Node A S) (a b : Option (List ℕ))
-      → WroteBy end (meaning (kept before.shared)) served before.addr events (At (meaning (kept before.shared)) before.addr before) (At (meaning (kept before.shared)) before.addr after) a b
-      → WroteBy end (meaning (kept before.shared)) served before.addr events (StandsAt before) (StandsAt after) a b
+      → WroteBy end (g.meaning (g.kept before.shared)) g.served before.addr events (At (g.meaning (g.kept before.shared)) before.addr before) (At (g.meaning (g.kept before.shared)) before.addr after) a b
+      → WroteBy end (g.meaning (g.kept before.shared)) g.served before.addr events (StandsAt before) (StandsAt after) a b
   public_wrote ends.End events before after a b w = all_public events before after a b w
   public_wrote ends.Budget events before after a b w = all_public events before after a b w
   public_wrote ends.LinkFault events before after a b w = all_public events before after a b w
@@ -97,39 +98,39 @@ module _ {A S K : Type 0} (meaning : K → Meaning) (served : ℕ → Bool) (sta
 
   -- what was written goes on with a turn
   pub on_wrote : (pace : ℕ) (taken items : List Item) (start node node' : Node A S) (a b c : Option (List ℕ))
-      → ((m : Meaning) (own : Addr) → Wrote m served own (line_events own pace taken) (At m own start) (At m own node) a b)
-      → ((m : Meaning) (own : Addr) → Wrote m served own (events_behind own pace (bytes_of taken) items) (At m own node) (At m own node') b c)
-      → (m : Meaning) (own : Addr) → Wrote m served own (line_events own pace (taken ++ items)) (At m own start) (At m own node') a c
+      → ((m : Meaning) (own : Addr) → Wrote m g.served own (line_events own pace taken) (At m own start) (At m own node) a b)
+      → ((m : Meaning) (own : Addr) → Wrote m g.served own (events_behind own pace (bytes_of taken) items) (At m own node) (At m own node') b c)
+      → (m : Meaning) (own : Addr) → Wrote m g.served own (line_events own pace (taken ++ items)) (At m own start) (At m own node') a c
   on_wrote pace taken items start node node' a b c w t m own =
-      wrote_by m served own _ _ _ _ _ _ (events-then own pace [] taken items)
-      (wrote_then m served own (line_events own pace taken) (events_behind own pace (bytes_of taken) items) _ (At m own node) _ _ b _ (w m own) (t m own))
+      wrote_by m g.served own _ _ _ _ _ _ (events-then own pace [] taken items)
+      (wrote_then m g.served own (line_events own pace taken) (events_behind own pace (bytes_of taken) items) _ (At m own node) _ _ b _ (w m own) (t m own))
 
   -- a serving that ends in a turn
   pub stopped : (pace n : ℕ) (taken : List Item) (start node node' : Node A S) (old mid new : Outside) (decoder : State) (pacer : Pacer) (room : ℕ) (end : ServeEnd)
       → Consumes old.coming mid.coming taken → length taken < n → room + length taken ≤ n → mid.link_faults ≡ old.link_faults → mid.sink_faults ≡ old.sink_faults
-      → ((m : Meaning) (own : Addr) → Wrote m served own (line_events own pace taken) (At m own start) (At m own node) old.written mid.written)
-      → Turns meaning served stands_for kept numbers pace (bytes_of taken) node node' mid new decoder pacer room (Stopped end)
-      → Serves meaning served stands_for kept numbers pace n start node' old new end
+      → ((m : Meaning) (own : Addr) → Wrote m g.served own (line_events own pace taken) (At m own start) (At m own node) old.written mid.written)
+      → Turns g pace (bytes_of taken) node node' mid new decoder pacer room (Stopped end)
+      → Serves g pace n start node' old new end
   stopped pace n taken start node node' old mid new decoder pacer room end c below fits l k w t =
-      let m = meaning (kept start.shared) in
+      let m = g.meaning (g.kept start.shared) in
       let own = start.addr in
       record {
         taken = taken ++ t.items;
         consumed = Consumes-then _ _ _ taken t.items c t.consumed;
         ends = ends_by n taken t.items old mid new end c below (let within = t.within in omega arith) l k t.cause;
         wrote = public_wrote end _ start node' _ _
-            (written_by m served own (line_events own pace taken) (events_behind own pace (bytes_of taken) t.items) _ (At m own start) (At m own node) (At m own node') old.written mid.written new.written end
+            (written_by m g.served own (line_events own pace taken) (events_behind own pace (bytes_of taken) t.items) _ (At m own start) (At m own node) (At m own node') old.written mid.written new.written end
             (events-then own pace [] taken t.items) (w m own) (t.wrote m own));
       }
 
   -- and one that took all that it might
   pub spent : (pace n : ℕ) (taken : List Item) (start node : Node A S) (old new : Outside)
       → Consumes old.coming new.coming taken → length taken ≡ n → new.link_faults ≡ old.link_faults → new.sink_faults ≡ old.sink_faults
-      → ((m : Meaning) (own : Addr) → Wrote m served own (line_events own pace taken) (At m own start) (At m own node) old.written new.written)
-      → Serves meaning served stands_for kept numbers pace n start node old new ends.Budget
+      → ((m : Meaning) (own : Addr) → Wrote m g.served own (line_events own pace taken) (At m own start) (At m own node) old.written new.written)
+      → Serves g pace n start node old new ends.Budget
   spent pace n taken start node old new c all l k w = record {
     taken = taken;
     consumed = c;
     ends = (all, l, k);
-    wrote = public_wrote ends.Budget _ start node _ _ (w (meaning (kept start.shared)) start.addr);
+    wrote = public_wrote ends.Budget _ start node _ _ (w (g.meaning (g.kept start.shared)) start.addr);
   }

@@ -1,7 +1,8 @@
 -- What a server does in one turn, told of all bytes that it took before.
 use Rattle.std.specs.Prelude.{◌≡◌, ◌<◌, ◌≤◌, ℕ, Bool, List, [], ◌++◌, Option, length, ⊤}
 use Rattle.uip_wire.specs.declared.addr.Addr.{Addr}
-use Rattle.app_events.specs.Part.{Meaning, Part}
+use Rattle.app_events.specs.Part.{Meaning}
+use Rattle.app_events.specs.declared.app.App.{Ghosts}
 use Rattle.uip_edge.specs.declared.item.Item.{Item}
 use Rattle.uip_edge.specs.declared.serve_end.ServeEnd.TheVariants as ends
 use Rattle.uip_edge.specs.Causes.{Rose}
@@ -20,10 +21,10 @@ use Rattle.serve_loop.specs.Pace.{HasPassed}
 use Rattle.serve_loop.specs.Running.{Wrote, Broke}
 
 -- the node stands for the abstract node, which has this address, and its application has this meaning
-pub record IsNode {A S K : Type 0} (meaning : K → Meaning) (stands_for : A → K → Part → Type 0) (kept : S → K) (numbers : S → List ℕ) (m : Meaning) (own : Addr) (node : Node A S) (n : AbstractNode) : Type 0 where
-  pub meant : meaning (kept node.shared) ≡ m
+pub record IsNode {A S : Type 0} (g : Ghosts A S) (m : Meaning) (own : Addr) (node : Node A S) (n : AbstractNode) : Type 0 where
+  pub meant : g.meaning (g.kept node.shared) ≡ m
   pub address : n.addr ≡ own
-  pub stands : Stands stands_for kept numbers node n n.past
+  pub stands : Stands g node n n.past
 
 -- a line at a pace has taken these bytes
 pub record HasTaken (pace : ℕ) (before : List ℕ) (decoder : State) (pacer : Pacer) : Type 0 where
@@ -59,10 +60,10 @@ WritesOn (turns.Stopped ends.WriteFault) m served own events Before After old ne
 WritesOn (turns.Stopped ends.Budget) m served own events Before After old new = ⊥
 
 -- a turn, with the node before and after it
-pub record Turns {A S K : Type 0} (meaning : K → Meaning) (served : ℕ → Bool) (stands_for : A → K → Part → Type 0) (kept : S → K) (numbers : S → List ℕ) (pace : ℕ) (before : List ℕ) (node node' : Node A S) (old new : Outside) (decoder : State) (pacer : Pacer) (room : ℕ) (turn : Turn) : Type 0 where
+pub record Turns {A S : Type 0} (g : Ghosts A S) (pace : ℕ) (before : List ℕ) (node node' : Node A S) (old new : Outside) (decoder : State) (pacer : Pacer) (room : ℕ) (turn : Turn) : Type 0 where
   pub items : List Item
   pub consumed : Consumes old.coming new.coming items
   pub within : length items ≤ room
   pub cause : TurnsBy old new items turn
   pub on : TakesOn pace before (bytes_of items) decoder pacer turn
-  pub wrote : (m : Meaning) (own : Addr) → WritesOn turn m served own (events_behind own pace before items) (IsNode meaning stands_for kept numbers m own node) (IsNode meaning stands_for kept numbers m own node') old.written new.written
+  pub wrote : (m : Meaning) (own : Addr) → WritesOn turn m g.served own (events_behind own pace before items) (IsNode g m own node) (IsNode g m own node') old.written new.written

@@ -53,12 +53,12 @@ impl Line {
         sink: &mut K,
     ) -> Turn
         requires room { 0 < length buf.old }
-        requires whole { IsWhole A.meaning A.stands_for A.kept node.old }
-        ensures whole { IsWhole A.meaning A.stands_for A.kept node.new }
+        requires whole { IsWhole A.App node.old }
+        ensures whole { IsWhole A.App node.new }
         ensures same { A.kept node.new.shared ≡ A.kept node.old.shared }
         ensures fits { CountFits result (length buf.old) }
         ensures turns { (pace : ℕ) (before : List ℕ) → HasTaken pace before self.old.decoder self.old.pacer
-            → Turns A.meaning A.served A.stands_for A.kept A.numbers pace before node.old node.new
+            → Turns A.App pace before node.old node.new
             (outside L.coming K.written L.faults K.faults link.old sink.old)
             (outside L.coming K.written L.faults K.faults link.new sink.new) self.new.decoder self.new.pacer (length buf.old) result }
     {
@@ -83,18 +83,18 @@ impl Line {
         bytes: &[u8],
         sink: &mut K,
     ) -> Result<(), Failed>
-        requires whole { IsWhole A.meaning A.stands_for A.kept node.old }
-        ensures whole { IsWhole A.meaning A.stands_for A.kept node.new }
+        requires whole { IsWhole A.App node.old }
+        ensures whole { IsWhole A.App node.new }
         ensures same { A.kept node.new.shared ≡ A.kept node.old.shared }
         ensures taken { OnOk result ((pace : ℕ) (before : List ℕ) → HasTaken pace before self.old.decoder self.old.pacer
             → HasTaken pace (before ++ bytes.now) self.new.decoder self.new.pacer) }
         ensures ok { OnOk result ((m : Meaning) (own : Address) (pace : ℕ) (before : List ℕ) → HasTaken pace before self.old.decoder self.old.pacer
             → Wrote m A.served own (events_behind own pace before (map Byte bytes.now))
-            (IsNode A.meaning A.stands_for A.kept A.numbers m own node.old) (IsNode A.meaning A.stands_for A.kept A.numbers m own node.new)
+            (IsNode A.App m own node.old) (IsNode A.App m own node.new)
             (K.written sink.old) (K.written sink.new)) }
         ensures err { OnErr result ((m : Meaning) (own : Address) (pace : ℕ) (before : List ℕ) → HasTaken pace before self.old.decoder self.old.pacer
             → Broke m A.served own (events_behind own pace before (map Byte bytes.now))
-            (IsNode A.meaning A.stands_for A.kept A.numbers m own node.old) (IsNode A.meaning A.stands_for A.kept A.numbers m own node.new)
+            (IsNode A.App m own node.old) (IsNode A.App m own node.new)
             (K.written sink.old) (K.written sink.new)) }
         ensures cause { HasCause (K.faults sink.old) (K.faults sink.new) result }
     {
@@ -114,19 +114,19 @@ impl Line {
         sink: &mut K,
     ) -> Result<usize, Failed>
         requires some { 0 < length bytes.now }
-        requires whole { IsWhole A.meaning A.stands_for A.kept node.old }
-        ensures whole { IsWhole A.meaning A.stands_for A.kept node.new }
+        requires whole { IsWhole A.App node.old }
+        ensures whole { IsWhole A.App node.new }
         ensures same { A.kept node.new.shared ≡ A.kept node.old.shared }
         ensures count { IfOk result (λ n. (0 < n) × (n ≤ length bytes.now)) }
         ensures taken { IfOk result (λ n. (pace : ℕ) (before : List ℕ) → HasTaken pace before self.old.decoder self.old.pacer
             → HasTaken pace (before ++ take n bytes.now) self.new.decoder self.new.pacer) }
         ensures ok { IfOk result (λ n. (m : Meaning) (own : Address) (pace : ℕ) (before : List ℕ) → HasTaken pace before self.old.decoder self.old.pacer
             → Wrote m A.served own (events_behind own pace before (map Byte (take n bytes.now)))
-            (IsNode A.meaning A.stands_for A.kept A.numbers m own node.old) (IsNode A.meaning A.stands_for A.kept A.numbers m own node.new)
+            (IsNode A.App m own node.old) (IsNode A.App m own node.new)
             (K.written sink.old) (K.written sink.new)) }
         ensures err { OnErr result ((m : Meaning) (own : Address) (pace : ℕ) (before : List ℕ) → HasTaken pace before self.old.decoder self.old.pacer
             → Broke m A.served own (events_behind own pace before (map Byte bytes.now))
-            (IsNode A.meaning A.stands_for A.kept A.numbers m own node.old) (IsNode A.meaning A.stands_for A.kept A.numbers m own node.new)
+            (IsNode A.App m own node.old) (IsNode A.App m own node.new)
             (K.written sink.old) (K.written sink.new)) }
         ensures cause { HasCause (K.faults sink.old) (K.faults sink.new) result }
     {
@@ -146,19 +146,19 @@ impl Line {
         sink: &mut K,
     ) -> Result<usize, Failed>
         requires some { 0 < length bytes.now }
-        requires whole { IsWhole A.meaning A.stands_for A.kept node.old }
-        ensures whole { IsWhole A.meaning A.stands_for A.kept node.new }
+        requires whole { IsWhole A.App node.old }
+        ensures whole { IsWhole A.App node.new }
         ensures same { A.kept node.new.shared ≡ A.kept node.old.shared }
         ensures pacer { self.new.pacer ≡ self.old.pacer }
         ensures count { IfOk result (λ n. (0 < n) × (n ≤ length bytes.now)) }
         ensures fed { IfOk result (λ n. (before : List ℕ) → WasFed before self.old.decoder → WasFed (before ++ take n bytes.now) self.new.decoder) }
         ensures ok { IfOk result (λ n. (m : Meaning) (own : Address) (before : List ℕ) → WasFed before self.old.decoder
             → Wrote m A.served own (map (event_by own) (frames (open_part before ++ take n bytes.now)))
-            (IsNode A.meaning A.stands_for A.kept A.numbers m own node.old) (IsNode A.meaning A.stands_for A.kept A.numbers m own node.new)
+            (IsNode A.App m own node.old) (IsNode A.App m own node.new)
             (K.written sink.old) (K.written sink.new)) }
         ensures err { OnErr result ((m : Meaning) (own : Address) (before : List ℕ) → WasFed before self.old.decoder
             → (n : ℕ) × (0 < n) × (n ≤ length bytes.now) × Broke m A.served own (map (event_by own) (frames (open_part before ++ take n bytes.now)))
-            (IsNode A.meaning A.stands_for A.kept A.numbers m own node.old) (IsNode A.meaning A.stands_for A.kept A.numbers m own node.new)
+            (IsNode A.App m own node.old) (IsNode A.App m own node.new)
             (K.written sink.old) (K.written sink.new)) }
         ensures cause { HasCause (K.faults sink.old) (K.faults sink.new) result }
     {

@@ -44,15 +44,15 @@ pub(crate) fn take_datagram<A: App, K: Sink>(
     datagram: &[u8],
     sink: &mut K,
 ) -> Result<(), Failed>
-    requires whole { IsWhole A.meaning A.stands_for A.kept node.old }
+    requires whole { IsWhole A.App node.old }
     requires most { length datagram.now ≤ LARGEST_DATAGRAM }
-    ensures whole { IsWhole A.meaning A.stands_for A.kept node.new }
+    ensures whole { IsWhole A.App node.new }
     ensures same { A.kept node.new.shared ≡ A.kept node.old.shared }
     ensures ok { OnOk result ((m : Meaning) (own : Address) → Wrote m A.served own (event_of own datagram.now ∷ [])
-        (IsNode A.meaning A.stands_for A.kept A.numbers m own node.old) (IsNode A.meaning A.stands_for A.kept A.numbers m own node.new)
+        (IsNode A.App m own node.old) (IsNode A.App m own node.new)
         (K.written sink.old) (K.written sink.new)) }
     ensures err { OnErr result ((m : Meaning) (own : Address) → Broke m A.served own (event_of own datagram.now ∷ [])
-        (IsNode A.meaning A.stands_for A.kept A.numbers m own node.old) (IsNode A.meaning A.stands_for A.kept A.numbers m own node.new)
+        (IsNode A.App m own node.old) (IsNode A.App m own node.new)
         (K.written sink.old) (K.written sink.new)) }
     ensures cause { HasCause (K.faults sink.old) (K.faults sink.new) result }
 {
@@ -67,15 +67,15 @@ fn call_slot<A: App, K: Sink>(
     slot: usize,
     sink: &mut K,
 ) -> Result<(), Failed>
-    requires whole { IsWhole A.meaning A.stands_for A.kept node.old }
+    requires whole { IsWhole A.App node.old }
     requires within { slot < 10 }
-    ensures whole { IsWhole A.meaning A.stands_for A.kept node.new }
+    ensures whole { IsWhole A.App node.new }
     ensures same { A.kept node.new.shared ≡ A.kept node.old.shared }
     ensures ok { OnOk result ((m : Meaning) (own : Address) → Wrote m A.served own (Periodic slot ∷ [])
-        (IsNode A.meaning A.stands_for A.kept A.numbers m own node.old) (IsNode A.meaning A.stands_for A.kept A.numbers m own node.new)
+        (IsNode A.App m own node.old) (IsNode A.App m own node.new)
         (K.written sink.old) (K.written sink.new)) }
     ensures err { OnErr result ((m : Meaning) (own : Address) → Broke m A.served own (Periodic slot ∷ [])
-        (IsNode A.meaning A.stands_for A.kept A.numbers m own node.old) (IsNode A.meaning A.stands_for A.kept A.numbers m own node.new)
+        (IsNode A.App m own node.old) (IsNode A.App m own node.new)
         (K.written sink.old) (K.written sink.new)) }
     ensures cause { HasCause (K.faults sink.old) (K.faults sink.new) result }
 {
@@ -89,14 +89,14 @@ pub(crate) fn tick<A: App, K: Sink>(
     encoder: &mut Encoder,
     sink: &mut K,
 ) -> Result<(), Failed>
-    requires whole { IsWhole A.meaning A.stands_for A.kept node.old }
-    ensures whole { IsWhole A.meaning A.stands_for A.kept node.new }
+    requires whole { IsWhole A.App node.old }
+    ensures whole { IsWhole A.App node.new }
     ensures same { A.kept node.new.shared ≡ A.kept node.old.shared }
     ensures ok { OnOk result ((m : Meaning) (own : Address) → Wrote m A.served own tick
-        (IsNode A.meaning A.stands_for A.kept A.numbers m own node.old) (IsNode A.meaning A.stands_for A.kept A.numbers m own node.new)
+        (IsNode A.App m own node.old) (IsNode A.App m own node.new)
         (K.written sink.old) (K.written sink.new)) }
     ensures err { OnErr result ((m : Meaning) (own : Address) → Broke m A.served own tick
-        (IsNode A.meaning A.stands_for A.kept A.numbers m own node.old) (IsNode A.meaning A.stands_for A.kept A.numbers m own node.new)
+        (IsNode A.App m own node.old) (IsNode A.App m own node.new)
         (K.written sink.old) (K.written sink.new)) }
     ensures cause { HasCause (K.faults sink.old) (K.faults sink.new) result }
 {
@@ -108,11 +108,11 @@ pub(crate) fn tick<A: App, K: Sink>(
 
 /// A frame was longer than a datagram.
 pub(crate) fn pass_overlong<A: App>(node: &mut Node<A>)
-    requires whole { IsWhole A.meaning A.stands_for A.kept node.old }
-    ensures whole { IsWhole A.meaning A.stands_for A.kept node.new }
+    requires whole { IsWhole A.App node.old }
+    ensures whole { IsWhole A.App node.new }
     ensures same { A.kept node.new.shared ≡ A.kept node.old.shared }
     ensures wrote { (m : Meaning) (own : Address) (text : Option (List ℕ)) → Wrote m A.served own (Overlong ∷ [])
-        (IsNode A.meaning A.stands_for A.kept A.numbers m own node.old) (IsNode A.meaning A.stands_for A.kept A.numbers m own node.new) text text }
+        (IsNode A.App m own node.old) (IsNode A.App m own node.new) text text }
 {
     node.count_overlong();
 }

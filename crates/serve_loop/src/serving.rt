@@ -25,10 +25,10 @@ pub fn serve<A: App, L: Link, K: Sink>(
     pace: u64,
     items: u64,
 ) -> ServeEnd
-    requires whole { IsWhole A.meaning A.stands_for A.kept node.old }
-    ensures whole { IsWhole A.meaning A.stands_for A.kept node.new }
+    requires whole { IsWhole A.App node.old }
+    ensures whole { IsWhole A.App node.new }
     ensures same { A.kept node.new.shared ≡ A.kept node.old.shared }
-    ensures serves { Serves A.meaning A.served A.stands_for A.kept A.numbers pace items node.old node.new
+    ensures serves { Serves A.App pace items node.old node.new
         (outside L.coming K.written L.faults K.faults link.old sink.old)
         (outside L.coming K.written L.faults K.faults link.new sink.new) result }
 {
@@ -44,11 +44,11 @@ fn serve_line<A: App, L: Link, K: Sink>(
     sink: &mut K,
     items: u64,
 ) -> ServeEnd
-    requires whole { IsWhole A.meaning A.stands_for A.kept node.old }
-    ensures whole { IsWhole A.meaning A.stands_for A.kept node.new }
+    requires whole { IsWhole A.App node.old }
+    ensures whole { IsWhole A.App node.new }
     ensures same { A.kept node.new.shared ≡ A.kept node.old.shared }
     ensures serves { (pace : ℕ) → HasTaken pace [] line.old.decoder line.old.pacer
-        → Serves A.meaning A.served A.stands_for A.kept A.numbers pace items node.old node.new
+        → Serves A.App pace items node.old node.new
         (outside L.coming K.written L.faults K.faults link.old sink.old)
         (outside L.coming K.written L.faults K.faults link.new sink.new) result }
 {

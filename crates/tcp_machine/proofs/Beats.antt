@@ -6,7 +6,8 @@ use Rattle.rexmit_timer.specs.Ages.{beat_at, give_up_age, IsAtAge, IsBeatOfAge}
 use Rattle.rexmit_timer.specs.declared.timer.Beat.{Beat}
 use Rattle.rexmit_timer.specs.declared.timer.Beat.TheVariants.{Wait, Again, GiveUp}
 use Rattle.rexmit_timer.specs.declared.timer.Timer.{Timer}
-use Rattle.app_events.specs.Part.{Part, Meaning}
+use Rattle.app_events.specs.Part.{Meaning}
+use Rattle.app_events.specs.declared.app.App.{Ghosts}
 use Rattle.app_events.specs.declared.state.State.{State}
 use Rattle.tcp_table.specs.declared.conn.Conn.{Conn}
 use Rattle.tcp_machine.specs.Connection.{Connection, is_live}
@@ -34,10 +35,10 @@ older_timer t a limit e out at early not_last = record {
   no_tries = λ z. absurd (omega (arith, z, out));
 }
 
-older : {A K : Type 0} (stands : A → K → Part → Type 0) (k : K) (c : Conn A) (t : Timer) (a : Connection) (limit : ℕ) (beat : Beat) → ConnStands stands k c a → is_live c.state ≡ true → 0 < c.len → limit ≡ limit_of c.state →
+older : {A S : Type 0} (g : Ghosts A S) (k : g.Kept) (c : Conn A) (t : Timer) (a : Connection) (limit : ℕ) (beat : Beat) → ConnStands g k c a → is_live c.state ≡ true → 0 < c.len → limit ≡ limit_of c.state →
     ((age : ℕ) → age < give_up_age limit → IsAtAge c.timer age → IsBeatOfAge limit age beat t) → beat ≢ GiveUp → (IsBeatOfAge limit a.age beat t → IsAtAge t (a.age + 1)) →
-    ConnStands stands k (record c { timer = t }) (grows_older a)
-older stands k c t a limit beat h live out e ages goes_on after =
+    ConnStands g k (record c { timer = t }) (grows_older a)
+older g k c t a limit beat h live out e ages goes_on after =
     let lives : is_live a.state ≡ true = subst (λ (s : State). is_live s ≡ true) h.numbers.state live in
     let l = h.numbers.like lives in
     let some : 0 < a.len = subst (λ (n : ℕ). 0 < n) l.len out in
@@ -62,9 +63,9 @@ older stands k c t a limit beat h live out e ages goes_on after =
       part = h.part;
     }
 
-beat_of : {A K : Type 0} (stands : A → K → Part → Type 0) (k : K) (c : Conn A) (t : Timer) (a : Connection) (limit : ℕ) (beat : Beat) → ConnStands stands k c a → is_live c.state ≡ true → 0 < c.len → limit ≡ limit_of c.state →
+beat_of : {A S : Type 0} (g : Ghosts A S) (k : g.Kept) (c : Conn A) (t : Timer) (a : Connection) (limit : ℕ) (beat : Beat) → ConnStands g k c a → is_live c.state ≡ true → 0 < c.len → limit ≡ limit_of c.state →
     ((age : ℕ) → age < give_up_age limit → IsAtAge c.timer age → IsBeatOfAge limit age beat t) → beat ≡ beat_at (limit_of a.state) (a.age + 1)
-beat_of stands k c t a limit beat h live out e ages =
+beat_of g k c t a limit beat h live out e ages =
     let lives : is_live a.state ≡ true = subst (λ (s : State). is_live s ≡ true) h.numbers.state live in
     let l = h.numbers.like lives in
     let some : 0 < a.len = subst (λ (n : ℕ). 0 < n) l.len out in
@@ -72,17 +73,17 @@ beat_of stands k c t a limit beat h live out e ages =
     let early : a.age < give_up_age limit = subst (λ (n : ℕ). a.age < give_up_age n) (sym e') (l.timer.before_the_end some) in
     (ages a.age early (l.timer.waits some)).beat ∙ ap (λ (n : ℕ). beat_at n (a.age + 1)) e'
 
-pub wait_meets : {A K : Type 0} (stands : A → K → Part → Type 0) (k : K) (m : Meaning) (c : Conn A) (t : Timer) (a : Connection) (ns : List ℕ) (limit : ℕ) → ConnStands stands k c a → is_live c.state ≡ true → 0 < c.len → limit ≡ limit_of c.state →
-    ((age : ℕ) → age < give_up_age limit → IsAtAge c.timer age → IsBeatOfAge limit age Wait t) → Meets stands k (record c { timer = t }) ns Step.Drop (waits_for_ack m a ns)
-wait_meets stands k m c t a ns limit h live out e ages =
-    subst (λ (b : Beat). Meets stands k (record c { timer = t }) ns Step.Drop (by_beat m b a ns)) (beat_of stands k c t a limit Wait h live out e ages)
-    (record { connection = older stands k c t a limit Wait h live out e ages (λ x. cc) (λ b. b.goes_on); counted = refl; asked = refl })
+pub wait_meets : {A S : Type 0} (g : Ghosts A S) (k : g.Kept) (m : Meaning) (c : Conn A) (t : Timer) (a : Connection) (ns : List ℕ) (limit : ℕ) → ConnStands g k c a → is_live c.state ≡ true → 0 < c.len → limit ≡ limit_of c.state →
+    ((age : ℕ) → age < give_up_age limit → IsAtAge c.timer age → IsBeatOfAge limit age Wait t) → Meets g k (record c { timer = t }) ns Step.Drop (waits_for_ack m a ns)
+wait_meets g k m c t a ns limit h live out e ages =
+    subst (λ (b : Beat). Meets g k (record c { timer = t }) ns Step.Drop (by_beat m b a ns)) (beat_of g k c t a limit Wait h live out e ages)
+    (record { connection = older g k c t a limit Wait h live out e ages (λ x. cc) (λ b. b.goes_on); counted = refl; asked = refl })
 
-pub again_meets : {A K : Type 0} (stands : A → K → Part → Type 0) (k : K) (m : Meaning) (c : Conn A) (t : Timer) (a : Connection) (ns : List ℕ) (limit : ℕ) (step : Step) → ConnStands stands k c a → is_live c.state ≡ true → 0 < c.len → limit ≡ limit_of c.state → step ≡ outstanding true c.state →
-    ((age : ℕ) → age < give_up_age limit → IsAtAge c.timer age → IsBeatOfAge limit age Again t) → Meets stands k (record c { timer = t }) ns step (waits_for_ack m a ns)
-again_meets stands k m c t a ns limit step h live out e asked ages =
-    subst (λ (b : Beat). Meets stands k (record c { timer = t }) ns step (by_beat m b a ns)) (beat_of stands k c t a limit Again h live out e ages)
-    (record { connection = older stands k c t a limit Again h live out e ages (λ x. cc) (λ b. b.goes_on); counted = refl; asked = asked ∙ ap (outstanding true) h.numbers.state })
+pub again_meets : {A S : Type 0} (g : Ghosts A S) (k : g.Kept) (m : Meaning) (c : Conn A) (t : Timer) (a : Connection) (ns : List ℕ) (limit : ℕ) (step : Step) → ConnStands g k c a → is_live c.state ≡ true → 0 < c.len → limit ≡ limit_of c.state → step ≡ outstanding true c.state →
+    ((age : ℕ) → age < give_up_age limit → IsAtAge c.timer age → IsBeatOfAge limit age Again t) → Meets g k (record c { timer = t }) ns step (waits_for_ack m a ns)
+again_meets g k m c t a ns limit step h live out e asked ages =
+    subst (λ (b : Beat). Meets g k (record c { timer = t }) ns step (by_beat m b a ns)) (beat_of g k c t a limit Again h live out e ages)
+    (record { connection = older g k c t a limit Again h live out e ages (λ x. cc) (λ b. b.goes_on); counted = refl; asked = asked ∙ ap (outstanding true) h.numbers.state })
 
 -- the longest wait is below the time of a rest
 abbrev small_wait : ℕ → Bool

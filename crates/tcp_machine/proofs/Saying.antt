@@ -5,6 +5,7 @@ use Rattle.app_events.specs.Part.{Part, Meaning, HasPart, CanSay, text_left}
 use Rattle.std.proofs.Math.Logic.{∥∥₁_elim}
 use Rattle.std.specs.Coded.{le_prop}
 use Rattle.app_events.specs.Laws.{IsLawful, Grows, CanSend}
+use Rattle.app_events.specs.declared.app.App.{Ghosts}
 use Rattle.app_events.specs.declared.now.Now.{Now}
 use Rattle.app_events.specs.declared.want.Want.{Want}
 use Rattle.app_events.specs.declared.want.Want.TheVariants.{Send}
@@ -17,8 +18,8 @@ use Rattle.tcp_machine.specs.OnSegment.{hears}
 use Rattle.tcp_machine.specs.Sound.{IsSound}
 use Rattle.tcp_machine.specs.Stands.{is_open}
 
-pub has_part_of : {A K : Type 0} (m : K → Meaning) (stands : A → K → Part → Type 0) (k : K) (c : Conn A) → IsSound m stands k c → is_open c.state ≡ true → HasPart stands c.app k
-has_part_of m stands k c sound open_to_it = has_part m stands c.app k c.len (sound.says open_to_it)
+pub has_part_of : {A S : Type 0} (g : Ghosts A S) (k : g.Kept) (c : Conn A) → IsSound g k c → is_open c.state ≡ true → HasPart g.stands_for c.app k
+has_part_of g k c sound open_to_it = has_part g.meaning g.stands_for c.app k c.len (sound.says open_to_it)
 
 hears_grows : (m : Meaning) (stands : Part → Type 0) → IsLawful m stands → (ns : List ℕ) (p : Part) (piece : List ℕ) → stands p → Grows m p (hears m ns p piece).part
 hears_grows m stands lawful ns p [] s = grows_by_nothing m p p refl refl

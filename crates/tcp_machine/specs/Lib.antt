@@ -6,4 +6,5 @@ pub mod OnTick
 pub mod Stands
 pub mod Sound
 pub mod Fits
+pub mod Takes
 pub mod Kept

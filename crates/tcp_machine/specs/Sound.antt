@@ -1,7 +1,8 @@
 -- What every connection of a node keeps.
 use Rattle.std.specs.Prelude.{ℕ, ◌≡◌, ◌<◌, ◌≤◌, true}
 use Rattle.uip_wire.specs.declared.sizes.TheConstants.{OWN_MSS}
-use Rattle.app_events.specs.Part.{Part, Meaning, CanSay}
+use Rattle.app_events.specs.Part.{CanSay}
+use Rattle.app_events.specs.declared.app.App.{Ghosts}
 use Rattle.app_events.specs.declared.state.State.{State}
 use Rattle.app_events.specs.declared.state.State.TheVariants.{Closed, SynRcvd, Established, CloseWait, FinWait1, FinWait2, Closing, TimeWait, LastAck}
 use Rattle.tcp_table.specs.declared.conn.Conn.{Conn}
@@ -32,6 +33,6 @@ pub record HasSoundNumbers {A : Type 0} (c : Conn A) : Type 0 where
   pub len : LenFits c.state c.len
 
 -- while the application may speak it has said what is outstanding
-pub record IsSound {A K : Type 0} (meaning : K → Meaning) (stands_for : A → K → Part → Type 0) (k : K) (c : Conn A) : Type 0 where
+pub record IsSound {A S : Type 0} (g : Ghosts A S) (k : g.Kept) (c : Conn A) : Type 0 where
   pub numbers : is_live c.state ≡ true → HasSoundNumbers c
-  pub says : is_open c.state ≡ true → CanSay meaning stands_for c.app k c.len
+  pub says : is_open c.state ≡ true → CanSay g.meaning g.stands_for c.app k c.len

@@ -3,7 +3,7 @@
 use Rattle.std.specs.Prelude.{ℕ, ◌≡◌, ◌<◌, Bool, true, false, List, if◌then◌else◌}
 use Rattle.rexmit_timer.specs.Ages.{IsAtAge, give_up_age}
 use Rattle.rexmit_timer.specs.declared.timer.Timer.{Timer}
-use Rattle.app_events.specs.Part.{Part}
+use Rattle.app_events.specs.declared.app.App.{Ghosts}
 use Rattle.app_events.specs.declared.state.State.{State}
 use Rattle.app_events.specs.declared.state.State.TheVariants.{Closed, SynRcvd, Established, CloseWait, FinWait1, FinWait2, Closing, TimeWait, LastAck}
 use Rattle.tcp_table.specs.declared.conn.Conn.{Conn}
@@ -50,17 +50,17 @@ pub record NumbersStand {A : Type 0} (c : Conn A) (a : Connection) : Type 0 wher
   pub state : c.state ≡ a.state
   pub like : is_live a.state ≡ true → IsLike c a
 
-pub record ConnStands {A K : Type 0} (stands_for : A → K → Part → Type 0) (k : K) (c : Conn A) (a : Connection) : Type 0 where
+pub record ConnStands {A S : Type 0} (g : Ghosts A S) (k : g.Kept) (c : Conn A) (a : Connection) : Type 0 where
   pub numbers : NumbersStand c a
-  pub part : is_open a.state ≡ true → stands_for c.app k a.part
+  pub part : is_open a.state ≡ true → g.stands_for c.app k a.part
 
 -- a segment with its text, as a plain record
 abbrev pub plain : Segment → List ℕ → PlainSegment
 plain seg text = record { seq = seg.seq.0; ack = seg.ack.0; flags = seg.flags; window = seg.window; mss = seg.mss; text = text }
 
 -- what a step of the code leaves and asks is what the definition says
-pub record Meets {A K : Type 0} (stands_for : A → K → Part → Type 0) (k : K) (c : Conn A) (numbers : List ℕ) (step : Step) (o : Outcome) : Type 0 where
-  pub connection : ConnStands stands_for k c o.connection
+pub record Meets {A S : Type 0} (g : Ghosts A S) (k : g.Kept) (c : Conn A) (numbers : List ℕ) (step : Step) (o : Outcome) : Type 0 where
+  pub connection : ConnStands g k c o.connection
   pub counted : numbers ≡ o.numbers
   pub asked : step ≡ o.step
 

@@ -6,6 +6,7 @@ ghost use Rattle.tcp_machine.specs.Ask.{ask, does_as_wanted, idles, prepared, af
 ghost use Rattle.tcp_machine.specs.Connection.{Connection, is_live};
 ghost use Rattle.tcp_machine.specs.Fits.{CanBeAsked, IsAnswer, SameNumbers, SameSockets, StepFits};
 ghost use Rattle.tcp_machine.specs.Sound.{IsSound};
+ghost use Rattle.tcp_machine.specs.Takes.{Takes};
 ghost use Rattle.tcp_machine.specs.Stands.{ConnStands, Meets, is_open};
 
 use crate::moves::send;
@@ -26,12 +27,12 @@ fn after_own_fin(state: State) -> State
 /// The application takes a capture, where the text that comes next needs one.
 fn prepare<A: App>(conn: &mut Conn<A>, shared: &A::Shared, now: &Now)
     requires asked { CanBeAsked conn.old }
-    requires sound { IsSound A.meaning A.stands_for (A.kept shared.now) conn.old }
+    requires sound { IsSound A.App (A.kept shared.now) conn.old }
     ensures asked { CanBeAsked conn.new }
-    ensures sound { IsSound A.meaning A.stands_for (A.kept shared.now) conn.new }
+    ensures sound { IsSound A.App (A.kept shared.now) conn.new }
     ensures place { SameSockets conn.old conn.new }
     ensures same_numbers { SameNumbers conn.old conn.new }
-    ensures conn { (a : Connection) → ConnStands A.stands_for (A.kept shared.now) conn.old a → ConnStands A.stands_for (A.kept shared.now) conn.new (prepared (A.meaning (A.kept shared.now)) now.now a (A.numbers shared.now)) }
+    ensures conn { (a : Connection) → ConnStands A.App (A.kept shared.now) conn.old a → ConnStands A.App (A.kept shared.now) conn.new (prepared (A.meaning (A.kept shared.now)) now.now a (A.numbers shared.now)) }
 {
     conn.app.prepare(shared, now);
 }
@@ -40,13 +41,10 @@ fn prepare<A: App>(conn: &mut Conn<A>, shared: &A::Shared, now: &Now)
 #[tactic(auto, unfolding(crate::specs::Ask::idles))]
 fn idle<A: App>(conn: &mut Conn<A>, shared: &A::Shared, fresh: bool) -> Step
     requires asked { CanBeAsked conn.old }
-    requires sound { IsSound A.meaning A.stands_for (A.kept shared.now) conn.old }
-    ensures sound { IsSound A.meaning A.stands_for (A.kept shared.now) conn.new }
-    ensures place { SameSockets conn.old conn.new }
+    requires sound { IsSound A.App (A.kept shared.now) conn.old }
     ensures same_numbers { SameNumbers conn.old conn.new }
-    ensures fits { StepFits conn.new result }
     ensures answer { IsAnswer result }
-    ensures meets { (a : Connection) → ConnStands A.stands_for (A.kept shared.now) conn.old a → Meets A.stands_for (A.kept shared.now) conn.new (A.numbers shared.now) result (idles fresh a (A.numbers shared.now)) }
+    ensures takes { Takes A.App (λ m a ns. idles fresh a ns) conn.old shared.now conn.new shared.now result }
 {
     if conn.state == State::CloseWait {
         conn.state = State::Closed;
@@ -58,14 +56,11 @@ fn idle<A: App>(conn: &mut Conn<A>, shared: &A::Shared, fresh: bool) -> Step
 /// What the application wants is done.
 fn do_as_wanted<A: App>(conn: &mut Conn<A>, shared: &A::Shared, want: Want, fresh: bool) -> Step
     requires asked { CanBeAsked conn.old }
-    requires sound { IsSound A.meaning A.stands_for (A.kept shared.now) conn.old }
+    requires sound { IsSound A.App (A.kept shared.now) conn.old }
     requires want { (p : Part) → A.stands_for conn.old.app (A.kept shared.now) p → want ≡ (A.meaning (A.kept shared.now)).want (A.numbers shared.now) p }
-    ensures sound { IsSound A.meaning A.stands_for (A.kept shared.now) conn.new }
-    ensures place { SameSockets conn.old conn.new }
     ensures same_numbers { SameNumbers conn.old conn.new }
-    ensures fits { StepFits conn.new result }
     ensures answer { IsAnswer result }
-    ensures meets { (a : Connection) → ConnStands A.stands_for (A.kept shared.now) conn.old a → Meets A.stands_for (A.kept shared.now) conn.new (A.numbers shared.now) result (does_as_wanted want fresh a (A.numbers shared.now)) }
+    ensures takes { Takes A.App (λ m a ns. does_as_wanted want fresh a ns) conn.old shared.now conn.new shared.now result }
 {
     match want {
         Want::Abort => {
@@ -90,13 +85,10 @@ fn do_as_wanted<A: App>(conn: &mut Conn<A>, shared: &A::Shared, want: Want, fres
 /// Asks the application what it wants, and does it. `fresh` says that new text was taken, which needs an ACK.
 pub fn ask<A: App>(conn: &mut Conn<A>, shared: &A::Shared, now: &Now, fresh: bool) -> Step
     requires asked { CanBeAsked conn.old }
-    requires sound { IsSound A.meaning A.stands_for (A.kept shared.now) conn.old }
-    ensures sound { IsSound A.meaning A.stands_for (A.kept shared.now) conn.new }
-    ensures place { SameSockets conn.old conn.new }
+    requires sound { IsSound A.App (A.kept shared.now) conn.old }
     ensures same_numbers { SameNumbers conn.old conn.new }
-    ensures fits { StepFits conn.new result }
     ensures answer { IsAnswer result }
-    ensures meets { (a : Connection) → ConnStands A.stands_for (A.kept shared.now) conn.old a → Meets A.stands_for (A.kept shared.now) conn.new (A.numbers shared.now) result (ask (A.meaning (A.kept shared.now)) now.now fresh a (A.numbers shared.now)) }
+    ensures takes { Takes A.App (λ m a ns. ask m now.now fresh a ns) conn.old shared.now conn.new shared.now result }
 {
     prepare(conn, shared, now);
     let want = conn.app.want(shared);

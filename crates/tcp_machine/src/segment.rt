@@ -8,6 +8,7 @@ ghost use Rattle.tcp_machine.specs.Fits.{Rests, SameNumbers, SameSockets, StepFi
 ghost use Rattle.tcp_machine.specs.OnSegment.{connects, peer_closes, goes_on, in_established, by_state, on_segment, told_end};
 ghost use Rattle.tcp_machine.specs.Segments.{has_place};
 ghost use Rattle.tcp_machine.specs.Sound.{IsSound};
+ghost use Rattle.tcp_machine.specs.Takes.{Takes};
 ghost use Rattle.tcp_machine.specs.Stands.{ConnStands, Meets, is_open, plain};
 
 use crate::alone::{in_closing, in_fin_wait_1, in_fin_wait_2, in_last_ack};
@@ -20,12 +21,12 @@ use tcp_table::Conn;
 
 /// The connection is given up. The application is told where it might still have spoken.
 pub(crate) fn leave<A: App>(conn: &mut Conn<A>, shared: &mut A::Shared, how: Ending)
-    requires { IsSound A.meaning A.stands_for (A.kept shared.old) conn.old }
+    requires { IsSound A.App (A.kept shared.old) conn.old }
     ensures same { A.kept shared.new ≡ A.kept shared.old }
     ensures closed { conn.new.state ≡ State.Closed }
     ensures place { SameSockets conn.old conn.new }
     ensures same_numbers { SameNumbers conn.old conn.new }
-    ensures numbers { (a : Connection) → ConnStands A.stands_for (A.kept shared.old) conn.old a → A.numbers shared.new ≡ told_end (A.meaning (A.kept shared.old)) how a.state a.part (A.numbers shared.old) }
+    ensures numbers { (a : Connection) → ConnStands A.App (A.kept shared.old) conn.old a → A.numbers shared.new ≡ told_end (A.meaning (A.kept shared.old)) how a.state a.part (A.numbers shared.old) }
 {
     if is_open(conn.state) {
         conn.app.ended(shared, how);
@@ -36,13 +37,9 @@ pub(crate) fn leave<A: App>(conn: &mut Conn<A>, shared: &mut A::Shared, how: End
 /// SYN_RECEIVED, with the SYN-ACK acknowledged. A FIN is not taken.
 fn connects<A: App>(conn: &mut Conn<A>, shared: &mut A::Shared, piece: &[u8]) -> Step
     requires state { conn.old.state ≡ State.SynRcvd }
-    requires sound { IsSound A.meaning A.stands_for (A.kept shared.old) conn.old }
+    requires sound { IsSound A.App (A.kept shared.old) conn.old }
     requires short { length piece.now ≤ 1500 }
-    ensures same { A.kept shared.new ≡ A.kept shared.old }
-    ensures sound { IsSound A.meaning A.stands_for (A.kept shared.old) conn.new }
-    ensures place { SameSockets conn.old conn.new }
-    ensures fits { StepFits conn.new result }
-    ensures meets { (a : Connection) (seg : PlainSegment) → seg.text ≡ piece.now → ConnStands A.stands_for (A.kept shared.old) conn.old a → Meets A.stands_for (A.kept shared.old) conn.new (A.numbers shared.new) result (connects (A.meaning (A.kept shared.old)) a (A.numbers shared.old) seg) }
+    ensures { (s : PlainSegment) → Takes A.App (λ m a ns. connects m a ns (record s { text = piece.now })) conn.old shared.old conn.new shared.new result }
 {
     conn.app.connected(shared, conn.own_port);
     hear(&mut conn.app, shared, piece);
@@ -63,13 +60,9 @@ fn peer_closes<A: App>(
     piece: &[u8],
 ) -> Step
     requires state { conn.old.state ≡ State.Established }
-    requires sound { IsSound A.meaning A.stands_for (A.kept shared.old) conn.old }
+    requires sound { IsSound A.App (A.kept shared.old) conn.old }
     requires short { length piece.now ≤ 1500 }
-    ensures same { A.kept shared.new ≡ A.kept shared.old }
-    ensures sound { IsSound A.meaning A.stands_for (A.kept shared.old) conn.new }
-    ensures place { SameSockets conn.old conn.new }
-    ensures fits { StepFits conn.new result }
-    ensures meets { (a : Connection) → ConnStands A.stands_for (A.kept shared.old) conn.old a → Meets A.stands_for (A.kept shared.old) conn.new (A.numbers shared.new) result (peer_closes (A.meaning (A.kept shared.old)) a (A.numbers shared.old) (plain seg.now piece.now)) }
+    ensures { Takes A.App (λ m a ns. peer_closes m a ns (plain seg.now piece.now)) conn.old shared.old conn.new shared.new result }
 {
     absorb(conn, shared, seg.window, piece, piece.len() as u32 + 1);
     let is_idle = conn.len == 0;
@@ -90,13 +83,9 @@ fn goes_on<A: App>(
     acked: bool,
 ) -> Step
     requires state { conn.old.state ≡ State.Established }
-    requires sound { IsSound A.meaning A.stands_for (A.kept shared.old) conn.old }
+    requires sound { IsSound A.App (A.kept shared.old) conn.old }
     requires short { length piece.now ≤ 1500 }
-    ensures same { A.kept shared.new ≡ A.kept shared.old }
-    ensures sound { IsSound A.meaning A.stands_for (A.kept shared.old) conn.new }
-    ensures place { SameSockets conn.old conn.new }
-    ensures fits { StepFits conn.new result }
-    ensures meets { (a : Connection) → ConnStands A.stands_for (A.kept shared.old) conn.old a → Meets A.stands_for (A.kept shared.old) conn.new (A.numbers shared.new) result (goes_on (A.meaning (A.kept shared.old)) acked a (A.numbers shared.old) (plain seg.now piece.now)) }
+    ensures { Takes A.App (λ m a ns. goes_on m acked a ns (plain seg.now piece.now)) conn.old shared.old conn.new shared.new result }
 {
     let count = piece.len() as u32;
     absorb(conn, shared, seg.window, piece, count);
@@ -120,13 +109,9 @@ fn in_established<A: App>(
     acked: bool,
 ) -> Step
     requires state { conn.old.state ≡ State.Established }
-    requires sound { IsSound A.meaning A.stands_for (A.kept shared.old) conn.old }
+    requires sound { IsSound A.App (A.kept shared.old) conn.old }
     requires short { length piece.now ≤ 1500 }
-    ensures same { A.kept shared.new ≡ A.kept shared.old }
-    ensures sound { IsSound A.meaning A.stands_for (A.kept shared.old) conn.new }
-    ensures place { SameSockets conn.old conn.new }
-    ensures fits { StepFits conn.new result }
-    ensures meets { (a : Connection) → ConnStands A.stands_for (A.kept shared.old) conn.old a → Meets A.stands_for (A.kept shared.old) conn.new (A.numbers shared.new) result (in_established (A.meaning (A.kept shared.old)) acked a (A.numbers shared.old) (plain seg.now piece.now)) }
+    ensures { Takes A.App (λ m a ns. in_established m acked a ns (plain seg.now piece.now)) conn.old shared.old conn.new shared.new result }
 {
     if seg.has_fin() {
         peer_closes(conn, shared, seg, piece)
@@ -144,13 +129,9 @@ fn established<A: App>(
     acked: bool,
 ) -> Step
     requires state { conn.old.state ≡ State.Established }
-    requires sound { IsSound A.meaning A.stands_for (A.kept shared.old) conn.old }
+    requires sound { IsSound A.App (A.kept shared.old) conn.old }
     requires short { length piece.now ≤ 1500 }
-    ensures same { A.kept shared.new ≡ A.kept shared.old }
-    ensures sound { IsSound A.meaning A.stands_for (A.kept shared.old) conn.new }
-    ensures place { SameSockets conn.old conn.new }
-    ensures fits { StepFits conn.new result }
-    ensures meets { (a : Connection) → ConnStands A.stands_for (A.kept shared.old) conn.old a → Meets A.stands_for (A.kept shared.old) conn.new (A.numbers shared.new) result (by_state (A.meaning (A.kept shared.old)) State.Established acked a (A.numbers shared.old) (plain seg.now piece.now)) }
+    ensures { Takes A.App (λ m a ns. by_state m State.Established acked a ns (plain seg.now piece.now)) conn.old shared.old conn.new shared.new result }
 {
     if acked {
         take_ack(conn, shared);
@@ -167,13 +148,9 @@ fn in_close_wait<A: App>(
     acked: bool,
 ) -> Step
     requires state { conn.old.state ≡ State.CloseWait }
-    requires sound { IsSound A.meaning A.stands_for (A.kept shared.old) conn.old }
+    requires sound { IsSound A.App (A.kept shared.old) conn.old }
     requires out { 0 < conn.old.len }
-    ensures same { A.kept shared.new ≡ A.kept shared.old }
-    ensures sound { IsSound A.meaning A.stands_for (A.kept shared.old) conn.new }
-    ensures place { SameSockets conn.old conn.new }
-    ensures fits { StepFits conn.new result }
-    ensures meets { (a : Connection) (s : PlainSegment) → s.window ≡ seg.now.window → ConnStands A.stands_for (A.kept shared.old) conn.old a → Meets A.stands_for (A.kept shared.old) conn.new (A.numbers shared.new) result (by_state (A.meaning (A.kept shared.old)) State.CloseWait acked a (A.numbers shared.old) s) }
+    ensures { (s : PlainSegment) → Takes A.App (λ m a ns. by_state m State.CloseWait acked a ns (record s { window = seg.now.window })) conn.old shared.old conn.new shared.new result }
 {
     if acked {
         take_ack(conn, shared);
@@ -207,14 +184,10 @@ fn by_state<A: App>(
     acked: bool,
 ) -> Step
     requires live { is_live conn.old.state ≡ true }
-    requires sound { IsSound A.meaning A.stands_for (A.kept shared.old) conn.old }
+    requires sound { IsSound A.App (A.kept shared.old) conn.old }
     requires busy { Rests conn.old }
     requires short { length piece.now ≤ 1500 }
-    ensures same { A.kept shared.new ≡ A.kept shared.old }
-    ensures sound { IsSound A.meaning A.stands_for (A.kept shared.old) conn.new }
-    ensures place { SameSockets conn.old conn.new }
-    ensures fits { StepFits conn.new result }
-    ensures meets { (a : Connection) → ConnStands A.stands_for (A.kept shared.old) conn.old a → Meets A.stands_for (A.kept shared.old) conn.new (A.numbers shared.new) result (by_state (A.meaning (A.kept shared.old)) a.state acked a (A.numbers shared.old) (plain seg.now piece.now)) }
+    ensures { Takes A.App (λ m a ns. by_state m a.state acked a ns (plain seg.now piece.now)) conn.old shared.old conn.new shared.new result }
 {
     match conn.state {
         State::Closed => Step::Drop,
@@ -243,14 +216,10 @@ pub fn on_segment<A: App>(
     piece: &[u8],
 ) -> Step
     requires live { is_live conn.old.state ≡ true }
-    requires sound { IsSound A.meaning A.stands_for (A.kept shared.old) conn.old }
+    requires sound { IsSound A.App (A.kept shared.old) conn.old }
     requires busy { Rests conn.old }
     requires short { length piece.now ≤ 1500 }
-    ensures same { A.kept shared.new ≡ A.kept shared.old }
-    ensures sound { IsSound A.meaning A.stands_for (A.kept shared.old) conn.new }
-    ensures place { SameSockets conn.old conn.new }
-    ensures fits { StepFits conn.new result }
-    ensures meets { (a : Connection) → ConnStands A.stands_for (A.kept shared.old) conn.old a → Meets A.stands_for (A.kept shared.old) conn.new (A.numbers shared.new) result (on_segment (A.meaning (A.kept shared.old)) a (A.numbers shared.old) (plain seg.now piece.now)) }
+    ensures { Takes A.App (λ m a ns. on_segment m a ns (plain seg.now piece.now)) conn.old shared.old conn.new shared.new result }
 {
     if seg.has_rst() {
         leave(conn, shared, Ending::Reset);

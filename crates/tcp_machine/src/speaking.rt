@@ -34,14 +34,14 @@ pub(crate) fn hear<A: App>(app: &mut A, shared: &mut A::Shared, piece: &[u8])
 /// All text that was outstanding is acknowledged.
 pub(crate) fn take_ack<A: App>(conn: &mut Conn<A>, shared: &mut A::Shared)
     requires open_to_it { is_open conn.old.state ≡ true }
-    requires sound { IsSound A.meaning A.stands_for (A.kept shared.old) conn.old }
+    requires sound { IsSound A.App (A.kept shared.old) conn.old }
     ensures same { A.kept shared.new ≡ A.kept shared.old }
     ensures state { conn.new.state ≡ conn.old.state }
     ensures len { conn.new.len ≡ 0 }
     ensures place { SameSockets conn.old conn.new }
-    ensures sound { IsSound A.meaning A.stands_for (A.kept shared.old) conn.new }
-    ensures conn { (a : Connection) → ConnStands A.stands_for (A.kept shared.old) conn.old a → ConnStands A.stands_for (A.kept shared.old) conn.new (with_part ((A.meaning (A.kept shared.old)).acked (A.numbers shared.old) a.part a.len).part (rests a)) }
-    ensures numbers { (a : Connection) → ConnStands A.stands_for (A.kept shared.old) conn.old a → A.numbers shared.new ≡ ((A.meaning (A.kept shared.old)).acked (A.numbers shared.old) a.part a.len).numbers }
+    ensures sound { IsSound A.App (A.kept shared.old) conn.new }
+    ensures conn { (a : Connection) → ConnStands A.App (A.kept shared.old) conn.old a → ConnStands A.App (A.kept shared.old) conn.new (with_part ((A.meaning (A.kept shared.old)).acked (A.numbers shared.old) a.part a.len).part (rests a)) }
+    ensures numbers { (a : Connection) → ConnStands A.App (A.kept shared.old) conn.old a → A.numbers shared.new ≡ ((A.meaning (A.kept shared.old)).acked (A.numbers shared.old) a.part a.len).numbers }
 {
     conn.app.acked(shared, conn.len as usize);
     rest(conn);
@@ -56,15 +56,15 @@ pub(crate) fn absorb<A: App>(
     count: u32,
 )
     requires open_to_it { is_open conn.old.state ≡ true }
-    requires sound { IsSound A.meaning A.stands_for (A.kept shared.old) conn.old }
+    requires sound { IsSound A.App (A.kept shared.old) conn.old }
     ensures same { A.kept shared.new ≡ A.kept shared.old }
     ensures state { conn.new.state ≡ conn.old.state }
     ensures len { conn.new.len ≡ conn.old.len }
     ensures timer { conn.new.timer ≡ conn.old.timer }
     ensures place { SameSockets conn.old conn.new }
-    ensures sound { IsSound A.meaning A.stands_for (A.kept shared.old) conn.new }
-    ensures conn { (a : Connection) → ConnStands A.stands_for (A.kept shared.old) conn.old a → ConnStands A.stands_for (A.kept shared.old) conn.new (with_window window (with_part (hears (A.meaning (A.kept shared.old)) (A.numbers shared.old) a.part piece.now).part (takes count a))) }
-    ensures numbers { (a : Connection) → ConnStands A.stands_for (A.kept shared.old) conn.old a → A.numbers shared.new ≡ (hears (A.meaning (A.kept shared.old)) (A.numbers shared.old) a.part piece.now).numbers }
+    ensures sound { IsSound A.App (A.kept shared.old) conn.new }
+    ensures conn { (a : Connection) → ConnStands A.App (A.kept shared.old) conn.old a → ConnStands A.App (A.kept shared.old) conn.new (with_window window (with_part (hears (A.meaning (A.kept shared.old)) (A.numbers shared.old) a.part piece.now).part (takes count a))) }
+    ensures numbers { (a : Connection) → ConnStands A.App (A.kept shared.old) conn.old a → A.numbers shared.new ≡ (hears (A.meaning (A.kept shared.old)) (A.numbers shared.old) a.part piece.now).numbers }
 {
     hear(&mut conn.app, shared, piece);
     take(conn, count);

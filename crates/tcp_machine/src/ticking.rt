@@ -6,6 +6,7 @@ ghost use Rattle.tcp_machine.specs.Connection.{Connection, is_live, is_resting};
 ghost use Rattle.tcp_machine.specs.Fits.{Rests, SameNumbers, SameSockets, StepFits};
 ghost use Rattle.tcp_machine.specs.OnTick.{limit_of, outstanding, waits_for_ack, rests_on, polls, ticks_established, tick_by, on_tick};
 ghost use Rattle.tcp_machine.specs.Sound.{HasSoundNumbers, IsSound};
+ghost use Rattle.tcp_machine.specs.Takes.{Takes};
 ghost use Rattle.tcp_machine.specs.Stands.{ConnStands, Meets, MeetsAlone, NumbersStand, is_open};
 
 use crate::segment::leave;
@@ -64,13 +65,9 @@ fn rests_on<A>(conn: &mut Conn<A>) -> Step
 fn polls<A: App>(conn: &mut Conn<A>, shared: &mut A::Shared) -> Step
     requires state { conn.old.state ≡ State.Established }
     requires idle { conn.old.len ≡ 0 }
-    requires sound { IsSound A.meaning A.stands_for (A.kept shared.old) conn.old }
-    ensures same { A.kept shared.new ≡ A.kept shared.old }
-    ensures sound { IsSound A.meaning A.stands_for (A.kept shared.old) conn.new }
-    ensures place { SameSockets conn.old conn.new }
+    requires sound { IsSound A.App (A.kept shared.old) conn.old }
     ensures same_numbers { SameNumbers conn.old conn.new }
-    ensures fits { StepFits conn.new result }
-    ensures meets { (a : Connection) → ConnStands A.stands_for (A.kept shared.old) conn.old a → Meets A.stands_for (A.kept shared.old) conn.new (A.numbers shared.new) result (polls (A.meaning (A.kept shared.old)) a (A.numbers shared.old)) }
+    ensures takes { Takes A.App polls conn.old shared.old conn.new shared.new result }
 {
     conn.app.polled(shared);
     Step::Ask { fresh: false }
@@ -80,13 +77,9 @@ fn polls<A: App>(conn: &mut Conn<A>, shared: &mut A::Shared) -> Step
 fn waits_for_ack<A: App>(conn: &mut Conn<A>, shared: &mut A::Shared) -> Step
     requires live { is_live conn.old.state ≡ true }
     requires out { 0 < conn.old.len }
-    requires sound { IsSound A.meaning A.stands_for (A.kept shared.old) conn.old }
-    ensures same { A.kept shared.new ≡ A.kept shared.old }
-    ensures sound { IsSound A.meaning A.stands_for (A.kept shared.old) conn.new }
-    ensures place { SameSockets conn.old conn.new }
+    requires sound { IsSound A.App (A.kept shared.old) conn.old }
     ensures same_numbers { SameNumbers conn.old conn.new }
-    ensures fits { StepFits conn.new result }
-    ensures meets { (a : Connection) → ConnStands A.stands_for (A.kept shared.old) conn.old a → Meets A.stands_for (A.kept shared.old) conn.new (A.numbers shared.new) result (waits_for_ack (A.meaning (A.kept shared.old)) a (A.numbers shared.old)) }
+    ensures takes { Takes A.App waits_for_ack conn.old shared.old conn.new shared.new result }
 {
     match conn.timer.tick(limit_of(conn.state)) {
         Beat::Wait => Step::Drop,
@@ -102,13 +95,9 @@ fn waits_for_ack<A: App>(conn: &mut Conn<A>, shared: &mut A::Shared) -> Step
 #[tactic(auto, unfolding(crate::specs::OnTick::ticks_established))]
 fn ticks_established<A: App>(conn: &mut Conn<A>, shared: &mut A::Shared) -> Step
     requires state { conn.old.state ≡ State.Established }
-    requires sound { IsSound A.meaning A.stands_for (A.kept shared.old) conn.old }
-    ensures same { A.kept shared.new ≡ A.kept shared.old }
-    ensures sound { IsSound A.meaning A.stands_for (A.kept shared.old) conn.new }
-    ensures place { SameSockets conn.old conn.new }
+    requires sound { IsSound A.App (A.kept shared.old) conn.old }
     ensures same_numbers { SameNumbers conn.old conn.new }
-    ensures fits { StepFits conn.new result }
-    ensures meets { (a : Connection) → ConnStands A.stands_for (A.kept shared.old) conn.old a → Meets A.stands_for (A.kept shared.old) conn.new (A.numbers shared.new) result (ticks_established (A.meaning (A.kept shared.old)) a (A.numbers shared.old)) }
+    ensures takes { Takes A.App ticks_established conn.old shared.old conn.new shared.new result }
 {
     if conn.len > 0 {
         waits_for_ack(conn, shared)
@@ -119,14 +108,10 @@ fn ticks_established<A: App>(conn: &mut Conn<A>, shared: &mut A::Shared) -> Step
 
 /// The periodic call of a connection. One in CLOSE_WAIT has something outstanding.
 pub fn on_tick<A: App>(conn: &mut Conn<A>, shared: &mut A::Shared) -> Step
-    requires sound { IsSound A.meaning A.stands_for (A.kept shared.old) conn.old }
+    requires sound { IsSound A.App (A.kept shared.old) conn.old }
     requires busy { Rests conn.old }
-    ensures same { A.kept shared.new ≡ A.kept shared.old }
-    ensures sound { IsSound A.meaning A.stands_for (A.kept shared.old) conn.new }
-    ensures place { SameSockets conn.old conn.new }
     ensures same_numbers { SameNumbers conn.old conn.new }
-    ensures fits { StepFits conn.new result }
-    ensures meets { (a : Connection) → ConnStands A.stands_for (A.kept shared.old) conn.old a → Meets A.stands_for (A.kept shared.old) conn.new (A.numbers shared.new) result (on_tick (A.meaning (A.kept shared.old)) a (A.numbers shared.old)) }
+    ensures takes { Takes A.App on_tick conn.old shared.old conn.new shared.new result }
 {
     match conn.state {
         State::Closed => Step::Drop,

@@ -2,7 +2,8 @@
 use Rattle.std.proofs.Common.{ℕ, ◌≡◌, ◌+◌, ◌%◌, Bool, length, List, ◌∷◌, Option, Some, None, sym, ap, ◌∙◌, subst, refl}
 use Rattle.std.specs.Prelude.{slice_set}
 use Rattle.std.proofs.Math.Nat.{mod-add-mod}
-use Rattle.app_events.specs.Part.{Meaning, Part}
+use Rattle.app_events.specs.Part.{Meaning}
+use Rattle.app_events.specs.declared.app.App.{Ghosts}
 use Rattle.tcp_segment.specs.Segments.{PlainSegment, datagram_bytes}
 use Rattle.tcp_machine.specs.Ask.{Outcome}
 use Rattle.tcp_machine.specs.Connection.{Connection}
@@ -34,14 +35,14 @@ answered n event slot o gone said = record {
 pub next_ident : (counts : Counts) (event : Event) (again : Bool) (past : List Past) → CountsStand counts (seen event past) → (counts.ident + 1) % 65536 ≡ ident_of (record { event = event; answer = Spoke again } ∷ past)
 next_ident counts event again past h = ap (λ (n : ℕ). (n + 1) % 65536) h.ident ∙ mod-add-mod (times (λ p. is_spoken p.answer) past) 65536 1
 
-spoken_by : {A S K : Type 0} (stands : A → K → Part → Type 0) (kept : S → K) (numbers : S → List ℕ) (node : Node A S) (len : ℕ) (id : ℕ) (n : AbstractNode) (event : Event) (slot : ℕ) (o : Outcome) (gone : Option Connection) (said : Option PlainSegment) (result : Option ℕ) →
+spoken_by : {A S : Type 0} (g : Ghosts A S) (node : Node A S) (len : ℕ) (id : ℕ) (n : AbstractNode) (event : Event) (slot : ℕ) (o : Outcome) (gone : Option Connection) (said : Option PlainSegment) (result : Option ℕ) →
     node.addr ≡ n.addr → node.table.iss ≡ initial_number (seen event n.past) → CountsStand node.counts (record { event = event; answer = Spoke (is_again o.step) } ∷ n.past) →
     id ≡ ident_of (record { event = event; answer = Spoke (is_again o.step) } ∷ n.past) →
-    SlotsStand stands (kept node.shared) node.table.conns (slice_set n.connections slot o.connection) → numbers node.shared ≡ o.numbers →
+    SlotsStand g (g.kept node.shared) node.table.conns (slice_set n.connections slot o.connection) → g.numbers node.shared ≡ o.numbers →
     IsSpoken node.addr o.connection.sockets id said result node.packet → result ≡ Some len → initial_number (record { event = event; answer = Spoke (is_again o.step) } ∷ n.past) ≡ initial_number (seen event n.past) →
-    Steps stands kept numbers node (Some len) (answered n event slot o gone said)
-spoken_by stands kept numbers node len id n event slot o gone None result addr iss counts same slots counted spoken is first = cc
-spoken_by stands kept numbers node len id n event slot o gone (Some s) result addr iss counts same slots counted spoken is first =
+    Steps g node (Some len) (answered n event slot o gone said)
+spoken_by g node len id n event slot o gone None result addr iss counts same slots counted spoken is first = cc
+spoken_by g node len id n event slot o gone (Some s) result addr iss counts same slots counted spoken is first =
     let e = ap (λ (i : ℕ). datagram_bytes (datagram_to node.addr o.connection.sockets i s)) same in
     record {
       stands = record { addr = addr; slots = slots; iss = iss ∙ sym first; numbers_stand = counted; counts = counts };
@@ -51,36 +52,36 @@ spoken_by stands kept numbers node len id n event slot o gone (Some s) result ad
       };
     }
 
-pub speaks : {A S K : Type 0} (stands : A → K → Part → Type 0) (kept : S → K) (numbers : S → List ℕ) (m : Meaning) (node : Node A S) (before : Counts) (len : ℕ) (n : AbstractNode) (event : Event) (slot : ℕ) (old : Connection) (o : Outcome) (step : Step) (result : Option ℕ) →
+pub speaks : {A S : Type 0} (g : Ghosts A S) (m : Meaning) (node : Node A S) (before : Counts) (len : ℕ) (n : AbstractNode) (event : Event) (slot : ℕ) (old : Connection) (o : Outcome) (step : Step) (result : Option ℕ) →
     node.addr ≡ n.addr → node.table.iss ≡ initial_number (seen event n.past) → CountsStand before (seen event n.past) → CountsStand node.counts (record { event = event; answer = Spoke (is_again step) } ∷ n.past) →
-    MeetsAt stands (kept node.shared) node.table.conns (numbers node.shared) step n.connections slot o →
+    MeetsAt g (g.kept node.shared) node.table.conns (g.numbers node.shared) step n.connections slot o →
     IsSpoken node.addr o.connection.sockets ((before.ident + 1) % 65536) (segment_of m o.connection step) result node.packet → result ≡ Some len →
-    Steps stands kept numbers node (Some len) (happened m n event slot old o)
+    Steps g node (Some len) (happened m n event slot old o)
 unfolding happened
-speaks stands kept numbers m node before len n event slot old o step result addr iss before_stands counts meets spoken is =
-    spoken_by stands kept numbers node len ((before.ident + 1) % 65536) n event slot o (gone_by old o.connection) (segment_of m o.connection o.step) result addr iss
+speaks g m node before len n event slot old o step result addr iss before_stands counts meets spoken is =
+    spoken_by g node len ((before.ident + 1) % 65536) n event slot o (gone_by old o.connection) (segment_of m o.connection o.step) result addr iss
     (subst (λ (s : Step). CountsStand node.counts (record { event = event; answer = Spoke (is_again s) } ∷ n.past)) meets.asked counts)
     (next_ident before event (is_again o.step) n.past before_stands) meets.slots meets.counted
     (subst (λ (s : Step). IsSpoken node.addr o.connection.sockets ((before.ident + 1) % 65536) (segment_of m o.connection s) result node.packet) meets.asked spoken) is refl
 
-silent_by : {A S K : Type 0} (stands : A → K → Part → Type 0) (kept : S → K) (numbers : S → List ℕ) (node : Node A S) (id : ℕ) (n : AbstractNode) (event : Event) (slot : ℕ) (o : Outcome) (gone : Option Connection) (said : Option PlainSegment) (result : Option ℕ) →
+silent_by : {A S : Type 0} (g : Ghosts A S) (node : Node A S) (id : ℕ) (n : AbstractNode) (event : Event) (slot : ℕ) (o : Outcome) (gone : Option Connection) (said : Option PlainSegment) (result : Option ℕ) →
     node.addr ≡ n.addr → node.table.iss ≡ initial_number (seen event n.past) → CountsStand node.counts (seen event n.past) →
-    SlotsStand stands (kept node.shared) node.table.conns (slice_set n.connections slot o.connection) → numbers node.shared ≡ o.numbers →
+    SlotsStand g (g.kept node.shared) node.table.conns (slice_set n.connections slot o.connection) → g.numbers node.shared ≡ o.numbers →
     IsSpoken node.addr o.connection.sockets id said result node.packet → result ≡ None →
-    Steps stands kept numbers node None (answered n event slot o gone said)
-silent_by stands kept numbers node id n event slot o gone None result addr iss counts slots counted spoken is = record {
+    Steps g node None (answered n event slot o gone said)
+silent_by g node id n event slot o gone None result addr iss counts slots counted spoken is = record {
   stands = record { addr = addr; slots = slots; iss = iss; numbers_stand = counted; counts = counts };
   sent = refl;
 }
-silent_by stands kept numbers node id n event slot o gone (Some s) result addr iss counts slots counted spoken is =
+silent_by g node id n event slot o gone (Some s) result addr iss counts slots counted spoken is =
     let e = sym is ∙ spoken.answer in cc
 
-pub says_nothing : {A S K : Type 0} (stands : A → K → Part → Type 0) (kept : S → K) (numbers : S → List ℕ) (m : Meaning) (node : Node A S) (id : ℕ) (n : AbstractNode) (event : Event) (slot : ℕ) (old : Connection) (o : Outcome) (step : Step) (result : Option ℕ) →
+pub says_nothing : {A S : Type 0} (g : Ghosts A S) (m : Meaning) (node : Node A S) (id : ℕ) (n : AbstractNode) (event : Event) (slot : ℕ) (old : Connection) (o : Outcome) (step : Step) (result : Option ℕ) →
     node.addr ≡ n.addr → node.table.iss ≡ initial_number (seen event n.past) → CountsStand node.counts (seen event n.past) →
-    MeetsAt stands (kept node.shared) node.table.conns (numbers node.shared) step n.connections slot o →
+    MeetsAt g (g.kept node.shared) node.table.conns (g.numbers node.shared) step n.connections slot o →
     IsSpoken node.addr o.connection.sockets id (segment_of m o.connection step) result node.packet → result ≡ None →
-    Steps stands kept numbers node None (happened m n event slot old o)
+    Steps g node None (happened m n event slot old o)
 unfolding happened
-says_nothing stands kept numbers m node id n event slot old o step result addr iss counts meets spoken is =
-    silent_by stands kept numbers node id n event slot o (gone_by old o.connection) (segment_of m o.connection o.step) result addr iss counts meets.slots meets.counted
+says_nothing g m node id n event slot old o step result addr iss counts meets spoken is =
+    silent_by g node id n event slot o (gone_by old o.connection) (segment_of m o.connection o.step) result addr iss counts meets.slots meets.counted
     (subst (λ (s : Step). IsSpoken node.addr o.connection.sockets id (segment_of m o.connection s) result node.packet) meets.asked spoken) is

@@ -5,7 +5,7 @@ use Rattle.std.specs.List.{position_or_len}
 use Rattle.std.proofs.lemmas.Bool.{lt-ltb}
 use Rattle.std.proofs.lemmas.List.Quantifiers.{position-Some}
 use Rattle.std.proofs.lemmas.Option.{get_or_from_slice_get}
-use Rattle.app_events.specs.Part.{Meaning, Part}
+use Rattle.app_events.specs.declared.app.App.{Ghosts}
 use Rattle.app_events.specs.States.{is_live, is_time_wait}
 use Rattle.app_events.specs.declared.state.State.{State}
 use Rattle.app_events.specs.declared.state.State.TheVariants.{Closed, SynRcvd, Established, CloseWait, FinWait1, FinWait2, Closing, TimeWait, LastAck}
@@ -84,14 +84,14 @@ dead_at c a s e dead =
     ap (λ (b : Bool). b && (bytes_eq c.peer.0 s.peer.0 && ((c.peer_port.0 == s.peer_port.0) && (c.own_port.0 == s.own_port.0)))) f
     ∙ sym (ap (λ (b : Bool). b && same_sockets a.sockets s) dead)
 
-at_serves : {A K : Type 0} (stands : A → K → Part → Type 0) (k : K) (c : Conn A) (a : Connection) (s : Sockets) → ConnStands stands k c a → is_at s.peer s.peer_port s.own_port c ≡ serves s a
-at_serves stands k c a s h =
+at_serves : {A S : Type 0} (g : Ghosts A S) (k : g.Kept) (c : Conn A) (a : Connection) (s : Sockets) → ConnStands g k c a → is_at s.peer s.peer_port s.own_port c ≡ serves s a
+at_serves g k c a s h =
     by_bool (is_live a.state) (λ live. live_at c a s (h.numbers.like live) h.numbers.state) (λ dead. dead_at c a s h.numbers.state dead)
 
-pub find_agrees : {A K : Type 0} (stands : A → K → Part → Type 0) (k : K) (cs : List (Conn A)) (abstracts : List Connection) (s : Sockets) → SlotsStand stands k cs abstracts →
+pub find_agrees : {A S : Type 0} (g : Ghosts A S) (k : g.Kept) (cs : List (Conn A)) (abstracts : List Connection) (s : Sockets) → SlotsStand g k cs abstracts →
     position (is_at s.peer s.peer_port s.own_port) cs ≡ position (serves s) abstracts
-find_agrees stands k cs abstracts s h =
-    position_agrees (is_at s.peer s.peer_port s.own_port) (serves s) cs abstracts (sym h.same_length) (λ i c a at there. at_serves stands k c a s (h.each i c a at there))
+find_agrees g k cs abstracts s h =
+    position_agrees (is_at s.peer s.peer_port s.own_port) (serves s) cs abstracts (sym h.same_length) (λ i c a at there. at_serves g k c a s (h.each i c a at there))
 
 -- in TIME-WAIT the timer counts the age
 counts_age : {A : Type 0} (state : State) (c : Conn A) (a : Connection) → a.state ≡ state → LenFits state c.len → IsLike c a → is_time_wait state ≡ true → c.timer.count ≡ a.age
@@ -117,8 +117,8 @@ live_waits FinWait2 t = refl
 live_waits Closing t = refl
 live_waits LastAck t = refl
 
-pub age_counted : {A K : Type 0} (m : K → Meaning) (stands : A → K → Part → Type 0) (k : K) (c : Conn A) (a : Connection) → ConnStands stands k c a → IsSound m stands k c → is_time_wait a.state ≡ true → c.timer.count ≡ a.age
-age_counted m stands k c a h sound t =
+pub age_counted : {A S : Type 0} (g : Ghosts A S) (k : g.Kept) (c : Conn A) (a : Connection) → ConnStands g k c a → IsSound g k c → is_time_wait a.state ≡ true → c.timer.count ≡ a.age
+age_counted g k c a h sound t =
     let live : is_live a.state ≡ true = live_waits a.state t in
     let numbers : HasSoundNumbers c = sound.numbers (ap is_live h.numbers.state ∙ live) in
     counts_age a.state c a refl (subst (λ (s : State). LenFits s c.len) h.numbers.state numbers.len) (h.numbers.like live) t
@@ -127,33 +127,33 @@ if_waits : (b : Bool) (x y t : ℕ) → (b ≡ true → x ≡ y) → (b && (x ==
 if_waits true x y t h = ap (λ (n : ℕ). n == t) (h refl)
 if_waits false x y t h = refl
 
-waited_agrees : {A K : Type 0} (m : K → Meaning) (stands : A → K → Part → Type 0) (k : K) (t : ℕ) (c : Conn A) (a : Connection) → ConnStands stands k c a → IsSound m stands k c → has_waited t c ≡ (is_waiting a && (a.age == t))
-waited_agrees m stands k t c a h sound =
+waited_agrees : {A S : Type 0} (g : Ghosts A S) (k : g.Kept) (t : ℕ) (c : Conn A) (a : Connection) → ConnStands g k c a → IsSound g k c → has_waited t c ≡ (is_waiting a && (a.age == t))
+waited_agrees g k t c a h sound =
     ap (λ (s : State). is_time_wait s && (c.timer.count == t)) h.numbers.state
-    ∙ if_waits (is_time_wait a.state) c.timer.count a.age t (age_counted m stands k c a h sound)
+    ∙ if_waits (is_time_wait a.state) c.timer.count a.age t (age_counted g k c a h sound)
 
 greater : (b : Bool) (x y rest more : ℕ) → (b ≡ true → x ≡ y) → rest ≡ more → max (if b then x else 0) rest ≡ (if b then max y more else more)
 greater true x y rest more h e = let same = h refl in cc
 greater false x y rest more h e = omega (arith, e)
 
-longest_agrees : {A K : Type 0} (m : K → Meaning) (stands : A → K → Part → Type 0) (k : K) (cs : List (Conn A)) (abstracts : List Connection) → length cs ≡ length abstracts →
-    ((i : ℕ) (c : Conn A) (a : Connection) → slice_get cs i ≡ Some c → slice_get abstracts i ≡ Some a → ConnStands stands k c a × IsSound m stands k c) → table.longest_wait cs ≡ longest_wait abstracts
-longest_agrees m stands k [] [] e h = refl
-longest_agrees m stands k [] (a ∷ abstracts) e h = absurd (omega (arith, e))
-longest_agrees m stands k (c ∷ cs) [] e h = absurd (omega (arith, e))
-longest_agrees m stands k (c ∷ cs) (a ∷ abstracts) e h =
+longest_agrees : {A S : Type 0} (g : Ghosts A S) (k : g.Kept) (cs : List (Conn A)) (abstracts : List Connection) → length cs ≡ length abstracts →
+    ((i : ℕ) (c : Conn A) (a : Connection) → slice_get cs i ≡ Some c → slice_get abstracts i ≡ Some a → ConnStands g k c a × IsSound g k c) → table.longest_wait cs ≡ longest_wait abstracts
+longest_agrees g k [] [] e h = refl
+longest_agrees g k [] (a ∷ abstracts) e h = absurd (omega (arith, e))
+longest_agrees g k (c ∷ cs) [] e h = absurd (omega (arith, e))
+longest_agrees g k (c ∷ cs) (a ∷ abstracts) e h =
     let here = h 0 c a refl refl in
-    let rest = longest_agrees m stands k cs abstracts (omega (arith, e)) (λ i d b at there. h (suc i) d b at there) in
+    let rest = longest_agrees g k cs abstracts (omega (arith, e)) (λ i d b at there. h (suc i) d b at there) in
     ap (λ (s : State). max (if is_time_wait s then c.timer.count else 0) (table.longest_wait cs)) here.0.numbers.state
-    ∙ greater (is_time_wait a.state) c.timer.count a.age (table.longest_wait cs) (longest_wait abstracts) (age_counted m stands k c a here.0 here.1) rest
+    ∙ greater (is_time_wait a.state) c.timer.count a.age (table.longest_wait cs) (longest_wait abstracts) (age_counted g k c a here.0 here.1) rest
 
-pub slot_agrees : {A K : Type 0} (m : K → Meaning) (stands : A → K → Part → Type 0) (k : K) (cs : List (Conn A)) (abstracts : List Connection) → SlotsStand stands k cs abstracts → AllKept m stands k cs → table.slot_for_syn cs ≡ slot_for_syn abstracts
-slot_agrees {A} m stands k cs abstracts h kept =
+pub slot_agrees : {A S : Type 0} (g : Ghosts A S) (k : g.Kept) (cs : List (Conn A)) (abstracts : List Connection) → SlotsStand g k cs abstracts → AllKept g k cs → table.slot_for_syn cs ≡ slot_for_syn abstracts
+slot_agrees {A} g k cs abstracts h kept =
     let size : length cs ≡ length abstracts = sym h.same_length in
     let free = position_agrees (λ (c : Conn A). not (is_live c.state)) (λ (a : Connection). not (is_live a.state)) cs abstracts size (λ i c a at there. ap (λ (s : State). not (is_live s)) (h.each i c a at there).numbers.state) in
-    let longest = longest_agrees m stands k cs abstracts size (λ i c a at there. (h.each i c a at there, (kept i c at).sound)) in
+    let longest = longest_agrees g k cs abstracts size (λ i c a at there. (h.each i c a at there, (kept i c at).sound)) in
     let waits = position_agrees (has_waited (table.longest_wait cs)) (λ (a : Connection). is_waiting a && (a.age == table.longest_wait cs)) cs abstracts size
-    (λ i c a at there. waited_agrees m stands k (table.longest_wait cs) c a (h.each i c a at there) (kept i c at).sound) in
+    (λ i c a at there. waited_agrees g k (table.longest_wait cs) c a (h.each i c a at there) (kept i c at).sound) in
     ap (λ (o : Option ℕ). or_else o (position (has_waited (table.longest_wait cs)) cs)) free
     ∙ ap (or_else (position (λ (a : Connection). not (is_live a.state)) abstracts)) (waits ∙ ap (λ (n : ℕ). position (λ (a : Connection). is_waiting a && (a.age == n)) abstracts) longest)
 

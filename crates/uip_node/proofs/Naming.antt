@@ -1,6 +1,7 @@
 -- What stands on all segments of a connection, after a step.
 use Rattle.std.proofs.Common.{ℕ, ◌≡◌, ◌+◌, ◌&&◌, ◌==◌, Bool, true, false, List, inl, inr, ◌⊎◌, refl, sym, ap, ◌∙◌, nat_lt, if◌then◌else◌, not}
-use Rattle.app_events.specs.Part.{Part, Meaning}
+use Rattle.app_events.specs.Part.{Meaning}
+use Rattle.app_events.specs.declared.app.App.{Ghosts}
 use Rattle.app_events.specs.States.{is_live}
 use Rattle.app_events.specs.declared.now.Now.{Now}
 use Rattle.app_events.specs.declared.want.Want.{Want}
@@ -28,8 +29,8 @@ pub record SameNames (a b : Connection) : Type 0 where
 pub like_named : {A : Type 0} (c : Conn A) (a : Connection) → IsLike c a → IsNamed c a
 like_named c a l = record { peer = l.peer; peer_port = l.peer_port; own_port = l.own_port; rcv_nxt = l.rcv_nxt; snd_nxt = l.snd_nxt }
 
-pub live_named : {A K : Type 0} (stands : A → K → Part → Type 0) (k : K) (c : Conn A) (a : Connection) → ConnStands stands k c a → is_live c.state ≡ true → IsNamed c a
-live_named stands k c a h live = like_named c a (h.numbers.like (sym (ap is_live h.numbers.state) ∙ live))
+pub live_named : {A S : Type 0} (g : Ghosts A S) (k : g.Kept) (c : Conn A) (a : Connection) → ConnStands g k c a → is_live c.state ≡ true → IsNamed c a
+live_named g k c a h live = like_named c a (h.numbers.like (sym (ap is_live h.numbers.state) ∙ live))
 
 pub named_after : {A : Type 0} (c d : Conn A) (a b : Connection) → IsNamed c a → SameSockets c d → SameNumbers c d → SameNames a b → IsNamed d b
 named_after c d a b n s m t = record {
@@ -159,9 +160,9 @@ unfolding on_segment
 segment_lives m a ns s live =
     either_lives (has_rst s.flags) _ _ (inl refl) (either_lives (is_out_of_order a s) _ _ (inr live) (state_lives m a.state (is_acked a s) a ns s live))
 
-pub segment_named : {A K : Type 0} (stands : A → K → Part → Type 0) (k : K) (d : Conn A) (a : Connection) (step : Step) (m : Meaning) (ns : List ℕ) (s : PlainSegment) (after : List ℕ) →
-    Meets stands k d after step (on_segment m a ns s) → is_live a.state ≡ true → (step ≡ Step.Drop → ⊥) → IsNamed d (on_segment m a ns s).connection
-segment_named stands k d a step m ns s after h live speaks =
+pub segment_named : {A S : Type 0} (g : Ghosts A S) (k : g.Kept) (d : Conn A) (a : Connection) (step : Step) (m : Meaning) (ns : List ℕ) (s : PlainSegment) (after : List ℕ) →
+    Meets g k d after step (on_segment m a ns s) → is_live a.state ≡ true → (step ≡ Step.Drop → ⊥) → IsNamed d (on_segment m a ns s).connection
+segment_named g k d a step m ns s after h live speaks =
     elim (segment_lives m a ns s live) [
       | inl e ↦ absurd (speaks (h.asked ∙ e))
       | inr l ↦ like_named d (on_segment m a ns s).connection (h.connection.numbers.like l)

@@ -2,7 +2,7 @@
 use Rattle.std.proofs.Common.{ℕ, zero, suc, ◌≡◌, List, [], ◌∷◌, length, replicate, Some, Bool, true, false, sym, ap, ◌∙◌, subst, arith, ◌<◌}
 use Rattle.std.specs.Prelude.{All, slice_get}
 use Rattle.std.proofs.lemmas.Option.{get_or_from_slice_get}
-use Rattle.app_events.specs.Part.{Meaning, Part}
+use Rattle.app_events.specs.declared.app.App.{Ghosts}
 use Rattle.app_events.specs.States.{is_live}
 use Rattle.app_events.specs.declared.state.State.TheVariants.{Closed}
 use Rattle.tcp_machine.specs.Connection.{Connection, closed}
@@ -22,8 +22,8 @@ is_within (y ∷ ys) (suc i) x at = omega (arith, is_within ys i x at)
 all_at : {X : Type 0} (P : X → Type 0) (xs : List X) (i : ℕ) (x : X) → All P xs → slice_get xs i ≡ Some x → P x
 all_at P xs i x all at = subst P (get_or_from_slice_get xs i x x at) (all i x (is_within xs i x at))
 
-closed_kept : {A K : Type 0} (m : K → Meaning) (stands : A → K → Part → Type 0) (k : K) (c : Conn A) → c.state ≡ Closed → IsKept m stands k c
-closed_kept m stands k c h = record {
+closed_kept : {A S : Type 0} (g : Ghosts A S) (k : g.Kept) (c : Conn A) → c.state ≡ Closed → IsKept g k c
+closed_kept g k c h = record {
   sound = record {
     numbers = λ live. absurd (not_both (is_live c.state) (ap is_live h) live);
     says = λ open_to_it. absurd (not_both (is_open c.state) (ap is_open h) open_to_it);
@@ -31,24 +31,24 @@ closed_kept m stands k c h = record {
   busy = λ waits. let e = sym h ∙ waits in cc;
 }
 
-pub all_kept : {A K : Type 0} (m : K → Meaning) (stands : A → K → Part → Type 0) (k : K) (cs : List (Conn A)) → All (λ (c : Conn A). c.state ≡ Closed) cs → AllKept m stands k cs
-all_kept {A} m stands k cs all i c at = closed_kept m stands k c (all_at (λ (d : Conn A). d.state ≡ Closed) cs i c all at)
+pub all_kept : {A S : Type 0} (g : Ghosts A S) (k : g.Kept) (cs : List (Conn A)) → All (λ (c : Conn A). c.state ≡ Closed) cs → AllKept g k cs
+all_kept {A} g k cs all i c at = closed_kept g k c (all_at (λ (d : Conn A). d.state ≡ Closed) cs i c all at)
 
 from_replicate : {X : Type 0} (n i : ℕ) (x y : X) → slice_get (replicate n x) i ≡ Some y → y ≡ x
 from_replicate zero i x y h = cc
 from_replicate (suc n) zero x y h = cc
 from_replicate (suc n) (suc i) x y h = from_replicate n i x y h
 
-closed_stands : {A K : Type 0} (stands : A → K → Part → Type 0) (k : K) (c : Conn A) (a : Connection) → c.state ≡ Closed → a ≡ closed → ConnStands stands k c a
-closed_stands stands k c a h e =
+closed_stands : {A S : Type 0} (g : Ghosts A S) (k : g.Kept) (c : Conn A) (a : Connection) → c.state ≡ Closed → a ≡ closed → ConnStands g k c a
+closed_stands g k c a h e =
     let state : a.state ≡ Closed = ap (λ (b : Connection). b.state) e in
     record {
       numbers = record { state = h ∙ sym state; like = λ live. absurd (not_both (is_live a.state) (ap is_live state) live) };
       part = λ open_to_it. absurd (not_both (is_open a.state) (ap is_open state) open_to_it);
     }
 
-pub all_stand : {A K : Type 0} (stands : A → K → Part → Type 0) (k : K) (cs : List (Conn A)) → All (λ (c : Conn A). c.state ≡ Closed) cs → length cs ≡ 10 → SlotsStand stands k cs (replicate 10 closed)
-all_stand {A} stands k cs all ten = record {
+pub all_stand : {A S : Type 0} (g : Ghosts A S) (k : g.Kept) (cs : List (Conn A)) → All (λ (c : Conn A). c.state ≡ Closed) cs → length cs ≡ 10 → SlotsStand g k cs (replicate 10 closed)
+all_stand {A} g k cs all ten = record {
   same_length = sym ten;
-  each = λ i c a at there. closed_stands stands k c a (all_at (λ (d : Conn A). d.state ≡ Closed) cs i c all at) (from_replicate 10 i closed a there);
+  each = λ i c a at there. closed_stands g k c a (all_at (λ (d : Conn A). d.state ≡ Closed) cs i c all at) (from_replicate 10 i closed a there);
 }

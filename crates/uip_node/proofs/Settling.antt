@@ -2,7 +2,8 @@
 use Rattle.std.proofs.Common.{ℕ, zero, suc, ◌≡◌, ◌+◌, ◌<◌, Bool, true, false, List, [], ◌∷◌, length, Some, inl, inr, refl, sym, ap, ◌∙◌, subst, arith, nat_lt, if◌then◌else◌}
 use Rattle.std.specs.Prelude.{slice_get, slice_set}
 use Rattle.std.proofs.lemmas.Bool.{cases_eq, ltb-true, ltb-false}
-use Rattle.app_events.specs.Part.{Part, Meaning}
+use Rattle.app_events.specs.Part.{Meaning}
+use Rattle.app_events.specs.declared.app.App.{Ghosts}
 use Rattle.app_events.specs.States.{is_live}
 use Rattle.app_events.specs.declared.now.Now.{Now}
 use Rattle.app_events.specs.declared.row.Row.{Row}
@@ -26,10 +27,10 @@ rests_of d (Step.Fin again) a f = f
 rests_of d Step.Reset a f = f
 rests_of d (Step.Ask fresh) a f = absurd a
 
-pub kept_after : {A K : Type 0} (m : K → Meaning) (stands : A → K → Part → Type 0) (k : K) (cs : List (Conn A)) (i : ℕ) (d : Conn A) → AllSound m stands k cs → OthersRest i cs → IsKept m stands k d → AllKept m stands k (slice_set cs i d)
-kept_after {A} m stands k cs i d sound others here j c h =
+pub kept_after : {A S : Type 0} (g : Ghosts A S) (k : g.Kept) (cs : List (Conn A)) (i : ℕ) (d : Conn A) → AllSound g k cs → OthersRest i cs → IsKept g k d → AllKept g k (slice_set cs i d)
+kept_after {A} g k cs i d sound others here j c h =
     elim (cases_eq j i) [
-      | inl same ↦ subst (λ (x : Conn A). IsKept m stands k x) (sym (get_set_same cs i d c (subst (λ (n : ℕ). slice_get (slice_set cs i d) n ≡ Some c) same h))) here
+      | inl same ↦ subst (λ (x : Conn A). IsKept g k x) (sym (get_set_same cs i d c (subst (λ (n : ℕ). slice_get (slice_set cs i d) n ≡ Some c) same h))) here
       | inr other ↦ elim (get_after_set cs i j d c h) [
         | inl e ↦ absurd (other (sym e.0))
         | inr old ↦ record { sound = sound j c old; busy = others j c other old }
@@ -51,8 +52,8 @@ pick true x y z f g = f refl
 pick false x y z f g = g refl
 
 -- the row of a connection is that of the abstract one
-row_stands : {A K : Type 0} (stands : A → K → Part → Type 0) (k : K) (slot : ℕ) (c : Conn A) (a : Connection) → ConnStands stands k c a → is_live a.state ≡ true → row_in slot c ≡ row_of slot a
-row_stands stands k slot c a h live =
+row_stands : {A S : Type 0} (g : Ghosts A S) (k : g.Kept) (slot : ℕ) (c : Conn A) (a : Connection) → ConnStands g k c a → is_live a.state ≡ true → row_in slot c ≡ row_of slot a
+row_stands g k slot c a h live =
     let l = h.numbers.like live in
     let peer = l.peer in
     let port = l.peer_port in
@@ -68,42 +69,42 @@ both : (b : Bool) (x y : Row) (xs ys : List Row) → (b ≡ true → x ≡ y) �
 both true x y xs ys e f = let g = e refl in cc
 both false x y xs ys e f = f
 
-tail_stands : {A K : Type 0} (stands : A → K → Part → Type 0) (k : K) (c : Conn A) (cs : List (Conn A)) (a : Connection) (abstracts : List Connection) → SlotsStand stands k (c ∷ cs) (a ∷ abstracts) → SlotsStand stands k cs abstracts
-tail_stands stands k c cs a abstracts h = record {
+tail_stands : {A S : Type 0} (g : Ghosts A S) (k : g.Kept) (c : Conn A) (cs : List (Conn A)) (a : Connection) (abstracts : List Connection) → SlotsStand g k (c ∷ cs) (a ∷ abstracts) → SlotsStand g k cs abstracts
+tail_stands g k c cs a abstracts h = record {
   same_length = omega (arith, h.same_length);
   each = λ i d b e f. h.each (suc i) d b e f;
 }
 
-pub rows_stand : {A K : Type 0} (stands : A → K → Part → Type 0) (k : K) (slot : ℕ) (cs : List (Conn A)) (abstracts : List Connection) → SlotsStand stands k cs abstracts → live_rows slot cs ≡ rows_from slot abstracts
-rows_stand stands k slot [] [] h = refl
-rows_stand stands k slot [] (a ∷ abstracts) h = absurd (omega (arith, h.same_length))
-rows_stand stands k slot (c ∷ cs) [] h = absurd (omega (arith, h.same_length))
-rows_stand stands k slot (c ∷ cs) (a ∷ abstracts) h =
+pub rows_stand : {A S : Type 0} (g : Ghosts A S) (k : g.Kept) (slot : ℕ) (cs : List (Conn A)) (abstracts : List Connection) → SlotsStand g k cs abstracts → live_rows slot cs ≡ rows_from slot abstracts
+rows_stand g k slot [] [] h = refl
+rows_stand g k slot [] (a ∷ abstracts) h = absurd (omega (arith, h.same_length))
+rows_stand g k slot (c ∷ cs) [] h = absurd (omega (arith, h.same_length))
+rows_stand g k slot (c ∷ cs) (a ∷ abstracts) h =
     let head = h.each 0 c a refl refl in
-    let rest = rows_stand stands k (slot + 1) cs abstracts (tail_stands stands k c cs a abstracts h) in
+    let rest = rows_stand g k (slot + 1) cs abstracts (tail_stands g k c cs a abstracts h) in
     ap (λ (s : State). if is_live s then row_in slot c ∷ live_rows (slot + 1) cs else live_rows (slot + 1) cs) head.numbers.state
-    ∙ both (is_live a.state) (row_in slot c) (row_of slot a) (live_rows (slot + 1) cs) (rows_from (slot + 1) abstracts) (λ live. row_stands stands k slot c a head live) rest
+    ∙ both (is_live a.state) (row_in slot c) (row_of slot a) (live_rows (slot + 1) cs) (rows_from (slot + 1) abstracts) (λ live. row_stands g k slot c a head live) rest
 
-pub settled : {A K : Type 0} (stands : A → K → Part → Type 0) (k : K) (m : Meaning) (cs ds : List (Conn A)) (abstracts : List Connection) (ns : List ℕ) (step result : Step) (slot ticks : ℕ) (net : List ℕ) (fresh : Bool) (now : Now) (o : Outcome) →
-    slot < length abstracts → step ≡ Step.Ask fresh → MeetsAt stands k cs ns step abstracts slot o →
+pub settled : {A S : Type 0} (g : Ghosts A S) (k : g.Kept) (m : Meaning) (cs ds : List (Conn A)) (abstracts : List Connection) (ns : List ℕ) (step result : Step) (slot ticks : ℕ) (net : List ℕ) (fresh : Bool) (now : Now) (o : Outcome) →
+    slot < length abstracts → step ≡ Step.Ask fresh → MeetsAt g k cs ns step abstracts slot o →
     now ≡ record { ticks = ticks; net = net; rows = live_rows 0 cs } →
-    ((others : List Connection) (a : Connection) → SlotsStand stands k cs others → slice_get others slot ≡ Some a → MeetsAt stands k ds ns result others slot (ask m now fresh a ns)) →
-    MeetsAt stands k ds ns result abstracts slot (asked m (moment_at ticks net abstracts slot) o)
-settled stands k m cs ds abstracts ns step result slot ticks net fresh now o within is h n meets =
+    ((others : List Connection) (a : Connection) → SlotsStand g k cs others → slice_get others slot ≡ Some a → MeetsAt g k ds ns result others slot (ask m now fresh a ns)) →
+    MeetsAt g k ds ns result abstracts slot (asked m (moment_at ticks net abstracts slot) o)
+settled g k m cs ds abstracts ns step result slot ticks net fresh now o within is h n meets =
     let after : List Connection = slice_set abstracts slot o.connection in
     let said : o.step ≡ Step.Ask fresh = sym h.asked ∙ is in
-    let moment : now ≡ moment_at ticks net abstracts slot o.connection = n ∙ ap (λ (rows : List Row). record { ticks = ticks; net = net; rows = rows }) (rows_stand stands k 0 cs after h.slots) in
+    let moment : now ≡ moment_at ticks net abstracts slot o.connection = n ∙ ap (λ (rows : List Row). record { ticks = ticks; net = net; rows = rows }) (rows_stand g k 0 cs after h.slots) in
     let one = meets after o.connection h.slots (get_set abstracts slot o.connection within) in
-    let two = subst (λ (t : Now). MeetsAt stands k ds ns result after slot (ask m t fresh o.connection ns)) moment one in
-    let three = subst (λ (x : List ℕ). MeetsAt stands k ds ns result after slot (ask m (moment_at ticks net abstracts slot o.connection) fresh o.connection x)) h.counted two in
-    subst (λ (s : Step). MeetsAt stands k ds ns result abstracts slot (asked_for m (moment_at ticks net abstracts slot) o s)) (sym said)
+    let two = subst (λ (t : Now). MeetsAt g k ds ns result after slot (ask m t fresh o.connection ns)) moment one in
+    let three = subst (λ (x : List ℕ). MeetsAt g k ds ns result after slot (ask m (moment_at ticks net abstracts slot o.connection) fresh o.connection x)) h.counted two in
+    subst (λ (s : Step). MeetsAt g k ds ns result abstracts slot (asked_for m (moment_at ticks net abstracts slot) o s)) (sym said)
     (record {
-      slots = subst (λ (xs : List Connection). SlotsStand stands k ds xs) (set_set abstracts slot o.connection (ask m (moment_at ticks net abstracts slot o.connection) fresh o.connection o.numbers).connection) three.slots;
+      slots = subst (λ (xs : List Connection). SlotsStand g k ds xs) (set_set abstracts slot o.connection (ask m (moment_at ticks net abstracts slot o.connection) fresh o.connection o.numbers).connection) three.slots;
       counted = three.counted;
       asked = three.asked;
       named = three.named;
     })
 
-pub kept_with : {A K : Type 0} (m : K → Meaning) (stands : A → K → Part → Type 0) (k : K) (cs : List (Conn A)) (i : ℕ) (d : Conn A) → AllKept m stands k cs → IsKept m stands k d → AllKept m stands k (slice_set cs i d)
-kept_with {A} m stands k cs i d all here j c h =
-    elim (get_after_set cs i j d c h) [ inl e ↦ subst (λ (x : Conn A). IsKept m stands k x) (sym e.1) here | inr old ↦ all j c old ]
+pub kept_with : {A S : Type 0} (g : Ghosts A S) (k : g.Kept) (cs : List (Conn A)) (i : ℕ) (d : Conn A) → AllKept g k cs → IsKept g k d → AllKept g k (slice_set cs i d)
+kept_with {A} g k cs i d all here j c h =
+    elim (get_after_set cs i j d c h) [ inl e ↦ subst (λ (x : Conn A). IsKept g k x) (sym e.1) here | inr old ↦ all j c old ]

@@ -5,7 +5,8 @@ use Rattle.std.proofs.Math.Nat.{mod-add-mod}
 use Rattle.std.proofs.Math.Seq.{take-append_seam}
 use Rattle.std.proofs.lemmas.Bool.{ltb-false}
 use Rattle.std.proofs.lemmas.List.{take-take}
-use Rattle.app_events.specs.Part.{Meaning, Part}
+use Rattle.app_events.specs.Part.{Meaning}
+use Rattle.app_events.specs.declared.app.App.{Ghosts}
 use Rattle.app_events.specs.States.{is_live}
 use Rattle.app_events.specs.declared.state.State.{State}
 use Rattle.app_events.specs.declared.state.State.TheVariants.{Closed, SynRcvd, Established, CloseWait, FinWait1, FinWait2, Closing, TimeWait, LastAck}
@@ -31,11 +32,11 @@ use Rattle.uip_node.specs.StandsFor.{Steps}
 use Rattle.uip_node.specs.declared.node.Node.{Node}
 
 -- only what is left and what is sent is looked at
-pub opened : {A S K : Type 0} (stands : A → K → Part → Type 0) (kept : S → K) (numbers : S → List ℕ) (node : Node A S) (result : Option ℕ) (m : Meaning) (n : AbstractNode) (s : Sockets) (seg : PlainSegment) (slot : ℕ) →
-    Steps stands kept numbers node result (happened m n (Arrived s seg) slot (connection_in slot n) (accept (initial_number n.past) s seg n.numbers)) →
-    Steps stands kept numbers node result (opens_in m n s seg slot)
+pub opened : {A S : Type 0} (g : Ghosts A S) (node : Node A S) (result : Option ℕ) (m : Meaning) (n : AbstractNode) (s : Sockets) (seg : PlainSegment) (slot : ℕ) →
+    Steps g node result (happened m n (Arrived s seg) slot (connection_in slot n) (accept (initial_number n.past) s seg n.numbers)) →
+    Steps g node result (opens_in m n s seg slot)
 unfolding opens_in
-opened stands kept numbers node result m n s seg slot h = record { stands = h.stands; sent = h.sent }
+opened g node result m n s seg slot h = record { stands = h.stands; sent = h.sent }
 
 pub stranger_opens : (m : Meaning) (served : ℕ → Bool) (n : AbstractNode) (s : Sockets) (seg : PlainSegment) → (is_plain_syn seg && served s.own_port.0) ≡ true →
     opens m n s seg (slot_for_syn n.connections) ≡ from_stranger m served n s seg
@@ -82,22 +83,22 @@ slice_get-element [] i h = absurd (omega (arith, h))
 slice_get-element (x ∷ xs) zero h = (x, refl)
 slice_get-element (x ∷ xs) (suc i) h = slice_get-element xs i (omega (arith, h))
 
-rests_by : {A S K : Type 0} (stands : A → K → Part → Type 0) (kept : S → K) (numbers : S → List ℕ) (m : Meaning) (node : Node A S) (n : AbstractNode) (slot : ℕ) →
-    node.addr ≡ n.addr → SlotsStand stands (kept node.shared) node.table.conns (slice_set n.connections slot (connection_in slot n)) → node.table.iss ≡ initial_number (seen (Periodic slot) n.past) → numbers node.shared ≡ n.numbers → CountsStand node.counts (seen (Periodic slot) n.past) →
-    Steps stands kept numbers node None (happened m n (Periodic slot) slot (connection_in slot n) (leaves (connection_in slot n) n.numbers Step.Drop))
+rests_by : {A S : Type 0} (g : Ghosts A S) (m : Meaning) (node : Node A S) (n : AbstractNode) (slot : ℕ) →
+    node.addr ≡ n.addr → SlotsStand g (g.kept node.shared) node.table.conns (slice_set n.connections slot (connection_in slot n)) → node.table.iss ≡ initial_number (seen (Periodic slot) n.past) → g.numbers node.shared ≡ n.numbers → CountsStand node.counts (seen (Periodic slot) n.past) →
+    Steps g node None (happened m n (Periodic slot) slot (connection_in slot n) (leaves (connection_in slot n) n.numbers Step.Drop))
 unfolding happened
-rests_by stands kept numbers m node n slot addr slots iss ns counts = record {
+rests_by g m node n slot addr slots iss ns counts = record {
   stands = record { addr = addr; slots = slots; iss = iss; numbers_stand = ns; counts = counts };
   sent = refl;
 }
 
-pub rests_at : {A S K : Type 0} (stands : A → K → Part → Type 0) (kept : S → K) (numbers : S → List ℕ) (m : Meaning) (node : Node A S) (n : AbstractNode) (slot : ℕ) →
-    node.addr ≡ n.addr → SlotsStand stands (kept node.shared) node.table.conns n.connections → node.table.iss ≡ initial_number (seen (Periodic slot) n.past) → numbers node.shared ≡ n.numbers → CountsStand node.counts (seen (Periodic slot) n.past) →
-    slice_get n.connections slot ≡ Some (connection_in slot n) → is_live (connection_in slot n).state ≡ false → Steps stands kept numbers node None (periodic m n slot)
-rests_at stands kept numbers m node n slot addr slots iss ns counts there dead =
+pub rests_at : {A S : Type 0} (g : Ghosts A S) (m : Meaning) (node : Node A S) (n : AbstractNode) (slot : ℕ) →
+    node.addr ≡ n.addr → SlotsStand g (g.kept node.shared) node.table.conns n.connections → node.table.iss ≡ initial_number (seen (Periodic slot) n.past) → g.numbers node.shared ≡ n.numbers → CountsStand node.counts (seen (Periodic slot) n.past) →
+    slice_get n.connections slot ≡ Some (connection_in slot n) → is_live (connection_in slot n).state ≡ false → Steps g node None (periodic m n slot)
+rests_at g m node n slot addr slots iss ns counts there dead =
     let a : Connection = connection_in slot n in
-    subst (λ (o : Outcome). Steps stands kept numbers node None (happened m n (Periodic slot) slot a (asked m (moment n (Periodic slot) slot) o))) (sym (closed_tick m a n.numbers dead))
-    (rests_by stands kept numbers m node n slot addr (subst (λ (xs : List Connection). SlotsStand stands (kept node.shared) node.table.conns xs) (sym (set_same n.connections slot a there)) slots) iss ns counts)
+    subst (λ (o : Outcome). Steps g node None (happened m n (Periodic slot) slot a (asked m (moment n (Periodic slot) slot) o))) (sym (closed_tick m a n.numbers dead))
+    (rests_by g m node n slot addr (subst (λ (xs : List Connection). SlotsStand g (g.kept node.shared) node.table.conns xs) (sym (set_same n.connections slot a there)) slots) iss ns counts)
 
 -- a message that passes the checks is whole
 by_short : (b : Bool) (message : List ℕ) → nat_lt (length message) 8 ≡ b → echo_fate message ≡ None → 8 ≤ length message

@@ -1,6 +1,6 @@
 -- The slots of the code's table beside the abstract node's: place by place each connection stands for the abstract one.
 use Rattle.std.specs.Prelude.{ℕ, ◌≡◌, ◌+◌, nat_lt, false, List, [], ◌∷◌, length, Some, slice_get, slice_set, if◌then◌else◌}
-use Rattle.app_events.specs.Part.{Part, Meaning}
+use Rattle.app_events.specs.declared.app.App.{Ghosts}
 use Rattle.app_events.specs.States.{is_live}
 use Rattle.app_events.specs.declared.now.Now.{Now}
 use Rattle.app_events.specs.declared.row.Row.{Row}
@@ -16,17 +16,17 @@ use Rattle.tcp_machine.specs.Ask.{Outcome}
 use Rattle.tcp_machine.specs.declared.step.Step.{Step}
 use Rattle.tcp_machine.specs.declared.step.Step.TheVariants.{Drop}
 
-pub record SlotsStand {A K : Type 0} (stands_for : A → K → Part → Type 0) (k : K) (cs : List (Conn A)) (abstracts : List Connection) : Type 0 where
+pub record SlotsStand {A S : Type 0} (g : Ghosts A S) (k : g.Kept) (cs : List (Conn A)) (abstracts : List Connection) : Type 0 where
   pub same_length : length abstracts ≡ length cs
-  pub each : (i : ℕ) (c : Conn A) (a : Connection) → slice_get cs i ≡ Some c → slice_get abstracts i ≡ Some a → ConnStands stands_for k c a
+  pub each : (i : ℕ) (c : Conn A) (a : Connection) → slice_get cs i ≡ Some c → slice_get abstracts i ≡ Some a → ConnStands g k c a
 
 -- every connection is sound, and one in CLOSE-WAIT has something outstanding
-pub record IsKept {A K : Type 0} (meaning : K → Meaning) (stands_for : A → K → Part → Type 0) (k : K) (c : Conn A) : Type 0 where
-  pub sound : IsSound meaning stands_for k c
+pub record IsKept {A S : Type 0} (g : Ghosts A S) (k : g.Kept) (c : Conn A) : Type 0 where
+  pub sound : IsSound g k c
   pub busy : Rests c
 
-abbrev pub AllKept : {A K : Type 0} → (K → Meaning) → (A → K → Part → Type 0) → K → List (Conn A) → Type 0
-AllKept {A} meaning stands_for k cs = (i : ℕ) (c : Conn A) → slice_get cs i ≡ Some c → IsKept meaning stands_for k c
+abbrev pub AllKept : {A S : Type 0} (g : Ghosts A S) (k : g.Kept) (cs : List (Conn A)) → Type 0
+AllKept {A} g k cs = (i : ℕ) (c : Conn A) → slice_get cs i ≡ Some c → IsKept g k c
 
 -- the connection in a slot as a row of the table
 abbrev pub row_in : {A : Type 0} → ℕ → Conn A → Row
@@ -45,8 +45,8 @@ abbrev pub live_rows : {A : Type 0} → ℕ → List (Conn A) → List Row
 live_rows slot [] = []
 live_rows slot (c ∷ cs) = if is_live c.state then row_in slot c ∷ live_rows (slot + 1) cs else live_rows (slot + 1) cs
 
-abbrev pub AllSound : {A K : Type 0} → (K → Meaning) → (A → K → Part → Type 0) → K → List (Conn A) → Type 0
-AllSound {A} meaning stands_for k cs = (i : ℕ) (c : Conn A) → slice_get cs i ≡ Some c → IsSound meaning stands_for k c
+abbrev pub AllSound : {A S : Type 0} (g : Ghosts A S) (k : g.Kept) (cs : List (Conn A)) → Type 0
+AllSound {A} g k cs = (i : ℕ) (c : Conn A) → slice_get cs i ≡ Some c → IsSound g k c
 
 -- a connection stands in the slot
 abbrev pub IsIn : {A : Type 0} → List (Conn A) → ℕ → (Conn A → Type 0) → Type 0
@@ -61,8 +61,8 @@ pub record IsNamed {A : Type 0} (c : Conn A) (a : Connection) : Type 0 where
   pub snd_nxt : c.snd_nxt.0 ≡ snd_nxt a
 
 -- what the connection in a slot did is what the outcome says, and all others stay
-pub record MeetsAt {A K : Type 0} (stands_for : A → K → Part → Type 0) (k : K) (cs : List (Conn A)) (numbers : List ℕ) (step : Step) (abstracts : List Connection) (slot : ℕ) (o : Outcome) : Type 0 where
-  pub slots : SlotsStand stands_for k cs (slice_set abstracts slot o.connection)
+pub record MeetsAt {A S : Type 0} (g : Ghosts A S) (k : g.Kept) (cs : List (Conn A)) (numbers : List ℕ) (step : Step) (abstracts : List Connection) (slot : ℕ) (o : Outcome) : Type 0 where
+  pub slots : SlotsStand g k cs (slice_set abstracts slot o.connection)
   pub counted : numbers ≡ o.numbers
   pub asked : step ≡ o.step
   pub named : (step ≡ Drop → ⊥) → IsIn cs slot (λ c. IsNamed c o.connection)

@@ -31,16 +31,16 @@ pub(crate) fn take_segment<A: App>(
 ) -> Step
     requires within { slot < length table.old.conns }
     requires live { IsIn table.old.conns slot (λ c. is_live c.state ≡ true) }
-    requires kept { AllKept A.meaning A.stands_for (A.kept shared.old) table.old.conns }
+    requires kept { AllKept A.App (A.kept shared.old) table.old.conns }
     requires short { length piece.now ≤ 1500 }
     ensures same { A.kept shared.new ≡ A.kept shared.old }
     ensures long { length table.new.conns ≡ length table.old.conns }
     ensures iss { table.new.iss ≡ table.old.iss }
-    ensures sound { AllSound A.meaning A.stands_for (A.kept shared.old) table.new.conns }
+    ensures sound { AllSound A.App (A.kept shared.old) table.new.conns }
     ensures fits { IsIn table.new.conns slot (λ c. StepFits c result) }
     ensures others { OthersStay slot table.old.conns table.new.conns }
-    ensures meets { (abstracts : List Connection) (a : Connection) → SlotsStand A.stands_for (A.kept shared.old) table.old.conns abstracts → slice_get abstracts slot ≡ Some a
-        → MeetsAt A.stands_for (A.kept shared.old) table.new.conns (A.numbers shared.new) result abstracts slot (on_segment (A.meaning (A.kept shared.old)) a (A.numbers shared.old) (plain seg.now piece.now)) }
+    ensures meets { (abstracts : List Connection) (a : Connection) → SlotsStand A.App (A.kept shared.old) table.old.conns abstracts → slice_get abstracts slot ≡ Some a
+        → MeetsAt A.App (A.kept shared.old) table.new.conns (A.numbers shared.new) result abstracts slot (on_segment (A.meaning (A.kept shared.old)) a (A.numbers shared.old) (plain seg.now piece.now)) }
 {
     let conn = &mut table.conns[slot];
     on_segment(conn, shared, seg, piece)
@@ -50,15 +50,15 @@ pub(crate) fn take_segment<A: App>(
 pub(crate) fn take_tick<A: App>(table: &mut Table<A>, shared: &mut A::Shared, slot: usize) -> Step
     requires within { slot < length table.old.conns }
     requires live { IsIn table.old.conns slot (λ c. is_live c.state ≡ true) }
-    requires kept { AllKept A.meaning A.stands_for (A.kept shared.old) table.old.conns }
+    requires kept { AllKept A.App (A.kept shared.old) table.old.conns }
     ensures same { A.kept shared.new ≡ A.kept shared.old }
     ensures long { length table.new.conns ≡ length table.old.conns }
     ensures iss { table.new.iss ≡ table.old.iss }
-    ensures sound { AllSound A.meaning A.stands_for (A.kept shared.old) table.new.conns }
+    ensures sound { AllSound A.App (A.kept shared.old) table.new.conns }
     ensures fits { IsIn table.new.conns slot (λ c. StepFits c result) }
     ensures others { OthersStay slot table.old.conns table.new.conns }
-    ensures meets { (abstracts : List Connection) (a : Connection) → SlotsStand A.stands_for (A.kept shared.old) table.old.conns abstracts → slice_get abstracts slot ≡ Some a
-        → MeetsAt A.stands_for (A.kept shared.old) table.new.conns (A.numbers shared.new) result abstracts slot (on_tick (A.meaning (A.kept shared.old)) a (A.numbers shared.old)) }
+    ensures meets { (abstracts : List Connection) (a : Connection) → SlotsStand A.App (A.kept shared.old) table.old.conns abstracts → slice_get abstracts slot ≡ Some a
+        → MeetsAt A.App (A.kept shared.old) table.new.conns (A.numbers shared.new) result abstracts slot (on_tick (A.meaning (A.kept shared.old)) a (A.numbers shared.old)) }
 {
     let conn = &mut table.conns[slot];
     on_tick(conn, shared)
@@ -74,15 +74,15 @@ fn ask_in<A: App>(
 ) -> Step
     requires within { slot < length table.old.conns }
     requires asked { IsIn table.old.conns slot CanBeAsked }
-    requires sound { AllSound A.meaning A.stands_for (A.kept shared.now) table.old.conns }
+    requires sound { AllSound A.App (A.kept shared.now) table.old.conns }
     requires others { OthersRest slot table.old.conns }
     ensures long { length table.new.conns ≡ length table.old.conns }
     ensures iss { table.new.iss ≡ table.old.iss }
-    ensures kept { AllKept A.meaning A.stands_for (A.kept shared.now) table.new.conns }
+    ensures kept { AllKept A.App (A.kept shared.now) table.new.conns }
     ensures answer { IsAnswer result }
     ensures text { IsIn table.new.conns slot (λ c. StepFits c result) }
-    ensures meets { (abstracts : List Connection) (a : Connection) → SlotsStand A.stands_for (A.kept shared.now) table.old.conns abstracts → slice_get abstracts slot ≡ Some a
-        → MeetsAt A.stands_for (A.kept shared.now) table.new.conns (A.numbers shared.now) result abstracts slot (ask (A.meaning (A.kept shared.now)) now.now fresh a (A.numbers shared.now)) }
+    ensures meets { (abstracts : List Connection) (a : Connection) → SlotsStand A.App (A.kept shared.now) table.old.conns abstracts → slice_get abstracts slot ≡ Some a
+        → MeetsAt A.App (A.kept shared.now) table.new.conns (A.numbers shared.now) result abstracts slot (ask (A.meaning (A.kept shared.now)) now.now fresh a (A.numbers shared.now)) }
 {
     let conn = &mut table.conns[slot];
     ask(conn, shared, now, fresh)
@@ -100,15 +100,15 @@ pub(crate) fn settle<A: App>(
 ) -> Step
     requires within { slot < length table.old.conns }
     requires fits { IsIn table.old.conns slot (λ c. StepFits c step) }
-    requires sound { AllSound A.meaning A.stands_for (A.kept shared.now) table.old.conns }
+    requires sound { AllSound A.App (A.kept shared.now) table.old.conns }
     requires others { OthersRest slot table.old.conns }
     ensures long { length table.new.conns ≡ length table.old.conns }
     ensures iss { table.new.iss ≡ table.old.iss }
-    ensures kept { AllKept A.meaning A.stands_for (A.kept shared.now) table.new.conns }
+    ensures kept { AllKept A.App (A.kept shared.now) table.new.conns }
     ensures answer { IsAnswer result }
     ensures text { IsIn table.new.conns slot (λ c. StepFits c result) }
-    ensures meets { (abstracts : List Connection) (o : Outcome) → slot < length abstracts → MeetsAt A.stands_for (A.kept shared.now) table.old.conns (A.numbers shared.now) step abstracts slot o
-        → MeetsAt A.stands_for (A.kept shared.now) table.new.conns (A.numbers shared.now) result abstracts slot (asked (A.meaning (A.kept shared.now)) (moment_at ticks net abstracts slot) o) }
+    ensures meets { (abstracts : List Connection) (o : Outcome) → slot < length abstracts → MeetsAt A.App (A.kept shared.now) table.old.conns (A.numbers shared.now) step abstracts slot o
+        → MeetsAt A.App (A.kept shared.now) table.new.conns (A.numbers shared.now) result abstracts slot (asked (A.meaning (A.kept shared.now)) (moment_at ticks net abstracts slot) o) }
 {
     match step {
         Step::Ask { fresh } => {
@@ -135,9 +135,9 @@ pub(crate) fn open_in<A: App>(table: &mut Table<A>, slot: usize, peer: Addr, seg
     ensures iss { table.new.iss ≡ table.old.iss }
     ensures fits { IsIn table.new.conns slot (λ c. StepFits c result) }
     ensures step { result ≡ Step.SynAck false }
-    ensures kept { (k : A.Kept) → AllKept A.meaning A.stands_for k table.old.conns → AllKept A.meaning A.stands_for k table.new.conns }
-    ensures stands { (k : A.Kept) (abstracts : List Connection) (text : List ℕ) → SlotsStand A.stands_for k table.old.conns abstracts
-        → SlotsStand A.stands_for k table.new.conns (slice_set abstracts slot (accepted table.old.iss (record { peer = peer; peer_port = seg.now.from; own_port = seg.now.to }) (plain seg.now text))) }
+    ensures kept { (k : A.Kept) → AllKept A.App k table.old.conns → AllKept A.App k table.new.conns }
+    ensures stands { (k : A.Kept) (abstracts : List Connection) (text : List ℕ) → SlotsStand A.App k table.old.conns abstracts
+        → SlotsStand A.App k table.new.conns (slice_set abstracts slot (accepted table.old.iss (record { peer = peer; peer_port = seg.now.from; own_port = seg.now.to }) (plain seg.now text))) }
 {
     let iss = table.iss;
     let conn = &mut table.conns[slot];
@@ -156,11 +156,11 @@ pub(crate) fn speak_in<A: App>(
 ) -> Option<usize>
     requires size { length packet.old.area ≡ LARGEST_DATAGRAM }
     requires within { slot < length table.now.conns }
-    requires kept { AllKept A.meaning A.stands_for (A.kept shared.now) table.now.conns }
+    requires kept { AllKept A.App (A.kept shared.now) table.now.conns }
     requires fits { IsIn table.now.conns slot (λ c. StepFits c step) }
     requires answer { IsAnswer step }
     ensures size { length packet.new.area ≡ LARGEST_DATAGRAM }
-    ensures spoken { (abstracts : List Connection) (ns : List ℕ) (o : Outcome) → slot < length abstracts → MeetsAt A.stands_for (A.kept shared.now) table.now.conns ns step abstracts slot o
+    ensures spoken { (abstracts : List Connection) (ns : List ℕ) (o : Outcome) → slot < length abstracts → MeetsAt A.App (A.kept shared.now) table.now.conns ns step abstracts slot o
         → IsSpoken own o.connection.sockets id (segment_of (A.meaning (A.kept shared.now)) o.connection step) result packet.new }
 {
     let conn = &table.conns[slot];

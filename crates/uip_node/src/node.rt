@@ -66,13 +66,13 @@ impl<A: App> Node<A> {
     ghost use Rattle.uip_node.specs.Events.Event.{Arrived, Overlong, Periodic};
     ghost use Rattle.uip_node.specs.Node.{AbstractNode, arrives, connection_in, from_stranger, happened, moment, opening, opens, refuses, slot_for_syn, step};
     ghost use Rattle.uip_node.specs.Slots.{AllKept, AllSound, IsIn, MeetsAt, NoneAt, OthersRest};
-    ghost use Rattle.uip_node.specs.StandsFor.{IsWhole, Stands, Steps};
+    ghost use Rattle.uip_node.specs.StandsFor.{Takes, IsWhole, Stands, Steps};
 
     /// A node at an address, with ten CLOSED connections and nothing counted. After this no call of it takes memory. On NoMemory
     /// `shared` is dropped.
     pub fn new(alloc: Global, addr: Addr, shared: A::Shared) -> Result<Node<A>, NoMemory>
-        ensures whole { IfOk result (λ node. IsWhole A.meaning A.stands_for A.kept node) }
-        ensures stands { IfOk result (λ node. Stands A.stands_for A.kept A.numbers node (opening addr (A.numbers shared)) []) }
+        ensures whole { IfOk result (λ node. IsWhole A.App node) }
+        ensures stands { IfOk result (λ node. Stands A.App node (opening addr (A.numbers shared)) []) }
         ensures shared { IfOk result (λ node. node.shared ≡ shared) }
     {
         let packet = Packet::new(alloc, LARGEST_DATAGRAM)?;
@@ -111,7 +111,7 @@ impl<A: App> Node<A> {
 
     /// The ticks, the counters and the rows of the connections that are not CLOSED.
     pub fn now(&self) -> Now
-        ensures { (n : AbstractNode) → Stands A.stands_for A.kept A.numbers self.now n n.past → result ≡ record { ticks = ticks_of n.past; net = counters n.past; rows = rows_from 0 n.connections } }
+        ensures { (n : AbstractNode) → Stands A.App self.now n n.past → result ≡ record { ticks = ticks_of n.past; net = counters n.past; rows = rows_from 0 n.connections } }
     {
         Now {
             ticks: self.counts.ticks,
@@ -122,26 +122,26 @@ impl<A: App> Node<A> {
 
     /// A frame was longer than a datagram.
     pub fn count_overlong(&mut self)
-        requires whole { IsWhole A.meaning A.stands_for A.kept self.old }
-        ensures whole { IsWhole A.meaning A.stands_for A.kept self.new }
+        requires whole { IsWhole A.App self.old }
+        ensures whole { IsWhole A.App self.new }
         ensures same { A.kept self.new.shared ≡ A.kept self.old.shared }
-        ensures step { (n : AbstractNode) → Stands A.stands_for A.kept A.numbers self.old n n.past
-            → Stands A.stands_for A.kept A.numbers self.new (step (A.meaning (A.kept self.old.shared)) A.served n Overlong).node (seen Overlong n.past) }
+        ensures step { (n : AbstractNode) → Stands A.App self.old n n.past
+            → Stands A.App self.new (step (A.meaning (A.kept self.old.shared)) A.served n Overlong).node (seen Overlong n.past) }
     {
         self.counts.overlong();
     }
 
     /// The segment of a step of the connection in a slot is sent, as the answer to the last event.
     fn say(&mut self, slot: usize, step: Step) -> Option<usize>
-        requires whole { IsWhole A.meaning A.stands_for A.kept self.old }
+        requires whole { IsWhole A.App self.old }
         requires within { slot < length self.old.table.conns }
         requires answer { IsAnswer step }
         requires fits { IsIn self.old.table.conns slot (λ c. StepFits c step) }
-        ensures whole { IsWhole A.meaning A.stands_for A.kept self.new }
+        ensures whole { IsWhole A.App self.new }
         ensures same { A.kept self.new.shared ≡ A.kept self.old.shared }
         ensures step { (n : AbstractNode) (event : Event) (old : Connection) (o : Outcome) → self.old.addr ≡ n.addr → slot < length n.connections → self.old.table.iss ≡ initial_number (seen event n.past) → CountsStand self.old.counts (seen event n.past)
-            → MeetsAt A.stands_for (A.kept self.old.shared) self.old.table.conns (A.numbers self.old.shared) step n.connections slot o
-            → Steps A.stands_for A.kept A.numbers self.new result (happened (A.meaning (A.kept self.old.shared)) n event slot old o) }
+            → MeetsAt A.App (A.kept self.old.shared) self.old.table.conns (A.numbers self.old.shared) step n.connections slot o
+            → Steps A.App self.new result (happened (A.meaning (A.kept self.old.shared)) n event slot old o) }
     {
         let id = self.counts.ident.wrapping_add(1);
         match speak_in(
@@ -166,13 +166,13 @@ impl<A: App> Node<A> {
         requires size { length self.old.packet.area ≡ LARGEST_DATAGRAM }
         requires within { slot < length self.old.table.conns }
         requires fits { IsIn self.old.table.conns slot (λ c. StepFits c step) }
-        requires sound { AllSound A.meaning A.stands_for (A.kept self.old.shared) self.old.table.conns }
+        requires sound { AllSound A.App (A.kept self.old.shared) self.old.table.conns }
         requires others { OthersRest slot self.old.table.conns }
-        ensures whole { IsWhole A.meaning A.stands_for A.kept self.new }
+        ensures whole { IsWhole A.App self.new }
         ensures same { A.kept self.new.shared ≡ A.kept self.old.shared }
         ensures step { (n : AbstractNode) (event : Event) (old : Connection) (o : Outcome) → self.old.addr ≡ n.addr → slot < length n.connections → self.old.table.iss ≡ initial_number (seen event n.past) → CountsStand self.old.counts (seen event n.past)
-            → MeetsAt A.stands_for (A.kept self.old.shared) self.old.table.conns (A.numbers self.old.shared) step n.connections slot o
-            → Steps A.stands_for A.kept A.numbers self.new result (happened (A.meaning (A.kept self.old.shared)) n event slot old (asked (A.meaning (A.kept self.old.shared)) (moment n event slot) o)) }
+            → MeetsAt A.App (A.kept self.old.shared) self.old.table.conns (A.numbers self.old.shared) step n.connections slot o
+            → Steps A.App self.new result (happened (A.meaning (A.kept self.old.shared)) n event slot old (asked (A.meaning (A.kept self.old.shared)) (moment n event slot) o)) }
     {
         let step = settle(
             &mut self.table,
@@ -187,14 +187,14 @@ impl<A: App> Node<A> {
 
     /// A segment of the connection in a slot, which is not CLOSED.
     fn deliver(&mut self, slot: usize, seg: &Segment) -> Option<usize>
-        requires whole { IsWhole A.meaning A.stands_for A.kept self.old }
+        requires whole { IsWhole A.App self.old }
         requires within { slot < length self.old.table.conns }
         requires live { IsIn self.old.table.conns slot (λ c. is_live c.state ≡ true) }
         requires inside { seg.now.text_at + seg.now.text_len ≤ length (datagram_in self.old.packet) }
-        ensures whole { IsWhole A.meaning A.stands_for A.kept self.new }
+        ensures whole { IsWhole A.App self.new }
         ensures same { A.kept self.new.shared ≡ A.kept self.old.shared }
-        ensures step { (n : AbstractNode) (event : Event) → Stands A.stands_for A.kept A.numbers self.old n (seen event n.past) → slot < length n.connections
-            → Steps A.stands_for A.kept A.numbers self.new result (happened (A.meaning (A.kept self.old.shared)) n event slot (connection_in slot n) (asked (A.meaning (A.kept self.old.shared)) (moment n event slot) (on_segment (A.meaning (A.kept self.old.shared)) (connection_in slot n) n.numbers (plain_of seg.now (datagram_in self.old.packet))))) }
+        ensures step { (n : AbstractNode) (event : Event) → Stands A.App self.old n (seen event n.past) → slot < length n.connections
+            → Steps A.App self.new result (happened (A.meaning (A.kept self.old.shared)) n event slot (connection_in slot n) (asked (A.meaning (A.kept self.old.shared)) (moment n event slot) (on_segment (A.meaning (A.kept self.old.shared)) (connection_in slot n) n.numbers (plain_of seg.now (datagram_in self.old.packet))))) }
     {
         let piece = seg.text(self.packet.bytes());
         let step = take_segment(&mut self.table, &mut self.shared, slot, seg, piece);
@@ -203,13 +203,13 @@ impl<A: App> Node<A> {
 
     /// A plain SYN opens a connection in a slot.
     fn open(&mut self, slot: usize, peer: Addr, seg: &Segment) -> Option<usize>
-        requires whole { IsWhole A.meaning A.stands_for A.kept self.old }
+        requires whole { IsWhole A.App self.old }
         requires within { slot < length self.old.table.conns }
         requires free { NoneAt peer seg.now.from seg.now.to self.old.table.conns }
-        ensures whole { IsWhole A.meaning A.stands_for A.kept self.new }
+        ensures whole { IsWhole A.App self.new }
         ensures same { A.kept self.new.shared ≡ A.kept self.old.shared }
-        ensures step { (n : AbstractNode) (event : Event) (old : Connection) (text : List ℕ) → Stands A.stands_for A.kept A.numbers self.old n (seen event n.past) → slot < length n.connections
-            → Steps A.stands_for A.kept A.numbers self.new result (happened (A.meaning (A.kept self.old.shared)) n event slot old (accept (initial_number (seen event n.past)) (sockets_of peer seg.now) (plain seg.now text) n.numbers)) }
+        ensures step { (n : AbstractNode) (event : Event) (old : Connection) (text : List ℕ) → Stands A.App self.old n (seen event n.past) → slot < length n.connections
+            → Steps A.App self.new result (happened (A.meaning (A.kept self.old.shared)) n event slot old (accept (initial_number (seen event n.past)) (sockets_of peer seg.now) (plain seg.now text) n.numbers)) }
     {
         let step = open_in(&mut self.table, slot, peer, seg);
         self.say(slot, step)
@@ -217,11 +217,11 @@ impl<A: App> Node<A> {
 
     /// A segment to no connection is answered with a reset.
     fn refuse(&mut self, peer: Addr, seg: &Segment) -> Option<usize>
-        requires whole { IsWhole A.meaning A.stands_for A.kept self.old }
-        ensures whole { IsWhole A.meaning A.stands_for A.kept self.new }
+        requires whole { IsWhole A.App self.old }
+        ensures whole { IsWhole A.App self.new }
         ensures same { A.kept self.new.shared ≡ A.kept self.old.shared }
-        ensures step { (n : AbstractNode) (text : List ℕ) → Stands A.stands_for A.kept A.numbers self.old n (seen (Arrived (sockets_of peer seg.now) (plain seg.now text)) n.past)
-            → Steps A.stands_for A.kept A.numbers self.new result (refuses n (sockets_of peer seg.now) (plain seg.now text)) }
+        ensures step { (n : AbstractNode) (text : List ℕ) → Stands A.App self.old n (seen (Arrived (sockets_of peer seg.now) (plain seg.now text)) n.past)
+            → Steps A.App self.new result (refuses n (sockets_of peer seg.now) (plain seg.now text)) }
     {
         let id = self.counts.ident.wrapping_add(1);
         let len = put_reset(&mut self.packet, self.addr, peer, seg, id);
@@ -231,12 +231,12 @@ impl<A: App> Node<A> {
 
     /// A plain SYN to a served port takes a slot, or is turned away.
     fn welcome(&mut self, peer: Addr, seg: &Segment) -> Option<usize>
-        requires whole { IsWhole A.meaning A.stands_for A.kept self.old }
+        requires whole { IsWhole A.App self.old }
         requires free { NoneAt peer seg.now.from seg.now.to self.old.table.conns }
-        ensures whole { IsWhole A.meaning A.stands_for A.kept self.new }
+        ensures whole { IsWhole A.App self.new }
         ensures same { A.kept self.new.shared ≡ A.kept self.old.shared }
-        ensures step { (n : AbstractNode) (text : List ℕ) → Stands A.stands_for A.kept A.numbers self.old n (seen (Arrived (sockets_of peer seg.now) (plain seg.now text)) n.past)
-            → Steps A.stands_for A.kept A.numbers self.new result (opens (A.meaning (A.kept self.old.shared)) n (sockets_of peer seg.now) (plain seg.now text) (slot_for_syn n.connections)) }
+        ensures step { (n : AbstractNode) (text : List ℕ) → Stands A.App self.old n (seen (Arrived (sockets_of peer seg.now) (plain seg.now text)) n.past)
+            → Steps A.App self.new result (opens (A.meaning (A.kept self.old.shared)) n (sockets_of peer seg.now) (plain seg.now text) (slot_for_syn n.connections)) }
     {
         match self.table.slot_for_syn() {
             Some(slot) => self.open(slot, peer, seg),
@@ -249,12 +249,12 @@ impl<A: App> Node<A> {
 
     /// A segment that belongs to no connection.
     fn answer_stranger(&mut self, peer: Addr, seg: &Segment) -> Option<usize>
-        requires whole { IsWhole A.meaning A.stands_for A.kept self.old }
+        requires whole { IsWhole A.App self.old }
         requires free { NoneAt peer seg.now.from seg.now.to self.old.table.conns }
-        ensures whole { IsWhole A.meaning A.stands_for A.kept self.new }
+        ensures whole { IsWhole A.App self.new }
         ensures same { A.kept self.new.shared ≡ A.kept self.old.shared }
-        ensures step { (n : AbstractNode) (text : List ℕ) → Stands A.stands_for A.kept A.numbers self.old n (seen (Arrived (sockets_of peer seg.now) (plain seg.now text)) n.past)
-            → Steps A.stands_for A.kept A.numbers self.new result (from_stranger (A.meaning (A.kept self.old.shared)) A.served n (sockets_of peer seg.now) (plain seg.now text)) }
+        ensures step { (n : AbstractNode) (text : List ℕ) → Stands A.App self.old n (seen (Arrived (sockets_of peer seg.now) (plain seg.now text)) n.past)
+            → Steps A.App self.new result (from_stranger (A.meaning (A.kept self.old.shared)) A.served n (sockets_of peer seg.now) (plain seg.now text)) }
     {
         if opens_here::<A>(seg) {
             self.welcome(peer, seg)
@@ -267,12 +267,9 @@ impl<A: App> Node<A> {
 
     /// A segment from a peer, which stands in the packet.
     fn arrive(&mut self, peer: Addr, seg: &Segment) -> Option<usize>
-        requires whole { IsWhole A.meaning A.stands_for A.kept self.old }
+        requires whole { IsWhole A.App self.old }
         requires inside { seg.now.text_at + seg.now.text_len ≤ length (datagram_in self.old.packet) }
-        ensures whole { IsWhole A.meaning A.stands_for A.kept self.new }
-        ensures same { A.kept self.new.shared ≡ A.kept self.old.shared }
-        ensures step { (n : AbstractNode) → Stands A.stands_for A.kept A.numbers self.old n n.past
-            → Steps A.stands_for A.kept A.numbers self.new result (arrives (A.meaning (A.kept self.old.shared)) A.served n (sockets_of peer seg.now) (plain_of seg.now (datagram_in self.old.packet))) }
+        ensures { Takes A.App (λ m served n. arrives m served n (sockets_of peer seg.now) (plain_of seg.now (datagram_in self.old.packet))) self.old self.new result }
     {
         self.counts.arrive();
         match self.table.find(peer, seg.from, seg.to) {
@@ -283,13 +280,10 @@ impl<A: App> Node<A> {
 
     /// The TCP datagram that stands in the packet.
     fn take_tcp(&mut self, head: &IpHead) -> Option<usize>
-        requires whole { IsWhole A.meaning A.stands_for A.kept self.old }
+        requires whole { IsWhole A.App self.old }
         requires head { IsHeadOf head.now (datagram_in self.old.packet) }
         requires most { head.now.total ≤ length (datagram_in self.old.packet) }
-        ensures whole { IsWhole A.meaning A.stands_for A.kept self.new }
-        ensures same { A.kept self.new.shared ≡ A.kept self.old.shared }
-        ensures step { (n : AbstractNode) → Stands A.stands_for A.kept A.numbers self.old n n.past
-            → Steps A.stands_for A.kept A.numbers self.new result (step (A.meaning (A.kept self.old.shared)) A.served n (by_segment head.now (datagram_in self.old.packet) (segment_or_fate head.now (datagram_in self.old.packet)))) }
+        ensures { Takes A.App (λ m served n. step m served n (by_segment head.now (datagram_in self.old.packet) (segment_or_fate head.now (datagram_in self.old.packet)))) self.old self.new result }
     {
         match check_segment(self.packet.bytes(), head) {
             Err(fate) => {
@@ -302,13 +296,10 @@ impl<A: App> Node<A> {
 
     /// The ICMP datagram that stands in the packet.
     fn take_icmp(&mut self, head: &IpHead) -> Option<usize>
-        requires whole { IsWhole A.meaning A.stands_for A.kept self.old }
+        requires whole { IsWhole A.App self.old }
         requires head { IsHeadOf head.now (datagram_in self.old.packet) }
         requires most { head.now.total ≤ length (datagram_in self.old.packet) }
-        ensures whole { IsWhole A.meaning A.stands_for A.kept self.new }
-        ensures same { A.kept self.new.shared ≡ A.kept self.old.shared }
-        ensures step { (n : AbstractNode) → Stands A.stands_for A.kept A.numbers self.old n n.past
-            → Steps A.stands_for A.kept A.numbers self.new result (step (A.meaning (A.kept self.old.shared)) A.served n (by_echo head.now (datagram_in self.old.packet) (echo_fate (payload_of head.now (datagram_in self.old.packet))))) }
+        ensures { Takes A.App (λ m served n. step m served n (by_echo head.now (datagram_in self.old.packet) (echo_fate (payload_of head.now (datagram_in self.old.packet))))) self.old self.new result }
     {
         match reply(&mut self.packet, head) {
             Err(fate) => {
@@ -324,11 +315,8 @@ impl<A: App> Node<A> {
 
     /// The datagram that stands in the packet.
     fn take_datagram(&mut self) -> Option<usize>
-        requires whole { IsWhole A.meaning A.stands_for A.kept self.old }
-        ensures whole { IsWhole A.meaning A.stands_for A.kept self.new }
-        ensures same { A.kept self.new.shared ≡ A.kept self.old.shared }
-        ensures step { (n : AbstractNode) → Stands A.stands_for A.kept A.numbers self.old n n.past
-            → Steps A.stands_for A.kept A.numbers self.new result (step (A.meaning (A.kept self.old.shared)) A.served n (event_of n.addr (datagram_in self.old.packet))) }
+        requires whole { IsWhole A.App self.old }
+        ensures { Takes A.App (λ m served n. step m served n (event_of n.addr (datagram_in self.old.packet))) self.old self.new result }
     {
         match check_head(self.packet.bytes(), self.addr) {
             Err(fate) => {
@@ -344,12 +332,9 @@ impl<A: App> Node<A> {
 
     /// A datagram of 1 to 1500 bytes came. What is answered stands in the packet then, and its length is told.
     pub fn input(&mut self, datagram: &[u8]) -> Option<usize>
-        requires whole { IsWhole A.meaning A.stands_for A.kept self.old }
+        requires whole { IsWhole A.App self.old }
         requires most { length datagram.now ≤ LARGEST_DATAGRAM }
-        ensures whole { IsWhole A.meaning A.stands_for A.kept self.new }
-        ensures same { A.kept self.new.shared ≡ A.kept self.old.shared }
-        ensures step { (n : AbstractNode) → Stands A.stands_for A.kept A.numbers self.old n n.past
-            → Steps A.stands_for A.kept A.numbers self.new result (step (A.meaning (A.kept self.old.shared)) A.served n (event_of n.addr datagram.now)) }
+        ensures { Takes A.App (λ m served n. step m served n (event_of n.addr datagram.now)) self.old self.new result }
     {
         self.packet.load(datagram);
         self.take_datagram()
@@ -357,12 +342,9 @@ impl<A: App> Node<A> {
 
     /// The periodic call of the connection in a slot below 10.
     pub fn periodic(&mut self, slot: usize) -> Option<usize>
-        requires whole { IsWhole A.meaning A.stands_for A.kept self.old }
+        requires whole { IsWhole A.App self.old }
         requires within { slot < 10 }
-        ensures whole { IsWhole A.meaning A.stands_for A.kept self.new }
-        ensures same { A.kept self.new.shared ≡ A.kept self.old.shared }
-        ensures step { (n : AbstractNode) → Stands A.stands_for A.kept A.numbers self.old n n.past
-            → Steps A.stands_for A.kept A.numbers self.new result (step (A.meaning (A.kept self.old.shared)) A.served n (Periodic slot)) }
+        ensures { Takes A.App (λ m served n. step m served n (Periodic slot)) self.old self.new result }
     {
         count_slots(&self.table);
         self.counts.call(slot);

@@ -145,11 +145,11 @@ pub(crate) fn speak<A: App>(
     id: u16,
 ) -> Option<usize>
     requires size { length packet.old.area ≡ LARGEST_DATAGRAM }
-    requires sound { IsSound A.meaning A.stands_for (A.kept shared.now) conn.now }
+    requires sound { IsSound A.App (A.kept shared.now) conn.now }
     requires fits { StepFits conn.now step }
     requires answer { IsAnswer step }
     ensures size { length packet.new.area ≡ LARGEST_DATAGRAM }
-    ensures spoken { (a : Connection) → ConnStands A.stands_for (A.kept shared.now) conn.now a → ((step ≡ Drop → ⊥) → IsNamed conn.now a) → IsSpoken own a.sockets id (segment_of (A.meaning (A.kept shared.now)) a step) result packet.new }
+    ensures spoken { (a : Connection) → ConnStands A.App (A.kept shared.now) conn.now a → ((step ≡ Drop → ⊥) → IsNamed conn.now a) → IsSpoken own a.sockets id (segment_of (A.meaning (A.kept shared.now)) a step) result packet.new }
 {
     match step {
         Step::Drop | Step::Ask { .. } => None,

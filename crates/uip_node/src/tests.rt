@@ -66,10 +66,10 @@ ghost use Rattle.uip_node.specs.StandsFor.{IsWhole};
 
 /// Whether no prefix of a datagram, up to this length, is answered.
 fn are_ignored<A: App>(node: &mut Node<A>, datagram: &[u8], end: usize) -> bool
-    requires whole { IsWhole A.meaning A.stands_for A.kept node.old }
+    requires whole { IsWhole A.App node.old }
     requires end { end ≤ length datagram.now }
     requires most { length datagram.now ≤ 1500 }
-    ensures whole { IsWhole A.meaning A.stands_for A.kept node.new }
+    ensures whole { IsWhole A.App node.new }
 {
     if end == 0 {
         return true;

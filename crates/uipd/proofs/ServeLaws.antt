@@ -1,6 +1,7 @@
 -- A serving by the node of a site, from its opening on.
 use Rattle.std.proofs.Common.{◌≡◌, ℕ, Bool, List, [], Option, subst, sym, ap, ◌∙◌}
-use Rattle.app_events.specs.Part.{Meaning, Part}
+use Rattle.app_events.specs.Part.{Meaning}
+use Rattle.app_events.specs.declared.app.App.{Ghosts}
 use Rattle.site_image.specs.Files.{File}
 use Rattle.web_pages.specs.WebMeaning.{web_meaning}
 use Rattle.uip_edge.specs.declared.item.Item.{Item}
@@ -44,15 +45,15 @@ runs files own pace n old new ends.WriteFault s = s
 runs files own pace n old new ends.Budget s = s
 
 -- what a node did that stands for the opening one, and whose application is the web server of a site
-pub served_pages : {A S K : Type 0} (meaning : K → Meaning) (served : ℕ → Bool) (stands_for : A → K → Part → Type 0) (kept : S → K) (numbers : S → List ℕ)
-    (files : List File) (own : Addr) (pace n : ℕ) (before after : Node A S) (old new : Outside) (end : ServeEnd) → meaning (kept before.shared) ≡ (web_meaning files) → served ≡ is_served
-    → (hits : List ℕ) → hits ≡ no_hits files → Stands stands_for kept numbers before (opening own hits) [] → ServesNode meaning served stands_for kept numbers pace n before after old new end
+pub served_pages : {A S : Type 0} (g : Ghosts A S)
+    (files : List File) (own : Addr) (pace n : ℕ) (before after : Node A S) (old new : Outside) (end : ServeEnd) → g.meaning (g.kept before.shared) ≡ (web_meaning files) → g.served ≡ is_served
+    → (hits : List ℕ) → hits ≡ no_hits files → Stands g before (opening own hits) [] → ServesNode g pace n before after old new end
     → ServeRuns files own pace n old new (status_of end)
-served_pages meaning served stands_for kept numbers files own pace n before after old new end means serves hits none stands it =
-    let st = subst (λ h. Stands stands_for kept numbers before (opening own h) []) none stands in
-    let P : AbstractNode → Type 0 = λ a. Stands stands_for kept numbers before a a.past in
-    let Q : AbstractNode → Type 0 = λ a. Stands stands_for kept numbers after a a.past in
-    let one = subst (λ (m : Meaning). WroteBy end m served before.addr (line_events before.addr pace it.taken) P Q old.written new.written) means it.wrote in
+served_pages g files own pace n before after old new end means serves hits none stands it =
+    let st = subst (λ h. Stands g before (opening own h) []) none stands in
+    let P : AbstractNode → Type 0 = λ a. Stands g before a a.past in
+    let Q : AbstractNode → Type 0 = λ a. Stands g after a a.past in
+    let one = subst (λ (m : Meaning). WroteBy end m g.served before.addr (line_events before.addr pace it.taken) P Q old.written new.written) means it.wrote in
     let two = subst (λ (s : ℕ → Bool). WroteBy end (web_meaning files) s before.addr (line_events before.addr pace it.taken) P Q old.written new.written) serves one in
     let three = subst (λ (o : Addr). WroteBy end (web_meaning files) is_served o (line_events o pace it.taken) P Q old.written new.written) st.addr two in
     runs files own pace n old new end

@@ -14,9 +14,9 @@ use uip_edge::{Failed, Sink};
 
 /// Writes in one line what a replay came to. No call in it is given an allocator. A failed call has written a front of the line.
 pub fn summary<A: App, K: Sink>(world: &World<A>, sink: &mut K) -> Result<(), Failed>
-    ensures ok { OnOk result ((w : PlainWorld) → WorldStands A.stands_for A.kept A.numbers world.now w
+    ensures ok { OnOk result ((w : PlainWorld) → WorldStands A.App world.now w
         → Appends (K.written sink.old) (K.written sink.new) (summary_of w)) }
-    ensures err { OnErr result ((w : PlainWorld) → WorldStands A.stands_for A.kept A.numbers world.now w
+    ensures err { OnErr result ((w : PlainWorld) → WorldStands A.App world.now w
         → AppendsPrefix (K.written sink.old) (K.written sink.new) (summary_of w)) }
     ensures cause { HasCause (K.faults sink.old) (K.faults sink.new) result }
 {

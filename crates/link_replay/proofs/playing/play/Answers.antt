@@ -22,16 +22,16 @@ returns-in_err-play_lines-clause-plays g c = λ pages lawful bytes words.
     let m = a.meaning (a.kept c.args.shared) in
     let lines = c.args.schedule.now.lines.items in
     let end = plays m a.served (map event_at lines) (opening (a.numbers c.args.shared) (map plan_at c.args.schedule.now.clients.items)) in
-    subst (λ r. Plays m a.served (a.numbers c.args.shared) (content_at c.args.schedule.now) (WorldStands a.stands_for a.kept a.numbers) r)
+    subst (λ r. Plays m a.served (a.numbers c.args.shared) (content_at c.args.schedule.now) (WorldStands a) r)
     (sym (handed_on c.from_residual.result c.in_err-play_lines.field-0.0 c.from_residual.ensures.0 c.from_residual.ensures.1))
-    (same_refusal m a.served (λ (done : Unit {0}). WorldStands a.stands_for a.kept a.numbers c.play_lines.new.world) (WorldStands a.stands_for a.kept a.numbers) lines end c.in_err-play_lines.field-0.0
-    (whole_schedule a.meaning a.stands_for a.kept a.numbers a.served c.in-Ok.world (WorldStands a.stands_for a.kept a.numbers c.play_lines.new.world) c.args.shared c.args.schedule.now
+    (same_refusal m a.served (λ (done : Unit {0}). WorldStands a c.play_lines.new.world) (WorldStands a) lines end c.in_err-play_lines.field-0.0
+    (whole_schedule a c.in-Ok.world (WorldStands a c.play_lines.new.world) c.args.shared c.args.schedule.now
     c.as_slice.result.now c.as_slice-2.result.now (Err c.in_err-play_lines.field-0.0) c.as_slice.ensures.value c.as_slice-2.ensures.value c.in-Ok.ensures.shared
     c.in-Ok.ensures.planned c.in-Ok.ensures.stands c.in_err-play_lines.ensures.played pages lawful bytes words))
 
 pub returns-clause-plays : goal.returns-clause-plays
 returns-clause-plays g c =
     let a = g.A.App in
-    whole_schedule a.meaning a.stands_for a.kept a.numbers a.served c.in-Ok.world (WorldStands a.stands_for a.kept a.numbers c.play_lines.new.world) c.args.shared c.args.schedule.now
+    whole_schedule a c.in-Ok.world (WorldStands a c.play_lines.new.world) c.args.shared c.args.schedule.now
     c.as_slice.result.now c.as_slice-2.result.now (Ok c.in_ok-play_lines.field-0) c.as_slice.ensures.value c.as_slice-2.ensures.value c.in-Ok.ensures.shared
     c.in-Ok.ensures.planned c.in-Ok.ensures.stands c.in_ok-play_lines.ensures.played

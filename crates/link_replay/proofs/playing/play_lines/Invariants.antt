@@ -12,8 +12,8 @@ invariant-loop-line g l =
     let a = g.A.App in
     let m = a.meaning (a.kept l.fn.world.node.shared) in
     record {
-      kept : IsKept a.meaning a.stands_for a.kept l.world;
+      kept : IsKept a l.world;
       same : a.kept l.world.node.shared ≡ a.kept l.fn.world.node.shared;
-      so_far : (w : World) → IsAt m a.served w → WorldStands a.stands_for a.kept a.numbers l.fn.world w
-          → AmidLines m a.served (WorldStands a.stands_for a.kept a.numbers l.world) l.line-index (drop l.line-index l.lines) (plays m a.served (map event_at l.lines) w);
+      so_far : (w : World) → IsAt m a.served w → WorldStands a l.fn.world w
+          → AmidLines m a.served (WorldStands a l.world) l.line-index (drop l.line-index l.lines) (plays m a.served (map event_at l.lines) w);
     }

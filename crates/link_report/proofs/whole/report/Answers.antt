@@ -4,7 +4,7 @@ use Rattle.link_report.proofs.Telling.{told_front, told_whole}
 use Rattle.link_report.proofs.whole.report.Goals as goal
 
 pub returns-clause-ok : goal.returns-clause-ok
-returns-clause-ok g c = told_whole (WorldStands g.A.App.stands_for g.A.App.kept g.A.App.numbers c.args.world.now) (report c.args.show) _ _ c.write_report.result c.write_report.ensures.wrote
+returns-clause-ok g c = told_whole (WorldStands g.A.App c.args.world.now) (report c.args.show) _ _ c.write_report.result c.write_report.ensures.wrote
 
 pub returns-clause-err : goal.returns-clause-err
-returns-clause-err g c = told_front (WorldStands g.A.App.stands_for g.A.App.kept g.A.App.numbers c.args.world.now) (report c.args.show) _ _ c.write_report.result c.write_report.ensures.wrote
+returns-clause-err g c = told_front (WorldStands g.A.App c.args.world.now) (report c.args.show) _ _ c.write_report.result c.write_report.ensures.wrote

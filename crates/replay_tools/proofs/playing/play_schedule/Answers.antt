@@ -4,8 +4,6 @@ use Rattle.app_events.specs.Pages.{IsByte}
 use Rattle.file_tree.specs.Site.{SiteContent, IsLoaded, files_of}
 use Rattle.link_schedule.specs.Answer.{content_at}
 use Rattle.link_replay.specs.Stands.{WorldStands}
-use Rattle.httpd.specs.HttpdStands.{HttpdStands}
-use Rattle.httpd.specs.Web.{WebContent}
 use Rattle.replay_tools.specs.Playing.{no_hits}
 use Rattle.replay_tools.specs.Telling.{Answers, IsDue}
 use Rattle.replay_tools.proofs.Played.{played_due, refused_due}
@@ -22,7 +20,7 @@ returns-in-Ok-play g c = λ text reads.
     (played_due site (subst IsLoaded (sym same) c.see_loaded.ensures.loaded) (subst (λ (s : SiteContent). All IsByte s.image) (sym same) c.see_loaded.ensures.bytes) c.in-Ok.web.hits
     (c.in-Ok.ensures.hits ∙ ap (λ (s : SiteContent). no_hits (files_of s)) (sym same)) text (content_at c.args.schedule.now) reads c.args.show
     (g.K.Sink.written c.args.out.now) (g.K.Sink.written c.tell.new.out) (g.K.Sink.faults c.args.out.now) (g.K.Sink.faults c.tell.new.out) c.tell.result
-    (WorldStands HttpdStands (λ (web : WebContent). web.site) (λ (web : WebContent). web.hits) c.in-Ok-play.world) c.in-Ok-play.ensures.plays c.tell.ensures)
+    (WorldStands _ c.in-Ok-play.world) c.in-Ok-play.ensures.plays c.tell.ensures)
 
 pub returns-in-Err-Bad : goal.returns-in-Err-Bad
 returns-in-Err-Bad g c = λ text reads.
@@ -35,5 +33,5 @@ returns-in-Err-Bad g c = λ text reads.
     (refused_due site (subst IsLoaded (sym same) c.see_loaded.ensures.loaded) (subst (λ (s : SiteContent). All IsByte s.image) (sym same) c.see_loaded.ensures.bytes) c.in-Ok.web.hits
     (c.in-Ok.ensures.hits ∙ ap (λ (s : SiteContent). no_hits (files_of s)) (sym same)) text (content_at c.args.schedule.now) reads c.args.show
     (g.K.Sink.written c.args.out.now) (g.K.Sink.written c.refuse.new.out) (g.K.Sink.faults c.args.out.now) (g.K.Sink.faults c.refuse.new.out) c.refuse.result
-    (WorldStands HttpdStands (λ (web : WebContent). web.site) (λ (web : WebContent). web.hits)) c.in-Err-Bad.field-0 c.in-Err-Bad.line c.in-Err-Bad.why c.in-Err-Bad.field-0-is
+    (WorldStands _) c.in-Err-Bad.field-0 c.in-Err-Bad.line c.in-Err-Bad.why c.in-Err-Bad.field-0-is
     c.in-Err-Bad.ensures.plays c.refuse.ensures)

@@ -12,10 +12,10 @@ returns-clause-ok g c =
     let old = c.args.node.now in
     let new = c.input-sent.new.self in
     on_ok_weaker c.write_sent.result
-    (λ wrote m own. call_wrote g.A.App.meaning g.A.App.served g.A.App.stands_for g.A.App.kept g.A.App.numbers m own old new
+    (λ wrote m own. call_wrote g.A.App m own old new
     c.input-sent.result (event_of own c.args.datagram.now) (g.K.Sink.written c.args.sink.now) (g.K.Sink.written c.write_sent.new.sink)
     c.input-sent.ensures.same
-    (λ n p. subst (λ (a : Addr). Steps g.A.App.stands_for g.A.App.kept g.A.App.numbers new c.input-sent.result
+    (λ n p. subst (λ (a : Addr). Steps g.A.App new c.input-sent.result
     (step (g.A.App.meaning (g.A.App.kept old.shared)) g.A.App.served n (event_of a c.args.datagram.now))) p.address (c.input-sent.ensures.step n p.stands)) wrote)
     c.write_sent.ensures.ok
 
@@ -24,9 +24,9 @@ returns-clause-err g c =
     let old = c.args.node.now in
     let new = c.input-sent.new.self in
     on_err_weaker c.write_sent.result
-    (λ wrote m own. call_broke g.A.App.meaning g.A.App.served g.A.App.stands_for g.A.App.kept g.A.App.numbers m own old new
+    (λ wrote m own. call_broke g.A.App m own old new
     c.input-sent.result (event_of own c.args.datagram.now) (g.K.Sink.written c.args.sink.now) (g.K.Sink.written c.write_sent.new.sink)
     c.input-sent.ensures.same
-    (λ n p. subst (λ (a : Addr). Steps g.A.App.stands_for g.A.App.kept g.A.App.numbers new c.input-sent.result
+    (λ n p. subst (λ (a : Addr). Steps g.A.App new c.input-sent.result
     (step (g.A.App.meaning (g.A.App.kept old.shared)) g.A.App.served n (event_of a c.args.datagram.now))) p.address (c.input-sent.ensures.step n p.stands)) wrote)
     c.write_sent.ensures.err

@@ -9,10 +9,10 @@ use Rattle.serve_loop.proofs.node_calls.tick.Given as goal
 
 abbrev pub invariant-loop-slot : goal.invariant-loop-slot
 invariant-loop-slot g l = record {
-  whole : IsWhole g.A.App.meaning g.A.App.stands_for g.A.App.kept l.node;
+  whole : IsWhole g.A.App l.node;
   same : g.A.App.kept l.node.shared ≡ g.A.App.kept l.fn.node.shared;
   wrote : (m : Meaning) (own : Addr) → Wrote m g.A.App.served own (calls l.slot)
-      (IsNode g.A.App.meaning g.A.App.stands_for g.A.App.kept g.A.App.numbers m own l.fn.node)
-      (IsNode g.A.App.meaning g.A.App.stands_for g.A.App.kept g.A.App.numbers m own l.node) (g.K.Sink.written l.fn.sink) (g.K.Sink.written l.sink);
+      (IsNode g.A.App m own l.fn.node)
+      (IsNode g.A.App m own l.node) (g.K.Sink.written l.fn.sink) (g.K.Sink.written l.sink);
   calm : g.K.Sink.faults l.sink ≡ g.K.Sink.faults l.fn.sink;
 }

@@ -35,7 +35,7 @@ loop-left-preserved g c = record {
         consumed = Consumes-then (g.L.Link.coming c.args.link.now) (g.L.Link.coming c.loop-left.link) (g.L.Link.coming c.turn.new.link) inv.taken turn.items inv.consumed turn.consumed;
         number = omega (arith, length-append inv.taken turn.items, turn.cause.0, inv.number, c.in-Went.ensures.fits.1, room);
         at = rw bytes_of-append turn.on;
-        wrote = on_wrote g.A.App.meaning g.A.App.served g.A.App.stands_for g.A.App.kept g.A.App.numbers pace inv.taken turn.items c.args.node.now c.loop-left.node c.turn.new.node
+        wrote = on_wrote g.A.App pace inv.taken turn.items c.args.node.now c.loop-left.node c.turn.new.node
             (g.K.Sink.written c.args.sink.now) (g.K.Sink.written c.loop-left.sink) (g.K.Sink.written c.turn.new.sink) inv.wrote turn.wrote;
         link_same = turn.cause.1 ∙ inv.link_same;
         sink_same = turn.cause.2 ∙ inv.sink_same;
@@ -46,7 +46,7 @@ pub returns-in-Stopped-clause-serves : goal.returns-in-Stopped-clause-serves
 returns-in-Stopped-clause-serves g c = λ pace h.
     let inv = c.loop-left.invariant.served pace h in
     let room = length-take c.min-room.result c.loop-left.buf in
-    stopped g.A.App.meaning g.A.App.served g.A.App.stands_for g.A.App.kept g.A.App.numbers pace c.args.items inv.taken c.args.node.now c.loop-left.node c.turn.new.node
+    stopped g.A.App pace c.args.items inv.taken c.args.node.now c.loop-left.node c.turn.new.node
     (outside g.L.Link.coming g.K.Sink.written g.L.Link.faults g.K.Sink.faults c.args.link.now c.args.sink.now)
     (outside g.L.Link.coming g.K.Sink.written g.L.Link.faults g.K.Sink.faults c.loop-left.link c.loop-left.sink)
     (outside g.L.Link.coming g.K.Sink.written g.L.Link.faults g.K.Sink.faults c.turn.new.link c.turn.new.sink)
@@ -56,7 +56,7 @@ returns-in-Stopped-clause-serves g c = λ pace h.
 pub returns-clause-serves : goal.returns-clause-serves
 returns-clause-serves g c = λ pace h.
     let inv = c.loop-left.invariant.served pace h in
-    spent g.A.App.meaning g.A.App.served g.A.App.stands_for g.A.App.kept g.A.App.numbers pace c.args.items inv.taken c.args.node.now c.loop-left.node
+    spent g.A.App pace c.args.items inv.taken c.args.node.now c.loop-left.node
     (outside g.L.Link.coming g.K.Sink.written g.L.Link.faults g.K.Sink.faults c.args.link.now c.args.sink.now)
     (outside g.L.Link.coming g.K.Sink.written g.L.Link.faults g.K.Sink.faults c.loop-left.link c.loop-left.sink)
     inv.consumed (omega (arith, inv.number, c.loop-left-test.false)) inv.link_same inv.sink_same inv.wrote

@@ -11,7 +11,7 @@ use Rattle.serve_loop.proofs.serving.serve_line.Given as goal
 
 abbrev pub invariant-loop-left : goal.invariant-loop-left
 invariant-loop-left g l = record {
-  whole : IsWhole g.A.App.meaning g.A.App.stands_for g.A.App.kept l.node;
+  whole : IsWhole g.A.App l.node;
   same : g.A.App.kept l.node.shared ≡ g.A.App.kept l.fn.node.shared;
   served : (pace : ℕ) → HasTaken pace [] l.fn.line.decoder l.fn.line.pacer → record {
     taken : List Item;
@@ -19,8 +19,8 @@ invariant-loop-left g l = record {
     number : length taken + l.left ≡ l.items;
     at : HasTaken pace (bytes_of taken) l.line.decoder l.line.pacer;
     wrote : (m : Meaning) (own : Addr) → Wrote m g.A.App.served own (line_events own pace taken)
-        (IsNode g.A.App.meaning g.A.App.stands_for g.A.App.kept g.A.App.numbers m own l.fn.node)
-        (IsNode g.A.App.meaning g.A.App.stands_for g.A.App.kept g.A.App.numbers m own l.node) (g.K.Sink.written l.fn.sink) (g.K.Sink.written l.sink);
+        (IsNode g.A.App m own l.fn.node)
+        (IsNode g.A.App m own l.node) (g.K.Sink.written l.fn.sink) (g.K.Sink.written l.sink);
     link_same : g.L.Link.faults l.link ≡ g.L.Link.faults l.fn.link;
     sink_same : g.K.Sink.faults l.sink ≡ g.K.Sink.faults l.fn.sink;
   };

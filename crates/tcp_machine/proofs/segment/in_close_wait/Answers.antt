@@ -3,14 +3,26 @@ use Rattle.std.proofs.Common.{rules, ap, ◌∙◌}
 use Rattle.tcp_machine.specs.Stands.{is_open}
 use Rattle.tcp_machine.proofs.segment.in_close_wait.Goals as goal
 
-pub returns-then-acked-clause-sound : goal.returns-then-acked-clause-sound
-returns-then-acked-clause-sound g c = record {
-  numbers = search rules;
-  says = λ _. rw (c.set_window.ensures.kept.app, c.set_window.ensures.kept.len) (c.take_ack.ensures.sound.says (ap is_open (c.take_ack.ensures.state ∙ c.requires.state)));
+pub returns-then-acked : goal.returns-then-acked
+returns-then-acked g c = λ s. record {
+  same = search rules;
+  sound = record {
+    numbers = search rules;
+    says = λ _. rw (c.set_window.ensures.kept.app, c.set_window.ensures.kept.len) (c.take_ack.ensures.sound.says (ap is_open (c.take_ack.ensures.state ∙ c.requires.state)));
+  };
+  place = search rules;
+  fits = search rules;
+  meets = search rules;
 }
 
-pub returns-clause-sound : goal.returns-clause-sound
-returns-clause-sound g c = record {
-  numbers = search rules;
-  says = λ _. rw (c.set_window-2.ensures.kept.app, c.set_window-2.ensures.kept.len) (c.requires.sound.says (ap is_open c.requires.state));
+pub returns : goal.returns
+returns g c = λ s. record {
+  same = search rules;
+  sound = record {
+    numbers = search rules;
+    says = λ _. rw (c.set_window-2.ensures.kept.app, c.set_window-2.ensures.kept.len) (c.requires.sound.says (ap is_open c.requires.state));
+  };
+  place = search rules;
+  fits = search rules;
+  meets = search rules;
 }

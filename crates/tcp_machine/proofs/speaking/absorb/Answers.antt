@@ -4,7 +4,7 @@ use Rattle.tcp_machine.proofs.Saying.{has_part_of, can_say_heard}
 use Rattle.tcp_machine.proofs.speaking.absorb.Goals as goal
 
 pub hear-requires : goal.hear-requires
-hear-requires g c = has_part_of g.A.App.meaning g.A.App.stands_for (g.A.App.kept c.args.shared.now) c.args.conn.now c.requires.sound c.requires.open_to_it
+hear-requires g c = has_part_of g.A.App (g.A.App.kept c.args.shared.now) c.args.conn.now c.requires.sound c.requires.open_to_it
 
 pub returns-clause-sound : goal.returns-clause-sound
 returns-clause-sound g c = record {

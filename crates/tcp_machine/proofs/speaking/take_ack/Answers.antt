@@ -9,6 +9,6 @@ returns-clause-sound g c = record {
   says = λ _.
       let can = can_nothing_after g.A.App.meaning g.A.App.stands_for (g.A.App.kept c.args.shared.now) c.args.conn.now.app c.acked.new.self
       (λ p. ((g.A.App.meaning (g.A.App.kept c.args.shared.now)).acked (g.A.App.numbers c.args.shared.now) p c.args.conn.now.len).part)
-      c.acked.ensures.part (has_part_of g.A.App.meaning g.A.App.stands_for (g.A.App.kept c.args.shared.now) c.args.conn.now c.requires.sound c.requires.open_to_it) in
+      c.acked.ensures.part (has_part_of g.A.App (g.A.App.kept c.args.shared.now) c.args.conn.now c.requires.sound c.requires.open_to_it) in
       rw (c.rest.ensures.rested.app, c.rest.ensures.rested.len) can;
 }

@@ -29,32 +29,32 @@ invariant_of-table g c =
     let at = at_place _ _ c.args.slot c.index_mut-conn.result.now e c.requires.within c.index_mut-conn.ensures.value in
     let here : slice_get c.table.inside.conns.items c.args.slot ≡ Some c.index_mut-conn.result.now = subst (λ (xs : List (Conn g.row.A.Denot)). slice_get xs c.args.slot ≡ Some c.index_mut-conn.result.now) (sym e) at in
     table_keeps c.table.inside.conns.items c.args.slot c.index_mut-conn.result.now c.ask.new.conn c.table.invariant here
-    (open_lives c.index_mut-conn.result.now.state (c.requires.asked _ at).open_to_it) c.ask.ensures.place
+    (open_lives c.index_mut-conn.result.now.state (c.requires.asked _ at).open_to_it) c.ask.ensures.takes.place
 
 pub returns-clause-kept : goal.returns-clause-kept
 returns-clause-kept g c =
     let k = g.A.App.kept c.args.shared.now in
     let e = ap (λ (t : Connections g.row.A.Denot). t.conns) c.table.view_is in
-    kept_after g.A.App.meaning g.A.App.stands_for k c.table.inside.conns.items c.args.slot c.ask.new.conn
-    (subst (λ (xs : List (Conn g.row.A.Denot)). AllSound g.A.App.meaning g.A.App.stands_for k xs) (sym e) c.requires.sound)
+    kept_after g.A.App k c.table.inside.conns.items c.args.slot c.ask.new.conn
+    (subst (λ (xs : List (Conn g.row.A.Denot)). AllSound g.A.App k xs) (sym e) c.requires.sound)
     (subst (λ (xs : List (Conn g.row.A.Denot)). OthersRest c.args.slot xs) (sym e) c.requires.others)
-    (record { sound = c.ask.ensures.sound; busy = rests_of c.ask.new.conn c.ask.result c.ask.ensures.answer c.ask.ensures.fits })
+    (record { sound = c.ask.ensures.takes.sound; busy = rests_of c.ask.new.conn c.ask.result c.ask.ensures.answer c.ask.ensures.takes.fits })
 
 pub returns-clause-text : goal.returns-clause-text
-returns-clause-text g c = is_in_after (λ d. StepFits d c.ask.result) c.table.inside.conns.items c.args.slot c.ask.new.conn c.ask.ensures.fits
+returns-clause-text g c = is_in_after (λ d. StepFits d c.ask.result) c.table.inside.conns.items c.args.slot c.ask.new.conn c.ask.ensures.takes.fits
 
 pub returns-clause-meets : goal.returns-clause-meets
 returns-clause-meets g c = λ abstracts a stand there.
     let k = g.A.App.kept c.args.shared.now in
     let e = ap (λ (t : Connections g.row.A.Denot). t.conns) c.table.view_is in
     let at = at_place _ _ c.args.slot c.index_mut-conn.result.now e c.requires.within c.index_mut-conn.ensures.value in
-    meets_after g.A.App.stands_for k c.table.inside.conns.items abstracts c.args.slot c.ask.new.conn (g.A.App.numbers c.args.shared.now) c.ask.result
+    meets_after g.A.App k c.table.inside.conns.items abstracts c.args.slot c.ask.new.conn (g.A.App.numbers c.args.shared.now) c.ask.result
     (ask (g.A.App.meaning k) c.args.now.now c.args.fresh a (g.A.App.numbers c.args.shared.now))
-    (subst (λ (xs : List (Conn g.row.A.Denot)). SlotsStand g.A.App.stands_for k xs abstracts) (sym e) stand)
-    (c.ask.ensures.meets a (stand.each c.args.slot c.index_mut-conn.result.now a at there))
+    (subst (λ (xs : List (Conn g.row.A.Denot)). SlotsStand g.A.App k xs abstracts) (sym e) stand)
+    (c.ask.ensures.takes.meets a (stand.each c.args.slot c.index_mut-conn.result.now a at there))
     (λ speaks. named_after c.index_mut-conn.result.now c.ask.new.conn a _
-    (live_named g.A.App.stands_for k c.index_mut-conn.result.now a (stand.each c.args.slot c.index_mut-conn.result.now a at there) (open_lives c.index_mut-conn.result.now.state (c.requires.asked _ at).open_to_it))
-    c.ask.ensures.place c.ask.ensures.same_numbers (ask_same (g.A.App.meaning k) c.args.now.now c.args.fresh a (g.A.App.numbers c.args.shared.now)))
+    (live_named g.A.App k c.index_mut-conn.result.now a (stand.each c.args.slot c.index_mut-conn.result.now a at there) (open_lives c.index_mut-conn.result.now.state (c.requires.asked _ at).open_to_it))
+    c.ask.ensures.takes.place c.ask.ensures.same_numbers (ask_same (g.A.App.meaning k) c.args.now.now c.args.fresh a (g.A.App.numbers c.args.shared.now)))
 
 pub returns-clause-long : goal.returns-clause-long
 returns-clause-long g c =

@@ -34,8 +34,8 @@ pub returns-clause-sound : goal.returns-clause-sound
 returns-clause-sound g c =
     let k = g.A.App.kept c.args.shared.now in
     let e = ap (λ (t : Connections g.row.A.Denot). t.conns) c.table.view_is in
-    sound_after g.A.App.meaning g.A.App.stands_for k c.table.inside.conns.items c.args.slot c.on_segment.new.conn
-    (subst (λ (xs : List (Conn g.row.A.Denot)). AllSound g.A.App.meaning g.A.App.stands_for k xs) (sym e) (all_sound g.A.App.meaning g.A.App.stands_for k c.args.table.now.conns c.requires.kept))
+    sound_after g.A.App k c.table.inside.conns.items c.args.slot c.on_segment.new.conn
+    (subst (λ (xs : List (Conn g.row.A.Denot)). AllSound g.A.App k xs) (sym e) (all_sound g.A.App k c.args.table.now.conns c.requires.kept))
     c.on_segment.ensures.sound
 
 pub returns-clause-fits : goal.returns-clause-fits
@@ -51,11 +51,11 @@ returns-clause-meets g c = λ abstracts a stand there.
     let k = g.A.App.kept c.args.shared.now in
     let e = ap (λ (t : Connections g.row.A.Denot). t.conns) c.table.view_is in
     let at = at_place _ _ c.args.slot c.index_mut-conn.result.now e c.requires.within c.index_mut-conn.ensures.value in
-    meets_after g.A.App.stands_for k c.table.inside.conns.items abstracts c.args.slot c.on_segment.new.conn (g.A.App.numbers c.on_segment.new.shared) c.on_segment.result
+    meets_after g.A.App k c.table.inside.conns.items abstracts c.args.slot c.on_segment.new.conn (g.A.App.numbers c.on_segment.new.shared) c.on_segment.result
     (on_segment (g.A.App.meaning k) a (g.A.App.numbers c.args.shared.now) (plain c.args.seg.now c.args.piece.now))
-    (subst (λ (xs : List (Conn g.row.A.Denot)). SlotsStand g.A.App.stands_for k xs abstracts) (sym e) stand)
+    (subst (λ (xs : List (Conn g.row.A.Denot)). SlotsStand g.A.App k xs abstracts) (sym e) stand)
     (c.on_segment.ensures.meets a (stand.each c.args.slot c.index_mut-conn.result.now a at there))
-    (λ speaks. segment_named g.A.App.stands_for k c.on_segment.new.conn a c.on_segment.result (g.A.App.meaning k) (g.A.App.numbers c.args.shared.now) (plain c.args.seg.now c.args.piece.now) (g.A.App.numbers c.on_segment.new.shared)
+    (λ speaks. segment_named g.A.App k c.on_segment.new.conn a c.on_segment.result (g.A.App.meaning k) (g.A.App.numbers c.args.shared.now) (plain c.args.seg.now c.args.piece.now) (g.A.App.numbers c.on_segment.new.shared)
     (c.on_segment.ensures.meets a (stand.each c.args.slot c.index_mut-conn.result.now a at there))
     (sym (ap is_live (stand.each c.args.slot c.index_mut-conn.result.now a at there).numbers.state) ∙ c.requires.live _ at) speaks)
 

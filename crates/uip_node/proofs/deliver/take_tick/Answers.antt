@@ -26,18 +26,18 @@ invariant_of-table g c =
     let e = ap (λ (t : Connections g.row.A.Denot). t.conns) c.table.view_is in
     let at = at_place _ _ c.args.slot c.index_mut-conn.result.now e c.requires.within c.index_mut-conn.ensures.value in
     let here : slice_get c.table.inside.conns.items c.args.slot ≡ Some c.index_mut-conn.result.now = subst (λ (xs : List (Conn g.row.A.Denot)). slice_get xs c.args.slot ≡ Some c.index_mut-conn.result.now) (sym e) at in
-    table_keeps c.table.inside.conns.items c.args.slot c.index_mut-conn.result.now c.on_tick.new.conn c.table.invariant here (c.requires.live _ at) c.on_tick.ensures.place
+    table_keeps c.table.inside.conns.items c.args.slot c.index_mut-conn.result.now c.on_tick.new.conn c.table.invariant here (c.requires.live _ at) c.on_tick.ensures.takes.place
 
 pub returns-clause-sound : goal.returns-clause-sound
 returns-clause-sound g c =
     let k = g.A.App.kept c.args.shared.now in
     let e = ap (λ (t : Connections g.row.A.Denot). t.conns) c.table.view_is in
-    sound_after g.A.App.meaning g.A.App.stands_for k c.table.inside.conns.items c.args.slot c.on_tick.new.conn
-    (subst (λ (xs : List (Conn g.row.A.Denot)). AllSound g.A.App.meaning g.A.App.stands_for k xs) (sym e) (all_sound g.A.App.meaning g.A.App.stands_for k c.args.table.now.conns c.requires.kept))
-    c.on_tick.ensures.sound
+    sound_after g.A.App k c.table.inside.conns.items c.args.slot c.on_tick.new.conn
+    (subst (λ (xs : List (Conn g.row.A.Denot)). AllSound g.A.App k xs) (sym e) (all_sound g.A.App k c.args.table.now.conns c.requires.kept))
+    c.on_tick.ensures.takes.sound
 
 pub returns-clause-fits : goal.returns-clause-fits
-returns-clause-fits g c = is_in_after (λ d. StepFits d c.on_tick.result) c.table.inside.conns.items c.args.slot c.on_tick.new.conn c.on_tick.ensures.fits
+returns-clause-fits g c = is_in_after (λ d. StepFits d c.on_tick.result) c.table.inside.conns.items c.args.slot c.on_tick.new.conn c.on_tick.ensures.takes.fits
 
 pub returns-clause-others : goal.returns-clause-others
 returns-clause-others g c = λ j d other h.
@@ -49,13 +49,13 @@ returns-clause-meets g c = λ abstracts a stand there.
     let k = g.A.App.kept c.args.shared.now in
     let e = ap (λ (t : Connections g.row.A.Denot). t.conns) c.table.view_is in
     let at = at_place _ _ c.args.slot c.index_mut-conn.result.now e c.requires.within c.index_mut-conn.ensures.value in
-    meets_after g.A.App.stands_for k c.table.inside.conns.items abstracts c.args.slot c.on_tick.new.conn (g.A.App.numbers c.on_tick.new.shared) c.on_tick.result
+    meets_after g.A.App k c.table.inside.conns.items abstracts c.args.slot c.on_tick.new.conn (g.A.App.numbers c.on_tick.new.shared) c.on_tick.result
     (on_tick (g.A.App.meaning k) a (g.A.App.numbers c.args.shared.now))
-    (subst (λ (xs : List (Conn g.row.A.Denot)). SlotsStand g.A.App.stands_for k xs abstracts) (sym e) stand)
-    (c.on_tick.ensures.meets a (stand.each c.args.slot c.index_mut-conn.result.now a at there))
+    (subst (λ (xs : List (Conn g.row.A.Denot)). SlotsStand g.A.App k xs abstracts) (sym e) stand)
+    (c.on_tick.ensures.takes.meets a (stand.each c.args.slot c.index_mut-conn.result.now a at there))
     (λ speaks. named_after c.index_mut-conn.result.now c.on_tick.new.conn a _
-    (live_named g.A.App.stands_for k c.index_mut-conn.result.now a (stand.each c.args.slot c.index_mut-conn.result.now a at there) (c.requires.live _ at))
-    c.on_tick.ensures.place c.on_tick.ensures.same_numbers (on_tick_same (g.A.App.meaning k) a (g.A.App.numbers c.args.shared.now)))
+    (live_named g.A.App k c.index_mut-conn.result.now a (stand.each c.args.slot c.index_mut-conn.result.now a at there) (c.requires.live _ at))
+    c.on_tick.ensures.takes.place c.on_tick.ensures.same_numbers (on_tick_same (g.A.App.meaning k) a (g.A.App.numbers c.args.shared.now)))
 
 pub returns-clause-long : goal.returns-clause-long
 returns-clause-long g c =

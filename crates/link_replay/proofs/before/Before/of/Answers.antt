@@ -5,6 +5,6 @@ use Rattle.link_replay.proofs.before.Before.of.Goals as goal
 -- src/before.rt
 pub returns : goal.returns
 returns g c = λ n stands. record {
-  pairs = c.owners_in.ensures ∙ owners_stand g.A.App.stands_for (g.A.App.kept c.args.node.now.shared) c.args.node.now.table.conns n.connections stands.slots;
+  pairs = c.owners_in.ensures ∙ owners_stand g.A.App (g.A.App.kept c.args.node.now.shared) c.args.node.now.table.conns n.connections stands.slots;
   resent = c.resent_of.ensures n.past stands.counts;
 }

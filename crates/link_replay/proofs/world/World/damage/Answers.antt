@@ -43,4 +43,4 @@ returns-clause-damaged g c = λ w h f s.
     = ap (λ (b : List ℕ). hands_over m a.served w b code.who) bytes
     ∙ ap (λ (who : Who). hands_over m a.served w (changed (bytes_of w e) c.args.at c.args.mask) who) p.pair.who
     ∙ sym (ap (λ (x : Option Sent). damages_at m a.served w c.args.at c.args.mask x) there) in
-    subst (λ (u : World). WorldStands a.stands_for a.kept a.numbers c.hand.new.self u) same (c.in_ok-hand.ensures.handed w s answers)
+    subst (λ (u : World). WorldStands a c.hand.new.self u) same (c.in_ok-hand.ensures.handed w s answers)

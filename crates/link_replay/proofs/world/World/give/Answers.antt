@@ -47,8 +47,8 @@ returns-clause-given g c = λ w h s.
     let client : c.client_of.result ≡ client_of e.who = c.client_of.ensures ∙ ap client_of p.pair.who in
     let v : World = sees w (client_of e.who) number e (numbered w.sides (client_of e.who)) in
     let facts = hands m a.served w number e (speaks_to c.args.self.now.link w s.link s.home) e.who e.content (bytes_of w e) (read_at m a.served w h n e p.get) (sent_at m a.served w h n e p.get) in
-    let stands : WorldStands a.stands_for a.kept a.numbers (record c.args.self.now { link = c.see.new.self }) v
-    = seen a.stands_for a.kept a.numbers c.args.self.now c.see.new.self w (client_of e.who) number e (numbered w.sides (client_of e.who)) s
+    let stands : WorldStands a (record c.args.self.now { link = c.see.new.self }) v
+    = seen a c.args.self.now c.see.new.self w (client_of e.who) number e (numbered w.sides (client_of e.who)) s
     (subst (λ k. LinkStands c.see.new.self (sees w k number e (numbered w.sides k))) client (c.see.ensures.stands w e s.link p.pair.epoch)) (c.see.ensures.kept w.node.addr s.home) in
     let answer : Option Reply = (step m a.served v.node (event_of v.node.addr c.as_slice-2.result.now)).sent in
     let answers : AnswersTo v code.who answer
@@ -60,4 +60,4 @@ returns-clause-given g c = λ w h s.
     ∙ ap (λ (who : Who). hands_over m a.served v (bytes_of w e) who) p.pair.who
     ∙ facts.same
     ∙ sym (ap (λ (x : Option Sent). gives m a.served w number x) (numbered_at w.sent number above ∙ p.get)) in
-    subst (λ (u : World). WorldStands a.stands_for a.kept a.numbers c.hand.new.self u) same (c.in_ok-hand.ensures.handed v stands answers)
+    subst (λ (u : World). WorldStands a c.hand.new.self u) same (c.in_ok-hand.ensures.handed v stands answers)

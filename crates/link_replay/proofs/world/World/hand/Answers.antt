@@ -23,6 +23,6 @@ returns-in_ok-hear-in-FromNode-clause-handed g c = λ w s to.
     let a = g.A.App in
     let m = a.meaning (a.kept c.args.self.now.node.shared) in
     let number = c.in-FromNode.client in
-    subst (λ (who : Who). WorldStands a.stands_for a.kept a.numbers (record c.args.self.now { link = c.hear.new.self }) (hands_over m a.served w c.args.bytes.now who)) (sym c.in-FromNode.is)
-    (handed_done a.stands_for a.kept a.numbers c.args.self.now c.hear.new.self w number c.args.bytes.now (numbered w.sides number) s
+    subst (λ (who : Who). WorldStands a (record c.args.self.now { link = c.hear.new.self }) (hands_over m a.served w c.args.bytes.now who)) (sym c.in-FromNode.is)
+    (handed_done a c.args.self.now c.hear.new.self w number c.args.bytes.now (numbered w.sides number) s
     (c.in_ok-hear-in-FromNode.ensures.heard w s.link s.node.counts.ticks) (c.hear.ensures.kept w.node.addr s.home))

@@ -19,6 +19,6 @@ returns-clause-heard g c = λ w s to.
     let a = g.A.App in
     let m = a.meaning (a.kept c.args.self.now.node.shared) in
     let did = c.input-sent.ensures.step w.node s.node in
-    handled a.stands_for a.kept a.numbers m a.served (event_of w.node.addr c.args.bytes.now) _ w did.stands
+    handled a m a.served (event_of w.node.addr c.args.bytes.now) _ w did.stands
     (c.in_ok-tell.ensures.told m a.served w (event_of w.node.addr c.args.bytes.now) (c.of-before.ensures w.node s.node) to did.stands did.sent s.link)
     (c.tell.ensures.kept w.node.addr s.home) s.mark s.fresh

@@ -19,6 +19,6 @@ returns-clause-ticked g c = λ w s.
     let a = g.A.App in
     let m = a.meaning (a.kept c.args.self.now.node.shared) in
     let did = c.periodic-sent.ensures.step w.node s.node in
-    handled a.stands_for a.kept a.numbers m a.served (Periodic c.args.slot) _ w did.stands
+    handled a m a.served (Periodic c.args.slot) _ w did.stands
     (c.in_ok-tell.ensures.told m a.served w (Periodic c.args.slot) (c.of-before.ensures w.node s.node) (periodic_to m a.served w.node c.args.slot c.pair.result (c.pair.ensures w.node (c.of-before.ensures w.node s.node))) did.stands did.sent s.link)
     (c.tell.ensures.kept w.node.addr s.home) s.mark s.fresh

@@ -18,5 +18,5 @@ returns-clause-kept g c = record {
 pub returns-clause-acted : goal.returns-clause-acted
 returns-clause-acted g c = λ w s.
     let a = g.A.App in
-    own_done a.stands_for a.kept a.numbers c.args.self.now c.act.new.self w c.args.number (own_step c.args.own) (numbered w.sides c.args.number) s
+    own_done a c.args.self.now c.act.new.self w c.args.number (own_step c.args.own) (numbered w.sides c.args.number) s
     (c.in_ok-act.ensures.acted w s.link s.node.counts.ticks) (c.act.ensures.kept w.node.addr s.home)

@@ -18,6 +18,6 @@ returns-in-Window-clause-done g c = λ w h f s.
     let a = g.A.App in
     let m = a.meaning (a.kept c.args.self.now.node.shared) in
     let number = c.in-Window.number in
-    subst (λ (act : Act). WorldStands a.stands_for a.kept a.numbers (record c.args.self.now { link = c.tell_window.new.self }) (does m a.served w act)) (sym c.in-Window.is)
-    (own_done a.stands_for a.kept a.numbers c.args.self.now c.tell_window.new.self w number (tells_window c.in-Window.window) (numbered w.sides number) s (c.tell_window.ensures.told w s.link)
+    subst (λ (act : Act). WorldStands a (record c.args.self.now { link = c.tell_window.new.self }) (does m a.served w act)) (sym c.in-Window.is)
+    (own_done a c.args.self.now c.tell_window.new.self w number (tells_window c.in-Window.window) (numbered w.sides number) s (c.tell_window.ensures.told w s.link)
     (c.tell_window.ensures.kept w.node.addr s.home))

@@ -21,5 +21,5 @@ returns-clause-sent g c = λ w s.
     let a = g.A.App in
     let items : c.in-Ok.bytes.items ≡ c.as_slice.result.now = search (rules, tests) in
     let bytes : c.in-Ok.bytes.items ≡ ping_from c.args.source w.node.addr = items ∙ c.as_slice.ensures ∙ c.echo_request.ensures ∙ ap (ping_from c.args.source) s.node.addr in
-    linked a.stands_for a.kept a.numbers c.args.self.now c.post.new.self w _ s refl refl
+    linked a c.args.self.now c.post.new.self w _ s refl refl
     (c.in_ok-post.ensures.posted w (OfPing (ping_from c.args.source w.node.addr)) s.link s.node.counts.ticks bytes) (c.post.ensures.kept w.node.addr s.home)

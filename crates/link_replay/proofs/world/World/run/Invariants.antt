@@ -11,9 +11,9 @@ invariant-loop-act g l =
     let a = g.A.App in
     let m = a.meaning (a.kept l.fn.self.node.shared) in
     record {
-      kept : IsKept a.meaning a.stands_for a.kept l.self;
+      kept : IsKept a l.self;
       same : a.kept l.self.node.shared ≡ a.kept l.fn.self.node.shared;
       mark : l.self.mark ≡ l.fn.self.mark;
-      so_far : (w : World) → IsAt m a.served w → WorldStands a.stands_for a.kept a.numbers l.fn.self w
-          → Amid m a.served (WorldStands a.stands_for a.kept a.numbers l.self) (drop l.act-index l.acts) (runs m a.served l.acts w);
+      so_far : (w : World) → IsAt m a.served w → WorldStands a l.fn.self w
+          → Amid m a.served (WorldStands a l.self) (drop l.act-index l.acts) (runs m a.served l.acts w);
     }

@@ -20,7 +20,7 @@ loop-slot-preserved g c =
       so_far = λ w s.
           (let here = inv.so_far w s in
           let v : World = node_handles m a.served here.0 (Periodic slot) in
-          let now : WorldStands a.stands_for a.kept a.numbers c.node_ticks.new.self v
-          = subst (λ k. WorldStands a.stands_for a.kept a.numbers c.node_ticks.new.self (node_handles (a.meaning k) a.served here.0 (Periodic slot))) inv.same (c.in_ok-node_ticks.ensures.ticked here.0 here.1) in
+          let now : WorldStands a c.node_ticks.new.self v
+          = subst (λ k. WorldStands a c.node_ticks.new.self (node_handles (a.meaning k) a.served here.0 (Periodic slot))) inv.same (c.in_ok-node_ticks.ensures.ticked here.0 here.1) in
           (v, now, ap (λ (es : List Event). handles_all m a.served es here.0) (sym (next_call slot c.loop-slot-test.true)) ∙ here.2));
     }

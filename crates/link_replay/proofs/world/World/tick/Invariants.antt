@@ -10,9 +10,9 @@ invariant-loop-slot g l =
     let a = g.A.App in
     let m = a.meaning (a.kept l.fn.self.node.shared) in
     record {
-      kept : IsKept a.meaning a.stands_for a.kept l.self;
+      kept : IsKept a l.self;
       same : a.kept l.self.node.shared ≡ a.kept l.fn.self.node.shared;
       mark : l.self.mark ≡ l.fn.self.mark;
-      so_far : (w : World) → WorldStands a.stands_for a.kept a.numbers l.fn.self w
-          → (v : World) × WorldStands a.stands_for a.kept a.numbers l.self v × (handles_all m a.served (drop l.slot tick) v ≡ handles_all m a.served tick w);
+      so_far : (w : World) → WorldStands a l.fn.self w
+          → (v : World) × WorldStands a l.self v × (handles_all m a.served (drop l.slot tick) v ≡ handles_all m a.served tick w);
     }

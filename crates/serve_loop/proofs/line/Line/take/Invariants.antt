@@ -12,13 +12,13 @@ abbrev pub invariant-loop-rest : goal.invariant-loop-rest
 invariant-loop-rest g l = record {
   front : List ℕ;
   pieces : l.bytes ≡ front ++ l.rest;
-  whole : IsWhole g.A.App.meaning g.A.App.stands_for g.A.App.kept l.node;
+  whole : IsWhole g.A.App l.node;
   same : g.A.App.kept l.node.shared ≡ g.A.App.kept l.fn.node.shared;
   taken : (pace : ℕ) (before : List ℕ) → HasTaken pace before l.fn.self.decoder l.fn.self.pacer → HasTaken pace (before ++ front) l.self.decoder l.self.pacer;
   wrote : (m : Meaning) (own : Addr) (pace : ℕ) (before : List ℕ) → HasTaken pace before l.fn.self.decoder l.fn.self.pacer
       → Wrote m g.A.App.served own (events_behind own pace before (map Byte front))
-      (IsNode g.A.App.meaning g.A.App.stands_for g.A.App.kept g.A.App.numbers m own l.fn.node)
-      (IsNode g.A.App.meaning g.A.App.stands_for g.A.App.kept g.A.App.numbers m own l.node) (g.K.Sink.written l.fn.sink) (g.K.Sink.written l.sink);
+      (IsNode g.A.App m own l.fn.node)
+      (IsNode g.A.App m own l.node) (g.K.Sink.written l.fn.sink) (g.K.Sink.written l.sink);
   calm : g.K.Sink.faults l.sink ≡ g.K.Sink.faults l.fn.sink;
 }
 

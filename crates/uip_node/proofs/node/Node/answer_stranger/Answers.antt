@@ -9,13 +9,13 @@ use Rattle.uip_node.proofs.node.Node.answer_stranger.Goals as goal
 
 pub returns-then-opens_here-clause-step : goal.returns-then-opens_here-clause-step
 returns-then-opens_here-clause-step g c = λ n text h.
-    subst (λ (t : NodeStep). Steps g.A.App.stands_for g.A.App.kept g.A.App.numbers c.welcome.new.self c.welcome.result t)
+    subst (λ (t : NodeStep). Steps g.A.App c.welcome.new.self c.welcome.result t)
     (stranger_opens (g.A.App.meaning (g.A.App.kept c.args.self.now.shared)) g.A.App.served n (sockets_of c.args.peer c.args.seg.now) (plain c.args.seg.now text) (sym c.opens_here.ensures ∙ c.if-opens_here.true))
     (c.welcome.ensures.step n text h)
 
 pub returns-then-has_rst-clause-step : goal.returns-then-has_rst-clause-step
 returns-then-has_rst-clause-step g c = λ n text h.
-    subst (λ (t : NodeStep). Steps g.A.App.stands_for g.A.App.kept g.A.App.numbers c.args.self.now None t)
+    subst (λ (t : NodeStep). Steps g.A.App c.args.self.now None t)
     (stranger_passes (g.A.App.meaning (g.A.App.kept c.args.self.now.shared)) g.A.App.served n (sockets_of c.args.peer c.args.seg.now) (plain c.args.seg.now text) (sym c.opens_here.ensures ∙ c.if-opens_here.false) (sym c.has_rst.ensures ∙ c.if-has_rst.true))
     (record {
       stands = record { addr = h.addr; slots = h.slots; iss = h.iss; numbers_stand = h.numbers_stand; counts = h.counts };
@@ -24,6 +24,6 @@ returns-then-has_rst-clause-step g c = λ n text h.
 
 pub returns-else-has_rst-clause-step : goal.returns-else-has_rst-clause-step
 returns-else-has_rst-clause-step g c = λ n text h.
-    subst (λ (t : NodeStep). Steps g.A.App.stands_for g.A.App.kept g.A.App.numbers c.refuse.new.self c.refuse.result t)
+    subst (λ (t : NodeStep). Steps g.A.App c.refuse.new.self c.refuse.result t)
     (stranger_refused (g.A.App.meaning (g.A.App.kept c.args.self.now.shared)) g.A.App.served n (sockets_of c.args.peer c.args.seg.now) (plain c.args.seg.now text) (sym c.opens_here.ensures ∙ c.if-opens_here.false) (sym c.has_rst.ensures ∙ c.if-has_rst.false))
     (c.refuse.ensures.step n text h)

@@ -1,5 +1,5 @@
 -- The connection that a segment belongs to.
-use Rattle.std.proofs.Common.{ℕ, ◌≡◌, ◌<◌, Option, Some, None, arith, sym, ◌∙◌, subst, length}
+use Rattle.std.proofs.Common.{rules, ℕ, ◌≡◌, ◌<◌, Option, Some, None, arith, sym, ◌∙◌, subst, length}
 use Rattle.std.specs.Prelude.{position}
 use Rattle.std.proofs.lemmas.Bool.{and_parts}
 use Rattle.packet_buffer.specs.Buffer.{datagram_in}
@@ -22,31 +22,39 @@ pub answer_stranger-requires-clause-free : goal.answer_stranger-requires-clause-
 answer_stranger-requires-clause-free g c = λ j d at.
     not_found (is_at c.args.peer c.args.seg.now.from c.args.seg.now.to) c.args.self.now.table.conns (sym c.find.ensures ∙ c.in-None.is) j d at
 
-pub returns-in-Some-clause-step : goal.returns-in-Some-clause-step
-returns-in-Some-clause-step g c = λ n h.
-    let now = c.args.self.now in
-    let k = g.A.App.kept now.shared in
-    let m = g.A.App.meaning k in
-    let stands = g.A.App.stands_for in
-    let s = sockets_of c.args.peer c.args.seg.now in
-    let seg = plain_of c.args.seg.now (datagram_in now.packet) in
-    let slot = c.in-Some.slot in
-    let here : position (is_at c.args.peer c.args.seg.now.from c.args.seg.now.to) now.table.conns ≡ Some slot = sym c.find.ensures ∙ c.in-Some.is in
-    let there : position (serves s) n.connections ≡ Some slot = sym (find_agrees stands k now.table.conns n.connections s h.slots) ∙ here in
-    let within : slot < length n.connections = omega (arith, (found (is_at c.args.peer c.args.seg.now.from c.args.seg.now.to) now.table.conns slot here).0, h.slots.same_length) in
-    subst (λ (o : Option ℕ). Steps stands g.A.App.kept g.A.App.numbers c.deliver.new.self c.deliver.result (arrives_at m g.A.App.served n s seg o)) (sym there)
-    (c.deliver.ensures.step n (Arrived s seg)
-    (record { addr = h.addr; slots = h.slots; iss = h.iss; numbers_stand = h.numbers_stand; counts = c.arrive.ensures n.past s seg h.counts }) within)
+pub returns-in-Some : goal.returns-in-Some
+returns-in-Some g c = record {
+  whole = search rules;
+  same = search rules;
+  step = λ n h.
+      let now = c.args.self.now in
+      let k = g.A.App.kept now.shared in
+      let m = g.A.App.meaning k in
+      let app = g.A.App in
+      let s = sockets_of c.args.peer c.args.seg.now in
+      let seg = plain_of c.args.seg.now (datagram_in now.packet) in
+      let slot = c.in-Some.slot in
+      let here : position (is_at c.args.peer c.args.seg.now.from c.args.seg.now.to) now.table.conns ≡ Some slot = sym c.find.ensures ∙ c.in-Some.is in
+      let there : position (serves s) n.connections ≡ Some slot = sym (find_agrees app k now.table.conns n.connections s h.slots) ∙ here in
+      let within : slot < length n.connections = omega (arith, (found (is_at c.args.peer c.args.seg.now.from c.args.seg.now.to) now.table.conns slot here).0, h.slots.same_length) in
+      subst (λ (o : Option ℕ). Steps app c.deliver.new.self c.deliver.result (arrives_at m g.A.App.served n s seg o)) (sym there)
+      (c.deliver.ensures.step n (Arrived s seg)
+      (record { addr = h.addr; slots = h.slots; iss = h.iss; numbers_stand = h.numbers_stand; counts = c.arrive.ensures n.past s seg h.counts }) within);
+}
 
-pub returns-in-None-clause-step : goal.returns-in-None-clause-step
-returns-in-None-clause-step g c = λ n h.
-    let now = c.args.self.now in
-    let k = g.A.App.kept now.shared in
-    let m = g.A.App.meaning k in
-    let stands = g.A.App.stands_for in
-    let s = sockets_of c.args.peer c.args.seg.now in
-    let seg = plain_of c.args.seg.now (datagram_in now.packet) in
-    let there : position (serves s) n.connections ≡ None = sym (find_agrees stands k now.table.conns n.connections s h.slots) ∙ (sym c.find.ensures ∙ c.in-None.is) in
-    subst (λ (o : Option ℕ). Steps stands g.A.App.kept g.A.App.numbers c.answer_stranger.new.self c.answer_stranger.result (arrives_at m g.A.App.served n s seg o)) (sym there)
-    (c.answer_stranger.ensures.step n seg.text
-    (record { addr = h.addr; slots = h.slots; iss = h.iss; numbers_stand = h.numbers_stand; counts = c.arrive.ensures n.past s seg h.counts }))
+pub returns-in-None : goal.returns-in-None
+returns-in-None g c = record {
+  whole = search rules;
+  same = search rules;
+  step = λ n h.
+      let now = c.args.self.now in
+      let k = g.A.App.kept now.shared in
+      let m = g.A.App.meaning k in
+      let app = g.A.App in
+      let s = sockets_of c.args.peer c.args.seg.now in
+      let seg = plain_of c.args.seg.now (datagram_in now.packet) in
+      let there : position (serves s) n.connections ≡ None = sym (find_agrees app k now.table.conns n.connections s h.slots) ∙ (sym c.find.ensures ∙ c.in-None.is) in
+      subst (λ (o : Option ℕ). Steps app c.answer_stranger.new.self c.answer_stranger.result (arrives_at m g.A.App.served n s seg o)) (sym there)
+      (c.answer_stranger.ensures.step n seg.text
+      (record { addr = h.addr; slots = h.slots; iss = h.iss; numbers_stand = h.numbers_stand; counts = c.arrive.ensures n.past s seg h.counts }));
+}

@@ -24,15 +24,15 @@ returns-clause-step g c = λ n event h within.
     let now = c.args.self.now in
     let k = g.A.App.kept now.shared in
     let m = g.A.App.meaning k in
-    let stands = g.A.App.stands_for in
+    let app = g.A.App in
     let step = c.take_segment-step in
     let a : Connection = connection_in c.args.slot n in
     let there : slice_get n.connections c.args.slot ≡ Some a = slice_get-get_or n.connections c.args.slot closed within in
     let one = step.ensures.meets n.connections a h.slots there in
-    let two = subst (λ (ns : List ℕ). MeetsAt stands k step.new.table.conns (g.A.App.numbers step.new.shared) step.result n.connections c.args.slot (on_segment m a ns (plain c.args.seg.now c.text-piece.result.now))) h.numbers_stand one in
-    let three = subst (λ (text : List ℕ). MeetsAt stands k step.new.table.conns (g.A.App.numbers step.new.shared) step.result n.connections c.args.slot (on_segment m a n.numbers (plain c.args.seg.now text)))
+    let two = subst (λ (ns : List ℕ). MeetsAt app k step.new.table.conns (g.A.App.numbers step.new.shared) step.result n.connections c.args.slot (on_segment m a ns (plain c.args.seg.now c.text-piece.result.now))) h.numbers_stand one in
+    let three = subst (λ (text : List ℕ). MeetsAt app k step.new.table.conns (g.A.App.numbers step.new.shared) step.result n.connections c.args.slot (on_segment m a n.numbers (plain c.args.seg.now text)))
     (c.text-piece.ensures ∙ ap (λ (bytes : List ℕ). (plain_of c.args.seg.now bytes).text) c.bytes.ensures) two in
     let o : Outcome = on_segment m a n.numbers (plain_of c.args.seg.now (datagram_in now.packet)) in
-    let four = subst (λ (j : g.A.App.Kept). MeetsAt stands j step.new.table.conns (g.A.App.numbers step.new.shared) step.result n.connections c.args.slot o) (sym step.ensures.same) three in
-    subst (λ (j : g.A.App.Kept). Steps stands g.A.App.kept g.A.App.numbers c.finish.new.self c.finish.result (happened (g.A.App.meaning j) n event c.args.slot a (asked (g.A.App.meaning j) (moment n event c.args.slot) o))) step.ensures.same
+    let four = subst (λ (j : g.A.App.Kept). MeetsAt app j step.new.table.conns (g.A.App.numbers step.new.shared) step.result n.connections c.args.slot o) (sym step.ensures.same) three in
+    subst (λ (j : g.A.App.Kept). Steps app c.finish.new.self c.finish.result (happened (g.A.App.meaning j) n event c.args.slot a (asked (g.A.App.meaning j) (moment n event c.args.slot) o))) step.ensures.same
     (c.finish.ensures.step n event a o h.addr within (step.ensures.iss ∙ h.iss) h.counts four)

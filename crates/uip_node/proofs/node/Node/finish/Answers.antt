@@ -12,10 +12,10 @@ returns-clause-step g c = λ n event old o addr within iss counts meets.
     let now = c.args.self.now in
     let k = g.A.App.kept now.shared in
     let m = g.A.App.meaning k in
-    let stands = g.A.App.stands_for in
+    let app = g.A.App in
     let table = c.settle-step.new.table.conns in
     let ns = g.A.App.numbers now.shared in
     let one = c.settle-step.ensures.meets n.connections o within meets in
-    let two = subst (λ (t : ℕ). MeetsAt stands k table ns c.settle-step.result n.connections c.args.slot (asked m (moment_at t now.counts.net n.connections c.args.slot) o)) counts.ticks one in
-    let three = subst (λ (net : List ℕ). MeetsAt stands k table ns c.settle-step.result n.connections c.args.slot (asked m (moment_at (ticks_of (seen event n.past)) net n.connections c.args.slot) o)) counts.net two in
+    let two = subst (λ (t : ℕ). MeetsAt app k table ns c.settle-step.result n.connections c.args.slot (asked m (moment_at t now.counts.net n.connections c.args.slot) o)) counts.ticks one in
+    let three = subst (λ (net : List ℕ). MeetsAt app k table ns c.settle-step.result n.connections c.args.slot (asked m (moment_at (ticks_of (seen event n.past)) net n.connections c.args.slot) o)) counts.net two in
     c.say.ensures.step n event old (asked m (moment n event c.args.slot) o) addr within (c.settle-step.ensures.iss ∙ iss) counts three

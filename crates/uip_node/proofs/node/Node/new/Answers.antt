@@ -8,13 +8,13 @@ use Rattle.uip_node.proofs.node.Node.new.Goals as goal
 pub returns-clause-whole : goal.returns-clause-whole
 returns-clause-whole g c = record {
   size = ap (λ (b : Buffer). length b.area) c.in_ok-packet.ensures ∙ length-replicate {A = ℕ} 1500 0;
-  conns = all_kept g.A.App.meaning g.A.App.stands_for (g.A.App.kept c.args.shared) c.in_ok-table.table.conns c.in_ok-table.ensures.closed;
+  conns = all_kept g.A.App (g.A.App.kept c.args.shared) c.in_ok-table.table.conns c.in_ok-table.ensures.closed;
 }
 
 pub returns-clause-stands : goal.returns-clause-stands
 returns-clause-stands g c = record {
   addr = refl;
-  slots = all_stand g.A.App.stands_for (g.A.App.kept c.args.shared) c.in_ok-table.table.conns c.in_ok-table.ensures.closed c.count_slots.ensures.all;
+  slots = all_stand g.A.App (g.A.App.kept c.args.shared) c.in_ok-table.table.conns c.in_ok-table.ensures.closed c.count_slots.ensures.all;
   iss = c.in_ok-table.ensures.iss;
   numbers_stand = refl;
   counts = c.new-3.ensures;

@@ -22,9 +22,9 @@ pub returns-clause-step : goal.returns-clause-step
 returns-clause-step g c = λ n event old text h within.
     let now = c.args.self.now in
     let k = g.A.App.kept now.shared in
-    let stands = g.A.App.stands_for in
+    let app = g.A.App in
     let b : Connection = accepted (initial_number (seen event n.past)) (sockets_of c.args.peer c.args.seg.now) (plain c.args.seg.now text) in
-    let slots = subst (λ (i : ℕ). SlotsStand stands k c.open_in-step.new.table.conns (slice_set n.connections c.args.slot (accepted i (sockets_of c.args.peer c.args.seg.now) (plain c.args.seg.now text)))) h.iss
+    let slots = subst (λ (i : ℕ). SlotsStand app k c.open_in-step.new.table.conns (slice_set n.connections c.args.slot (accepted i (sockets_of c.args.peer c.args.seg.now) (plain c.args.seg.now text)))) h.iss
     (c.open_in-step.ensures.stands k n.connections text h.slots) in
     c.say.ensures.step n event old (accept (initial_number (seen event n.past)) (sockets_of c.args.peer c.args.seg.now) (plain c.args.seg.now text) n.numbers) h.addr within (c.open_in-step.ensures.iss ∙ h.iss) h.counts
     (record {

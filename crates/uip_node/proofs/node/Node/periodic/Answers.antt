@@ -1,5 +1,5 @@
 -- A CLOSED connection does nothing, and any other takes its tick.
-use Rattle.std.proofs.Common.{ℕ, ◌≡◌, ◌+◌, ◌%◌, ◌<◌, List, Some, arith, ap, sym, ◌∙◌, subst, length, false}
+use Rattle.std.proofs.Common.{rules, ℕ, ◌≡◌, ◌+◌, ◌%◌, ◌<◌, List, Some, arith, ap, sym, ◌∙◌, subst, length, false}
 use Rattle.std.specs.Prelude.{slice_get}
 use Rattle.std.proofs.lemmas.Option.{slice_get-get_or}
 use Rattle.app_events.specs.States.{is_live}
@@ -15,57 +15,62 @@ use Rattle.uip_node.specs.StandsFor.{Steps}
 use Rattle.uip_node.proofs.Stepping.{next_first, rests_at, slice_get-element}
 use Rattle.uip_node.proofs.node.Node.periodic.Goals as goal
 
-pub returns-then-not-is_live_in-clause-whole : goal.returns-then-not-is_live_in-clause-whole
-returns-then-not-is_live_in-clause-whole g c = record {
-  size = c.requires.whole.size;
-  conns = subst (λ (cs : List (Conn g.row.A.Denot)). AllKept g.A.App.meaning g.A.App.stands_for (g.A.App.kept c.args.self.now.shared) cs) (sym c.next_iss.ensures.conns) c.requires.whole.conns;
+pub returns-then-not-is_live_in : goal.returns-then-not-is_live_in
+returns-then-not-is_live_in g c = record {
+  whole = record {
+    size = c.requires.whole.size;
+    conns = subst (λ (cs : List (Conn g.row.A.Denot)). AllKept g.A.App (g.A.App.kept c.args.self.now.shared) cs) (sym c.next_iss.ensures.conns) c.requires.whole.conns;
+  };
+  same = search rules;
+  step = λ n h.
+      let now = c.args.self.now in
+      let k = g.A.App.kept now.shared in
+      let m = g.A.App.meaning k in
+      let app = g.A.App in
+      let slot = c.args.slot in
+      let a : Connection = connection_in slot n in
+      let within : slot < length n.connections = omega (arith, c.requires.within, c.count_slots.ensures.all, h.slots.same_length) in
+      let there : slice_get n.connections slot ≡ Some a = slice_get-get_or n.connections slot closed within in
+      let conns = now.table.conns in
+      let at = slice_get-element conns slot (omega (arith, c.requires.within, c.count_slots.ensures.all)) in
+      let stand = h.slots.each slot at.0 a at.1 there in
+      let here = subst (λ (cs : List (Conn g.row.A.Denot)). slice_get cs slot ≡ Some at.0) (sym c.next_iss.ensures.conns) at.1 in
+      let dead : is_live a.state ≡ false = sym (ap is_live stand.numbers.state) ∙ (sym (c.is_live_in.ensures at.0 here) ∙ c.if-not-is_live_in.true) in
+      rests_at app m (record now { table = c.next_iss.new.self; counts = c.call.new.self }) n slot h.addr
+      (subst (λ (cs : List (Conn g.row.A.Denot)). SlotsStand app k cs n.connections) (sym c.next_iss.ensures.conns) h.slots)
+      (c.next_iss.ensures.iss ∙ ap (λ (i : ℕ). (i + 1) % 4294967296) h.iss ∙ next_first n.past slot)
+      h.numbers_stand (c.call.ensures n.past h.counts) there dead;
 }
-
-pub returns-then-not-is_live_in-clause-step : goal.returns-then-not-is_live_in-clause-step
-returns-then-not-is_live_in-clause-step g c = λ n h.
-    let now = c.args.self.now in
-    let k = g.A.App.kept now.shared in
-    let m = g.A.App.meaning k in
-    let stands = g.A.App.stands_for in
-    let slot = c.args.slot in
-    let a : Connection = connection_in slot n in
-    let within : slot < length n.connections = omega (arith, c.requires.within, c.count_slots.ensures.all, h.slots.same_length) in
-    let there : slice_get n.connections slot ≡ Some a = slice_get-get_or n.connections slot closed within in
-    let conns = now.table.conns in
-    let at = slice_get-element conns slot (omega (arith, c.requires.within, c.count_slots.ensures.all)) in
-    let stand = h.slots.each slot at.0 a at.1 there in
-    let here = subst (λ (cs : List (Conn g.row.A.Denot)). slice_get cs slot ≡ Some at.0) (sym c.next_iss.ensures.conns) at.1 in
-    let dead : is_live a.state ≡ false = sym (ap is_live stand.numbers.state) ∙ (sym (c.is_live_in.ensures at.0 here) ∙ c.if-not-is_live_in.true) in
-    rests_at stands g.A.App.kept g.A.App.numbers m (record now { table = c.next_iss.new.self; counts = c.call.new.self }) n slot h.addr
-    (subst (λ (cs : List (Conn g.row.A.Denot)). SlotsStand stands k cs n.connections) (sym c.next_iss.ensures.conns) h.slots)
-    (c.next_iss.ensures.iss ∙ ap (λ (i : ℕ). (i + 1) % 4294967296) h.iss ∙ next_first n.past slot)
-    h.numbers_stand (c.call.ensures n.past h.counts) there dead
 
 pub take_tick-step-requires-clause-kept : goal.take_tick-step-requires-clause-kept
 take_tick-step-requires-clause-kept g c =
-    subst (λ (cs : List (Conn g.row.A.Denot)). AllKept g.A.App.meaning g.A.App.stands_for (g.A.App.kept c.args.self.now.shared) cs) (sym c.next_iss.ensures.conns) c.requires.whole.conns
+    subst (λ (cs : List (Conn g.row.A.Denot)). AllKept g.A.App (g.A.App.kept c.args.self.now.shared) cs) (sym c.next_iss.ensures.conns) c.requires.whole.conns
 
 pub finish-requires-clause-others : goal.finish-requires-clause-others
 finish-requires-clause-others g c = λ j d other h.
     (c.requires.whole.conns j d (subst (λ (cs : List (Conn g.row.A.Denot)). slice_get cs j ≡ Some d) c.next_iss.ensures.conns (c.take_tick-step.ensures.others j d other h))).busy
 
-pub returns-clause-step : goal.returns-clause-step
-returns-clause-step g c = λ n h.
-    let now = c.args.self.now in
-    let k = g.A.App.kept now.shared in
-    let m = g.A.App.meaning k in
-    let stands = g.A.App.stands_for in
-    let slot = c.args.slot in
-    let step = c.take_tick-step in
-    let a : Connection = connection_in slot n in
-    let within : slot < length n.connections = omega (arith, c.requires.within, c.count_slots.ensures.all, h.slots.same_length) in
-    let there : slice_get n.connections slot ≡ Some a = slice_get-get_or n.connections slot closed within in
-    let event : Event = Periodic slot in
-    let o : Outcome = on_tick m a n.numbers in
-    let slots = subst (λ (cs : List (Conn g.row.A.Denot)). SlotsStand stands k cs n.connections) (sym c.next_iss.ensures.conns) h.slots in
-    let one = step.ensures.meets n.connections a slots there in
-    let two = subst (λ (ns : List ℕ). MeetsAt stands k step.new.table.conns (g.A.App.numbers step.new.shared) step.result n.connections slot (on_tick m a ns)) h.numbers_stand one in
-    let three = subst (λ (j : g.A.App.Kept). MeetsAt stands j step.new.table.conns (g.A.App.numbers step.new.shared) step.result n.connections slot o) (sym step.ensures.same) two in
-    subst (λ (j : g.A.App.Kept). Steps stands g.A.App.kept g.A.App.numbers c.finish.new.self c.finish.result (happened (g.A.App.meaning j) n event slot a (asked (g.A.App.meaning j) (moment n event slot) o))) step.ensures.same
-    (c.finish.ensures.step n event a o h.addr within
-    (step.ensures.iss ∙ c.next_iss.ensures.iss ∙ ap (λ (i : ℕ). (i + 1) % 4294967296) h.iss ∙ next_first n.past slot) (c.call.ensures n.past h.counts) three)
+pub returns : goal.returns
+returns g c = record {
+  whole = search rules;
+  same = search rules;
+  step = λ n h.
+      let now = c.args.self.now in
+      let k = g.A.App.kept now.shared in
+      let m = g.A.App.meaning k in
+      let app = g.A.App in
+      let slot = c.args.slot in
+      let step = c.take_tick-step in
+      let a : Connection = connection_in slot n in
+      let within : slot < length n.connections = omega (arith, c.requires.within, c.count_slots.ensures.all, h.slots.same_length) in
+      let there : slice_get n.connections slot ≡ Some a = slice_get-get_or n.connections slot closed within in
+      let event : Event = Periodic slot in
+      let o : Outcome = on_tick m a n.numbers in
+      let slots = subst (λ (cs : List (Conn g.row.A.Denot)). SlotsStand app k cs n.connections) (sym c.next_iss.ensures.conns) h.slots in
+      let one = step.ensures.meets n.connections a slots there in
+      let two = subst (λ (ns : List ℕ). MeetsAt app k step.new.table.conns (g.A.App.numbers step.new.shared) step.result n.connections slot (on_tick m a ns)) h.numbers_stand one in
+      let three = subst (λ (j : g.A.App.Kept). MeetsAt app j step.new.table.conns (g.A.App.numbers step.new.shared) step.result n.connections slot o) (sym step.ensures.same) two in
+      subst (λ (j : g.A.App.Kept). Steps app c.finish.new.self c.finish.result (happened (g.A.App.meaning j) n event slot a (asked (g.A.App.meaning j) (moment n event slot) o))) step.ensures.same
+      (c.finish.ensures.step n event a o h.addr within
+      (step.ensures.iss ∙ c.next_iss.ensures.iss ∙ ap (λ (i : ℕ). (i + 1) % 4294967296) h.iss ∙ next_first n.past slot) (c.call.ensures n.past h.counts) three);
+}
