@@ -1,4 +1,5 @@
 use Rattle.std.specs.List.{All}
+use Rattle.std.specs.Prelude.{⊤}
 use Rattle.std.proofs.Common.{sym, subst, ap, ◌∙◌}
 use Rattle.app_events.specs.Pages.{IsByte}
 use Rattle.file_tree.specs.Site.{SiteContent, IsLoaded, files_of}
@@ -33,5 +34,5 @@ returns-in-Err-Bad g c = λ text reads.
     (refused_due site (subst IsLoaded (sym same) c.see_loaded.ensures.loaded) (subst (λ (s : SiteContent). All IsByte s.image) (sym same) c.see_loaded.ensures.bytes) c.in-Ok.web.hits
     (c.in-Ok.ensures.hits ∙ ap (λ (s : SiteContent). no_hits (files_of s)) (sym same)) text (content_at c.args.schedule.now) reads c.args.show
     (g.K.Sink.written c.args.out.now) (g.K.Sink.written c.refuse.new.out) (g.K.Sink.faults c.args.out.now) (g.K.Sink.faults c.refuse.new.out) c.refuse.result
-    (WorldStands _) c.in-Err-Bad.field-0 c.in-Err-Bad.line c.in-Err-Bad.why c.in-Err-Bad.field-0-is
+    (λ (x : ⊤) w. ⊤) c.in-Err-Bad.field-0 c.in-Err-Bad.line c.in-Err-Bad.why c.in-Err-Bad.field-0-is
     c.in-Err-Bad.ensures.plays c.refuse.ensures)
