@@ -9,7 +9,7 @@ use Rattle.link_world.specs.World.Content.{OfPing}
 use Rattle.link_world.specs.Schedule.{acts_of, mark_after, plays_line, with_mark}
 use Rattle.link_world.specs.Acts.{runs}
 use Rattle.link_world.specs.declared.act.Act.{Act}
-use Rattle.link_world.specs.declared.event.Event.{Event}
+use Rattle.link_schedule.specs.declared.event.Event.{Event}
 use Rattle.link_world.specs.declared.step_fault.StepFault.{StepFault}
 use Rattle.link_world.specs.declared.who.Who.TheVariants.{Pinger}
 use Rattle.link_theorem.specs.Headline.{IsAct, OfLine}

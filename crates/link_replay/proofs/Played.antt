@@ -18,7 +18,7 @@ use Rattle.link_world.specs.World.{World}
 use Rattle.link_world.specs.Acts.{runs}
 use Rattle.link_world.specs.History.{IsPlan, IsPlanned, Planned}
 use Rattle.link_world.specs.Schedule.{BadLine, acts_of, goes_on_with, mark_after, plays, plays_from, plays_line, with_mark}
-use Rattle.link_world.specs.declared.event.Event.{Event}
+use Rattle.link_schedule.specs.declared.event.Event.{Event}
 use Rattle.link_world.specs.declared.step_fault.StepFault.{StepFault}
 use Rattle.link_world.specs.declared.step_fault.StepFault.TheVariants.{NoDatagram, NoByte, AlreadyOpen, NotOpen, Full, NoMemory}
 use Rattle.link_theorem.specs.Headline.{HasBytes, IsAct, OfLine}

@@ -8,7 +8,7 @@ use Rattle.link_schedule.specs.declared.read_schedule.ReadSchedule.TheVariants.{
 use Rattle.link_schedule.specs.declared.why.Why.{Why}
 use Rattle.link_world.specs.World.{World}
 use Rattle.link_world.specs.Schedule.{BadLine, plays}
-use Rattle.link_world.specs.declared.event.Event.{Event}
+use Rattle.link_schedule.specs.declared.event.Event.{Event}
 use Rattle.link_world.specs.declared.step_fault.StepFault.{StepFault}
 use Rattle.link_world.specs.declared.step_fault.StepFault.TheVariants.{NoDatagram, NoByte, AlreadyOpen, NotOpen, Full, NoMemory}
 use Rattle.link_replay.specs.Opening.{opening}

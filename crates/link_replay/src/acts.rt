@@ -5,7 +5,8 @@ ghost use Rattle.link_world.specs.Acts.{needs};
 ghost use Rattle.link_world.specs.Schedule.{acts_of, mark_after, numbers_from};
 ghost use Rattle.link_world.specs.World.{World as PlainWorld};
 
-use link_world::{Act, Event};
+use link_schedule::Event;
+use link_world::Act;
 use std::alloc::{AllocError, Global};
 
 /// How many numbers an act may need.

@@ -16,7 +16,8 @@ use crate::types::{is_addr, is_short};
 use crate::world::World;
 use app_events::App;
 use link_schedule::{Line, ReadSchedule, Schedule, Why};
-use link_world::{Event, StepFault};
+use link_schedule::Event;
+use link_world::StepFault;
 use std::alloc::Global;
 
 /// The numbers of an event fit their types, and a mask that is in its range changes a byte.

@@ -14,7 +14,8 @@ ghost use Rattle.link_replay.specs.Stands.{IsKept, WorldStands};
 use crate::acts::{acts_of, mark_after};
 use crate::link::Link;
 use app_events::App;
-use link_world::{Act, Event, StepFault};
+use link_schedule::Event;
+use link_world::{Act, StepFault};
 use uip_node::Node;
 
 /// The world of a replay.

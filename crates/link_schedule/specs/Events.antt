@@ -1,8 +1,8 @@
 -- The forms of the lines that say what happens, by their words.
 use Rattle.std.specs.Prelude.{ℕ, if◌then◌else◌, List, [], ◌∷◌, Result, Ok, Err, codes}
 use Rattle.std.specs.Str.{bytes_eq}
-use Rattle.link_world.specs.declared.event.Event.{Event}
-use Rattle.link_world.specs.declared.event.Event.TheVariants.{Opens, Again, Closes, Aborts, Window, Ping, Give, Damage, Tick, Round, Twice, Reverse, Half, Lose}
+use Rattle.link_schedule.specs.declared.event.Event.{Event}
+use Rattle.link_schedule.specs.declared.event.Event.TheVariants.{Opens, Again, Closes, Aborts, Window, Ping, Give, Damage, Tick, Round, Twice, Reverse, Half, Lose}
 use Rattle.link_schedule.specs.declared.why.Why.{Why}
 use Rattle.link_schedule.specs.declared.why.Why.TheVariants.{Form}
 use Rattle.link_schedule.specs.Numbers.{◌>>=◌, within, named, address}

@@ -1,8 +1,8 @@
 -- What each schedule keeps.
 use Rattle.std.specs.Prelude.{◌≡◌, ℕ, ◌≤◌, ◌&&◌, nat_le, Bool, true, not, List, [], ◌∷◌, length}
 use Rattle.std.specs.List.{list_all, list_any}
-use Rattle.link_world.specs.declared.event.Event.{Event}
-use Rattle.link_world.specs.declared.event.Event.TheVariants.{Opens, Again, Closes, Aborts, Window, Ping, Give, Damage, Tick, Round, Twice, Reverse, Half, Lose}
+use Rattle.link_schedule.specs.declared.event.Event.{Event}
+use Rattle.link_schedule.specs.declared.event.Event.TheVariants.{Opens, Again, Closes, Aborts, Window, Ping, Give, Damage, Tick, Round, Twice, Reverse, Half, Lose}
 use Rattle.link_schedule.specs.Clients.{Plan}
 use Rattle.link_schedule.specs.Reading.{Content, meets}
 

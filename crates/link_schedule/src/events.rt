@@ -5,7 +5,7 @@ ghost use Rattle.link_schedule.specs.Events.{window as window_meant, with_one as
 
 use crate::numbers::{addressed, named, within};
 use crate::why::Why;
-use link_world::Event;
+use crate::event::Event;
 
 /// What the words of a line say, where so many clients stand above it.
 pub fn event_of(clients: usize, words: &[&[u8]]) -> Result<Event, Why>

@@ -3,6 +3,7 @@
 #![tactic(auto)]
 
 mod client_plan;
+mod event;
 mod events;
 mod laws;
 mod line;
@@ -20,6 +21,7 @@ mod whole_text;
 mod why;
 
 pub use client_plan::ClientPlan;
+pub use event::Event;
 pub use laws::worked_schedules;
 pub use line::Line;
 pub use read_schedule::ReadSchedule;

@@ -19,8 +19,8 @@ use Rattle.link_client.specs.declared.setup.Setup.{Setup}
 use Rattle.link_world.specs.World.{World, Side, Sent}
 use Rattle.link_world.specs.Schedule.{plays_line, goes_on_with, plays_from, plays}
 use Rattle.link_world.specs.History.{Planned, IsPlanned, IsPlan, opening_world}
-use Rattle.link_world.specs.declared.event.Event.{Event}
-use Rattle.link_world.specs.declared.event.Event.TheVariants.{Opens, Round}
+use Rattle.link_schedule.specs.declared.event.Event.{Event}
+use Rattle.link_schedule.specs.declared.event.Event.TheVariants.{Opens, Round}
 use Rattle.link_theorem.specs.Headline.{IsAct, IsPlainAct, OfLine, IsPlayed, IsServed}
 use Rattle.link_theorem.specs.Honest.{AnswersIn, IsServedWhole, HonestLink}
 use Rattle.link_theorem.proofs.Basics.{wrap_wrap}

@@ -20,7 +20,7 @@ use Rattle.link_client.specs.declared.client_state.ClientState.TheVariants as Is
 use Rattle.link_client.specs.declared.setup.Setup.{Setup}
 use Rattle.link_world.specs.World.{World, Sent, sockets_of, becomes_opened}
 use Rattle.link_world.specs.Schedule.{plays_line, goes_on_with, plays_from, BadLine}
-use Rattle.link_world.specs.declared.event.Event.TheVariants.{Round}
+use Rattle.link_schedule.specs.declared.event.Event.TheVariants.{Round}
 use Rattle.link_world.specs.declared.who.Who.TheVariants.{FromClient, FromNode}
 use Rattle.link_theorem.specs.Honest.{AnswersIn}
 use Rattle.link_theorem.proofs.Basics.{wrap_wrap}

@@ -16,7 +16,7 @@ use Rattle.link_world.specs.Bytes.{bytes_by, bytes_of, changed, hears}
 use Rattle.link_world.specs.Acts.{client_acts, handles_all, client_handed, handed, hands_over, damages_at, does, no_byte, named_fault, or_full, fault_of, done_or, acts, and_then, runs}
 use Rattle.link_world.specs.Schedule.{past_mark, acts_of, mark_after, with_mark, goes_on_with, plays_from}
 use Rattle.link_world.specs.declared.act.Act.{Act}
-use Rattle.link_world.specs.declared.event.Event.{Event}
+use Rattle.link_schedule.specs.declared.event.Event.{Event}
 use Rattle.link_world.specs.declared.step_fault.StepFault.{StepFault}
 use Rattle.link_world.specs.declared.step_fault.StepFault.TheVariants.{NoByte}
 use Rattle.link_world.specs.declared.who.Who.{Who}

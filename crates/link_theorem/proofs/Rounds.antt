@@ -13,7 +13,7 @@ use Rattle.link_world.specs.World.Content.{OfSegment}
 use Rattle.link_world.specs.Acts.{does, no_datagram, or_full, fault_of, done_or, acts, and_then, runs}
 use Rattle.link_world.specs.Schedule.{numbers_from, mark_after, with_mark, plays_line}
 use Rattle.link_world.specs.declared.act.Act.{Act}
-use Rattle.link_world.specs.declared.event.Event.TheVariants.{Round}
+use Rattle.link_schedule.specs.declared.event.Event.TheVariants.{Round}
 use Rattle.link_world.specs.declared.step_fault.StepFault.{StepFault}
 use Rattle.link_world.specs.declared.step_fault.StepFault.TheVariants.{Full}
 use Rattle.link_world.specs.declared.who.Who.{Who}

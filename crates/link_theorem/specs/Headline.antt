@@ -37,7 +37,7 @@ use Rattle.link_world.specs.Acts.{does, runs}
 use Rattle.link_world.specs.History.{Planned, IsPlan, era, serving, opening_world, page_of, is_whole}
 use Rattle.link_world.specs.Schedule.{plays}
 use Rattle.link_world.specs.declared.act.Act.{Act}
-use Rattle.link_world.specs.declared.event.Event.{Event}
+use Rattle.link_schedule.specs.declared.event.Event.{Event}
 
 -- an act that damages nothing
 abbrev pub IsPlainAct : Act → Type 0

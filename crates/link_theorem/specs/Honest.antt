@@ -13,7 +13,7 @@ use Rattle.link_client.specs.declared.client_state.ClientState.TheVariants.{Clos
 use Rattle.link_world.specs.World.{World, Side, is_clean}
 use Rattle.link_world.specs.History.{Planned, IsPlan, opening_world, page_of, is_whole}
 use Rattle.link_world.specs.Schedule.{plays}
-use Rattle.link_world.specs.declared.event.Event.TheVariants.{Opens, Round}
+use Rattle.link_schedule.specs.declared.event.Event.TheVariants.{Opens, Round}
 
 -- What an application that is asked may want, where `most` texts were left to say: to send, and then one text less is left as
 -- soon as it is acknowledged; to close; or nothing, as long as it has not heard the whole request.

@@ -21,8 +21,8 @@ use Rattle.link_world.specs.declared.step_fault.StepFault.TheVariants.{NoDatagra
 use Rattle.link_world.specs.Bytes.{ping_from}
 use Rattle.link_world.specs.Schedule.{plays, BadLine}
 use Rattle.link_world.specs.History.{Planned, opening_world}
-use Rattle.link_world.specs.declared.event.Event.{Event}
-use Rattle.link_world.specs.declared.event.Event.TheVariants.{Opens, Again, Closes, Aborts, Window, Ping, Give, Damage, Tick, Round, Lose}
+use Rattle.link_schedule.specs.declared.event.Event.{Event}
+use Rattle.link_schedule.specs.declared.event.Event.TheVariants.{Opens, Again, Closes, Aborts, Window, Ping, Give, Damage, Tick, Round, Lose}
 use Rattle.link_world.specs.declared.who.Who.{Who}
 use Rattle.link_world.specs.declared.who.Who.TheVariants.{FromClient, FromNode}
 use Rattle.link_world.proofs.Sample.{Piece, sample}

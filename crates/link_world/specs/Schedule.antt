@@ -4,8 +4,8 @@ use Rattle.app_events.specs.Part.{Meaning}
 use Rattle.link_world.specs.World.{World}
 use Rattle.link_world.specs.Acts.{runs}
 use Rattle.link_world.specs.declared.act.Act.{Act}
-use Rattle.link_world.specs.declared.event.Event.{Event}
-use Rattle.link_world.specs.declared.event.Event.TheVariants.{Opens, Again, Closes, Aborts, Window, Ping, Give, Damage, Tick, Round, Twice, Reverse, Half, Lose}
+use Rattle.link_schedule.specs.declared.event.Event.{Event}
+use Rattle.link_schedule.specs.declared.event.Event.TheVariants.{Opens, Again, Closes, Aborts, Window, Ping, Give, Damage, Tick, Round, Twice, Reverse, Half, Lose}
 use Rattle.link_world.specs.declared.step_fault.StepFault.{StepFault}
 
 -- so many numbers from one on

@@ -3,11 +3,9 @@
 #![tactic(auto)]
 
 mod act;
-mod event;
 mod step_fault;
 mod who;
 
 pub use act::Act;
-pub use event::Event;
 pub use step_fault::StepFault;
 pub use who::Who;

@@ -12,8 +12,8 @@ use Rattle.link_schedule.specs.Clients.{Plan}
 use Rattle.link_schedule.specs.Kept.{client_in_range, is_between}
 use Rattle.link_world.specs.History.{IsPlan, IsPlanned, Planned}
 use Rattle.link_world.specs.Schedule.{plays}
-use Rattle.link_world.specs.declared.event.Event.{Event}
-use Rattle.link_world.specs.declared.event.Event.TheVariants.{Opens, Round}
+use Rattle.link_schedule.specs.declared.event.Event.{Event}
+use Rattle.link_schedule.specs.declared.event.Event.TheVariants.{Opens, Round}
 use Rattle.link_replay.specs.Opening.{opening, planned, server}
 use Rattle.link_replay.proofs.Opened.{is_plan, server_is_addr}
 use Rattle.replay_tools.specs.Laws.{HonestReplay, rounds_for}

@@ -11,7 +11,7 @@ use Rattle.web_pages.specs.Requests.{wanted}
 use Rattle.web_pages.specs.Requests.Wanted.{NotYet}
 use Rattle.web_theorem.specs.Web.{parts_of, texts_of}
 use Rattle.link_world.specs.World.{World}
-use Rattle.link_world.specs.declared.event.Event.TheVariants.{Opens, Round}
+use Rattle.link_schedule.specs.declared.event.Event.TheVariants.{Opens, Round}
 use Rattle.link_schedule.specs.Clients.{Plan}
 use Rattle.link_schedule.specs.Reading.{Content, read_text}
 use Rattle.link_theorem.specs.Honest.{IsServedWhole}

@@ -8,8 +8,8 @@ use Rattle.link_world.specs.World.{World, Side, Sent, Content, numbered}
 use Rattle.link_world.specs.World.Content.{OfSegment, OfPing, OfEcho}
 use Rattle.link_world.specs.History.{Planned, opening_world}
 use Rattle.link_world.specs.Schedule.{plays, BadLine}
-use Rattle.link_world.specs.declared.event.Event.{Event}
-use Rattle.link_world.specs.declared.event.Event.TheVariants.{Opens, Closes, Ping, Give, Tick, Round, Lose}
+use Rattle.link_schedule.specs.declared.event.Event.{Event}
+use Rattle.link_schedule.specs.declared.event.Event.TheVariants.{Opens, Closes, Ping, Give, Tick, Round, Lose}
 use Rattle.web_pages.specs.WebMeaning.{web_meaning}
 use Rattle.web_pages.specs.WorkedPages.{file, ok, as_html, get, hello_site, hits_site}
 

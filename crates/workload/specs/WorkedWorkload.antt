@@ -3,7 +3,7 @@ use Rattle.std.specs.Prelude.{◌≡◌, [], ◌∷◌, length, codes}
 use Rattle.rand_core.specs.Steps.{first_words}
 use Rattle.rand_pcg.specs.Lcg.{increment_of, started}
 use Rattle.rand_pcg.specs.Pcg.{multiplier_64, pcg32}
-use Rattle.link_world.specs.declared.event.Event.TheVariants.{Again, Tick, Round}
+use Rattle.link_schedule.specs.declared.event.Event.TheVariants.{Again, Tick, Round}
 use Rattle.workload.specs.Workload.{happens, workload_of}
 
 pub record AreWorkedWorkloads : Type 0 where

@@ -7,7 +7,7 @@ use Rattle.link_schedule.specs.declared.read_schedule.ReadSchedule.{ReadSchedule
 use Rattle.link_theorem.specs.Headline.{IsAct, OfLine}
 use Rattle.link_world.specs.World.{World}
 use Rattle.link_world.specs.Schedule.{plays, plays_line}
-use Rattle.link_world.specs.declared.event.Event.{Event}
+use Rattle.link_schedule.specs.declared.event.Event.{Event}
 use Rattle.link_replay.specs.Playing.{LinesEnd, event_at, refusal_at}
 use Rattle.link_replay.specs.Reaching.{Ends, IsAt}
 use Rattle.link_replay.specs.Stands.{WorldStands}

@@ -2,7 +2,7 @@ use Rattle.std.proofs.Common.{◌++◌, ◌-◌, ◌%◌, List, append-nil, sym,
 use Rattle.std.specs.Prelude.{flat_map}
 use Rattle.rand_core.specs.Steps.{first_words}
 use Rattle.rand_pcg.specs.Pcg.{pcg32}
-use Rattle.link_world.specs.declared.event.Event.{Event}
+use Rattle.link_schedule.specs.declared.event.Event.{Event}
 use Rattle.workload.specs.Workload.{event_by, happens}
 use Rattle.workload.proofs.Keeping.{more_from, on_ok_by}
 use Rattle.workload.proofs.Working.{drawn_step, none_drawn}

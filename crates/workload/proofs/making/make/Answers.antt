@@ -1,6 +1,6 @@
 use Rattle.std.proofs.Common.{◌+◌, List, length, sym, ap, subst, arith, ◌∙◌}
 use Rattle.link_schedule.specs.Kept.{Keeps}
-use Rattle.link_world.specs.declared.event.Event.{Event}
+use Rattle.link_schedule.specs.declared.event.Event.{Event}
 use Rattle.workload.specs.Workload.{events_of, numbered_from}
 use Rattle.workload.proofs.Keeping.{all_events, keeps, length-events, same_content}
 use Rattle.workload.proofs.making.make.Goals as goal
