@@ -19,7 +19,7 @@ use Rattle.link_world.specs.Bytes.{bytes_by, node_bytes}
 use Rattle.link_world.specs.World.{World, Side, Content, addressed, buries, numbered, posts, posts_reply}
 use Rattle.link_world.specs.World.Content.{OfEcho, OfSegment}
 use Rattle.link_world.specs.declared.who.Who.TheVariants.{FromNode}
-use Rattle.link_theorem.proofs.Sides.{addressed_is}
+use Rattle.link_world.proofs.Sides.{addressed_is}
 use Rattle.link_replay.specs.Epochs.{OnlyEpoch}
 use Rattle.link_replay.specs.Matched.{Matched}
 use Rattle.link_replay.specs.Noting.{gone_pair, is_sent_again, pair_at, sockets_at}

@@ -10,7 +10,7 @@ use Rattle.link_world.specs.World.{World, Sent, numbered}
 use Rattle.link_world.specs.declared.act.Act.{Act}
 use Rattle.link_world.specs.declared.who.Who.{Who}
 use Rattle.link_world.specs.declared.who.Who.TheVariants.{FromClient, FromNode, Pinger}
-use Rattle.link_theorem.proofs.Damages.{act_harmless}
+use Rattle.link_world.proofs.Damages.{act_harmless}
 use Rattle.link_replay.specs.Reaching.{IsAt}
 use Rattle.link_replay.specs.Telling.{AnswersTo, AreTo, pair_at_side}
 use Rattle.link_replay.proofs.Handling.{silent}

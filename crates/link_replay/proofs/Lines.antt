@@ -12,8 +12,8 @@ use Rattle.link_world.specs.declared.act.Act.{Act}
 use Rattle.link_schedule.specs.declared.event.Event.{Event}
 use Rattle.link_world.specs.declared.step_fault.StepFault.{StepFault}
 use Rattle.link_world.specs.declared.who.Who.TheVariants.{Pinger}
-use Rattle.link_theorem.specs.Headline.{IsAct, OfLine}
-use Rattle.link_theorem.proofs.Lines.{line_acts}
+use Rattle.link_world.specs.Headline.{IsAct, OfLine}
+use Rattle.link_world.proofs.Lines.{line_acts}
 use Rattle.link_replay.specs.Stands.{WorldStands}
 use Rattle.link_replay.specs.declared.world.World.{World as CodeWorld}
 use Rattle.link_replay.proofs.Places.{link_marked}

@@ -21,9 +21,9 @@ use Rattle.link_world.specs.Schedule.{BadLine, acts_of, goes_on_with, mark_after
 use Rattle.link_schedule.specs.declared.event.Event.{Event}
 use Rattle.link_world.specs.declared.step_fault.StepFault.{StepFault}
 use Rattle.link_world.specs.declared.step_fault.StepFault.TheVariants.{NoDatagram, NoByte, AlreadyOpen, NotOpen, Full, NoMemory}
-use Rattle.link_theorem.specs.Headline.{HasBytes, IsAct, OfLine}
-use Rattle.link_theorem.proofs.Fits.{all_nil}
-use Rattle.link_theorem.proofs.Lines.{line_acts}
+use Rattle.link_world.specs.Headline.{HasBytes, IsAct, OfLine}
+use Rattle.link_world.proofs.Fits.{all_nil}
+use Rattle.link_world.proofs.Lines.{line_acts}
 use Rattle.link_replay.specs.Opening.{opening, plan_from, server}
 use Rattle.link_replay.specs.Playing.{LinesEnd, Plays, Reaches, Refuses, event_at, refusal_at}
 use Rattle.link_replay.specs.Reaching.{Ends, IsAt}

@@ -9,9 +9,9 @@ use Rattle.link_world.specs.Schedule.{with_mark}
 use Rattle.link_world.specs.History.{opening_world}
 use Rattle.link_world.specs.declared.act.Act.{Act}
 use Rattle.link_world.specs.declared.step_fault.StepFault.{StepFault}
-use Rattle.link_theorem.specs.Headline.{IsAct, IsReached}
-use Rattle.link_theorem.proofs.Lines.{runs_mark, runs_joined}
-use Rattle.link_theorem.proofs.Fits.{all_nil, all_cons}
+use Rattle.link_world.specs.Headline.{IsAct, IsReached}
+use Rattle.link_world.proofs.Lines.{runs_mark, runs_joined}
+use Rattle.link_world.proofs.Fits.{all_nil, all_cons}
 use Rattle.link_replay.specs.Reaching.{IsAt, Steps}
 
 module _ (m : Meaning) (served : ℕ → Bool) where

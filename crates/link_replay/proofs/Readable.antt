@@ -6,11 +6,11 @@ use Rattle.link_world.specs.World.{World, Sent, Content}
 use Rattle.link_world.specs.World.Content.{OfSegment, OfPing, OfEcho}
 use Rattle.link_world.specs.declared.who.Who.{Who}
 use Rattle.link_world.specs.declared.who.Who.TheVariants.{FromClient, FromNode, Pinger}
-use Rattle.link_theorem.specs.Reading.{IsRead, IsSentBy}
-use Rattle.link_theorem.proofs.Reading.{bytes_are_read}
-use Rattle.link_theorem.proofs.Runs.{reached_sound}
-use Rattle.link_theorem.proofs.Senders.{sent_to_clients}
-use Rattle.link_theorem.proofs.SoundWorlds.{SoundWorld}
+use Rattle.link_world.specs.Reading.{IsRead, IsSentBy}
+use Rattle.link_world.proofs.Reading.{bytes_are_read}
+use Rattle.link_world.proofs.Runs.{reached_sound}
+use Rattle.link_world.proofs.Senders.{sent_to_clients}
+use Rattle.link_world.proofs.SoundWorlds.{SoundWorld}
 use Rattle.link_replay.specs.Reaching.{IsAt}
 use Rattle.link_replay.proofs.Reaching.{reached_at}
 

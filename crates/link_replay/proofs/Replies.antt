@@ -13,10 +13,10 @@ use Rattle.uip_node.specs.Events.{Event, Reply}
 use Rattle.uip_node.specs.Events.Event.{Arrived, Periodic}
 use Rattle.uip_node.specs.Events.Reply.{Tcp}
 use Rattle.uip_node.specs.Node.{AbstractNode, NodeStep, arrives_at, connection_in, from_stranger, happened, moment, opens, opens_in, refuses, reply_of, slot_for_syn, step}
-use Rattle.link_theorem.proofs.Basics.{and_true, both_ways, choose}
-use Rattle.link_theorem.proofs.Peers.{asked_keeps, on_segment_keeps, on_tick_closed, on_tick_keeps}
-use Rattle.link_theorem.proofs.SocketPairs.{same_is}
-use Rattle.link_theorem.proofs.Tables.{find_is, finds, finds_none, index_of}
+use Rattle.link_world.proofs.Basics.{and_true, both_ways, choose}
+use Rattle.link_world.proofs.Peers.{asked_keeps, on_segment_keeps, on_tick_closed, on_tick_keeps}
+use Rattle.link_world.proofs.SocketPairs.{same_is}
+use Rattle.link_world.proofs.Tables.{find_is, finds, finds_none, index_of}
 use Rattle.link_world.specs.History.{serving}
 
 -- a TCP datagram to these sockets

@@ -5,7 +5,7 @@ use Rattle.std.specs.Vec.{with_item}
 use Rattle.tcp_segment.specs.Segments.{PlainSegment, datagram_bytes}
 use Rattle.link_world.specs.History.{no_era}
 use Rattle.std.proofs.lemmas.List.{drop_all, take_all}
-use Rattle.link_theorem.proofs.Basics.{append_nothing}
+use Rattle.link_world.proofs.Basics.{append_nothing}
 use Rattle.link_client.specs.Calls.{standing, Sends, datagram_of, takes, hears}
 use Rattle.link_client.specs.Client.{AbstractClient, ClientStep}
 use Rattle.link_client.specs.declared.client_state.ClientState.{ClientState}
@@ -17,7 +17,7 @@ use Rattle.link_world.specs.Bytes.{bytes_by, client_bytes}
 use Rattle.link_world.specs.World.{World, Side, numbered, epoch, becomes_opened, with_client, with_side, client_stepped}
 use Rattle.link_world.specs.World.Content.{OfSegment}
 use Rattle.link_world.specs.declared.who.Who.TheVariants.{FromClient}
-use Rattle.link_theorem.proofs.Tables.{get_set_same, set_same}
+use Rattle.link_world.proofs.Tables.{get_set_same, set_same}
 use Rattle.link_replay.specs.Matched.{Matched}
 use Rattle.link_replay.specs.Owning.{Stepped}
 use Rattle.uip_wire.specs.declared.addr.Addr.{Addr}

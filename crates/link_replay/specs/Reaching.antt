@@ -10,7 +10,7 @@ use Rattle.link_world.specs.History.{Planned, IsPlan, opening_world}
 use Rattle.link_world.specs.declared.act.Act.{Act}
 use Rattle.link_world.specs.declared.step_fault.StepFault.{StepFault}
 use Rattle.link_world.specs.declared.step_fault.StepFault.TheVariants.{NoDatagram, NoByte, AlreadyOpen, NotOpen, Full, NoMemory}
-use Rattle.link_theorem.specs.Headline.{IsAct, HasBytes}
+use Rattle.link_world.specs.Headline.{IsAct, HasBytes}
 
 -- A world that accepted acts reach from the opening one, of a server whose pages are bytes. No act speaks of the mark.
 pub record IsAt (m : Meaning) (served : ℕ → Bool) (w : World) : Type 0 where

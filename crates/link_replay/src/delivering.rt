@@ -11,7 +11,7 @@ ghost use Rattle.link_world.specs.World.{World as PlainWorld, gives, node_handle
 ghost use Rattle.link_world.specs.World.Content.{OfPing};
 ghost use Rattle.link_world.specs.declared.who.Who.TheVariants.{Pinger};
 ghost use Rattle.link_replay.specs.Owning.{own_step};
-ghost use Rattle.link_theorem.specs.Headline.{IsAct};
+ghost use Rattle.link_world.specs.Headline.{IsAct};
 ghost use Rattle.link_replay.specs.Reaching.{IsAt};
 ghost use Rattle.link_replay.specs.Stands.{IsKept, WorldStands};
 ghost use Rattle.link_replay.specs.Telling.{AnswersTo, AreTo, client_of};

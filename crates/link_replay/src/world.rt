@@ -7,7 +7,7 @@ ghost use Rattle.uip_wire.specs.declared.addr.Addr.{Addr as Address};
 ghost use Rattle.link_world.specs.Acts.{acts as acted, runs};
 ghost use Rattle.link_world.specs.Schedule.{plays_line};
 ghost use Rattle.link_world.specs.World.{World as PlainWorld};
-ghost use Rattle.link_theorem.specs.Headline.{IsAct, OfLine};
+ghost use Rattle.link_world.specs.Headline.{IsAct, OfLine};
 ghost use Rattle.link_replay.specs.Reaching.{Ends, IsAt, Steps};
 ghost use Rattle.link_replay.specs.Stands.{IsKept, WorldStands};
 

@@ -14,7 +14,7 @@ use Rattle.link_world.specs.World.{World, Side, Content, numbered, sockets_of}
 use Rattle.link_world.specs.World.Content.{OfSegment, OfPing, OfEcho}
 use Rattle.link_world.specs.Bytes.{heard_by, server_of}
 use Rattle.link_world.specs.declared.who.Who.TheVariants.{FromClient, FromNode}
-use Rattle.link_theorem.specs.Reading.{IsRead, IsSentBy}
+use Rattle.link_world.specs.Reading.{IsRead, IsSentBy}
 use Rattle.link_replay.specs.Matched.{Matched}
 use Rattle.link_replay.specs.Stands.{SideStands}
 use Rattle.link_replay.specs.declared.side.Side.{Side as CodeSide}

@@ -5,7 +5,7 @@ ghost use Rattle.app_events.specs.Part.{Meaning};
 ghost use Rattle.uip_edge.specs.Causes.{HasCause};
 ghost use Rattle.link_world.specs.World.{Sent as PlainSent, World as PlainWorld};
 ghost use Rattle.link_world.specs.Bytes.{bytes_of};
-ghost use Rattle.link_theorem.specs.Reading.{IsRead, IsSentBy};
+ghost use Rattle.link_world.specs.Reading.{IsRead, IsSentBy};
 ghost use Rattle.link_replay.specs.Reaching.{IsAt};
 ghost use Rattle.link_replay.specs.Stands.{IsLink, LinkStands, SentStands};
 ghost use Rattle.link_report.specs.Report.{line_of_datagram, numbered_texts, word_if};

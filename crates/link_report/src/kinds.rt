@@ -9,7 +9,7 @@ ghost use Rattle.uip_node.specs.Edge.{by_segment, event_of};
 ghost use Rattle.uip_node.specs.Events.Event.{Arrived};
 ghost use Rattle.link_world.specs.World.{Sent as PlainSent, Side as PlainSide, World as PlainWorld, numbered};
 ghost use Rattle.link_world.specs.Bytes.{bytes_of};
-ghost use Rattle.link_theorem.specs.Reading.{IsRead, IsSentBy};
+ghost use Rattle.link_world.specs.Reading.{IsRead, IsSentBy};
 ghost use Rattle.link_replay.specs.Matched.{Matched};
 ghost use Rattle.link_replay.specs.Stands.{IsLink, LinkStands, SentStands, SideStands};
 ghost use Rattle.link_report.specs.Report.{kind_of as kind_meant, segment_kind};

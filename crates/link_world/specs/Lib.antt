@@ -3,3 +3,7 @@ pub mod Bytes
 pub mod Acts
 pub mod Schedule
 pub mod History
+pub mod Headline
+pub mod Parts
+pub mod Honest
+pub mod Reading

@@ -1,11 +1,17 @@
 //! The world of a replay over plain data: one node, its clients, and every datagram that was ever sent, which a schedule gives,
-//! repeats, reorders, damages or loses. Definitions alone; the laws about them stand in `link_theorem`.
+//! repeats, reorders, damages or loses. `specs/` has the definitions and the laws about them, each of which is the clause of a function
+//! here.
 #![tactic(auto)]
 
 mod act;
+mod laws;
 mod step_fault;
 mod who;
 
 pub use act::Act;
+pub use laws::{
+    again_exactly, bytes_are_read, clean_parts, damage_is_loss, honest_link, lines_are_acts, one_segment, prefix_and_whole,
+    same_bytes, sent_to_clients, tick,
+};
 pub use step_fault::StepFault;
 pub use who::Who;

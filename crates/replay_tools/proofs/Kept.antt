@@ -12,10 +12,10 @@ use Rattle.link_world.specs.World.{World, Side, Sent, is_clean}
 use Rattle.link_world.specs.World.Content.{OfSegment}
 use Rattle.link_world.specs.declared.who.Who.TheVariants.{FromNode}
 use Rattle.tcp_segment.specs.Segments.{PlainSegment}
-use Rattle.link_theorem.specs.Headline.{HasBytes, IsReached, IsRepeatOf, IsServed}
-use Rattle.link_theorem.proofs.Prefix.{prefix_and_whole}
-use Rattle.link_theorem.proofs.Same.{same_bytes}
-use Rattle.link_theorem.proofs.Ticks.{tick}
+use Rattle.link_world.specs.Headline.{HasBytes, IsReached, IsRepeatOf, IsServed}
+use Rattle.link_world.proofs.Prefix.{prefix_and_whole}
+use Rattle.link_world.proofs.Same.{same_bytes}
+use Rattle.link_world.proofs.Ticks.{tick}
 use Rattle.link_replay.specs.Reaching.{IsAt}
 use Rattle.replay_tools.specs.Promises.{KeepsPromises}
 

@@ -13,7 +13,7 @@ use Rattle.link_schedule.specs.Reading.{Content, read_text}
 use Rattle.link_schedule.specs.declared.read_schedule.ReadSchedule.{ReadSchedule}
 use Rattle.link_schedule.specs.declared.read_schedule.ReadSchedule.TheVariants.{Bad}
 use Rattle.link_schedule.specs.declared.why.Why.{Why}
-use Rattle.link_theorem.specs.Headline.{HasBytes}
+use Rattle.link_world.specs.Headline.{HasBytes}
 use Rattle.link_world.specs.Schedule.{BadLine, plays}
 use Rattle.link_world.specs.World.{World}
 use Rattle.link_replay.specs.Opening.{opening}

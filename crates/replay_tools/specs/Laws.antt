@@ -14,7 +14,7 @@ use Rattle.link_world.specs.World.{World}
 use Rattle.link_schedule.specs.declared.event.Event.TheVariants.{Opens, Round}
 use Rattle.link_schedule.specs.Clients.{Plan}
 use Rattle.link_schedule.specs.Reading.{Content, read_text}
-use Rattle.link_theorem.specs.Honest.{IsServedWhole}
+use Rattle.link_world.specs.Honest.{IsServedWhole}
 use Rattle.link_replay.specs.Opening.{planned}
 use Rattle.link_replay.specs.Playing.{event_at}
 use Rattle.replay_tools.specs.Ending.{IsText, ReplayEnds}

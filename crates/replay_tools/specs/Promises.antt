@@ -6,7 +6,7 @@ use Rattle.link_world.specs.World.{World, Side, Sent, is_clean}
 use Rattle.link_world.specs.World.Content.{OfSegment}
 use Rattle.link_world.specs.declared.who.Who.TheVariants.{FromNode}
 use Rattle.tcp_segment.specs.Segments.{PlainSegment}
-use Rattle.link_theorem.specs.Headline.{IsServed, IsRepeatOf, Tick}
+use Rattle.link_world.specs.Headline.{IsServed, IsRepeatOf, Tick}
 
 -- Each client to and from which nothing stale was delivered has received a prefix of its page, and the whole page where it saw a plain
 -- close; what was sent again has the same bytes as before; and an expired timer sends in that tick, at every node.

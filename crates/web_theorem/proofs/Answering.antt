@@ -24,9 +24,9 @@ use Rattle.web_pages.specs.Growing.{silent_text, silent_end, stopped_text, made_
 use Rattle.web_pages.specs.WebLaws.{newdata_grows, with_capture}
 use Rattle.web_pages.specs.WebMeaning.{web_meaning, web_want, is_acknowledged, waits_for_capture, left_of}
 use Rattle.web_pages.proofs.Bounds.{text_bound}
-use Rattle.link_theorem.specs.Honest.{GoesOnBy, AnswersIn}
-use Rattle.link_theorem.proofs.Basics.{prefix_length, both_ways, ltb-zero, not-true}
-use Rattle.link_theorem.proofs.Fits.{all_nil, all_cons}
+use Rattle.link_world.specs.Honest.{GoesOnBy, AnswersIn}
+use Rattle.link_world.proofs.Basics.{prefix_length, both_ways, ltb-zero, not-true}
+use Rattle.link_world.proofs.Fits.{all_nil, all_cons}
 use Rattle.web_theorem.specs.Web.{most_of, texts_for, pieces_for}
 use Rattle.web_theorem.proofs.Counting.{left_in, behind, counted, shorter, one_less}
 

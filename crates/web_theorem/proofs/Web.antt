@@ -8,12 +8,12 @@ use Rattle.site_image.specs.Files.{File}
 use Rattle.file_tree.specs.Site.{files_of}
 use Rattle.link_client.specs.Client.{offered}
 use Rattle.link_world.specs.History.{IsPlanned}
-use Rattle.link_theorem.specs.Headline.{IsServed, IsPlayed}
-use Rattle.link_theorem.proofs.Prefix.{prefix_and_whole}
-use Rattle.link_theorem.proofs.Lines.{lines_are_acts}
-use Rattle.link_theorem.proofs.Honest.{honest_link}
-use Rattle.link_theorem.proofs.HonestNode.{mss_low}
-use Rattle.link_theorem.proofs.Sound.{first_low}
+use Rattle.link_world.specs.Headline.{IsServed, IsPlayed}
+use Rattle.link_world.proofs.Prefix.{prefix_and_whole}
+use Rattle.link_world.proofs.Lines.{lines_are_acts}
+use Rattle.link_world.proofs.Honest.{honest_link}
+use Rattle.link_world.proofs.HonestNode.{mss_low}
+use Rattle.link_world.proofs.Sound.{first_low}
 use Rattle.web_pages.specs.Requests.{wanted}
 use Rattle.web_pages.specs.Requests.Wanted.{NotYet}
 use Rattle.web_pages.specs.Pages.{pages_of}

@@ -14,8 +14,8 @@ use Rattle.link_world.specs.History.{Planned, IsPlan, opening_world}
 use Rattle.link_world.specs.Schedule.{plays}
 use Rattle.link_schedule.specs.declared.event.Event.{Event}
 use Rattle.link_schedule.specs.declared.event.Event.TheVariants.{Opens, Round}
-use Rattle.link_theorem.specs.Headline.{OfLine, IsAct, IsServed}
-use Rattle.link_theorem.specs.Honest.{IsServedWhole}
+use Rattle.link_world.specs.Headline.{OfLine, IsAct, IsServed}
+use Rattle.link_world.specs.Honest.{IsServedWhole}
 use Rattle.web_pages.specs.Requests.{Wanted, wanted}
 use Rattle.web_pages.specs.Requests.Wanted.{NotYet, Refused, Name}
 use Rattle.web_pages.specs.Pieces.{Say, reply_of}

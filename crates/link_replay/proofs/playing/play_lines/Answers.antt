@@ -4,7 +4,7 @@ use Rattle.std.proofs.lemmas.Option.{slice_get-get_or}
 use Rattle.link_schedule.specs.Kept.{event_in_range}
 use Rattle.link_schedule.specs.declared.line.Line.{Line}
 use Rattle.link_schedule.specs.declared.read_schedule.ReadSchedule.{ReadSchedule}
-use Rattle.link_theorem.specs.Headline.{IsAct, OfLine}
+use Rattle.link_world.specs.Headline.{IsAct, OfLine}
 use Rattle.link_world.specs.World.{World}
 use Rattle.link_world.specs.Schedule.{plays, plays_line}
 use Rattle.link_schedule.specs.declared.event.Event.{Event}

@@ -5,7 +5,7 @@ use Rattle.uip_node.specs.Events.Event.{Arrived}
 use Rattle.link_world.specs.Bytes.{bytes_of}
 use Rattle.link_world.specs.declared.who.Who.{Who}
 use Rattle.link_world.specs.declared.who.Who.TheVariants.{FromClient, FromNode}
-use Rattle.link_theorem.specs.Reading.{IsRead, IsSentBy}
+use Rattle.link_world.specs.Reading.{IsRead, IsSentBy}
 use Rattle.link_replay.specs.Matched.{Matched}
 use Rattle.link_replay.specs.Stands.{SideStands}
 use Rattle.link_replay.specs.declared.side.Side.{Side as CodeSide}

@@ -3,7 +3,7 @@ use Rattle.std.specs.List.{All}
 use Rattle.link_world.specs.Acts.{runs}
 use Rattle.link_world.specs.Schedule.{acts_of}
 use Rattle.link_world.specs.declared.act.Act.{Act}
-use Rattle.link_theorem.specs.Headline.{IsAct}
+use Rattle.link_world.specs.Headline.{IsAct}
 use Rattle.link_replay.specs.Reaching.{Ends}
 use Rattle.link_replay.specs.Stands.{WorldStands}
 use Rattle.link_replay.proofs.Lines.{all_acts, line_done}

@@ -2,7 +2,7 @@ use Rattle.std.proofs.Common.{◌∷◌, ◌+◌, drop, get_or, List, ◌∙◌,
 use Rattle.link_world.specs.World.{World}
 use Rattle.link_world.specs.Acts.{acts, runs}
 use Rattle.link_world.specs.declared.act.Act.{Act}
-use Rattle.link_theorem.specs.Headline.{IsAct}
+use Rattle.link_world.specs.Headline.{IsAct}
 use Rattle.link_replay.specs.Reaching.{IsAt, Steps}
 use Rattle.link_replay.specs.Stands.{WorldStands}
 use Rattle.link_replay.proofs.Pairs.{left_is}

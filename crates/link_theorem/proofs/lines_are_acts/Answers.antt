@@ -1,5 +1,0 @@
-use Rattle.link_theorem.proofs.lines_are_acts.Goals as goal
-use Rattle.link_theorem.proofs.Lines.{lines_are_acts}
-
-pub returns : goal.returns
-returns c = lines_are_acts

@@ -1,4 +1,0 @@
-pub mod Headline
-pub mod Parts
-pub mod Honest
-pub mod Reading

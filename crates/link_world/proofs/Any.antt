@@ -1,0 +1,546 @@
+-- The world's acts, for any fact G about one client: what the acts do to the sides, the table and the list is done once.
+use Rattle.std.specs.List.{All}
+use Rattle.std.proofs.Common.{◌≡◌, ℕ, zero, suc, Bool, true, false, not, ◌&&◌, List, [], ◌∷◌, ◌++◌, length, map, set, refl, sym, ap, ◌∙◌, subst, arith, Option, Some, None, slice_get, slice_index_or, position, eqb, if◌then◌else◌}
+use Rattle.tcp_segment.specs.Segments.{PlainSegment, has_syn, has_fin, has_rst}
+use Rattle.app_events.specs.Part.{Meaning}
+use Rattle.app_events.specs.Pages.{Pages, IsPaged, IsMoment, IsNow, IsWord}
+use Rattle.app_events.specs.declared.now.Now.{Now}
+use Rattle.tcp_machine.specs.Connection.{Sockets, Connection, closed, is_live, serves, same_sockets}
+use Rattle.tcp_machine.specs.Segments.{segment_of, is_again, is_plain_syn, reset_to_none, syn_ack}
+use Rattle.tcp_machine.specs.Ask.{Outcome, leaves, asked}
+use Rattle.tcp_machine.specs.OnSegment.{accepted, on_segment}
+use Rattle.tcp_machine.specs.OnTick.{on_tick}
+use Rattle.tcp_machine.specs.declared.step.Step.{Step}
+use Rattle.uip_node.specs.Events.{Event, Reply, Past}
+use Rattle.uip_node.specs.Events.Event.{EchoAsked, Arrived, Periodic}
+use Rattle.uip_node.specs.Events.Answer.{Silent, NoSlot, EchoReplied}
+use Rattle.uip_node.specs.Events.Reply.{Echo, Tcp}
+use Rattle.uip_node.specs.Counters.{initial_number, ticks_of}
+use Rattle.uip_node.specs.Node.{AbstractNode, NodeStep, reply_of, gone_by, moment, happened, slot_for_syn, is_waiting, longest_wait, or_else, opens_in, opens, refuses, from_stranger, arrives_at, step, passes}
+use Rattle.link_client.specs.declared.setup.Setup.{Setup}
+use Rattle.link_client.specs.Client.{AbstractClient, ClientStep, client_takes, client_opens, client_again, client_closes, client_aborts, tells_window}
+use Rattle.link_world.specs.World.{World, Side, Sent, Content, numbered, sockets_of, buries, buries_in, addressed, epoch_at, epoch_of, posts, posts_reply, node_stepped, node_handles, with_client, with_side, posts_of_client, client_stepped, marked, gives_node, gives_client, delivers, gives, is_clean}
+use Rattle.link_world.specs.World.Content.{OfSegment, OfPing, OfEcho}
+use Rattle.link_world.specs.Acts.{client_acts, handles_all, does}
+use Rattle.link_world.specs.declared.act.Act.{Act}
+use Rattle.link_world.specs.declared.who.Who.{Who}
+use Rattle.link_world.specs.declared.who.Who.TheVariants.{FromClient, FromNode, Pinger}
+use Rattle.link_world.specs.History.{era, era_of, serving}
+use Rattle.link_world.specs.Headline.{IsLoss}
+use Rattle.link_world.proofs.Basics.{both_ways, choose, and_true, only_some}
+use Rattle.link_world.proofs.Good.{seg, segment_in, from, to}
+use Rattle.link_world.proofs.SocketPairs.{same_is, flip, apart, serves_not, serves_dead, serves_yes, not_peer}
+use Rattle.link_world.proofs.Tables.{find_is, get_set_same, set_same, set_past, index_of, index_none, Single, Free, get_set, single_set, serving_is, serving_free, serving_new, serving_gone, serving_other}
+use Rattle.link_world.proofs.Tables.Finds.{finds, finds_none}
+use Rattle.link_world.proofs.Tables.Written.{here, there}
+use Rattle.link_world.proofs.Fits.{FitConn, accepted_fits}
+use Rattle.link_world.proofs.FitWorlds.{FitWorld, node_moment, era_fits, serving_fits, position_in, Inside, put_fits, periodic_fits}
+use Rattle.link_world.proofs.Setups.{SameSetup, takes_setup, opens_setup, again_setup, closes_setup, aborts_setup}
+use Rattle.link_world.proofs.Peers.{on_segment_keeps, asked_keeps, on_tick_keeps, on_tick_closed}
+use Rattle.link_world.proofs.Harmless.{Harmless}
+use Rattle.link_world.proofs.Sides.{Apart, buried, get_buried, buried_sockets, addressed_is, addressed_finds, gone_is, buried_here, buried_elsewhere, put_apart, clean_before}
+
+-- a side whose connection c is gone
+abbrev pub older : Side → Connection → Side
+older side c = record side { past = side.past ++ era_of c ∷ [] }
+
+-- a segment that is sent, maybe again
+pub record Speech : Type 0 where
+  pub again : Bool
+  pub segment : PlainSegment
+
+abbrev pub speech : Bool → PlainSegment → Speech
+speech again s = record { again = again; segment = s }
+
+abbrev pub speech_of : Option PlainSegment → Bool → Option Speech
+speech_of None again = None
+speech_of (Some s) again = Some (speech again s)
+
+speech_none : (said : Option PlainSegment) (again : Bool) → speech_of said again ≡ None → said ≡ None
+speech_none None again e = refl
+speech_none (Some s) again e = absurd (cc)
+
+speech_is : (P : Speech → Type 0) (said : Option PlainSegment) (again : Bool) → ((s : PlainSegment) → said ≡ Some s → P (speech again s)) → (x : Speech) → speech_of said again ≡ Some x → P x
+speech_is P None again h x e = absurd (cc)
+speech_is P (Some s) again h x e = only_some P (speech again s) x e (h s refl)
+
+abbrev pub entry : Who → Side → ℕ → ℕ → Speech → Sent
+entry who side tick id x = record { who = who; tick = tick; epoch = length side.past; again = x.again; content = OfSegment id x.segment }
+
+-- What the node's table makes of an event: the table afterwards, the connection that became CLOSED, and what is sent.
+pub record Reacted : Type 0 where
+  pub table : List Connection
+  pub gone : Option Connection
+  pub said : Option Speech
+
+pub data Sends (peer : Sockets) (sent : Option Reply) (said : Option Speech) : Type 0 where
+  sends_none : sent ≡ None → said ≡ None → Sends peer sent said
+  sends_echo : (request : List ℕ) → sent ≡ Some (Echo request) → said ≡ None → Sends peer sent said
+  sends_tcp : (id : ℕ) (x : Speech) → sent ≡ Some (Tcp peer id x.again x.segment) → said ≡ Some x → Sends peer sent said
+
+pub record Reaction (r : NodeStep) (peer : Sockets) (x : Reacted) : Type 0 where
+  pub table : r.node.connections ≡ x.table
+  pub gone : r.gone ≡ x.gone
+  pub sends : Sends peer r.sent x.said
+
+reply_sends : (said : Option PlainSegment) (sockets peer : Sockets) (id : ℕ) (again : Bool) → sockets ≡ peer → Sends peer (reply_of said sockets id again) (speech_of said again)
+reply_sends None sockets peer id again e = sends_none refl refl
+reply_sends (Some s) sockets peer id again e = sends_tcp id (speech again s) (ap (λ p. Some (Tcp p id again s)) e) refl
+
+module _ (m : Meaning) (G : ℕ → Side → Connection → List Sent → Type 0)
+    (other : (k : ℕ) (side : Side) (c : Connection) (sent : List Sent) (e : Sent) → G k side c sent → (e.who ≡ to k → ⊥) → (e.who ≡ from k → ⊥) → G k side c (sent ++ e ∷ []))
+    (reset : (k : ℕ) (side : Side) (c : Connection) (sent : List Sent) (e : Sent) → G k side c sent → e.epoch ≡ length side.past → has_syn (seg e).flags ≡ false → has_fin (seg e).flags ≡ false → (seg e).text ≡ [] → has_rst (seg e).flags ≡ true → e.again ≡ false → e.who ≡ to k → G k side c (sent ++ e ∷ []))
+    (evict : (k : ℕ) (side : Side) (c : Connection) (sent : List Sent) → is_live c.state ≡ true → G k side c sent → G k (older side c) closed sent)
+    (mark : (k : ℕ) (side : Side) (c : Connection) (sent : List Sent) (n : ℕ) (e : Sent) → G k side c sent → G k (marked side n e) c sent) where
+  pub record Framed (w : World) : Type 0 where
+    pub apart : Apart w.sides
+    pub single : Single w.node.connections
+    pub each : (k : ℕ) (side : Side) → slice_get w.sides k ≡ Some side → G k side (serving (sockets_of side) w.node.connections) w.sent
+
+  -- what an event of the peer `peer` does to the side k: it hears something where it is the peer and something is said
+  record EffectOn (w : World) (peer : Sockets) (r : Reacted) (k : ℕ) (side : Side) : Type 0 where
+    quiet : r.said ≡ None → G k (buried r.gone side) (serving (sockets_of side) r.table) w.sent
+    aside : (sockets_of side ≡ peer → ⊥) → G k (buried r.gone side) (serving (sockets_of side) r.table) w.sent
+    says : (x : Speech) → r.said ≡ Some x → sockets_of side ≡ peer → (tick id : ℕ) → G k (buried r.gone side) (serving (sockets_of side) r.table) (w.sent ++ entry (to k) (buried r.gone side) tick id x ∷ [])
+
+  record Effect (w : World) (peer : Sockets) (r : Reacted) : Type 0 where
+    single : Single r.table
+    each : (k : ℕ) (side : Side) → slice_get w.sides k ≡ Some side → EffectOn w peer r k side
+
+  abbrev posted : World → Who → Bool → Content → Sent
+  posted w who again content = record { who = who; tick = ticks_of w.node.past; epoch = epoch_of who w.sides; again = again; content = content }
+
+  -- a datagram of nobody's
+  posts_aside : (w : World) (who : Who) (again : Bool) (content : Content) → Framed w → ((k : ℕ) → who ≡ to k → ⊥) → ((k : ℕ) → who ≡ from k → ⊥) → Framed (posts w who again content)
+  posts_aside w who again content g t f = record {
+    apart = g.apart;
+    single = g.single;
+    each = λ k side x. other k side (serving (sockets_of side) w.node.connections) w.sent (posted w who again content) (g.each k side x) (t k) (f k);
+  }
+
+  not_zero_number : (k : ℕ) → FromNode 0 ≡ to k → ⊥
+  not_zero_number k e = let z : 0 ≡ suc k = cc in absurd (omega (arith, z))
+
+  node_framed : (w : World) (peer : Sockets) (r : NodeStep) (x : Reacted) → Framed w → Reaction r peer x → Effect w peer x → Framed (node_stepped w r)
+  node_framed w peer r x g re ex =
+      let e : Effect w peer (record { table = r.node.connections; gone = r.gone; said = x.said }) =
+      subst (λ t. Effect w peer (record { table = t; gone = r.gone; said = x.said })) (sym re.table) (subst (λ y. Effect w peer (record { table = x.table; gone = y; said = x.said })) (sym re.gone) ex) in
+      let table : List Connection = r.node.connections in
+      let sides : List Side = buries r.gone w.sides in
+      let v : World = record w { node = r.node; sides = sides } in
+      let set_apart : Apart sides = λ j k a b y z p. (let ma = get_buried r.gone w.sides j a y in let mb = get_buried r.gone w.sides k b z in
+      g.apart j k ma.from mb.from ma.get mb.get (sym (buried_sockets r.gone ma.from) ∙ ap (λ o. sockets_of o) ma.is ∙ p ∙ sym (ap (λ o. sockets_of o) mb.is) ∙ buried_sockets r.gone mb.from)) in
+      let at : (sent : List Sent) (k : ℕ) (side from : Side) → buried r.gone from ≡ side → G k (buried r.gone from) (serving (sockets_of from) table) sent → G k side (serving (sockets_of side) table) sent =
+      λ sent k side from is h. (let q : sockets_of from ≡ sockets_of side = sym (buried_sockets r.gone from) ∙ ap (λ o. sockets_of o) is in
+      subst (λ z. G k z (serving (sockets_of side) table) sent) is (subst (λ z. G k (buried r.gone from) (serving z table) sent) q h)) in
+      elim re.sends [
+        | sends_none q n ↦ subst (λ s. Framed (posts_reply v s)) (sym q) (record { apart = set_apart; single = e.single; each = λ k side y. (let b = get_buried r.gone w.sides k side y in at w.sent k side b.from b.is ((e.each k b.from b.get).quiet n)) })
+        | sends_echo request q n ↦ subst (λ s. Framed (posts_reply v s)) (sym q)
+            (posts_aside v (FromNode 0) false (OfEcho request) (record { apart = set_apart; single = e.single; each = λ k side y. (let b = get_buried r.gone w.sides k side y in at w.sent k side b.from b.is ((e.each k b.from b.get).quiet n)) })
+            not_zero_number (λ k z. absurd (cc)))
+        | sends_tcp id speech q said ↦ subst (λ s. Framed (posts_reply v s)) (sym q) (record {
+          apart = set_apart;
+          single = e.single;
+          each = λ k side y. (let bu = get_buried r.gone w.sides k side y in
+              let same : sockets_of bu.from ≡ sockets_of side = sym (buried_sockets r.gone bu.from) ∙ ap (λ o. sockets_of o) bu.is in
+              both_ways (same_sockets peer (sockets_of side))
+              (λ b. let p : peer ≡ sockets_of side = same_is peer (sockets_of side) b in
+              let t : addressed 1 peer sides ≡ suc k = addressed_finds peer k side sides set_apart y p in
+              let stamp : epoch_of (FromNode (addressed 1 peer sides)) sides ≡ length side.past = ap (λ n. epoch_at (numbered sides n)) t ∙ ap epoch_at y in
+              let h : G k side (serving (sockets_of side) table) (w.sent ++ entry (to k) side (ticks_of r.node.past) id speech ∷ []) =
+              subst (λ u. G k side (serving (sockets_of side) table) (w.sent ++ entry (to k) u (ticks_of r.node.past) id speech ∷ [])) bu.is
+              (at (w.sent ++ entry (to k) (buried r.gone bu.from) (ticks_of r.node.past) id speech ∷ []) k side bu.from bu.is ((e.each k bu.from bu.get).says speech said (same ∙ sym p) (ticks_of r.node.past) id)) in
+              subst (λ n. G k side (serving (sockets_of side) table) (w.sent ++ record { who = FromNode (addressed 1 peer sides); tick = ticks_of r.node.past; epoch = n; again = speech.again; content = OfSegment id speech.segment } ∷ [])) (sym stamp)
+              (subst (λ n. G k side (serving (sockets_of side) table) (w.sent ++ record { who = FromNode n; tick = ticks_of r.node.past; epoch = length side.past; again = speech.again; content = OfSegment id speech.segment } ∷ [])) (sym t) h))
+              (λ b. let n : peer ≡ sockets_of side → ⊥ = apart peer (sockets_of side) b in
+              other k side (serving (sockets_of side) table) w.sent (posted v (FromNode (addressed 1 peer sides)) speech.again (OfSegment id speech.segment))
+              (at w.sent k side bu.from bu.is ((e.each k bu.from bu.get).aside (λ z. n (sym z ∙ same))))
+              (λ z. (let y' : addressed 1 peer sides ≡ suc k = cc in let a = addressed_is 1 peer k sides y' in
+              let it : a.side ≡ side = (let i : a.index ≡ k = omega (arith, a.is) in let u : Some a.side ≡ Some side = sym a.get ∙ ap (slice_get sides) i ∙ y in cc) in n (a.same ∙ ap (λ o. sockets_of o) it)))
+              (λ z. absurd (cc))));
+        })
+      ]
+
+  -- one connection takes a step
+  pub record Steps (w : World) (o : Outcome) (k : ℕ) (side : Side) : Type 0 where
+    pub quiet : segment_of m o.connection o.step ≡ None → is_live o.connection.state ≡ true → G k side o.connection w.sent
+    pub quiet_last : segment_of m o.connection o.step ≡ None → is_live o.connection.state ≡ false → G k (older side o.connection) closed w.sent
+    pub says : (s : PlainSegment) → segment_of m o.connection o.step ≡ Some s → is_live o.connection.state ≡ true → (tick id : ℕ) → G k side o.connection (w.sent ++ entry (to k) side tick id (speech (is_again o.step) s) ∷ [])
+    pub says_last : (s : PlainSegment) → segment_of m o.connection o.step ≡ Some s → is_live o.connection.state ≡ false → (tick id : ℕ) → G k (older side o.connection) closed (w.sent ++ entry (to k) (older side o.connection) tick id (speech (is_again o.step) s) ∷ [])
+
+  abbrev said_by : Outcome → Option Speech
+  said_by o = speech_of (segment_of m o.connection o.step) (is_again o.step)
+
+  module _ (w : World) (i : ℕ) (old : Connection) (o : Outcome) (g : Framed w) (at : slice_get w.node.connections i ≡ Some old) (live : is_live old.state ≡ true) (peer : o.connection.sockets ≡ old.sockets)
+      (steps : (k : ℕ) (side : Side) → slice_get w.sides k ≡ Some side → sockets_of side ≡ old.sockets → G k side old w.sent → Steps w o k side) where
+    abbrev table : List Connection
+    table = w.node.connections
+
+    owns_step : (p : Sockets) → serves p o.connection ≡ true → (j : ℕ) (y : Connection) → slice_get table j ≡ Some y → serves p y ≡ true → j ≡ i
+    owns_step p s j y h u =
+        let q : serves p old ≡ true = serves_yes p old live (sym peer ∙ same_is o.connection.sockets p (and_true (is_live o.connection.state) (same_sockets o.connection.sockets p) s).1) in
+        g.single p j i y old h at u q
+
+    before_step : (k : ℕ) (side : Side) → slice_get w.sides k ≡ Some side → sockets_of side ≡ old.sockets → G k side old w.sent
+    before_step k side x q = subst (λ z. G k side z w.sent) (serving_is table (sockets_of side) i old g.single at (serves_yes (sockets_of side) old live (sym q))) (g.each k side x)
+
+    effect_goes_on : is_live o.connection.state ≡ true → Effect w old.sockets (record { table = set table i o.connection; gone = None; said = said_by o })
+    effect_goes_on l = record {
+      single = single_set table g.single i old at o.connection owns_step;
+      each = λ k side x. both_ways (same_sockets (sockets_of side) old.sockets)
+          (λ e. let q : sockets_of side ≡ old.sockets = same_is (sockets_of side) old.sockets e in
+          let after : serving (sockets_of side) (set table i o.connection) ≡ o.connection = serving_new table g.single i old at o.connection owns_step (sockets_of side) (serves_yes (sockets_of side) o.connection l (peer ∙ sym q)) in
+          let st : Steps w o k side = steps k side x q (before_step k side x q) in
+          record {
+            quiet = λ n. subst (λ z. G k side z w.sent) (sym after) (st.quiet (speech_none (segment_of m o.connection o.step) (is_again o.step) n) l);
+            aside = λ n. absurd (n q);
+            says = λ s y z tick id. subst (λ c'. G k side c' (w.sent ++ entry (to k) side tick id s ∷ [])) (sym after)
+                (speech_is (λ s'. G k side o.connection (w.sent ++ entry (to k) side tick id s' ∷ [])) (segment_of m o.connection o.step) (is_again o.step) (λ s' e'. st.says s' e' l tick id) s y);
+          })
+          (λ e. let n : same_sockets old.sockets (sockets_of side) ≡ false = flip (sockets_of side) old.sockets e in
+          let after : serving (sockets_of side) (set table i o.connection) ≡ serving (sockets_of side) table =
+          serving_other table g.single i old at o.connection owns_step (sockets_of side) (serves_not (sockets_of side) old n) (serves_not (sockets_of side) o.connection (ap (λ z. same_sockets z (sockets_of side)) peer ∙ n)) in
+          let kept : G k side (serving (sockets_of side) (set table i o.connection)) w.sent = subst (λ z. G k side z w.sent) (sym after) (g.each k side x) in
+          record { quiet = λ z. kept; aside = λ z. kept; says = λ s y z. absurd (apart (sockets_of side) old.sockets e z) });
+    }
+
+    effect_ends : is_live o.connection.state ≡ false → Effect w old.sockets (record { table = set table i o.connection; gone = Some o.connection; said = said_by o })
+    effect_ends l = record {
+      single = single_set table g.single i old at o.connection owns_step;
+      each = λ k side x. both_ways (same_sockets (sockets_of side) old.sockets)
+          (λ e. let q : sockets_of side ≡ old.sockets = same_is (sockets_of side) old.sockets e in
+          let after : serving (sockets_of side) (set table i o.connection) ≡ closed = serving_gone table g.single i old at o.connection owns_step (sockets_of side) (serves_yes (sockets_of side) old live (sym q)) (serves_dead (sockets_of side) o.connection l) in
+          let st : Steps w o k side = steps k side x q (before_step k side x q) in
+          let now : buries_in o.connection side ≡ older side o.connection = buried_here o.connection side (peer ∙ sym q) in
+          record {
+            quiet = λ n. subst (λ z. G k z (serving (sockets_of side) (set table i o.connection)) w.sent) (sym now) (subst (λ z. G k (older side o.connection) z w.sent) (sym after) (st.quiet_last (speech_none (segment_of m o.connection o.step) (is_again o.step) n) l));
+            aside = λ n. absurd (n q);
+            says = λ s y z tick id. subst (λ u. G k u (serving (sockets_of side) (set table i o.connection)) (w.sent ++ entry (to k) u tick id s ∷ [])) (sym now)
+                (subst (λ c'. G k (older side o.connection) c' (w.sent ++ entry (to k) (older side o.connection) tick id s ∷ [])) (sym after)
+                (speech_is (λ s'. G k (older side o.connection) closed (w.sent ++ entry (to k) (older side o.connection) tick id s' ∷ [])) (segment_of m o.connection o.step) (is_again o.step) (λ s' e'. st.says_last s' e' l tick id) s y));
+          })
+          (λ e. let n : same_sockets old.sockets (sockets_of side) ≡ false = flip (sockets_of side) old.sockets e in
+          let after : serving (sockets_of side) (set table i o.connection) ≡ serving (sockets_of side) table =
+          serving_other table g.single i old at o.connection owns_step (sockets_of side) (serves_not (sockets_of side) old n) (serves_dead (sockets_of side) o.connection l) in
+          let now : buries_in o.connection side ≡ side = buried_elsewhere o.connection side (ap (λ z. same_sockets z (sockets_of side)) peer ∙ n) in
+          let kept : G k (buries_in o.connection side) (serving (sockets_of side) (set table i o.connection)) w.sent = subst (λ z. G k z (serving (sockets_of side) (set table i o.connection)) w.sent) (sym now) (subst (λ z. G k side z w.sent) (sym after) (g.each k side x)) in
+          record { quiet = λ z. kept; aside = λ z. kept; says = λ s y z. absurd (apart (sockets_of side) old.sockets e z) });
+    }
+
+    effect_step : Effect w old.sockets (record { table = set table i o.connection; gone = gone_by old o.connection; said = said_by o })
+    effect_step =
+        both_ways (is_live o.connection.state)
+        (λ l. subst (λ x. Effect w old.sockets (record { table = set table i o.connection; gone = x; said = said_by o })) (sym (gone_is (is_live old.state) (is_live o.connection.state) true live l o.connection)) (effect_goes_on l))
+        (λ l. subst (λ x. Effect w old.sockets (record { table = set table i o.connection; gone = x; said = said_by o })) (sym (gone_is (is_live old.state) (is_live o.connection.state) false live l o.connection)) (effect_ends l))
+
+  -- nothing changes in the table
+  effect_none : (w : World) (peer : Sockets) (said : Option Speech) → Framed w → ((x : Speech) → said ≡ Some x → (has_syn x.segment.flags ≡ false) × (has_fin x.segment.flags ≡ false) × (x.segment.text ≡ []) × (has_rst x.segment.flags ≡ true) × (x.again ≡ false)) →
+      Effect w peer (record { table = w.node.connections; gone = None; said = said })
+  effect_none w peer said g r = record {
+    single = g.single;
+    each = λ k side x. record {
+      quiet = λ z. g.each k side x;
+      aside = λ z. g.each k side x;
+      says = λ y e z tick id. reset k side (serving (sockets_of side) w.node.connections) w.sent (entry (to k) side tick id y) (g.each k side x) refl (r y e).0 (r y e).1 (r y e).2 (r y e).3 (r y e).4 refl;
+    };
+  }
+
+  -- a SYN takes a free slot
+  module _ (w : World) (i : ℕ) (old new : Connection) (s : Speech) (g : Framed w) (at : slice_get w.node.connections i ≡ Some old) (live : is_live new.state ≡ true)
+      (free : Free new.sockets w.node.connections)
+      (births : (k : ℕ) (side : Side) → slice_get w.sides k ≡ Some side → sockets_of side ≡ new.sockets → G k side closed w.sent → (tick id : ℕ) → G k side new (w.sent ++ entry (to k) side tick id s ∷ [])) where
+    abbrev conns : List Connection
+    conns = w.node.connections
+
+    owns_born : (p : Sockets) → serves p new ≡ true → (j : ℕ) (y : Connection) → slice_get conns j ≡ Some y → serves p y ≡ true → j ≡ i
+    owns_born p u j y h v = absurd (let q : new.sockets ≡ p = same_is new.sockets p (and_true (is_live new.state) (same_sockets new.sockets p) u).1 in
+        let z : serves p y ≡ false = ap (λ n. serves n y) (sym q) ∙ free j y h in cc)
+
+    born_here : (k : ℕ) (side : Side) → slice_get w.sides k ≡ Some side → sockets_of side ≡ new.sockets → (tick id : ℕ) → G k side (serving (sockets_of side) (set conns i new)) (w.sent ++ entry (to k) side tick id s ∷ [])
+    born_here k side x q tick id =
+        let before : serving (sockets_of side) conns ≡ closed = serving_free conns (sockets_of side) (subst (λ n. Free n conns) (sym q) free) in
+        let after : serving (sockets_of side) (set conns i new) ≡ new = serving_new conns g.single i old at new owns_born (sockets_of side) (serves_yes (sockets_of side) new live (sym q)) in
+        subst (λ z. G k side z (w.sent ++ entry (to k) side tick id s ∷ [])) (sym after) (births k side x q (subst (λ z. G k side z w.sent) before (g.each k side x)) tick id)
+
+    born_elsewhere : (left : Option Connection) (k : ℕ) (side : Side) → slice_get w.sides k ≡ Some side → same_sockets (sockets_of side) new.sockets ≡ false → serves (sockets_of side) old ≡ false → buried left side ≡ side →
+        EffectOn w new.sockets (record { table = set conns i new; gone = left; said = Some s }) k side
+    born_elsewhere left k side x e f now =
+        let after : serving (sockets_of side) (set conns i new) ≡ serving (sockets_of side) conns = serving_other conns g.single i old at new owns_born (sockets_of side) f (serves_not (sockets_of side) new (flip (sockets_of side) new.sockets e)) in
+        let kept : G k (buried left side) (serving (sockets_of side) (set conns i new)) w.sent = subst (λ z. G k z (serving (sockets_of side) (set conns i new)) w.sent) (sym now) (subst (λ z. G k side z w.sent) (sym after) (g.each k side x)) in
+        record { quiet = λ z. kept; aside = λ z. kept; says = λ y h z. absurd (apart (sockets_of side) new.sockets e z) }
+
+    born_same : (left : Option Connection) (k : ℕ) (side : Side) → slice_get w.sides k ≡ Some side → sockets_of side ≡ new.sockets → buried left side ≡ side →
+        EffectOn w new.sockets (record { table = set conns i new; gone = left; said = Some s }) k side
+    born_same left k side x q now =
+        record {
+          quiet = λ z. absurd (cc);
+          aside = λ n. absurd (n q);
+          says = λ y h z tick id. subst (λ u. G k u (serving (sockets_of side) (set conns i new)) (w.sent ++ entry (to k) u tick id y ∷ [])) (sym now)
+              (only_some (λ t. G k side (serving (sockets_of side) (set conns i new)) (w.sent ++ entry (to k) side tick id t ∷ [])) s y h (born_here k side x q tick id));
+        }
+
+    born_evicts : (k : ℕ) (side : Side) → slice_get w.sides k ≡ Some side → same_sockets (sockets_of side) new.sockets ≡ false → is_live old.state ≡ true → sockets_of side ≡ old.sockets →
+        EffectOn w new.sockets (record { table = set conns i new; gone = Some old; said = Some s }) k side
+    born_evicts k side x e l q =
+        let before : serving (sockets_of side) conns ≡ old = serving_is conns (sockets_of side) i old g.single at (serves_yes (sockets_of side) old l (sym q)) in
+        let after : serving (sockets_of side) (set conns i new) ≡ closed = serving_gone conns g.single i old at new owns_born (sockets_of side) (serves_yes (sockets_of side) old l (sym q)) (serves_not (sockets_of side) new (flip (sockets_of side) new.sockets e)) in
+        let now : buries_in old side ≡ older side old = buried_here old side (sym q) in
+        let kept : G k (buries_in old side) (serving (sockets_of side) (set conns i new)) w.sent = subst (λ z. G k z (serving (sockets_of side) (set conns i new)) w.sent) (sym now)
+        (subst (λ z. G k (older side old) z w.sent) (sym after) (evict k side old w.sent l (subst (λ z. G k side z w.sent) before (g.each k side x)))) in
+        record { quiet = λ z. kept; aside = λ z. kept; says = λ y h z. absurd (apart (sockets_of side) new.sockets e z) }
+
+    effect_born : Effect w new.sockets (record { table = set conns i new; gone = (if is_live old.state then Some old else None); said = Some s })
+    effect_born =
+        both_ways (is_live old.state)
+        (λ l. subst (λ x. Effect w new.sockets (record { table = set conns i new; gone = x; said = Some s })) (sym (ap (λ b. if b then Some old else None) l)) (record {
+          single = single_set conns g.single i old at new owns_born;
+          each = λ k side x. both_ways (same_sockets (sockets_of side) new.sockets)
+              (λ e. let q : sockets_of side ≡ new.sockets = same_is (sockets_of side) new.sockets e in
+              born_same (Some old) k side x q (buried_elsewhere old side (not_peer (sockets_of side) old l (subst (λ n. serves n old ≡ false) (sym q) (free i old at)))))
+              (λ e. both_ways (same_sockets (sockets_of side) old.sockets)
+              (λ f. born_evicts k side x e l (same_is (sockets_of side) old.sockets f))
+              (λ f. born_elsewhere (Some old) k side x e (serves_not (sockets_of side) old (flip (sockets_of side) old.sockets f)) (buried_elsewhere old side (flip (sockets_of side) old.sockets f))));
+        }))
+        (λ l. subst (λ x. Effect w new.sockets (record { table = set conns i new; gone = x; said = Some s })) (sym (ap (λ b. if b then Some old else None) l)) (record {
+          single = single_set conns g.single i old at new owns_born;
+          each = λ k side x. both_ways (same_sockets (sockets_of side) new.sockets)
+              (λ e. born_same None k side x (same_is (sockets_of side) new.sockets e) refl)
+              (λ e. born_elsewhere None k side x e (serves_dead (sockets_of side) old l) refl);
+        }))
+
+  -- the side n is put anew, and maybe a datagram is sent
+  put_with : (w : World) (n : ℕ) (side new : Side) (sent : List Sent) → Framed w → slice_get w.sides n ≡ Some side → sockets_of new ≡ sockets_of side → G n new (serving (sockets_of side) w.node.connections) sent →
+      ((k : ℕ) (x : Side) → (k ≡ n → ⊥) → G k x (serving (sockets_of x) w.node.connections) w.sent → G k x (serving (sockets_of x) w.node.connections) sent) → Framed (record (with_side w (suc n) new) { sent = sent })
+  put_with w n side new sent g at q h others = record {
+    apart = put_apart w.sides n side new at q g.apart;
+    single = g.single;
+    each = λ k x y. elim (get_set w.sides n new k x y) [
+      | here e f ↦ subst (λ z. G z x (serving (sockets_of x) w.node.connections) sent) (sym e)
+          (subst (λ (o : Side). G n o (serving (sockets_of o) w.node.connections) sent) f (subst (λ z. G n new (serving z w.node.connections) sent) (sym q) h))
+      | there p z ↦ others k x p (g.each k x z)
+    ];
+  }
+
+  put_framed : (w : World) (n : ℕ) (side new : Side) → Framed w → slice_get w.sides n ≡ Some side → sockets_of new ≡ sockets_of side → G n new (serving (sockets_of side) w.node.connections) w.sent → Framed (with_side w (suc n) new)
+  put_framed w n side new g at q h = put_with w n side new w.sent g at q h (λ k x p z. z)
+
+  marked_framed : (w : World) (n : ℕ) (side : Side) (number : ℕ) (e : Sent) → Framed w → slice_get w.sides n ≡ Some side → Framed (with_side w (suc n) (marked side number e))
+  marked_framed w n side number e g at = put_framed w n side (marked side number e) g at refl (mark n side (serving (sockets_of side) w.node.connections) w.sent number e (g.each n side at))
+
+  -- what a step of the client has to keep
+  pub record Takes (w : World) (k : ℕ) (base : Side) (c : Connection) (took : ClientStep) : Type 0 where
+    pub quiet : took.sent ≡ None → G k (with_client base took.client) c w.sent
+    pub says : (s : PlainSegment) → took.sent ≡ Some s → (tick : ℕ) → G k (with_client base took.client) c (w.sent ++ entry (from k) (with_client base took.client) tick 0 (speech false s) ∷ [])
+
+  sent_framed : (w : World) (n : ℕ) (side new : Side) (sent : Option PlainSegment) → Framed w → slice_get w.sides n ≡ Some side → sockets_of new ≡ sockets_of side → (sent ≡ None → G n new (serving (sockets_of side) w.node.connections) w.sent) →
+      ((s : PlainSegment) → sent ≡ Some s → Framed (posts (with_side w (suc n) new) (FromClient (suc n)) false (OfSegment 0 s))) → Framed (posts_of_client (with_side w (suc n) new) (suc n) sent)
+  sent_framed w n side new None g at q h f = put_framed w n side new g at q (h refl)
+  sent_framed w n side new (Some s) g at q h f = f s refl
+
+  client_framed : (w : World) (n : ℕ) (side base : Side) (took : ClientStep) → Framed w → slice_get w.sides n ≡ Some side → sockets_of base ≡ sockets_of side → took.client.setup ≡ base.client.setup →
+      Takes w n base (serving (sockets_of side) w.node.connections) took → Framed (client_stepped w (suc n) base took)
+  client_framed w n side base took g at q setup t =
+      let new : Side = with_client base took.client in
+      let keeps : sockets_of new ≡ sockets_of side = ap (λ (z : Setup). let x : Sockets = record { peer = z.addr; peer_port = z.port; own_port = z.server_port } in x) setup ∙ q in
+      let stamp : epoch_of (FromClient (suc n)) (set w.sides n new) ≡ length base.past = ap epoch_at (get_set_same w.sides n side new at) in
+      sent_framed w n side new took.sent g at keeps t.quiet
+      (λ s e. let it : List Sent = w.sent ++ entry (FromClient (suc n)) new (ticks_of w.node.past) 0 (speech false s) ∷ [] in
+      subst (λ l. Framed (record (with_side w (suc n) new) { sent = w.sent ++ record { who = FromClient (suc n); tick = ticks_of w.node.past; epoch = l; again = false; content = OfSegment 0 s } ∷ [] })) (sym stamp)
+      (put_with w n side new it g at keeps (t.says s e (ticks_of w.node.past))
+      (λ k x p z. other k x (serving (sockets_of x) w.node.connections) w.sent (entry (FromClient (suc n)) new (ticks_of w.node.past) 0 (speech false s)) z (λ u. absurd (cc)) (λ u. p (let r : suc n ≡ suc k = cc in omega (arith, r))))))
+
+  abbrev pub Own : (AbstractClient → ClientStep) → Type 0
+  Own act = (w : World) (k : ℕ) (side : Side) (c : Connection) → ((o : ℕ) → All IsMoment (era side.past c o).captures) → G k side c w.sent → Takes w k side c (act side.client)
+
+  -- the acts
+  module _ (pages : Pages) (lawful : IsPaged m pages) (served : ℕ → Bool)
+      (segment : (w : World) (old : Connection) (numbers : List ℕ) (now : Connection → Now) (k j : ℕ) (side : Side) (e : Sent) → is_live old.state ≡ true → FitConn old → All IsWord numbers → ((c : Connection) → FitConn c → IsNow (now c)) →
+      slice_get w.sent j ≡ Some e → e.who ≡ from k → (is_clean side ≡ true → e.epoch ≡ length side.past) → G k side old w.sent → Steps w (asked m now (on_segment m old numbers (seg e))) k side)
+      (tick : (w : World) (old : Connection) (numbers : List ℕ) (now : Connection → Now) (k : ℕ) (side : Side) → is_live old.state ≡ true → FitConn old → All IsWord numbers → ((c : Connection) → FitConn c → IsNow (now c)) →
+      G k side old w.sent → Steps w (asked m now (on_tick m old numbers)) k side)
+      (birth : (w : World) (first : ℕ) (sockets : Sockets) (k j : ℕ) (side : Side) (e : Sent) → slice_get w.sent j ≡ Some e → e.who ≡ from k → (is_clean side ≡ true → e.epoch ≡ length side.past) →
+      is_plain_syn (seg e) ≡ true → FitConn (accepted first sockets (seg e)) → G k side closed w.sent → (tick id : ℕ) → G k side (accepted first sockets (seg e)) (w.sent ++ entry (to k) side tick id (speech false (syn_ack (accepted first sockets (seg e)))) ∷ []))
+      (took : (w : World) (k j : ℕ) (side : Side) (c : Connection) (number : ℕ) (e : Sent) → ((o : ℕ) → All IsMoment (era side.past c o).captures) → slice_get w.sent j ≡ Some e → e.who ≡ to k → G k side c w.sent → Takes w k (marked side number e) c (client_takes side.client (seg e)))
+      (own_open : Own client_opens) (own_again : Own client_again) (own_close : Own client_closes) (own_abort : Own client_aborts) (own_window : (x : ℕ) → Own (tells_window x)) where
+    -- a connection in a slot took a step
+    happened_reacts : (n : AbstractNode) (event : Event) (slot : ℕ) (old : Connection) (o : Outcome) → o.connection.sockets ≡ old.sockets →
+        Reaction (happened m n event slot old o) old.sockets (record { table = set n.connections slot o.connection; gone = gone_by old o.connection; said = said_by o })
+    unfolding happened
+    happened_reacts n event slot old o p = record { table = refl; gone = refl; sends = reply_sends (segment_of m o.connection o.step) o.connection.sockets old.sockets _ (is_again o.step) p }
+
+    -- a datagram of client n at the node
+    module _ (w : World) (n j : ℕ) (side : Side) (e : Sent) (g : Framed w) (fw : FitWorld w) (seat : slice_get w.sides n ≡ Some side) (sent : slice_get w.sent j ≡ Some e) (who : e.who ≡ from n)
+        (fresh : is_clean side ≡ true → e.epoch ≡ length side.past) where
+      abbrev peer : Sockets
+      peer = sockets_of side
+
+      abbrev arrival : Event
+      arrival = Arrived (sockets_of side) (seg e)
+
+      record IsHere (k : ℕ) (x : Side) : Type 0 where
+        number : n ≡ k
+        side_is : side ≡ x
+
+      is_here : (k : ℕ) (x : Side) → slice_get w.sides k ≡ Some x → sockets_of x ≡ sockets_of side → IsHere k x
+      is_here k x y q = let i : k ≡ n = g.apart k n x side y seat q in record { number = sym i; side_is = (let z : Some side ≡ Some x = sym seat ∙ ap (slice_get w.sides) (sym i) ∙ y in cc) }
+
+      fresh_at : (k : ℕ) (x : Side) → side ≡ x → is_clean x ≡ true → e.epoch ≡ length x.past
+      fresh_at k x q c = fresh (ap (λ (o : Side). is_clean o) q ∙ c) ∙ ap (λ (o : Side). length o.past) q
+
+      arrives_there : (i : ℕ) (c : Connection) → slice_get w.node.connections i ≡ Some c → is_live c.state ≡ true → c.sockets ≡ sockets_of side →
+          Framed (node_stepped w (happened m w.node arrival i c (asked m (moment w.node arrival i) (on_segment m c w.node.numbers (seg e)))))
+      arrives_there i c at live q =
+          let o : Outcome = asked m (moment w.node arrival i) (on_segment m c w.node.numbers (seg e)) in
+          let keeps : o.connection.sockets ≡ c.sockets = asked_keeps m (moment w.node arrival i) c (on_segment m c w.node.numbers (seg e)) (on_segment_keeps m c w.node.numbers (seg e)) in
+          node_framed w c.sockets (happened m w.node arrival i c o) _ g (happened_reacts w.node arrival i c o keeps)
+          (effect_step w i c o g at live keeps
+          (λ k x y p h. let r = is_here k x y (p ∙ q) in
+          segment w c w.node.numbers (moment w.node arrival i) k j x e live (fw.node.conns i c at) fw.node.numbers (node_moment m pages lawful w.node arrival i fw.node) sent (who ∙ ap (λ z. from z) r.number) (fresh_at k x r.side_is) h))
+
+      opens_reacts : (slot : ℕ) (old : Connection) → slice_index_or w.node.connections slot closed ≡ old →
+          Reaction (opens_in m w.node (sockets_of side) (seg e) slot) (sockets_of side)
+          (record { table = set w.node.connections slot (accepted (initial_number w.node.past) (sockets_of side) (seg e)); gone = (if is_live old.state then Some old else None); said = Some (speech false (syn_ack (accepted (initial_number w.node.past) (sockets_of side) (seg e)))) })
+      unfolding opens_in happened
+      opens_reacts slot old q = record { table = refl; gone = ap (λ (x : Connection). if is_live x.state then Some x else None) q; sends = sends_tcp _ (speech false (syn_ack (accepted (initial_number w.node.past) (sockets_of side) (seg e)))) refl refl }
+
+      opens_there : (slot : ℕ) (old : Connection) → slice_get w.node.connections slot ≡ Some old → Free (sockets_of side) w.node.connections → is_plain_syn (seg e) ≡ true → Framed (node_stepped w (opens_in m w.node (sockets_of side) (seg e) slot))
+      opens_there slot old at free plain =
+          let first : ℕ = initial_number w.node.past in
+          let new : Connection = accepted first (sockets_of side) (seg e) in
+          node_framed w (sockets_of side) (opens_in m w.node (sockets_of side) (seg e) slot) _ g (opens_reacts slot old (index_of w.node.connections slot closed old at))
+          (effect_born w slot old new (speech false (syn_ack new)) g at refl free
+          (λ k x y q c. let r = is_here k x y q in birth w first (sockets_of side) k j x e sent (who ∙ ap (λ z. from z) r.number) (fresh_at k x r.side_is) plain (accepted_fits m pages lawful first (sockets_of side) (seg e) (fw.sides n side seat).addr (fw.sides n side seat).port) c))
+
+      passes_framed : (answer : Rattle.uip_node.specs.Events.Answer) → Framed (node_stepped w (passes w.node arrival answer))
+      passes_framed answer = node_framed w peer (passes w.node arrival answer) (record { table = w.node.connections; gone = None; said = None }) g record { table = refl; gone = refl; sends = sends_none refl refl } (effect_none w peer None g (λ x y. absurd (cc)))
+
+      either_in : (a b : Option ℕ) (slot : ℕ) → ((i : ℕ) → a ≡ Some i → Inside w.node.connections i) → ((i : ℕ) → b ≡ Some i → Inside w.node.connections i) → or_else a b ≡ Some slot → Inside w.node.connections slot
+      either_in None b slot f h x = h slot x
+      either_in (Some i) b slot f h x = only_some (λ z. Inside w.node.connections z) i slot x (f i refl)
+
+      slot_in : (slot : ℕ) → slot_for_syn w.node.connections ≡ Some slot → Inside w.node.connections slot
+      slot_in slot x =
+          either_in (position (λ (c : Connection). not (is_live c.state)) w.node.connections) (position (λ (c : Connection). is_waiting c && eqb c.age (longest_wait w.node.connections)) w.node.connections) slot
+          (λ i h. position_in (λ (c : Connection). not (is_live c.state)) w.node.connections i h)
+          (λ i h. position_in (λ (c : Connection). is_waiting c && eqb c.age (longest_wait w.node.connections)) w.node.connections i h) x
+
+      slot_framed : (slot : Option ℕ) → slot_for_syn w.node.connections ≡ slot → Free (sockets_of side) w.node.connections → is_plain_syn (seg e) ≡ true → Framed (node_stepped w (opens m w.node (sockets_of side) (seg e) slot))
+      slot_framed None q f plain = passes_framed NoSlot
+      slot_framed (Some slot) q f plain = let i = slot_in slot q in opens_there slot i.item i.get f plain
+
+      stranger_framed : Free (sockets_of side) w.node.connections → Framed (node_stepped w (from_stranger m served w.node (sockets_of side) (seg e)))
+      unfolding from_stranger
+      stranger_framed f =
+          choose (λ r. Framed (node_stepped w r)) (is_plain_syn (seg e) && served (sockets_of side).own_port.0) _ _
+          (λ a. slot_framed (slot_for_syn w.node.connections) refl f (and_true _ _ a).0)
+          (λ a. choose (λ r. Framed (node_stepped w r)) (has_rst (seg e).flags) _ _ (λ b. passes_framed Silent)
+          (λ b. node_framed w peer (refuses w.node (sockets_of side) (seg e)) (record { table = w.node.connections; gone = None; said = Some (speech false (reset_to_none (seg e))) }) g
+          record { table = refl; gone = refl; sends = sends_tcp _ (speech false (reset_to_none (seg e))) refl refl }
+          (effect_none w peer (Some (speech false (reset_to_none (seg e)))) g (λ x y. only_some (λ z. (has_syn z.segment.flags ≡ false) × (has_fin z.segment.flags ≡ false) × (z.segment.text ≡ []) × (has_rst z.segment.flags ≡ true) × (z.again ≡ false)) (speech false (reset_to_none (seg e))) x y (refl, refl, refl, refl, refl)))))
+
+      arrives_framed : Framed (node_handles m served w arrival)
+      arrives_framed =
+          elim (find_is (sockets_of side) w.node.connections) [
+            | finds i f at u ↦ (let c : Connection = serving (sockets_of side) w.node.connections in
+                let a = and_true (is_live c.state) (same_sockets c.sockets (sockets_of side)) u in
+                subst (λ x. Framed (node_stepped w (arrives_at m served w.node (sockets_of side) (seg e) x))) (sym (f ∙ ap Some (omega arith)))
+                (subst (λ x. Framed (node_stepped w (happened m w.node arrival i x (asked m (moment w.node arrival i) (on_segment m x w.node.numbers (seg e)))))) (sym (index_of w.node.connections i closed c at))
+                (arrives_there i c at a.0 (same_is c.sockets (sockets_of side) a.1))))
+            | finds_none f free ↦ subst (λ x. Framed (node_stepped w (arrives_at m served w.node (sockets_of side) (seg e) x))) (sym f) (stranger_framed free)
+          ]
+
+    to_node : (w : World) (n k j : ℕ) (e : Sent) (s : PlainSegment) (side : Option Side) → Framed w → FitWorld w → slice_get w.sides n ≡ side → slice_get w.sent j ≡ Some e → e.who ≡ from n → seg e ≡ s → Framed (gives_node m served w (suc n) k e s side)
+    to_node w n k j e s None g fw at sent who q = g
+    to_node w n k j e s (Some side) g fw at sent who q =
+        let v : World = with_side w (suc n) (marked side k e) in
+        let vg : Framed v = marked_framed w n side k e g at in
+        subst (λ x. Framed (node_handles m served v (Arrived (sockets_of side) x))) q
+        (arrives_framed v n j (marked side k e) e vg (put_fits w n side (marked side k e) at refl refl fw) (get_set_same w.sides n side (marked side k e) at) sent who (λ c. (clean_before side k e c).1))
+
+    eras_fit : (w : World) (n : ℕ) (side : Side) → FitWorld w → slice_get w.sides n ≡ Some side → (o : ℕ) → All IsMoment (era side.past (serving (sockets_of side) w.node.connections) o).captures
+    eras_fit w n side f at o = era_fits side.past (serving (sockets_of side) w.node.connections) (f.sides n side at).eras (serving_fits (sockets_of side) w.node.connections f.node.conns) o
+
+    to_client : (w : World) (n k j : ℕ) (e : Sent) (s : PlainSegment) (side : Option Side) → Framed w → FitWorld w → slice_get w.sides n ≡ side → slice_get w.sent j ≡ Some e → e.who ≡ to n → seg e ≡ s → Framed (gives_client w (suc n) k e s side)
+    to_client w n k j e s None g fw at sent who q = g
+    to_client w n k j e s (Some side) g fw at sent who q =
+        subst (λ x. Framed (client_stepped w (suc n) (marked side k e) (client_takes side.client x))) q
+        (client_framed w n side (marked side k e) (client_takes side.client (seg e)) g at refl (takes_setup side.client (seg e)) (took w n j side (serving (sockets_of side) w.node.connections) k e (eras_fit w n side fw at) sent who (g.each n side at)))
+
+    echo_framed : (w : World) (datagram : List ℕ) → Framed w → Framed (node_handles m served w (EchoAsked datagram))
+    echo_framed w datagram g = node_framed w closed.sockets (step m served w.node (EchoAsked datagram)) (record { table = w.node.connections; gone = None; said = None }) g record { table = refl; gone = refl; sends = sends_echo datagram refl refl } (effect_none w closed.sockets None g (λ x y. absurd (cc)))
+
+    delivers_framed : (w : World) (k j : ℕ) (e : Sent) (who : Who) (content : Content) → Framed w → FitWorld w → slice_get w.sent j ≡ Some e → e.who ≡ who → e.content ≡ content → Framed (delivers m served w k e who content)
+    delivers_framed w k j e (FromClient zero) (OfSegment id s) g fw sent q r = g
+    delivers_framed w k j e (FromClient (suc n)) (OfSegment id s) g fw sent q r = to_node w n k j e s (slice_get w.sides n) g fw refl sent q (ap segment_in r)
+    delivers_framed w k j e (FromNode zero) (OfSegment id s) g fw sent q r = g
+    delivers_framed w k j e (FromNode (suc n)) (OfSegment id s) g fw sent q r = to_client w n k j e s (slice_get w.sides n) g fw refl sent q (ap segment_in r)
+    delivers_framed w k j e Pinger (OfPing datagram) g fw sent q r = echo_framed w datagram g
+    delivers_framed w k j e (FromClient n) (OfPing datagram) g fw sent q r = g
+    delivers_framed w k j e (FromClient n) (OfEcho request) g fw sent q r = g
+    delivers_framed w k j e (FromNode n) (OfPing datagram) g fw sent q r = g
+    delivers_framed w k j e (FromNode n) (OfEcho request) g fw sent q r = g
+    delivers_framed w k j e Pinger (OfSegment id s) g fw sent q r = g
+    delivers_framed w k j e Pinger (OfEcho request) g fw sent q r = g
+
+    gives_framed : (w : World) (k j : ℕ) (e : Option Sent) → Framed w → FitWorld w → slice_get w.sent j ≡ e → Framed (gives m served w k e)
+    gives_framed w k j None g fw sent = g
+    gives_framed w k j (Some e) g fw sent = delivers_framed w k j e e.who e.content g fw sent refl refl
+
+    number_framed : (w : World) (k : ℕ) → Framed w → FitWorld w → Framed (gives m served w k (numbered w.sent k))
+    number_framed w zero g fw = g
+    number_framed w (suc j) g fw = gives_framed w (suc j) j (slice_get w.sent j) g fw refl
+
+    own_framed : (w : World) (n : ℕ) (act : AbstractClient → ClientStep) (side : Option Side) → Own act → ((c : AbstractClient) → SameSetup c (act c)) → Framed w → FitWorld w → slice_get w.sides n ≡ side → Framed (client_acts w (suc n) act side)
+    own_framed w n act None own s g fw at = g
+    own_framed w n act (Some side) own s g fw at = client_framed w n side side (act side.client) g at refl (s side.client) (own w n side (serving (sockets_of side) w.node.connections) (eras_fit w n side fw at) (g.each n side at))
+
+    act_framed : (w : World) (number : ℕ) (act : AbstractClient → ClientStep) → Own act → ((c : AbstractClient) → SameSetup c (act c)) → Framed w → FitWorld w → Framed (client_acts w number act (numbered w.sides number))
+    act_framed w zero act own s g fw = g
+    act_framed w (suc n) act own s g fw = own_framed w n act (slice_get w.sides n) own s g fw refl
+
+    -- the periodic call of a slot
+    idle_slot : (w : World) (i : ℕ) (c : Connection) → set w.node.connections i c ≡ w.node.connections → is_live c.state ≡ false → Framed w → Framed (node_stepped w (happened m w.node (Periodic i) i c (leaves c w.node.numbers Step.Drop)))
+    idle_slot w i c same l g =
+        node_framed w c.sockets (happened m w.node (Periodic i) i c (leaves c w.node.numbers Step.Drop)) _ g (happened_reacts w.node (Periodic i) i c (leaves c w.node.numbers Step.Drop) refl)
+        (subst (λ x. Effect w c.sockets (record { table = set w.node.connections i c; gone = x; said = None })) (sym (ap (λ b. if b && not (is_live c.state) then Some c else None) l))
+        (subst (λ t. Effect w c.sockets (record { table = t; gone = None; said = None })) (sym same) (effect_none w c.sockets None g (λ x y. absurd (cc)))))
+
+    live_slot : (w : World) (i : ℕ) (c : Connection) → slice_get w.node.connections i ≡ Some c → is_live c.state ≡ true → Framed w → FitWorld w → Framed (node_stepped w (happened m w.node (Periodic i) i c (asked m (moment w.node (Periodic i) i) (on_tick m c w.node.numbers))))
+    live_slot w i c at l g fw =
+        let o : Outcome = asked m (moment w.node (Periodic i) i) (on_tick m c w.node.numbers) in
+        let keeps : o.connection.sockets ≡ c.sockets = asked_keeps m (moment w.node (Periodic i) i) c (on_tick m c w.node.numbers) (on_tick_keeps m c w.node.numbers) in
+        node_framed w c.sockets (happened m w.node (Periodic i) i c o) _ g (happened_reacts w.node (Periodic i) i c o keeps)
+        (effect_step w i c o g at l keeps (λ k side x q h. tick w c w.node.numbers (moment w.node (Periodic i) i) k side l (fw.node.conns i c at) fw.node.numbers (node_moment m pages lawful w.node (Periodic i) i fw.node) h))
+
+    some_slot : (w : World) (i : ℕ) (c : Connection) → slice_get w.node.connections i ≡ Some c → Framed w → FitWorld w → Framed (node_stepped w (happened m w.node (Periodic i) i c (asked m (moment w.node (Periodic i) i) (on_tick m c w.node.numbers))))
+    some_slot w i c at g fw =
+        both_ways (is_live c.state) (λ l. live_slot w i c at l g fw)
+        (λ l. subst (λ o. Framed (node_stepped w (happened m w.node (Periodic i) i c (asked m (moment w.node (Periodic i) i) o)))) (sym (on_tick_closed m c w.node.numbers l)) (idle_slot w i c (set_same w.node.connections i c at) l g))
+
+    slot_ticks : (w : World) (i : ℕ) (c : Option Connection) → slice_get w.node.connections i ≡ c → Framed w → FitWorld w → Framed (node_handles m served w (Periodic i))
+    slot_ticks w i (Some c) at g fw = subst (λ x. Framed (node_stepped w (happened m w.node (Periodic i) i x (asked m (moment w.node (Periodic i) i) (on_tick m x w.node.numbers))))) (sym (index_of w.node.connections i closed c at)) (some_slot w i c at g fw)
+    slot_ticks w i None at g fw = subst (λ x. Framed (node_stepped w (happened m w.node (Periodic i) i x (asked m (moment w.node (Periodic i) i) (on_tick m x w.node.numbers))))) (sym (index_none w.node.connections i closed at)) (idle_slot w i closed (set_past w.node.connections i closed at) refl g)
+
+    slots_framed : (slots : List ℕ) (w : World) → Framed w → FitWorld w → Framed (handles_all m served (map Periodic slots) w)
+    slots_framed [] w g fw = g
+    slots_framed (i ∷ slots) w g fw = slots_framed slots (node_handles m served w (Periodic i)) (slot_ticks w i (slice_get w.node.connections i) refl g fw) (periodic_fits m pages lawful served w i fw)
+
+    loss_framed : (w v : World) → IsLoss w v → Framed w → Framed v
+    loss_framed w v l g = record {
+      apart = subst (λ x. Apart x) (sym l.sides) g.apart;
+      single = subst (λ x. Single x) (sym l.connections) g.single;
+      each = λ k side x. (let y : slice_get w.sides k ≡ Some side = ap (λ (s : List Side). slice_get s k) (sym l.sides) ∙ x in
+          subst (λ t. G k side (serving (sockets_of side) t) v.sent) (sym l.connections)
+          (subst (λ s. G k side (serving (sockets_of side) w.node.connections) s) (sym l.sent) (g.each k side y)));
+    }
+
+    pub does_framed : (w : World) (act : Act) → Harmless m served w act → Framed w → FitWorld w → Framed (does m served w act)
+    does_framed w (Act.Opens n) pl g fw = act_framed w n client_opens own_open (λ c. opens_setup c.state c) g fw
+    does_framed w (Act.Again n) pl g fw = act_framed w n client_again own_again (λ c. again_setup c.state c) g fw
+    does_framed w (Act.Closes n) pl g fw = act_framed w n client_closes own_close (λ c. closes_setup c.state c) g fw
+    does_framed w (Act.Aborts n) pl g fw = act_framed w n client_aborts own_abort (λ c. aborts_setup c.state c) g fw
+    does_framed w (Act.Window n x) pl g fw = act_framed w n (tells_window x) (own_window x) (λ c. refl) g fw
+    does_framed w (Act.Ping source) pl g fw = posts_aside w Pinger false _ g (λ k z. absurd (cc)) (λ k z. absurd (cc))
+    does_framed w (Act.Give k) pl g fw = number_framed w k g fw
+    does_framed w (Act.Damage k at mask) pl g fw = loss_framed w (does m served w (Act.Damage k at mask)) pl g
+    does_framed w Act.Tick pl g fw = slots_framed (0 ∷ 1 ∷ 2 ∷ 3 ∷ 4 ∷ 5 ∷ 6 ∷ 7 ∷ 8 ∷ 9 ∷ []) w g fw

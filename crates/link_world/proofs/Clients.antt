@@ -1,0 +1,491 @@
+-- One step of a client keeps what holds of it.
+use Rattle.std.specs.List.{All}
+use Rattle.std.proofs.Common.{◌≡◌, ℕ, ◌+◌, ◌-◌, ◌≤◌, min, Bool, true, false, not, ◌&&◌, ◌⊎◌, inl, inr, List, [], ◌++◌, length, refl, sym, ap, ◌∙◌, subst, arith, Option, Some, None, length-append, eqb, ltb, if◌then◌else◌}
+use Rattle.uip_wire.specs.Numbers.{wrap}
+use Rattle.tcp_segment.specs.Segments.{PlainSegment, has_syn, has_fin, has_rst, has_ack}
+use Rattle.app_events.specs.Part.{Moment, Meaning}
+use Rattle.app_events.specs.Pages.{Pages, IsPaged, IsMoment}
+use Rattle.tcp_machine.specs.Connection.{Connection, is_live}
+use Rattle.tcp_machine.specs.Segments.{has_place}
+use Rattle.link_client.specs.Client.{AbstractClient, ClientStep, sends_next, waits_for_ack, is_receiving, may_finish, has_closed, request_of, ack_of, syn_of, fin_of, reset_of, keeps, gives, hears_ack, fin_heard, fin_sent, fin_out, takes_in_order, takes_text, takes_by, client_takes, is_reset_by, opened_by, opens_by, again_by, closes_by, aborts_by, after_fin, one_if, next_own, first_of}
+use Rattle.link_client.specs.declared.client_state.ClientState.{ClientState}
+use Rattle.link_client.specs.declared.client_state.ClientState.TheVariants as Is
+use Rattle.link_client.specs.declared.fin_at.FinAt.{FinAt}
+use Rattle.link_world.specs.World.{Sent, Era, becomes_opened}
+use Rattle.link_world.specs.History.{era}
+use Rattle.link_world.proofs.Basics.{IsPart, part_joins, part_none, choose, and_true, same_place, eqb-eq, append_nothing, cut_part, only_some, not-false, nothing_placed}
+use Rattle.link_world.proofs.Later.{node_later}
+use Rattle.link_world.proofs.Good.{is_some, seg, NodeSaid, IsText, IsFin, ClientSaid, IsData, Steady, NotOpened, HasOpened, OpenedGood, ToGood, TookGood, is_unasked, is_early}
+use Rattle.link_world.proofs.Good.ClientSaid.{said_reset, said_syn, said_data}
+use Rattle.link_world.proofs.Good.NodeSaid.{node_reset, node_syn, node_ack, node_text, node_fin}
+
+-- the client with other counts of its own
+abbrev recounted : AbstractClient → ℕ → ℕ → FinAt → AbstractClient
+recounted c a o f = record c { acked = a; out = o; fin = f }
+
+-- what it sends next: only its own counts change
+record SendsGood (c : AbstractClient) (took : ClientStep) : Type 0 where
+  acked : ℕ
+  out : ℕ
+  fin : FinAt
+  client : took.client ≡ recounted c acked out fin
+  fits : acked + out ≤ length c.request
+  said : (opened : Option ℕ) (s : PlainSegment) → is_some opened ≡ true → took.sent ≡ Some s → IsData took.client opened s
+
+request_data : (d : AbstractClient) (opened : Option ℕ) → is_some opened ≡ true → d.acked + d.out ≤ length d.request → IsData d opened (request_of d)
+request_data d opened i h = record { no_syn = refl; opened_is = i; at = d.acked; part = cut_part d.request d.acked d.out h; seq = λ x. refl }
+
+ack_data : (d c : AbstractClient) (opened : Option ℕ) → is_some opened ≡ true → IsData d opened (ack_of c)
+ack_data d c opened i = record { no_syn = refl; opened_is = i; at = 0; part = record { fits = omega arith; same = refl }; seq = λ x. absurd (omega arith) }
+
+fin_data : (d c : AbstractClient) (opened : Option ℕ) → is_some opened ≡ true → IsData d opened (fin_of c)
+fin_data d c opened i = record { no_syn = refl; opened_is = i; at = 0; part = record { fits = omega arith; same = refl }; seq = λ x. absurd (omega arith) }
+
+sends_next_good : (owed : Bool) (c : AbstractClient) → c.acked + c.out ≤ length c.request → SendsGood c (sends_next owed c)
+unfolding sends_next
+sends_next_good owed c fits =
+    choose (λ x. SendsGood c x) (not (waits_for_ack c) && (is_receiving c.state && ltb c.acked (length c.request))) _ _
+    (λ e. let d : AbstractClient = record c { out = min c.setup.seg (length c.request - c.acked) } in
+    let room : d.acked + d.out ≤ length c.request = omega (arith, fits) in
+    record {
+      acked = c.acked;
+      out = min c.setup.seg (length c.request - c.acked);
+      fin = c.fin;
+      client = refl;
+      fits = room;
+      said = λ opened s i p. only_some (λ x. IsData d opened x) (request_of d) s p (request_data d opened i room);
+    })
+    (λ e. choose (λ x. SendsGood c x) (not (waits_for_ack c) && (may_finish c.state && not (fin_sent c.fin))) _ _
+    (λ f. let d : AbstractClient = record c { fin = FinAt.Out } in
+    record {
+      acked = c.acked;
+      out = c.out;
+      fin = FinAt.Out;
+      client = refl;
+      fits = fits;
+      said = λ opened s i p. only_some (λ x. IsData d opened x) (fin_of c) s p (fin_data d c opened i);
+    })
+    (λ f. choose (λ x. SendsGood c x) owed _ _
+    (λ g. record {
+      acked = c.acked;
+      out = c.out;
+      fin = c.fin;
+      client = refl;
+      fits = fits;
+      said = λ opened s i p. only_some (λ x. IsData c opened x) (ack_of c) s p (ack_data c c opened i);
+    })
+    (λ g. record { acked = c.acked; out = c.out; fin = c.fin; client = refl; fits = fits; said = λ opened s i p. absurd (cc) })))
+
+pub not_opening : (past : List Era) (st x : ClientState) (o : ℕ) → is_unasked st ≡ false → Some o ≡ (if becomes_opened st x then Some (length past) else Some o)
+not_opening past Is.Idle x o h = absurd (cc)
+not_opening past Is.Opening x o h = absurd (cc)
+not_opening past Is.Opened x o h = refl
+not_opening past Is.Closing x o h = refl
+not_opening past Is.Closed x o h = refl
+not_opening past Is.Ended x o h = refl
+not_opening past Is.Reset x o h = refl
+
+module _ (m : Meaning) (pages : Pages) (lawful : IsPaged m pages) (past : List Era) (conn : Connection) (fit : (o : ℕ) → All IsMoment (era past conn o).captures) where
+  -- its own counts do not matter to what it received
+  recounts : (c : AbstractClient) (o : ℕ) (a u : ℕ) (f : FinAt) → HasOpened pages c past conn o → HasOpened pages (recounted c a u f) past conn o
+  recounts c o a u f h = record {
+    time = h.time;
+    then_live = h.then_live;
+    live_then = h.live_then;
+    asked = h.asked;
+    part = h.part;
+    expected = h.expected;
+    all = λ x. record { whole = (h.all x).whole; end = (h.all x).end };
+  }
+
+  -- a step that goes on with c and then sends what comes next
+  goes_on : (client c : AbstractClient) (o : ℕ) (owed : Bool) (opened : Option ℕ) →
+      Some o ≡ (if becomes_opened client.state c.state then Some (length past) else opened) →
+      c.request ≡ client.request → first_of c ≡ first_of client → Steady c → HasOpened pages c past conn o →
+      TookGood pages client past conn opened (Some o) (sends_next owed c)
+  goes_on client c o owed opened n r f steady h =
+      let g : SendsGood c (sends_next owed c) = sends_next_good owed c steady.out_fits in
+      let d : AbstractClient = recounted c g.acked g.out g.fin in
+      let e : (sends_next owed c).client ≡ d = g.client in
+      record {
+        next_is = n ∙ ap (λ (x : AbstractClient). if becomes_opened client.state x.state then Some (length past) else opened) (sym e);
+        request = ap (λ (x : AbstractClient). x.request) e ∙ r;
+        setup = ap (λ (x : AbstractClient). first_of x) e ∙ f;
+        steady = subst Steady (sym e) record { short = steady.short; low = steady.low; out_fits = g.fits };
+        opened_good = subst (λ x. HasOpened pages x past conn o) (sym e) (recounts c o g.acked g.out g.fin h);
+        said = λ s p. said_data (g.said (Some o) s refl p);
+      }
+
+  -- what an acknowledgement changes
+  record Hearing (c d : AbstractClient) : Type 0 where
+    acked : ℕ
+    out : ℕ
+    fin : FinAt
+    is : d ≡ recounted c acked out fin
+    fits : acked + out ≤ length c.request
+
+  hears_ack_is : (c : AbstractClient) (s : PlainSegment) → c.acked + c.out ≤ length c.request → Hearing c (hears_ack c s)
+  hears_ack_is c s h =
+      choose (λ x. Hearing c x) (has_ack s.flags && (waits_for_ack c && eqb s.ack (next_own c))) _ _
+      (λ e. record { acked = c.acked + c.out; out = 0; fin = fin_heard c.fin; is = refl; fits = omega arith })
+      (λ e. record { acked = c.acked; out = c.out; fin = c.fin; is = refl; fits = h })
+
+  -- text and FIN at the expected number
+  same_state : (st : ClientState) → is_receiving st ≡ true → (st ≡ Is.Opened) ⊎ (st ≡ Is.Closing)
+  same_state Is.Idle h = absurd (cc)
+  same_state Is.Opening h = absurd (cc)
+  same_state Is.Opened h = inl refl
+  same_state Is.Closing h = inr refl
+  same_state Is.Closed h = absurd (cc)
+  same_state Is.Ended h = absurd (cc)
+  same_state Is.Reset h = absurd (cc)
+
+  -- the client after text and maybe a FIN
+  abbrev took : AbstractClient → Bool → List ℕ → AbstractClient
+  took c fin text = record c { received = c.received ++ text; expected = wrap (c.expected + length text + one_if fin); state = (if fin then after_fin c.state else c.state) }
+
+  not_closed : (st : ClientState) → is_receiving st ≡ true → has_closed st ≡ true → ⊥
+  not_closed Is.Idle h e = cc
+  not_closed Is.Opening h e = cc
+  not_closed Is.Opened h e = cc
+  not_closed Is.Closing h e = cc
+  not_closed Is.Closed h e = cc
+  not_closed Is.Ended h e = cc
+  not_closed Is.Reset h e = cc
+
+  after_unasked : (st : ClientState) → is_receiving st ≡ true → is_unasked (after_fin st) ≡ false
+  after_unasked Is.Idle h = absurd (cc)
+  after_unasked Is.Opening h = absurd (cc)
+  after_unasked Is.Opened h = refl
+  after_unasked Is.Closing h = refl
+  after_unasked Is.Closed h = absurd (cc)
+  after_unasked Is.Ended h = absurd (cc)
+  after_unasked Is.Reset h = absurd (cc)
+
+  after_deaf : (st : ClientState) → is_receiving st ≡ true → is_receiving (after_fin st) ≡ true → ⊥
+  after_deaf Is.Idle h e = cc
+  after_deaf Is.Opening h e = cc
+  after_deaf Is.Opened h e = cc
+  after_deaf Is.Closing h e = cc
+  after_deaf Is.Closed h e = cc
+  after_deaf Is.Ended h e = cc
+  after_deaf Is.Reset h e = cc
+
+  next_place : (c : AbstractClient) (o at : ℕ) (s : PlainSegment) → HasOpened pages c past conn o → is_receiving c.state ≡ true → s.seq ≡ c.expected →
+      s.seq ≡ wrap ((era past conn o).first + 1 + at) → at ≤ length (pages.text c.request (era past conn o).captures) → at ≡ length c.received
+  next_place c o at s h i e q l =
+      let short = lawful.short c.request (era past conn o).captures (fit o) in
+      same_place ((era past conn o).first + 1) at (length c.received) (omega (arith, short, l)) (omega (arith, short, h.part.fits)) (sym q ∙ e ∙ h.expected i)
+
+  text_taken : (c : AbstractClient) (o : ℕ) (s : PlainSegment) → HasOpened pages c past conn o → is_receiving c.state ≡ true → s.seq ≡ c.expected →
+      IsText pages c (era past conn o).first (era past conn o).captures s → HasOpened pages (takes_text c s) past conn o
+  text_taken c o s h i e n =
+      let here : n.at ≡ length c.received = next_place c o n.at s h i e n.seq (omega (arith, n.part.fits)) in
+      let p : IsPart (pages.text c.request (era past conn o).captures) s.text (length c.received) = subst (λ x. IsPart (pages.text c.request (era past conn o).captures) s.text x) here n.part in
+      let moved : wrap (c.expected + length s.text + 0) ≡ wrap ((era past conn o).first + 1 + length (c.received ++ s.text)) =
+      ap (λ x. wrap (x + length s.text + 0)) (h.expected i) ∙ omega (arith, length-append c.received s.text) in
+      let x : HasOpened pages (took c false s.text) past conn o = record {
+        time = h.time;
+        then_live = h.then_live;
+        live_then = h.live_then;
+        asked = h.asked;
+        part = part_joins (pages.text c.request (era past conn o).captures) c.received s.text h.part p;
+        expected = λ y. moved;
+        all = λ y. absurd (not_closed c.state i y);
+      } in
+      subst (λ b. HasOpened pages (took c b s.text) past conn o) (sym n.no_fin) x
+
+  fin_taken : (c : AbstractClient) (o : ℕ) (s : PlainSegment) → HasOpened pages c past conn o → is_receiving c.state ≡ true → s.seq ≡ c.expected → has_fin s.flags ≡ true →
+      IsFin pages c (era past conn o).first (era past conn o).captures s → HasOpened pages (takes_text c s) past conn o
+  fin_taken c o s h i e f n =
+      let k : List Moment = (era past conn o).captures in
+      let none : c.received ++ [] ≡ c.received = append_nothing c.received in
+      let part : IsPart (pages.text c.request k) (c.received ++ []) 0 = subst (λ x. IsPart (pages.text c.request k) x 0) (sym none) h.part in
+      let here : n.at ≡ length c.received = next_place c o n.at s h i e n.seq (omega (arith, n.ends.end)) in
+      let x : HasOpened pages (took c true []) past conn o = record {
+        time = h.time;
+        then_live = h.then_live;
+        live_then = h.live_then;
+        asked = after_unasked c.state i;
+        part = part;
+        expected = λ y. absurd (after_deaf c.state i y);
+        all = λ y. record { whole = n.ends.whole; end = ap length none ∙ sym here ∙ n.ends.end };
+      } in
+      subst (λ b. HasOpened pages (took c b s.text) past conn o) (sym f) (subst (λ t. HasOpened pages (took c true t) past conn o) (sym n.no_text) x)
+
+  -- text or FIN at the expected number of a client that asked
+  placed : (c : AbstractClient) (P : Type 0) (o : ℕ) (s : PlainSegment) → HasOpened pages c past conn o → has_rst s.flags ≡ false → has_syn s.flags ≡ false → has_place s ≡ true →
+      is_receiving c.state ≡ true → s.seq ≡ c.expected → NodeSaid pages c P (era past conn o).first (era past conn o).captures s → HasOpened pages (takes_text c s) past conn o
+  placed c P o s h nr ns pl i e (node_reset r) = absurd (cc)
+  placed c P o s h nr ns pl i e (node_syn r n) = absurd (let z : has_syn s.flags ≡ true = n.syn in cc)
+  placed c P o s h nr ns pl i e (node_ack r n) = absurd (nothing_placed s n.no_syn n.no_fin n.no_text pl)
+  placed c P o s h nr ns pl i e (node_text r p n) = text_taken c o s h i e n
+  placed c P o s h nr ns pl i e (node_fin r p n) = fin_taken c o s h i e n.is_fin n
+
+  in_order_good : (client c : AbstractClient) (P : Type 0) (o : ℕ) (s : PlainSegment) → is_unasked client.state ≡ false →
+      c.request ≡ client.request → first_of c ≡ first_of client →
+      Steady c → HasOpened pages c past conn o → has_rst s.flags ≡ false →
+      NodeSaid pages c P (era past conn o).first (era past conn o).captures s → TookGood pages client past conn (Some o) (Some o) (takes_in_order c s)
+  unfolding takes_in_order
+  in_order_good client c P o s un r f steady h nr said =
+      let on : (owed : Bool) → TookGood pages client past conn (Some o) (Some o) (sends_next owed c) =
+      λ owed. goes_on client c o owed (Some o) (not_opening past client.state c.state o un) r f steady h in
+      choose (λ x. TookGood pages client past conn (Some o) (Some o) x) (has_syn s.flags) _ _
+      (λ e. on true)
+      (λ e. choose (λ x. TookGood pages client past conn (Some o) (Some o) x) (not (has_place s)) _ _
+      (λ i. on false)
+      (λ i. choose (λ x. TookGood pages client past conn (Some o) (Some o) x) (eqb s.seq c.expected && is_receiving c.state) _ _
+      (λ j. let a = and_true _ _ j in
+      let t : HasOpened pages (takes_text c s) past conn o = placed c P o s h nr e (not-false (has_place s) i) a.1 (eqb-eq s.seq c.expected a.0) said in
+      goes_on client (takes_text c s) o true (Some o) (not_opening past client.state (takes_text c s).state o un) r f record { short = steady.short; low = steady.low; out_fits = steady.out_fits } t)
+      (λ j. on true)))
+
+  -- a segment at a client that has opened
+  asked_good : (client : AbstractClient) (P : Type 0) (o : ℕ) (s : PlainSegment) → Steady client → HasOpened pages client past conn o → has_rst s.flags ≡ false →
+      NodeSaid pages client P (era past conn o).first (era past conn o).captures s → TookGood pages client past conn (Some o) (Some o) (takes_in_order (hears_ack client s) s)
+  asked_good client P o s steady h nr said =
+      let g : Hearing client (hears_ack client s) = hears_ack_is client s steady.out_fits in
+      let c : AbstractClient = recounted client g.acked g.out g.fin in
+      subst (λ x. TookGood pages client past conn (Some o) (Some o) (takes_in_order x s)) (sym g.is)
+      (in_order_good client c P o s h.asked refl refl record { short = steady.short; low = steady.low; out_fits = g.fits }
+      (recounts client o g.acked g.out g.fin h) nr
+      (node_later m pages lawful client c P P (era past conn o).first (era past conn o).first (era past conn o).captures (era past conn o).captures [] s refl (λ x. x) refl (sym (append_nothing (era past conn o).captures)) said))
+
+  -- a step that sends what is told, or nothing
+  stands : (client d : AbstractClient) (opened : Option ℕ) → becomes_opened client.state d.state ≡ false → d.request ≡ client.request → first_of d ≡ first_of client → Steady d → OpenedGood pages d past conn opened →
+      TookGood pages client past conn opened opened (keeps d)
+  stands client d opened b r f steady h = record {
+    next_is = ap (λ x. if x then Some (length past) else opened) (sym b);
+    request = r;
+    setup = f;
+    steady = steady;
+    opened_good = h;
+    said = λ s p. absurd (cc);
+  }
+
+  speaks : (client d : AbstractClient) (opened : Option ℕ) (s : PlainSegment) → becomes_opened client.state d.state ≡ false → d.request ≡ client.request → first_of d ≡ first_of client → Steady d → OpenedGood pages d past conn opened →
+      ClientSaid d opened (length past) s → TookGood pages client past conn opened opened (gives d s)
+  speaks client d opened s b r f steady h said = record {
+    next_is = ap (λ x. if x then Some (length past) else opened) (sym b);
+    request = r;
+    setup = f;
+    steady = steady;
+    opened_good = h;
+    said = λ x p. only_some (λ y. ClientSaid d opened (length past) y) s x p said;
+  }
+
+  same_becomes : (st : ClientState) → becomes_opened st st ≡ false
+  same_becomes Is.Idle = refl
+  same_becomes Is.Opening = refl
+  same_becomes Is.Opened = refl
+  same_becomes Is.Closing = refl
+  same_becomes Is.Closed = refl
+  same_becomes Is.Ended = refl
+  same_becomes Is.Reset = refl
+
+  reset_becomes : (st : ClientState) → becomes_opened st Is.Reset ≡ false
+  reset_becomes Is.Idle = refl
+  reset_becomes Is.Opening = refl
+  reset_becomes Is.Opened = refl
+  reset_becomes Is.Closing = refl
+  reset_becomes Is.Closed = refl
+  reset_becomes Is.Ended = refl
+  reset_becomes Is.Reset = refl
+
+  stays : (client : AbstractClient) (opened : Option ℕ) → Steady client → OpenedGood pages client past conn opened → TookGood pages client past conn opened opened (keeps client)
+  stays client opened steady h = stands client client opened (same_becomes client.state) refl refl steady h
+
+  -- a client that becomes Reset
+  reset_opened : (client : AbstractClient) (opened : Option ℕ) → OpenedGood pages client past conn opened → OpenedGood pages (record client { state = Is.Reset }) past conn opened
+  reset_opened client None h = record { early = refl; nothing = h.nothing }
+  reset_opened client (Some o) h = record {
+    time = h.time;
+    then_live = h.then_live;
+    live_then = h.live_then;
+    asked = refl;
+    part = h.part;
+    expected = λ y. absurd (cc);
+    all = λ y. absurd (cc);
+  }
+
+  -- a client that opens
+  opens_good : (client : AbstractClient) (P : Type 0) (s : PlainSegment) → client.state ≡ Is.Opening → Steady client → NotOpened client → is_live conn.state ≡ true →
+      has_rst s.flags ≡ false → has_syn s.flags ≡ true → NodeSaid pages client P (era past conn (length past)).first (era past conn (length past)).captures s →
+      TookGood pages client past conn None (Some (length past)) (sends_next true (opened_by client s))
+  opens_good client P s st steady h lv nr sy (node_reset r) = absurd (cc)
+  opens_good client P s st steady h lv nr sy (node_ack r n) = absurd (let z : has_syn s.flags ≡ false = n.no_syn in cc)
+  opens_good client P s st steady h lv nr sy (node_text r p n) = absurd (let z : has_syn s.flags ≡ false = n.no_syn in cc)
+  opens_good client P s st steady h lv nr sy (node_fin r p n) = absurd (let z : has_syn s.flags ≡ false = n.no_syn in cc)
+  opens_good client P s st steady h lv nr sy (node_syn r n) =
+      let c : AbstractClient = opened_by client s in
+      let none : [] ≡ client.received = sym h.nothing in
+      let k : List Moment = (era past conn (length past)).captures in
+      let f : ℕ = (era past conn (length past)).first in
+      let e : wrap (s.seq + 1) ≡ wrap (f + 1 + 0) = ap (λ x. wrap (x + 1)) n.seq ∙ omega arith in
+      let g : HasOpened pages c past conn (length past) = record {
+        time = omega arith;
+        then_live = λ x. lv;
+        live_then = λ x. refl;
+        asked = refl;
+        part = subst (λ x. IsPart (pages.text client.request k) x 0) none (part_none (pages.text client.request k));
+        expected = λ x. subst (λ y. wrap (s.seq + 1) ≡ wrap (f + 1 + length y)) none e;
+        all = λ x. absurd (cc);
+      } in
+      goes_on client c (length past) true None (rw st refl) refl refl record { short = steady.short; low = steady.low; out_fits = steady.out_fits } g
+
+  pub record Took_it (client : AbstractClient) (opened : Option ℕ) (took : ClientStep) : Type 0 where
+    pub next : Option ℕ
+    pub good : TookGood pages client past conn opened next took
+
+  is_asked : (client : AbstractClient) (st : ClientState) (o : ℕ) → client.state ≡ st → is_unasked st ≡ true → HasOpened pages client past conn o → ⊥
+  is_asked client st o e n h = let z : is_unasked client.state ≡ is_unasked st = ap is_unasked e in let y : is_unasked client.state ≡ false = h.asked in absurd (cc)
+
+  not_early : (client : AbstractClient) (st : ClientState) → client.state ≡ st → is_early st ≡ false → NotOpened client → ⊥
+  not_early client st e n h = let z : is_early client.state ≡ is_early st = ap is_early e in let y : is_early client.state ≡ true = h.early in absurd (cc)
+
+  by_good : (st : ClientState) (client : AbstractClient) (P : Type 0) (opened : Option ℕ) (s : PlainSegment) → client.state ≡ st → Steady client → OpenedGood pages client past conn opened → has_rst s.flags ≡ false →
+      is_live conn.state ≡ true → NodeSaid pages client P (era past conn (length past)).first (era past conn (length past)).captures s → Took_it client opened (takes_by st client s)
+  unfolding takes_by
+  by_good Is.Idle client P opened s st steady h nr lv said = record { next = opened; good = stays client opened steady h }
+  by_good Is.Reset client P opened s st steady h nr lv said = record { next = opened; good = stays client opened steady h }
+  by_good Is.Opening client P None s st steady h nr lv said =
+      choose (λ x. Took_it client None x) (has_syn s.flags && (has_ack s.flags && eqb s.ack (wrap (first_of client + 1)))) _ _
+      (λ e. record { next = Some (length past); good = opens_good client P s st steady h lv nr (and_true _ _ e).0 said })
+      (λ e. record { next = None; good = stays client None steady h })
+  by_good Is.Opening client P (Some o) s st steady h nr lv said = absurd (is_asked client Is.Opening o st refl h)
+  by_good Is.Opened client P None s st steady h nr lv said = absurd (not_early client _ st refl h)
+  by_good Is.Closing client P None s st steady h nr lv said = absurd (not_early client _ st refl h)
+  by_good Is.Closed client P None s st steady h nr lv said = absurd (not_early client _ st refl h)
+  by_good Is.Ended client P None s st steady h nr lv said = absurd (not_early client _ st refl h)
+  by_good Is.Opened client P (Some o) s st steady h nr lv said = record { next = Some o; good = asked_good client P o s steady h nr (subst (λ n. NodeSaid pages client P (era past conn n).first (era past conn n).captures s) (sym (h.live_then lv)) said) }
+  by_good Is.Closing client P (Some o) s st steady h nr lv said = record { next = Some o; good = asked_good client P o s steady h nr (subst (λ n. NodeSaid pages client P (era past conn n).first (era past conn n).captures s) (sym (h.live_then lv)) said) }
+  by_good Is.Closed client P (Some o) s st steady h nr lv said = record { next = Some o; good = asked_good client P o s steady h nr (subst (λ n. NodeSaid pages client P (era past conn n).first (era past conn n).captures s) (sym (h.live_then lv)) said) }
+  by_good Is.Ended client P (Some o) s st steady h nr lv said = record { next = Some o; good = asked_good client P o s steady h nr (subst (λ n. NodeSaid pages client P (era past conn n).first (era past conn n).captures s) (sym (h.live_then lv)) said) }
+
+  -- any datagram of the node that is not stale
+  pub client_takes_good : (client : AbstractClient) (opened : Option ℕ) (e : Sent) → Steady client → OpenedGood pages client past conn opened → e.epoch ≡ length past →
+      ToGood pages client opened past conn e → Took_it client opened (client_takes client (seg e))
+  unfolding client_takes
+  client_takes_good client opened e steady h fresh g =
+      choose (λ x. Took_it client opened x) (has_rst (seg e).flags) _ _
+      (λ r. choose (λ x. Took_it client opened (keeps x)) (is_reset_by client.state client (seg e)) _ _
+      (λ b. record {
+        next = opened;
+        good = stands client (record client { state = Is.Reset }) opened (reset_becomes client.state) refl refl
+            record { short = steady.short; low = steady.low; out_fits = steady.out_fits } (reset_opened client opened h);
+      })
+      (λ b. record { next = opened; good = stays client opened steady h }))
+      (λ r. by_good client.state client (opened ≡ Some e.epoch) opened (seg e) refl steady h r (g.lives r fresh)
+      (subst (λ n. NodeSaid pages client (opened ≡ Some e.epoch) (era past conn n).first (era past conn n).captures (seg e)) fresh g.said))
+
+  -- its own acts
+  says_syn : (client d : AbstractClient) → first_of d ≡ first_of client → ClientSaid client None (length past) (syn_of d)
+  says_syn client d f = said_syn record { syn = refl; no_ack = refl; no_text = refl; seq = f; before = λ o x. absurd (cc) }
+
+  pub opens_by_good : (st : ClientState) (client : AbstractClient) (opened : Option ℕ) → client.state ≡ st → Steady client → OpenedGood pages client past conn opened → Took_it client opened (opens_by st client)
+  unfolding opens_by
+  opens_by_good Is.Idle client (Some o) st steady h = absurd (is_asked client Is.Idle o st refl h)
+  opens_by_good Is.Idle client None st steady h =
+      let d : AbstractClient = record client { state = Is.Opening } in
+      record {
+        next = None;
+        good = speaks client d None (syn_of d) (rw st refl) refl refl
+            record { short = steady.short; low = steady.low; out_fits = steady.out_fits }
+            record { early = refl; nothing = h.nothing } (says_syn d d refl);
+      }
+  opens_by_good Is.Opening client opened st steady h = record { next = opened; good = stays client opened steady h }
+  opens_by_good Is.Opened client opened st steady h = record { next = opened; good = stays client opened steady h }
+  opens_by_good Is.Closing client opened st steady h = record { next = opened; good = stays client opened steady h }
+  opens_by_good Is.Closed client opened st steady h = record { next = opened; good = stays client opened steady h }
+  opens_by_good Is.Ended client opened st steady h = record { next = opened; good = stays client opened steady h }
+  opens_by_good Is.Reset client opened st steady h = record { next = opened; good = stays client opened steady h }
+
+  speaks_again : (client : AbstractClient) (o : ℕ) (s : PlainSegment) → Steady client → HasOpened pages client past conn o → IsData client (Some o) s → Took_it client (Some o) (gives client s)
+  speaks_again client o s steady h d = record { next = Some o; good = speaks client client (Some o) s (same_becomes client.state) refl refl steady h (said_data d) }
+
+  repeats_data : (client : AbstractClient) (o : ℕ) → Steady client → HasOpened pages client past conn o →
+      Took_it client (Some o) (if ltb 0 client.out then gives client (request_of client) else if fin_out client.fin then gives client (fin_of client) else gives client (ack_of client))
+  repeats_data client o steady h =
+      choose (λ x. Took_it client (Some o) x) (ltb 0 client.out) _ _
+      (λ e. speaks_again client o (request_of client) steady h (request_data client (Some o) refl steady.out_fits))
+      (λ e. choose (λ x. Took_it client (Some o) x) (fin_out client.fin) _ _
+      (λ f. speaks_again client o (fin_of client) steady h (fin_data client client (Some o) refl))
+      (λ f. speaks_again client o (ack_of client) steady h (ack_data client client (Some o) refl)))
+
+  pub again_by_good : (st : ClientState) (client : AbstractClient) (opened : Option ℕ) → client.state ≡ st → Steady client → OpenedGood pages client past conn opened → Took_it client opened (again_by st client)
+  unfolding again_by
+  again_by_good Is.Idle client opened st steady h = record { next = opened; good = stays client opened steady h }
+  again_by_good Is.Reset client opened st steady h = record { next = opened; good = stays client opened steady h }
+  again_by_good Is.Opening client None st steady h = record { next = None; good = speaks client client None (syn_of client) (same_becomes client.state) refl refl steady h (says_syn client client refl) }
+  again_by_good Is.Opening client (Some o) st steady h = absurd (is_asked client Is.Opening o st refl h)
+  again_by_good Is.Opened client (Some o) st steady h = repeats_data client o steady h
+  again_by_good Is.Closing client (Some o) st steady h = repeats_data client o steady h
+  again_by_good Is.Closed client (Some o) st steady h = repeats_data client o steady h
+  again_by_good Is.Ended client (Some o) st steady h = repeats_data client o steady h
+  again_by_good Is.Opened client None st steady h = absurd (not_early client _ st refl h)
+  again_by_good Is.Closing client None st steady h = absurd (not_early client _ st refl h)
+  again_by_good Is.Closed client None st steady h = absurd (not_early client _ st refl h)
+  again_by_good Is.Ended client None st steady h = absurd (not_early client _ st refl h)
+
+  pub closes_by_good : (st : ClientState) (client : AbstractClient) (opened : Option ℕ) → client.state ≡ st → Steady client → OpenedGood pages client past conn opened → Took_it client opened (closes_by st client)
+  unfolding closes_by
+  closes_by_good Is.Opened client None st steady h = absurd (not_early client _ st refl h)
+  closes_by_good Is.Opened client (Some o) st steady h =
+      let c : AbstractClient = record client { state = Is.Closing } in
+      let g : HasOpened pages c past conn o = record {
+        time = h.time;
+        then_live = h.then_live;
+        live_then = h.live_then;
+        asked = refl;
+        part = h.part;
+        expected = λ x. h.expected (ap is_receiving st);
+        all = λ x. absurd (cc);
+      } in
+      record {
+        next = Some o;
+        good = goes_on client c o false (Some o) (not_opening past client.state c.state o h.asked) refl refl record { short = steady.short; low = steady.low; out_fits = steady.out_fits } g;
+      }
+  closes_by_good Is.Idle client opened st steady h = record { next = opened; good = stays client opened steady h }
+  closes_by_good Is.Opening client opened st steady h = record { next = opened; good = stays client opened steady h }
+  closes_by_good Is.Closing client opened st steady h = record { next = opened; good = stays client opened steady h }
+  closes_by_good Is.Closed client opened st steady h = record { next = opened; good = stays client opened steady h }
+  closes_by_good Is.Ended client opened st steady h = record { next = opened; good = stays client opened steady h }
+  closes_by_good Is.Reset client opened st steady h = record { next = opened; good = stays client opened steady h }
+
+  goes_reset : (client : AbstractClient) (opened : Option ℕ) → Steady client → OpenedGood pages client past conn opened → Took_it client opened (gives (record client { state = Is.Reset }) (reset_of client))
+  goes_reset client opened steady h =
+      record {
+        next = opened;
+        good = speaks client (record client { state = Is.Reset }) opened (reset_of client) (reset_becomes client.state) refl refl
+            record { short = steady.short; low = steady.low; out_fits = steady.out_fits } (reset_opened client opened h) (said_reset refl);
+      }
+
+  pub aborts_by_good : (st : ClientState) (client : AbstractClient) (opened : Option ℕ) → client.state ≡ st → Steady client → OpenedGood pages client past conn opened → Took_it client opened (aborts_by st client)
+  unfolding aborts_by
+  aborts_by_good Is.Opening client opened st steady h = goes_reset client opened steady h
+  aborts_by_good Is.Opened client opened st steady h = goes_reset client opened steady h
+  aborts_by_good Is.Closing client opened st steady h = goes_reset client opened steady h
+  aborts_by_good Is.Idle client opened st steady h = record { next = opened; good = stays client opened steady h }
+  aborts_by_good Is.Closed client opened st steady h = record { next = opened; good = stays client opened steady h }
+  aborts_by_good Is.Ended client opened st steady h = record { next = opened; good = stays client opened steady h }
+  aborts_by_good Is.Reset client opened st steady h = record { next = opened; good = stays client opened steady h }
+
+  window_opened : (client : AbstractClient) (w : ℕ) (opened : Option ℕ) → OpenedGood pages client past conn opened → OpenedGood pages (record client { window = w }) past conn opened
+  window_opened client w None h = record { early = h.early; nothing = h.nothing }
+  window_opened client w (Some o) h = record {
+    time = h.time;
+    then_live = h.then_live;
+    live_then = h.live_then;
+    asked = h.asked;
+    part = h.part;
+    expected = h.expected;
+    all = λ x. record { whole = (h.all x).whole; end = (h.all x).end };
+  }
+
+  pub window_good : (client : AbstractClient) (w : ℕ) (opened : Option ℕ) → Steady client → OpenedGood pages client past conn opened → Took_it client opened (keeps (record client { window = w }))
+  window_good client w opened steady h =
+      record {
+        next = opened;
+        good = stands client (record client { window = w }) opened (same_becomes client.state) refl refl
+            record { short = steady.short; low = steady.low; out_fits = steady.out_fits } (window_opened client w opened h);
+      }

@@ -1,0 +1,489 @@
+-- One segment, and what is acknowledged, beside Prefix and whole and Same bytes.
+use Rattle.std.specs.List.{All}
+use Rattle.std.proofs.Common.{◌≡◌, ℕ, ◌+◌, ◌<◌, ◌≤◌, Bool, true, false, not, ◌&&◌, inl, inr, List, [], ◌∷◌, ◌++◌, length, drop, replicate, refl, sym, ap, ◌∙◌, subst, arith, Option, Some, None, slice_get, eqb, ltb, length-append, length-take, if◌then◌else◌}
+use Rattle.uip_wire.specs.Numbers.{wrap}
+use Rattle.uip_wire.specs.declared.addr.Addr.{Addr}
+use Rattle.tcp_segment.specs.Segments.{PlainSegment, has_syn, has_fin, has_rst, has_ack}
+use Rattle.app_events.specs.Part.{Moment, Meaning}
+use Rattle.app_events.specs.Pages.{Pages, IsPaged, IsMoment, IsNow, IsWord}
+use Rattle.app_events.specs.declared.now.Now.{Now}
+use Rattle.app_events.specs.declared.state.State.{State}
+use Rattle.app_events.specs.declared.state.State.TheVariants.{Closed, SynRcvd, Established, CloseWait, FinWait1, FinWait2, Closing, TimeWait, LastAck}
+use Rattle.tcp_machine.specs.Connection.{Sockets, Connection, closed, is_live, snd_nxt}
+use Rattle.tcp_machine.specs.Segments.{has_place, is_plain_syn, is_again, syn_ack}
+use Rattle.tcp_machine.specs.Ask.{Outcome, asked}
+use Rattle.tcp_machine.specs.OnSegment.{accepted, is_acked, on_segment}
+use Rattle.tcp_machine.specs.OnTick.{on_tick}
+use Rattle.link_client.specs.Client.{AbstractClient, ClientStep, has_closed, is_receiving, one_if, client_takes, client_opens, client_again, client_closes, client_aborts, tells_window}
+use Rattle.link_client.specs.declared.client_state.ClientState.{ClientState}
+use Rattle.link_client.specs.declared.client_state.ClientState.TheVariants as Is
+use Rattle.link_world.specs.World.{World, Side, Sent, Era, becomes_opened, with_client, marked, is_clean}
+use Rattle.link_world.specs.History.{era, era_of, serving, Planned, IsPlan, opening_world}
+use Rattle.link_world.specs.Headline.{IsReached, IsInStep, OneSegment}
+use Rattle.link_world.proofs.Basics.{and_true, eqb-eq, same_place, wrap_wrap, get_push, nothing_placed, not-true}
+use Rattle.link_world.proofs.Basics.AtEnd.{older, newest}
+use Rattle.link_world.proofs.Good.{seg, segment_in, from, to, StateGood, ToGood, ClientSaid, NodeSaid, OpenedGood, HasOpened, Good, is_unasked}
+use Rattle.link_world.proofs.Good.NodeSaid.{node_reset, node_syn, node_ack, node_text, node_fin}
+use Rattle.link_world.proofs.Good.ClientSaid.{said_reset, said_syn, said_data}
+use Rattle.link_world.proofs.Views.{era_now, first_live, first_dead}
+use Rattle.link_world.proofs.Fits.{FitConn, FitOut, on_segment_fits, on_tick_fits}
+use Rattle.link_world.proofs.Told.{Safe, SafeState, IsDue, due, OutTold, segment_tells, tick_tells}
+use Rattle.link_world.proofs.Moves.{Moves, asked_moves, segment_moves, tick_moves}
+use Rattle.link_world.proofs.Counts.{count, Kind, Counted, Idles, Acks, client_counted, opens_idles, again_idles, closes_idles, aborts_idles, idles_quiet, same_becomes}
+use Rattle.link_world.proofs.Counts.Kind.{kept, took_text, took_open}
+use Rattle.link_world.proofs.Sides.{clean_before}
+use Rattle.link_world.proofs.Runs.{reached}
+use Rattle.link_world.proofs.Any.{Framed, Steps, Takes, speech, entry, does_framed}
+use Rattle.link_world.proofs.Any
+use Rattle.link_world.proofs.Same
+use Rattle.link_world.proofs.Prefix
+
+-- a number that the client acknowledges
+record Acked (client : AbstractClient) (first : ℕ) (s : PlainSegment) : Type 0 where
+  at : ℕ
+  low : at ≤ count client
+  is : s.ack ≡ wrap (first + 1 + at)
+
+record Exact (k : ℕ) (client : AbstractClient) (past : List Era) (c : Connection) (o : ℕ) (sent : List Sent) : Type 0 where
+  expected : client.expected ≡ wrap ((era past c o).first + 1 + count client)
+  low : is_live c.state ≡ true → c.acked ≤ 1 + count client
+  high : is_live c.state ≡ true → 1 + count client ≤ c.acked + c.len
+  acks : (j : ℕ) (e : Sent) → slice_get sent j ≡ Some e → e.who ≡ from k → has_rst (seg e).flags ≡ false → has_ack (seg e).flags ≡ true → Acked client (era past c o).first (seg e)
+
+abbrev ExactOpen : ℕ → AbstractClient → List Era → Connection → List Sent → Option ℕ → Type 0
+ExactOpen k client past c sent None = Unit {0}
+ExactOpen k client past c sent (Some o) = Exact k client past c o sent
+
+-- where a datagram ends
+abbrev EndsBy : Connection → PlainSegment → Type 0
+EndsBy c s = has_place s ≡ true → (at : ℕ) → at < 4294967296 → s.seq ≡ wrap (c.first + at) → at + length s.text + one_if (has_fin s.flags) ≤ c.acked + c.len
+
+abbrev Ends : ℕ → Side → Connection → List Sent → Type 0
+Ends k side c sent = is_live c.state ≡ true → (j : ℕ) (e : Sent) → slice_get sent j ≡ Some e → e.who ≡ to k → e.epoch ≡ length side.past → EndsBy c (seg e)
+
+push_ends : (k : ℕ) (side : Side) (c : Connection) (sent : List Sent) (e : Sent) → Ends k side c sent → (is_live c.state ≡ true → e.who ≡ to k → EndsBy c (seg e)) → Ends k side c (sent ++ e ∷ [])
+push_ends k side c sent e g n l j f x w q = elim (get_push sent e j f x) [ older z ↦ g l j f z w q | newest i z ↦ subst (λ (y : Sent). EndsBy c (seg y)) z (n l (ap (λ (y : Sent). y.who) z ∙ w)) ]
+
+moved_ends : (k : ℕ) (side : Side) (c d : Connection) (acked : Bool) (sent : List Sent) → is_live c.state ≡ true → Moves acked c d → Ends k side c sent → Ends k side d sent
+moved_ends k side c d acked sent lv m g l j e y who q pl at low sq =
+    let z = g lv j e y who q pl at low (sq ∙ ap (λ n. wrap (n + at)) m.first) in
+    omega (arith, z, m.top)
+
+push_exact : (k : ℕ) (client : AbstractClient) (past : List Era) (c : Connection) (sent : List Sent) (e : Sent) (opened : Option ℕ) → ExactOpen k client past c sent opened →
+    ((o : ℕ) → opened ≡ Some o → e.who ≡ from k → has_rst (seg e).flags ≡ false → has_ack (seg e).flags ≡ true → Acked client (era past c o).first (seg e)) → ExactOpen k client past c (sent ++ e ∷ []) opened
+push_exact k client past c sent e None x a = tt
+push_exact k client past c sent e (Some o) x a = record {
+  expected = x.expected;
+  low = x.low;
+  high = x.high;
+  acks = λ j f y w n h. elim (get_push sent e j f y) [
+    | older z ↦ x.acks j f z w n h
+    | newest i z ↦ subst (λ (s : Sent). Acked client (era past c o).first (seg s)) z
+        (a o refl (ap (λ (s : Sent). s.who) z ∙ w) (ap (λ (s : Sent). has_rst (seg s).flags) z ∙ n) (ap (λ (s : Sent). has_ack (seg s).flags) z ∙ h))
+  ];
+}
+
+-- the counts stay, and so does the first number
+same_exact : (k : ℕ) (client : AbstractClient) (past past' : List Era) (c d : Connection) (o : ℕ) (sent : List Sent) → (era past' d o).first ≡ (era past c o).first →
+    (is_live d.state ≡ true → (d.acked ≤ 1 + count client) × (1 + count client ≤ d.acked + d.len)) → Exact k client past c o sent → Exact k client past' d o sent
+same_exact k client past past' c d o sent f between x = record {
+  expected = x.expected ∙ ap (λ n. wrap (n + 1 + count client)) (sym f);
+  low = λ l. (between l).0;
+  high = λ l. (between l).1;
+  acks = λ j e z w n a. (let b = x.acks j e z w n a in record { at = b.at; low = b.low; is = b.is ∙ ap (λ q. wrap (q + 1 + b.at)) (sym f) });
+}
+
+count_kept : (client d : AbstractClient) → d.received ≡ client.received → has_closed d.state ≡ has_closed client.state → count d ≡ count client
+count_kept client d r e =
+    let a : length d.received ≡ length client.received = ap (λ (x : List ℕ). length x) r in
+    let b : one_if (has_closed d.state) ≡ one_if (has_closed client.state) = ap one_if e in
+    omega (arith, a, b)
+
+-- the client's step leaves the counts
+kept_exact : (k : ℕ) (client d : AbstractClient) (past : List Era) (c : Connection) (sent : List Sent) (opened : Option ℕ) → d.expected ≡ client.expected → count d ≡ count client → ExactOpen k client past c sent opened → ExactOpen k d past c sent opened
+kept_exact k client d past c sent None e n x = tt
+kept_exact k client d past c sent (Some o) e n x = record {
+  expected = e ∙ x.expected ∙ ap (λ m. wrap ((era past c o).first + 1 + m)) (sym n);
+  low = λ l. (let z = x.low l in omega (arith, z, n));
+  high = λ l. (let z = x.high l in omega (arith, z, n));
+  acks = λ j s z w r a. (let b = x.acks j s z w r a in record { at = b.at; low = (let y = b.low in omega (arith, y, n)); is = b.is });
+}
+
+said_acks : (k : ℕ) (d : AbstractClient) (past : List Era) (c : Connection) (sent : List Sent) (opened : Option ℕ) (s : PlainSegment) → ExactOpen k d past c sent opened → s.ack ≡ d.expected → (o : ℕ) → opened ≡ Some o → Acked d (era past c o).first s
+said_acks k d past c sent None s x a o q = absurd (cc)
+said_acks k d past c sent (Some p) s x a o q = subst (λ n. Acked d (era past c n).first s) (let e : p ≡ o = cc in e) record { at = count d; low = omega arith; is = a ∙ x.expected }
+
+receiving_not_done : (st : ClientState) → is_receiving st ≡ true → has_closed st ≡ false
+receiving_not_done Is.Idle h = absurd (cc)
+receiving_not_done Is.Opening h = absurd (cc)
+receiving_not_done Is.Opened h = refl
+receiving_not_done Is.Closing h = refl
+receiving_not_done Is.Closed h = absurd (cc)
+receiving_not_done Is.Ended h = absurd (cc)
+receiving_not_done Is.Reset h = absurd (cc)
+
+receiving_stays : (st x : ClientState) → is_receiving st ≡ true → becomes_opened st x ≡ false
+receiving_stays Is.Idle x h = absurd (cc)
+receiving_stays Is.Opening x h = absurd (cc)
+receiving_stays Is.Opened x h = refl
+receiving_stays Is.Closing x h = refl
+receiving_stays Is.Closed x h = absurd (cc)
+receiving_stays Is.Ended x h = absurd (cc)
+receiving_stays Is.Reset x h = absurd (cc)
+
+module _ (m : Meaning) (pages : Pages) (lawful : IsPaged m pages) where
+  -- what is outstanding is no longer than it says
+  span : (c : Connection) (st : State) → SafeState m pages lawful c st → 0 < c.len → length (due m st c).text + one_if (has_fin (due m st c).flags) ≤ c.len
+  span c Closed h l = absurd h
+  span c SynRcvd h l = omega arith
+  span c Established h l = (let e = length-take c.len (drop c.part.acked (m.said c.part)) in omega (arith, e))
+  span c CloseWait h l = (let e = length-take c.len (drop c.part.acked (m.said c.part)) in omega (arith, e))
+  span c FinWait1 h l = omega (arith, l)
+  span c FinWait2 h l = omega arith
+  span c Closing h l = omega (arith, l)
+  span c TimeWait h l = omega arith
+  span c LastAck h l = omega (arith, l)
+
+  top_low : (c : Connection) (st : State) → FitConn c → SafeState m pages lawful c st → c.acked + c.len < 4294967296
+  top_low c Closed f h = absurd h
+  top_low c SynRcvd f h = omega (arith, h.len, h.acked)
+  top_low c Established f h = (let s = lawful.short c.part.heard c.part.captures f.captures in omega (arith, h.fits, h.count, s))
+  top_low c CloseWait f h = (let s = lawful.short c.part.heard c.part.captures f.captures in let a = h.text.fits in let b = h.text.count in omega (arith, a, b, s))
+  top_low c FinWait1 f h = omega (arith, h.len, h.low)
+  top_low c FinWait2 f h = omega (arith, h.len, h.low)
+  top_low c Closing f h = omega (arith, h.len, h.low)
+  top_low c TimeWait f h = omega (arith, h.len, h.low)
+  top_low c LastAck f h = omega (arith, h.len, h.low)
+
+  -- what the connection just said ends where it says
+  new_ends : (d : Connection) (s : PlainSegment) → FitConn d → Safe m pages lawful d → (has_place s ≡ true → IsDue m pages lawful d s) → EndsBy d s
+  new_ends d s fit f n p at low q =
+      let w : IsDue m pages lawful d s = n p in
+      let here : at ≡ d.acked = same_place d.first at d.acked low (Same.off_low m pages lawful d d.state fit.captures f.state) (sym q ∙ w.seq) in
+      let z = span d d.state f.state w.len in
+      let t : length s.text ≡ length (due m d.state d).text = ap (λ (x : List ℕ). length x) w.alike.text in
+      let u : one_if (has_fin s.flags) ≡ one_if (has_fin (due m d.state d).flags) = ap (λ n. one_if (has_fin n)) w.alike.flags in
+      omega (arith, here, z, t, u)
+
+  record G (k : ℕ) (side : Side) (c : Connection) (sent : List Sent) : Type 0 where
+    told : Same.Told m pages lawful k side c sent
+    good : Prefix.G m pages lawful k side c sent
+    ends : Ends k side c sent
+    exact : is_clean side ≡ true → ExactOpen k side.client side.past c sent side.opened
+
+  push_aside : (k : ℕ) (side : Side) (c : Connection) (sent : List Sent) (e : Sent) → (e.who ≡ from k → ⊥) → (is_clean side ≡ true → ExactOpen k side.client side.past c sent side.opened) → is_clean side ≡ true → ExactOpen k side.client side.past c (sent ++ e ∷ []) side.opened
+  push_aside k side c sent e n x cl = push_exact k side.client side.past c sent e side.opened (x cl) (λ o q w. absurd (n w))
+
+  other : (k : ℕ) (side : Side) (c : Connection) (sent : List Sent) (e : Sent) → G k side c sent → (e.who ≡ to k → ⊥) → (e.who ≡ from k → ⊥) → G k side c (sent ++ e ∷ [])
+  other k side c sent e g t f = record {
+    told = Same.other m pages lawful k side c sent e g.told t f;
+    good = Prefix.other m pages lawful k side c sent e g.good t f;
+    ends = push_ends k side c sent e g.ends (λ l w. absurd (t w));
+    exact = push_aside k side c sent e f g.exact;
+  }
+
+  to_not_from : (k : ℕ) (e : Sent) → e.who ≡ to k → e.who ≡ from k → ⊥
+  to_not_from k e t f = absurd (let z : to k ≡ from k = sym t ∙ f in cc)
+
+  reset : (k : ℕ) (side : Side) (c : Connection) (sent : List Sent) (e : Sent) → G k side c sent → e.epoch ≡ length side.past → has_syn (seg e).flags ≡ false → has_fin (seg e).flags ≡ false → (seg e).text ≡ [] → has_rst (seg e).flags ≡ true → e.again ≡ false → e.who ≡ to k → G k side c (sent ++ e ∷ [])
+  reset k side c sent e g q sy fi te rs ag w = record {
+    told = Same.reset m pages lawful k side c sent e g.told q sy fi te rs ag w;
+    good = Prefix.reset m pages lawful k side c sent e g.good q sy fi te rs ag w;
+    ends = push_ends k side c sent e g.ends (λ l x p. absurd (nothing_placed (seg e) sy fi te p));
+    exact = push_aside k side c sent e (to_not_from k e w) g.exact;
+  }
+
+  -- the connection is gone
+  dead_exact : (k : ℕ) (client : AbstractClient) (past : List Era) (c d : Connection) (sent : List Sent) (opened : Option ℕ) → d.first ≡ c.first → OpenedGood pages client past c opened →
+      ExactOpen k client past c sent opened → ExactOpen k client (past ++ era_of d ∷ []) closed sent opened
+  dead_exact k client past c d sent None f h x = tt
+  dead_exact k client past c d sent (Some o) f h x = same_exact k client past (past ++ era_of d ∷ []) c closed o sent (first_dead past c d closed f o h.time) (λ l. absurd (cc)) x
+
+  evict : (k : ℕ) (side : Side) (c : Connection) (sent : List Sent) → is_live c.state ≡ true → G k side c sent → G k (Any.older side c) closed sent
+  evict k side c sent l g = record {
+    told = Same.evict m pages lawful k side c sent l g.told;
+    good = Prefix.evict m pages lawful k side c sent l g.good;
+    ends = λ x. absurd (cc);
+    exact = λ cl. dead_exact k side.client side.past c c sent side.opened refl (g.good cl).opened_good (g.exact cl);
+  }
+
+  mark : (k : ℕ) (side : Side) (c : Connection) (sent : List Sent) (n : ℕ) (e : Sent) → G k side c sent → G k (marked side n e) c sent
+  mark k side c sent n e g = record {
+    told = Same.mark m pages lawful k side c sent n e g.told;
+    good = Prefix.mark m pages lawful k side c sent n e g.good;
+    ends = g.ends;
+    exact = λ cl. g.exact (clean_before side n e cl).0;
+  }
+
+  -- the connection goes on
+  live_exact : (k : ℕ) (client : AbstractClient) (past : List Era) (c d : Connection) (acked : Bool) (sent : List Sent) (opened : Option ℕ) → is_live c.state ≡ true → Moves acked c d →
+      ExactOpen k client past c sent opened → ((o : ℕ) → opened ≡ Some o → acked ≡ true → c.acked + c.len ≤ 1 + count client) → ExactOpen k client past d sent opened
+  live_exact k client past c d acked sent None lc mv x a = tt
+  live_exact k client past c d acked sent (Some o) lc mv x a =
+      same_exact k client past past c d o sent (first_live past c d mv.first o)
+      (λ l. (
+        elim mv.place [ inl y ↦ (let z = x.low lc in omega (arith, y, z)) | inr y ↦ (let z = a o refl y.0 in let n = y.1 in omega (arith, n, z)) ],
+        (let z = x.high lc in omega (arith, z, mv.top)),
+      )) x
+
+  abbrev ToldSteps : World → Outcome → ℕ → Side → Type 0
+  ToldSteps w o k side = Steps m (Same.Told m pages lawful) (Same.other m pages lawful) (Same.reset m pages lawful) (Same.evict m pages lawful) (Same.mark m pages lawful) w o k side
+
+  abbrev GoodSteps : World → Outcome → ℕ → Side → Type 0
+  GoodSteps w o k side = Steps m (Prefix.G m pages lawful) (Prefix.other m pages lawful) (Prefix.reset m pages lawful) (Prefix.evict m pages lawful) (Prefix.mark m pages lawful) w o k side
+
+  steps_by : (w : World) (old : Connection) (o : Outcome) (acked : Bool) (k : ℕ) (side : Side) → is_live old.state ≡ true → G k side old w.sent → FitConn o.connection → OutTold m pages lawful old o → Moves acked old o.connection →
+      ToldSteps w o k side → GoodSteps w o k side → (is_clean side ≡ true → (n : ℕ) → side.opened ≡ Some n → acked ≡ true → old.acked + old.len ≤ 1 + count side.client) → Steps m G other reset evict mark w o k side
+  steps_by w old o acked k side lv g fit h mv t p a =
+      let live : is_clean side ≡ true → ExactOpen k side.client side.past o.connection w.sent side.opened = λ cl. live_exact k side.client side.past old o.connection acked w.sent side.opened lv mv (g.exact cl) (a cl) in
+      let dead : is_clean side ≡ true → ExactOpen k side.client (side.past ++ era_of o.connection ∷ []) closed w.sent side.opened = λ cl. dead_exact k side.client side.past old o.connection w.sent side.opened mv.first (g.good cl).opened_good (g.exact cl) in
+      record {
+        quiet = λ n l. record { told = t.quiet n l; good = p.quiet n l; ends = moved_ends k side old o.connection acked w.sent lv mv g.ends; exact = live };
+        quiet_last = λ n l. record { told = t.quiet_last n l; good = p.quiet_last n l; ends = λ x. absurd (cc); exact = dead };
+        says = λ s e l tick id. record {
+          told = t.says s e l tick id;
+          good = p.says s e l tick id;
+          ends = push_ends k side o.connection w.sent (entry (to k) side tick id (speech (is_again o.step) s)) (moved_ends k side old o.connection acked w.sent lv mv g.ends)
+              (λ x y. new_ends o.connection s fit (h.safe l) (λ z. (h.said s e z).due_now));
+          exact = push_aside k side o.connection w.sent (entry (to k) side tick id (speech (is_again o.step) s)) (λ y. absurd (cc)) live;
+        };
+        says_last = λ s e l tick id. record {
+          told = t.says_last s e l tick id;
+          good = p.says_last s e l tick id;
+          ends = λ x. absurd (cc);
+          exact = push_aside k (Any.older side o.connection) closed w.sent (entry (to k) (Any.older side o.connection) tick id (speech (is_again o.step) s)) (λ y. absurd (cc)) dead;
+        };
+      }
+
+  first_here : (client : AbstractClient) (past : List Era) (c : Connection) (o : ℕ) → is_live c.state ≡ true → HasOpened pages client past c o → (era past c o).first ≡ c.first
+  first_here client past c o l h = ap (λ (z : Era). z.first) (era_now past c o (let q : o ≡ length past = h.live_then l in omega (arith, q)))
+
+  -- an acknowledgement that counts was told by the client
+  acked_here : (c : Connection) (s : PlainSegment) (client : AbstractClient) → FitConn c → Safe m pages lawful c → 1 + count client ≤ c.acked + c.len → is_acked c s ≡ true → Acked client c.first s → c.acked + c.len ≤ 1 + count client
+  acked_here c s client fit f high h a =
+      let y = and_true (has_ack s.flags) (ltb 0 c.len && eqb s.ack (wrap (snd_nxt c + c.len))) h in
+      let z = and_true (ltb 0 c.len) (eqb s.ack (wrap (snd_nxt c + c.len))) y.1 in
+      let q : s.ack ≡ wrap (snd_nxt c + c.len) = eqb-eq s.ack (wrap (snd_nxt c + c.len)) z.1 in
+      let r : wrap (snd_nxt c + c.len) ≡ wrap (c.first + (c.acked + c.len)) = wrap_wrap (c.first + c.acked) c.len ∙ ap wrap (omega arith) in
+      let t : wrap (c.first + (1 + a.at)) ≡ s.ack = ap wrap (omega arith) ∙ sym a.is in
+      let top : c.acked + c.len < 4294967296 = top_low c c.state fit f.state in
+      let l = a.low in
+      let e : c.acked + c.len ≡ 1 + a.at = same_place c.first (c.acked + c.len) (1 + a.at) top (omega (arith, l, high, top)) (sym r ∙ sym q ∙ sym t) in
+      omega (arith, l, e)
+
+  acked_by : (k : ℕ) (client : AbstractClient) (past : List Era) (c : Connection) (sent : List Sent) (opened : Option ℕ) (j : ℕ) (e : Sent) → slice_get sent j ≡ Some e → e.who ≡ from k → is_live c.state ≡ true → FitConn c → Safe m pages lawful c →
+      OpenedGood pages client past c opened → ExactOpen k client past c sent opened → (o : ℕ) → opened ≡ Some o → not (has_rst (seg e).flags) && is_acked c (seg e) ≡ true → c.acked + c.len ≤ 1 + count client
+  acked_by k client past c sent None j e x w l fit f h y o q a = absurd (cc)
+  acked_by k client past c sent (Some p) j e x w l fit f h y o q a =
+      let b = and_true (not (has_rst (seg e).flags)) (is_acked c (seg e)) a in
+      let d = and_true (has_ack (seg e).flags) (ltb 0 c.len && eqb (seg e).ack (wrap (snd_nxt c + c.len))) b.1 in
+      let n : has_rst (seg e).flags ≡ false = not-true (has_rst (seg e).flags) b.0 in
+      let t = y.acks j e x w n d.0 in
+      acked_here c (seg e) client fit f (y.high l) b.1 record { at = t.at; low = t.low; is = t.is ∙ ap (λ z. wrap (z + 1 + t.at)) (first_here client past c p l h) }
+
+  segment : (w : World) (old : Connection) (numbers : List ℕ) (now : Connection → Now) (k j : ℕ) (side : Side) (e : Sent) → is_live old.state ≡ true → FitConn old → All IsWord numbers → ((c : Connection) → FitConn c → IsNow (now c)) →
+      slice_get w.sent j ≡ Some e → e.who ≡ from k → (is_clean side ≡ true → e.epoch ≡ length side.past) → G k side old w.sent → Steps m G other reset evict mark w (asked m now (on_segment m old numbers (seg e))) k side
+  segment w old numbers now k j side e lv f n is sent who fresh g =
+      let o : Outcome = on_segment m old numbers (seg e) in
+      let fo : FitOut o = on_segment_fits m pages lawful old numbers (seg e) f n in
+      let fit : FitConn (asked m now o).connection = Same.stepped_fits m pages lawful now o is fo in
+      let h : OutTold m pages lawful old (asked m now o) = Same.stepped_tells m pages lawful now old o is fo (segment_tells m pages lawful old numbers (seg e) (g.told.safe lv)) in
+      steps_by w old (asked m now o) (not (has_rst (seg e).flags) && is_acked old (seg e)) k side lv g fit h (asked_moves m _ old now o (segment_moves m old numbers (seg e)))
+      (Same.steps_by m pages lawful w old (asked m now o) k side lv fit h g.told) (Prefix.segment m pages lawful w old numbers now k j side e lv f n is sent who fresh g.good)
+      (λ cl p q a. acked_by k side.client side.past old w.sent side.opened j e sent who lv f (g.told.safe lv) (g.good cl).opened_good (g.exact cl) p q a)
+
+  tick : (w : World) (old : Connection) (numbers : List ℕ) (now : Connection → Now) (k : ℕ) (side : Side) → is_live old.state ≡ true → FitConn old → All IsWord numbers → ((c : Connection) → FitConn c → IsNow (now c)) →
+      G k side old w.sent → Steps m G other reset evict mark w (asked m now (on_tick m old numbers)) k side
+  tick w old numbers now k side lv f n is g =
+      let o : Outcome = on_tick m old numbers in
+      let fo : FitOut o = on_tick_fits m pages lawful old numbers f n in
+      let fit : FitConn (asked m now o).connection = Same.stepped_fits m pages lawful now o is fo in
+      let h : OutTold m pages lawful old (asked m now o) = Same.stepped_tells m pages lawful now old o is fo (tick_tells m pages lawful old numbers (g.told.safe lv)) in
+      steps_by w old (asked m now o) false k side lv g fit h (asked_moves m false old now o (tick_moves m old numbers))
+      (Same.steps_by m pages lawful w old (asked m now o) k side lv fit h g.told) (Prefix.tick m pages lawful w old numbers now k side lv f n is g.good) (λ cl p q a. absurd (cc))
+
+  born_exact : (k : ℕ) (client : AbstractClient) (past : List Era) (d : Connection) (sent : List Sent) (opened : Option ℕ) → ((o : ℕ) → opened ≡ Some o → length past ≤ o) → OpenedGood pages client past closed opened → ExactOpen k client past d sent opened
+  born_exact k client past d sent None b h = tt
+  born_exact k client past d sent (Some o) b h = absurd (let z : false ≡ true = h.then_live (let y = b o refl in let t = h.time in omega (arith, t, y)) in cc)
+
+  birth : (w : World) (first : ℕ) (sockets : Sockets) (k j : ℕ) (side : Side) (e : Sent) → slice_get w.sent j ≡ Some e → e.who ≡ from k → (is_clean side ≡ true → e.epoch ≡ length side.past) → is_plain_syn (seg e) ≡ true → FitConn (accepted first sockets (seg e)) → G k side closed w.sent →
+      (tick id : ℕ) → G k side (accepted first sockets (seg e)) (w.sent ++ entry (to k) side tick id (speech false (syn_ack (accepted first sockets (seg e)))) ∷ [])
+  birth w first sockets k j side e sent who fresh plain fit g tick id =
+      let c : Connection = accepted first sockets (seg e) in
+      let new : Sent = entry (to k) side tick id (speech false (syn_ack c)) in
+      let t : Same.Told m pages lawful k side c (w.sent ++ new ∷ []) = Same.birth m pages lawful w first sockets k j side e sent who fresh plain fit g.told tick id in
+      record {
+        told = t;
+        good = Prefix.birth m pages lawful w first sockets k j side e sent who fresh plain fit g.good tick id;
+        ends = push_ends k side c w.sent new (λ l i f x wf q pl. absurd (let z : false ≡ true = (g.told.tells i f x wf pl q).0 in cc))
+            (λ l x. new_ends c (syn_ack c) fit (t.safe refl) (λ y. record { len = omega arith; seq = refl; alike = Rattle.link_world.proofs.Told.alike_refl (syn_ack c) }));
+        exact = push_aside k side c w.sent new (λ y. absurd (cc))
+            (λ cl. (let y = Prefix.born_by m pages lawful side e ((g.good cl).of_client j e sent who).said (Prefix.plain_is m pages lawful (seg e) plain) in
+            born_exact k side.client side.past c w.sent side.opened (λ o q. subst (λ n. n ≤ o) (fresh cl) (y.before o q)) (g.good cl).opened_good));
+      }
+
+  text_exact : (k : ℕ) (client d : AbstractClient) (past : List Era) (c : Connection) (sent : List Sent) (opened : Option ℕ) (s : PlainSegment) → is_live c.state ≡ true → FitConn c → Safe m pages lawful c → EndsBy c s → OpenedGood pages client past c opened → is_receiving client.state ≡ true →
+      s.seq ≡ client.expected → has_place s ≡ true → d.received ≡ client.received ++ s.text → d.expected ≡ wrap (client.expected + length s.text + one_if (has_fin s.flags)) → has_closed d.state ≡ has_fin s.flags →
+      ExactOpen k client past c sent opened → ExactOpen k d past c sent opened
+  text_exact k client d past c sent None s l fit f en h i q p r e n x = tt
+  text_exact k client d past c sent (Some o) s l fit f en h i q p r e n x =
+      let first : (era past c o).first ≡ c.first = first_here client past c o l h in
+      let unclosed : one_if (has_closed client.state) ≡ 0 = ap one_if (receiving_not_done client.state i) in
+      let longer : length d.received ≡ length client.received + length s.text = ap (λ (y : List ℕ). length y) r ∙ length-append client.received s.text in
+      let fin : one_if (has_closed d.state) ≡ one_if (has_fin s.flags) = ap one_if n in
+      let b : count d ≡ count client + length s.text + one_if (has_fin s.flags) = omega (arith, unclosed, longer, fin) in
+      let low : 1 + count client < 4294967296 = (let z = x.high l in let t = top_low c c.state fit f.state in omega (arith, z, t)) in
+      let seq : s.seq ≡ wrap (c.first + (1 + count client)) = q ∙ x.expected ∙ ap (λ z. wrap (z + 1 + count client)) first ∙ ap wrap (omega arith) in
+      let end : 1 + count client + length s.text + one_if (has_fin s.flags) ≤ c.acked + c.len = en p (1 + count client) low seq in
+      record {
+        expected = (let place : ℕ = (era past c o).first + 1 + count client in
+            let joined : wrap (wrap place + length s.text + one_if (has_fin s.flags)) ≡ wrap (wrap place + (length s.text + one_if (has_fin s.flags))) = ap wrap (omega arith) in
+            let after : wrap (place + (length s.text + one_if (has_fin s.flags))) ≡ wrap ((era past c o).first + 1 + count d) = ap wrap (omega (arith, b)) in
+            e ∙ ap (λ z. wrap (z + length s.text + one_if (has_fin s.flags))) x.expected ∙ joined ∙ wrap_wrap place (length s.text + one_if (has_fin s.flags)) ∙ after);
+        low = λ y. (let z = x.low l in omega (arith, z, b));
+        high = λ y. omega (arith, end, b);
+        acks = λ j t z w v g. (let u = x.acks j t z w v g in record { at = u.at; low = (let y = u.low in omega (arith, y, b)); is = u.is });
+      }
+
+  -- a client that opens
+  syn_only : (c : Connection) (st : State) (client : AbstractClient) → is_live st ≡ true → StateGood pages None client c st → (c.acked ≡ 0) × (c.len ≡ 1)
+  syn_only c Closed client l g = absurd (cc)
+  syn_only c SynRcvd client l g = (g.acked, g.len)
+  syn_only c Established client l g = absurd (let z : false ≡ true = g.text.opened_is in cc)
+  syn_only c CloseWait client l g = absurd (let z : false ≡ true = g.opened_is in cc)
+  syn_only c FinWait1 client l g = absurd (let z : false ≡ true = g.opened_is in cc)
+  syn_only c FinWait2 client l g = absurd (let z : false ≡ true = g in cc)
+  syn_only c Closing client l g = absurd (let z : false ≡ true = g.opened_is in cc)
+  syn_only c TimeWait client l g = absurd (let z : false ≡ true = g in cc)
+  syn_only c LastAck client l g = absurd (let z : false ≡ true = g.opened_is in cc)
+
+  syn_seq : (client : AbstractClient) (P : Type 0) (first : ℕ) (captures : List Moment) (s : PlainSegment) → has_rst s.flags ≡ false → has_syn s.flags ≡ true → NodeSaid pages client P first captures s → s.seq ≡ wrap first
+  syn_seq client P first captures s nr sy (node_reset r) = absurd (cc)
+  syn_seq client P first captures s nr sy (node_syn r n) = n.seq
+  syn_seq client P first captures s nr sy (node_ack r n) = absurd (let z : has_syn s.flags ≡ false = n.no_syn in cc)
+  syn_seq client P first captures s nr sy (node_text r p n) = absurd (let z : has_syn s.flags ≡ false = n.no_syn in cc)
+  syn_seq client P first captures s nr sy (node_fin r p n) = absurd (let z : has_syn s.flags ≡ false = n.no_syn in cc)
+
+  never_acked : (client : AbstractClient) (at_epoch : ℕ) (s : PlainSegment) → ClientSaid client None at_epoch s → has_rst s.flags ≡ false → has_ack s.flags ≡ true → ⊥
+  never_acked client at_epoch s (said_reset r) n a = absurd (cc)
+  never_acked client at_epoch s (said_syn y) n a = absurd (let z : has_ack s.flags ≡ false = y.no_ack in cc)
+  never_acked client at_epoch s (said_data d) n a = absurd (let z : false ≡ true = d.opened_is in cc)
+
+  open_exact : (k : ℕ) (client d : AbstractClient) (past : List Era) (c : Connection) (sent : List Sent) (s : PlainSegment) (P : Type 0) → is_live c.state ≡ true → Good pages k client None past c sent →
+      has_rst s.flags ≡ false → has_syn s.flags ≡ true → NodeSaid pages client P (era past c (length past)).first (era past c (length past)).captures s → d.received ≡ client.received → d.expected ≡ wrap (s.seq + 1) → has_closed d.state ≡ false →
+      Exact k d past c (length past) sent
+  open_exact k client d past c sent s P l g nr sy said r e n =
+      let empty : length d.received ≡ 0 = ap (λ (x : List ℕ). length x) (r ∙ g.opened_good.nothing) in
+      let unclosed : one_if (has_closed d.state) ≡ 0 = ap one_if n in
+      let z : count d ≡ 0 = omega (arith, empty, unclosed) in
+      let y = syn_only c c.state client l (g.connection l).state in
+      let y0 = y.0 in
+      let y1 = y.1 in
+      let q : s.seq ≡ wrap (era past c (length past)).first = syn_seq client P (era past c (length past)).first (era past c (length past)).captures s nr sy said in
+      record {
+        expected = e ∙ ap (λ x. wrap (x + 1)) q ∙ wrap_wrap (era past c (length past)).first 1 ∙ ap wrap (omega (arith, z));
+        low = λ x. omega (arith, y0, z);
+        high = λ x. omega (arith, y0, y1, z);
+        acks = λ j t x w v a. absurd (never_acked client t.epoch (seg t) (g.of_client j t x w).said v a);
+      }
+
+  -- the client takes a datagram
+  kind_exact : (k : ℕ) (client d : AbstractClient) (past : List Era) (c : Connection) (sent : List Sent) (opened : Option ℕ) (e : Sent) → Kind client (seg e) d → e.epoch ≡ length past → FitConn c → (is_live c.state ≡ true → Safe m pages lawful c) → (is_live c.state ≡ true → EndsBy c (seg e)) →
+      ToGood pages client opened past c e → Good pages k client opened past c sent → ExactOpen k client past c sent opened → ExactOpen k d past c sent (if becomes_opened client.state d.state then Some (length past) else opened)
+  kind_exact k client d past c sent opened e (kept r x n b) fresh fit f en t g y =
+      subst (λ z. ExactOpen k d past c sent (if z then Some (length past) else opened)) (sym b) (kept_exact k client d past c sent opened x (count_kept client d r n) y)
+  kind_exact k client d past c sent opened e (took_text q i nr p r x n) fresh fit f en t g y =
+      let l : is_live c.state ≡ true = t.lives nr fresh in
+      subst (λ z. ExactOpen k d past c sent (if z then Some (length past) else opened)) (sym (receiving_stays client.state d.state i))
+      (text_exact k client d past c sent opened (seg e) l fit (f l) (en l) g.opened_good i q p r x n y)
+  kind_exact k client d past c sent (Some o) e (took_open st nr sy r x n) fresh fit f en t g y = absurd (let h : is_unasked client.state ≡ false = g.opened_good.asked in let z : is_unasked client.state ≡ true = ap is_unasked st in cc)
+  kind_exact k client d past c sent None e (took_open st nr sy r x n) fresh fit f en t g y =
+      let l : is_live c.state ≡ true = t.lives nr fresh in
+      let o : Exact k d past c (length past) sent = open_exact k client d past c sent (seg e) (None ≡ Some e.epoch) l g nr sy (subst (λ z. NodeSaid pages client (None ≡ Some e.epoch) (era past c z).first (era past c z).captures (seg e)) fresh t.said) r x n in
+      exact_either (becomes_opened client.state d.state) o
+    where
+      exact_either : (b : Bool) → Exact k d past c (length past) sent → ExactOpen k d past c sent (if b then Some (length past) else None)
+      exact_either true o = o
+      exact_either false o = tt
+
+  abbrev ToldTakes : World → ℕ → Side → Connection → ClientStep → Type 0
+  ToldTakes w k base c t = Takes m (Same.Told m pages lawful) (Same.other m pages lawful) (Same.reset m pages lawful) (Same.evict m pages lawful) (Same.mark m pages lawful) w k base c t
+
+  abbrev GoodTakes : World → ℕ → Side → Connection → ClientStep → Type 0
+  GoodTakes w k base c t = Takes m (Prefix.G m pages lawful) (Prefix.other m pages lawful) (Prefix.reset m pages lawful) (Prefix.evict m pages lawful) (Prefix.mark m pages lawful) w k base c t
+
+  took_by : (w : World) (k : ℕ) (base : Side) (c : Connection) (t : ClientStep) → G k base c w.sent → GoodTakes w k base c t → Acks t →
+      (is_clean base ≡ true → ExactOpen k t.client base.past c w.sent (with_client base t.client).opened) → Takes m G other reset evict mark w k base c t
+  took_by w k base c t g p a x =
+      let told : ToldTakes w k base c t = Same.takes m pages lawful w k base c t g.told in
+      record {
+        quiet = λ n. record { told = told.quiet n; good = p.quiet n; ends = g.ends; exact = x };
+        says = λ s e tick. record {
+          told = told.says s e tick;
+          good = p.says s e tick;
+          ends = push_ends k (with_client base t.client) c w.sent (entry (from k) (with_client base t.client) tick 0 (speech false s)) g.ends (λ l z. absurd (cc));
+          exact = λ cl. push_exact k t.client base.past c w.sent (entry (from k) (with_client base t.client) tick 0 (speech false s)) (with_client base t.client).opened (x cl)
+              (λ o q f n h. said_acks k t.client base.past c w.sent (with_client base t.client).opened s (x cl) (a s e n h) o q);
+        };
+      }
+
+  took : (w : World) (k j : ℕ) (side : Side) (c : Connection) (number : ℕ) (e : Sent) → ((o : ℕ) → All IsMoment (era side.past c o).captures) → slice_get w.sent j ≡ Some e → e.who ≡ to k → G k side c w.sent →
+      Takes m G other reset evict mark w k (marked side number e) c (client_takes side.client (seg e))
+  took w k j side c number e fit sent who g =
+      let n : Counted side.client (seg e) (client_takes side.client (seg e)) = client_counted side.client (seg e) in
+      took_by w k (marked side number e) c (client_takes side.client (seg e)) (mark k side c w.sent number e g) (Prefix.took m pages lawful w k j side c number e fit sent who g.good) n.acks
+      (λ cl. (let a = clean_before side number e cl in
+      let h = g.good a.0 in
+      kind_exact k side.client (client_takes side.client (seg e)).client side.past c w.sent side.opened e n.kind a.1 g.told.fit g.told.safe (λ l. g.ends l j e sent who a.1) (h.of_node j e sent who) h (g.exact a.0)))
+
+  own_by : (w : World) (k : ℕ) (side : Side) (c : Connection) (t : ClientStep) → G k side c w.sent → Idles side.client t → GoodTakes w k side c t → Takes m G other reset evict mark w k side c t
+  own_by w k side c t g n p =
+      took_by w k side c t g p n.acks
+      (λ cl. subst (λ z. ExactOpen k t.client side.past c w.sent (if z then Some (length side.past) else side.opened)) (sym n.same)
+      (kept_exact k side.client t.client side.past c w.sent side.opened n.expected (count_kept side.client t.client n.received n.done) (g.exact cl)))
+
+  nothing_opened : (o : Option ℕ) → o ≡ None → (k : ℕ) (client : AbstractClient) (past : List Era) (c : Connection) (sent : List Sent) → ExactOpen k client past c sent o
+  nothing_opened None e k client past c sent = tt
+  nothing_opened (Some o) e k client past c sent = absurd (cc)
+
+  opening_exact : (addr : Addr) (numbers : List ℕ) (plan : List Planned) → IsPlan plan → Framed m G other reset evict mark (opening_world addr numbers plan)
+  opening_exact addr numbers plan is =
+      let a = Same.opening_told m pages lawful addr numbers plan is in
+      let b = Prefix.opening_framed m pages lawful addr numbers plan is in
+      record {
+        apart = a.apart;
+        single = a.single;
+        each = λ k side x. (let p = Rattle.link_world.proofs.Tables.get_map Rattle.link_world.specs.History.fresh_side plan k side x in record {
+          told = a.each k side x;
+          good = b.each k side x;
+          ends = λ l j e y. absurd (cc);
+          exact = λ cl. nothing_opened side.opened (ap (λ (o : Side). o.opened) (sym p.is)) k side.client side.past _ [];
+        });
+      }
+
+  all_exact : (w : World) → IsReached m pages w → Framed m G other reset evict mark w
+  all_exact w r = reached m pages lawful (λ v. Framed m G other reset evict mark v)
+      (λ served v act harm g fits. does_framed m G other reset evict mark pages lawful served segment tick birth took
+      (λ w k side c fit g. own_by w k side c (client_opens side.client) g (opens_idles side.client.state side.client refl) (Prefix.own_open m pages lawful w k side c fit g.good))
+      (λ w k side c fit g. own_by w k side c (client_again side.client) g (again_idles side.client.state side.client) (Prefix.own_again m pages lawful w k side c fit g.good))
+      (λ w k side c fit g. own_by w k side c (client_closes side.client) g (closes_idles side.client.state side.client refl) (Prefix.own_close m pages lawful w k side c fit g.good))
+      (λ w k side c fit g. own_by w k side c (client_aborts side.client) g (aborts_idles side.client.state side.client refl) (Prefix.own_abort m pages lawful w k side c fit g.good))
+      (λ x w k side c fit g. own_by w k side c (tells_window x side.client) g (idles_quiet side.client (record side.client { window = x }) refl refl refl (same_becomes side.client.state)) (Prefix.own_window m pages lawful x w k side c fit g.good))
+      v act harm g fits)
+      opening_exact w r
+
+  in_step : (w : World) (k : ℕ) (side : Side) (c : Connection) (o : Option ℕ) → ExactOpen k side.client side.past c w.sent o → (n : ℕ) → o ≡ Some n → IsInStep w (Rattle.std.proofs.Common.suc k) side.client c (era side.past c n).first
+  in_step w k side c None x n e = absurd (cc)
+  in_step w k side c (Some p) x n e = subst (λ z. IsInStep w (Rattle.std.proofs.Common.suc k) side.client c (era side.past c z).first) (let q : p ≡ n = cc in q) record {
+    ahead = count side.client;
+    expected = x.expected;
+    acknowledges = λ j s id t y w r u a. (let q : seg s ≡ t = ap segment_in r in
+        let b = x.acks j s y w (ap (λ (z : PlainSegment). has_rst z.flags) q ∙ u) (ap (λ (z : PlainSegment). has_ack z.flags) q ∙ a) in
+        (b.at, b.low, ap (λ (z : PlainSegment). z.ack) (sym q) ∙ b.is));
+    least = x.low;
+    most = x.high;
+  }
+
+pub one_segment : OneSegment
+one_segment m pages lawful w r k side x clean o e =
+    in_step m pages lawful w k side (serving (Rattle.link_world.specs.World.sockets_of side) w.node.connections) side.opened (((all_exact m pages lawful w r).each k side x).exact clean) o e

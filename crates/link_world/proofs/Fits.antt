@@ -1,0 +1,283 @@
+-- Every capture that was ever taken is of a moment that a node makes. This holds of all connections, clean or not.
+use Rattle.std.specs.List.{All}
+use Rattle.std.proofs.Common.{◌≡◌, ℕ, zero, suc, ◌+◌, ◌-◌, ◌<◌, ◌≤◌, Bool, true, false, not, ◌&&◌, List, [], ◌∷◌, ◌++◌, length, map, set, get_or, refl, sym, subst, ap, arith, Option, Some, None, slice_get, slice_index, slice_index_or, position, count_by, nat_le, eqb, ltb, length-set, if◌then◌else◌, ◌∙◌}
+use Rattle.std.proofs.lemmas.List.Elements.{All-push, All-map}
+use Rattle.std.proofs.lemmas.List.Sums.{count_by-le-length}
+use Rattle.std.proofs.lemmas.Grind.{common_steps}
+use Rattle.uip_wire.specs.Numbers.{wrap}
+use Rattle.tcp_segment.specs.Segments.{PlainSegment, has_fin, has_rst}
+use Rattle.rexmit_timer.specs.Ages.{ages, tries_at, beat_at}
+use Rattle.rexmit_timer.specs.declared.timer.Beat.{Beat}
+use Rattle.app_events.specs.Part.{Part, Meaning}
+use Rattle.app_events.specs.Pages.{Pages, IsPaged, IsMoment, IsNow, IsRow, IsWord, IsAddr}
+use Rattle.app_events.specs.declared.ending.Ending.{Ending}
+use Rattle.app_events.specs.declared.now.Now.{Now}
+use Rattle.app_events.specs.declared.row.Row.{Row}
+use Rattle.app_events.specs.declared.state.State.{State}
+use Rattle.app_events.specs.declared.state.State.TheVariants.{Closed, SynRcvd, Established, CloseWait, FinWait1, FinWait2, Closing, TimeWait, LastAck}
+use Rattle.app_events.specs.declared.want.Want.{Want}
+use Rattle.app_events.specs.declared.want.Want.TheVariants.{Nothing, Send, Close, Abort}
+use Rattle.tcp_machine.specs.Connection.{Sockets, Connection, is_live, is_resting, tries_of, count_of, row_of, rows_from}
+use Rattle.tcp_machine.specs.Ask.{Outcome, closes, after_own_fin, peer_has_closed, idles, does_as_wanted, ask, asked_for, asked}
+use Rattle.tcp_machine.specs.OnSegment.{accepted, told_end, is_out_of_order, is_acked, rests, has_text, hears, takes, with_part, in_state, with_window, peer_closes, goes_on, in_established, fin_acked, fin_waits, in_fin_wait_2, by_state, on_segment}
+use Rattle.tcp_machine.specs.OnTick.{limit_of, by_beat, waits_for_ack, rests_on, rest_time, ticks_established, tick_by, on_tick}
+use Rattle.tcp_machine.specs.declared.step.Step.{Step}
+use Rattle.uip_node.specs.Events.{Event, Past}
+use Rattle.uip_node.specs.Events.Answer.{Silent}
+use Rattle.uip_node.specs.Counters.{counters, raised, times}
+use Rattle.uip_node.specs.Node.{AbstractNode, moment}
+use Rattle.link_world.proofs.Basics.{choose, wrap_low}
+use Rattle.link_world.proofs.Tables.{get_set}
+use Rattle.link_world.proofs.Tables.Written.{here, there}
+use Rattle.link_world.proofs.Steps.{hears_is}
+
+pub all_nil : {X : Type 0} (P : X → Type 0) → All P []
+all_nil P k d l = absurd (omega arith)
+
+pub all_cons : {X : Type 0} (P : X → Type 0) (x : X) (xs : List X) → P x → All P xs → All P (x ∷ xs)
+all_cons P x xs a h zero d l = a
+all_cons P x xs a h (suc k) d l = h k d (omega arith)
+
+pub record FitConn (c : Connection) : Type 0 where
+  pub rest : is_resting c.state ≡ true → c.age < 120
+  pub captures : All IsMoment c.part.captures
+  pub addr : IsAddr c.sockets.peer
+  pub port : c.sockets.peer_port.0 < 65536
+
+pub record FitOut (o : Outcome) : Type 0 where
+  pub conn : FitConn o.connection
+  pub numbers : All IsWord o.numbers
+
+-- rows
+index_low : (n : ℕ) → slice_index ages n ≤ 249
+index_low zero = omega arith
+index_low (suc zero) = omega arith
+index_low (suc (suc zero)) = omega arith
+index_low (suc (suc (suc zero))) = omega arith
+index_low (suc (suc (suc (suc zero)))) = omega arith
+index_low (suc (suc (suc (suc (suc zero))))) = omega arith
+index_low (suc (suc (suc (suc (suc (suc zero)))))) = omega arith
+index_low (suc (suc (suc (suc (suc (suc (suc zero))))))) = omega arith
+index_low (suc (suc (suc (suc (suc (suc (suc (suc zero)))))))) = omega arith
+index_low (suc (suc (suc (suc (suc (suc (suc (suc (suc n))))))))) = omega arith
+
+tries_low : (c : Connection) → tries_of c < 10
+tries_low c = choose (λ n. n < 10) (ltb 0 c.len) _ _ (λ e. (let h : count_by (λ a. nat_le a c.age) ages ≤ 9 = count_by-le-length (λ a. nat_le a c.age) ages in omega (arith, h))) (λ e. omega arith)
+
+count_low : (c : Connection) → FitConn c → count_of c < 256
+count_low c f =
+    choose (λ n. n < 256) (ltb 0 c.len) _ _ (λ e. omega (arith, index_low (tries_at c.age)))
+    (λ e. choose (λ n. n < 256) (is_resting c.state) _ _ (λ r. omega (arith, f.rest r)) (λ r. omega arith))
+
+row_fits : (slot : ℕ) (c : Connection) → slot < 10 → FitConn c → IsRow (row_of slot c)
+row_fits slot c l f = record { slot = l; tries = tries_low c; count = count_low c f; port = f.port; peer = f.addr }
+
+rows_fit : (slot : ℕ) (cs : List Connection) → slot + length cs ≤ 10 → ((i : ℕ) (c : Connection) → slice_get cs i ≡ Some c → FitConn c) → All IsRow (rows_from slot cs)
+rows_fit slot [] l h = all_nil IsRow
+rows_fit slot (c ∷ cs) l h =
+    let more : All IsRow (rows_from (slot + 1) cs) = rows_fit (slot + 1) cs (omega arith) (λ i x g. h (suc i) x g) in
+    choose (λ (r : List Row). All IsRow r) (is_live c.state) _ _ (λ e. all_cons IsRow (row_of slot c) (rows_from (slot + 1) cs) (row_fits slot c (omega arith) (h zero c refl)) more) (λ e. more)
+
+rows_few : (slot : ℕ) (cs : List Connection) → length (rows_from slot cs) ≤ length cs
+rows_few slot [] = omega arith
+rows_few slot (c ∷ cs) =
+    let more : length (rows_from (slot + 1) cs) ≤ length cs = rows_few (slot + 1) cs in
+    choose (λ (r : List Row). length r ≤ suc (length cs)) (is_live c.state) _ _ (λ e. omega (arith, more)) (λ e. omega (arith, more))
+
+pub set_conns : (table : List Connection) (i : ℕ) (new : Connection) → FitConn new → ((j : ℕ) (c : Connection) → slice_get table j ≡ Some c → FitConn c) →
+    (j : ℕ) (c : Connection) → slice_get (set table i new) j ≡ Some c → FitConn c
+set_conns table i new f h j c x = elim (get_set table i new j c x) [ here e q ↦ subst (λ z. FitConn z) q f | there n g ↦ h j c g ]
+
+pub counters_fit : (past : List Past) → All IsWord (counters past)
+counters_fit past = All-map IsWord (λ test. wrap (times test past)) raised (λ k d l. wrap_low _)
+
+pub moment_fits : (n : AbstractNode) (event : Event) (slot : ℕ) (c : Connection) → length n.connections ≤ 10 → ((j : ℕ) (x : Connection) → slice_get n.connections j ≡ Some x → FitConn x) → FitConn c → IsNow (moment n event slot c)
+moment_fits n event slot c l h f =
+    let size : length (set n.connections slot c) ≡ length n.connections = length-set n.connections slot c in
+    record {
+      ticks = wrap_low _;
+      twenty = refl;
+      counters = counters_fit (record { event = event; answer = Silent } ∷ n.past);
+      slots = omega (arith, rows_few 0 (set n.connections slot c), size);
+      rows = rows_fit 0 (set n.connections slot c) (omega (arith, size)) (set_conns n.connections slot c f h);
+    }
+
+module _ (m : Meaning) (pages : Pages) (lawful : IsPaged m pages) where
+  fit_like : (c d : Connection) → d.sockets ≡ c.sockets → d.part.captures ≡ c.part.captures → (is_resting d.state ≡ true → d.age < 120) → FitConn c → FitConn d
+  fit_like c d s k r f = record {
+    rest = r;
+    captures = subst (λ l. All IsMoment l) (sym k) f.captures;
+    addr = subst (λ (x : Sockets). IsAddr x.peer) (sym s) f.addr;
+    port = subst (λ (x : Sockets). x.peer_port.0 < 65536) (sym s) f.port;
+  }
+
+  hears_numbers : (numbers : List ℕ) (p : Part) (text : List ℕ) → All IsWord numbers → All IsWord (hears m numbers p text).numbers
+  hears_numbers numbers p [] h = h
+  hears_numbers numbers p (x ∷ xs) h = lawful.newdata_numbers numbers p (x ∷ xs) h
+
+  told_numbers : (how : Ending) (st : State) (p : Part) (numbers : List ℕ) → All IsWord numbers → All IsWord (told_end m how st p numbers)
+  told_numbers how Established p numbers h = lawful.ended_numbers numbers p how h
+  told_numbers how CloseWait p numbers h = lawful.ended_numbers numbers p how h
+  told_numbers how Closed p numbers h = h
+  told_numbers how SynRcvd p numbers h = h
+  told_numbers how FinWait1 p numbers h = h
+  told_numbers how FinWait2 p numbers h = h
+  told_numbers how Closing p numbers h = h
+  told_numbers how TimeWait p numbers h = h
+  told_numbers how LastAck p numbers h = h
+
+  fin_rest : (st : State) → is_resting (after_own_fin st) ≡ true → ⊥
+  fin_rest Established h = cc
+  fin_rest CloseWait h = cc
+  fin_rest Closed h = cc
+  fin_rest SynRcvd h = cc
+  fin_rest FinWait1 h = cc
+  fin_rest FinWait2 h = cc
+  fin_rest Closing h = cc
+  fin_rest TimeWait h = cc
+  fin_rest LastAck h = cc
+
+  closes_fit : (c : Connection) → FitConn c → FitConn (closes c)
+  closes_fit c f = fit_like c (closes c) refl refl (λ r. absurd (cc)) f
+
+  -- asking
+  wanted_fits : (w : Want) (fresh : Bool) (c : Connection) (numbers : List ℕ) → FitConn c → All IsWord numbers → FitOut (does_as_wanted w fresh c numbers)
+  unfolding idles
+  wanted_fits Abort fresh c numbers f n = record { conn = closes_fit c f; numbers = n }
+  wanted_fits Close fresh c numbers f n = record { conn = fit_like c _ refl refl (λ r. absurd (fin_rest c.state r)) f; numbers = n }
+  wanted_fits (Send k) fresh c numbers f n = record { conn = fit_like c _ refl refl (λ r. omega arith) f; numbers = n }
+  wanted_fits Nothing fresh c numbers f n =
+      choose (λ (x : Outcome). FitOut x) (peer_has_closed c.state) _ _ (λ e. record { conn = closes_fit c f; numbers = n })
+      (λ e. choose (λ (x : Outcome). FitOut x) fresh _ _ (λ g. record { conn = f; numbers = n }) (λ g. record { conn = f; numbers = n }))
+
+  pub prepared_captures : (numbers : List ℕ) (p : Part) (now : Now) → All IsWord numbers → IsNow now → All IsMoment p.captures → All IsMoment (m.prepare numbers p now).captures
+  prepared_captures numbers p now n is f =
+      elim (lawful.prepare_captures numbers p now) [
+        | Rattle.std.proofs.Common.inl e ↦ subst (λ l. All IsMoment l) (sym e) f
+        | Rattle.std.proofs.Common.inr e ↦ subst (λ l. All IsMoment l) (sym e) (All-push IsMoment p.captures (record { numbers = numbers; now = now }) f record { numbers = n; now = is })
+      ]
+
+  ask_fits : (now : Now) (fresh : Bool) (c : Connection) (numbers : List ℕ) → IsNow now → FitConn c → All IsWord numbers → FitOut (ask m now fresh c numbers)
+  ask_fits now fresh c numbers is f n =
+      wanted_fits (m.want numbers (m.prepare numbers c.part now)) fresh (with_part (m.prepare numbers c.part now) c) numbers
+      record { rest = f.rest; captures = prepared_captures numbers c.part now n is f.captures; addr = f.addr; port = f.port } n
+
+  asked_for_fits : (at : Connection → Now) → ((c : Connection) → FitConn c → IsNow (at c)) → (o : Outcome) (s : Step) → FitOut o → FitOut (asked_for m at o s)
+  asked_for_fits at is o (Step.Ask fresh) f = ask_fits (at o.connection) fresh o.connection o.numbers (is o.connection f.conn) f.conn f.numbers
+  asked_for_fits at is o Step.Drop f = f
+  asked_for_fits at is o Step.Ack f = f
+  asked_for_fits at is o (Step.SynAck again) f = f
+  asked_for_fits at is o (Step.Text again) f = f
+  asked_for_fits at is o (Step.Fin again) f = f
+  asked_for_fits at is o Step.Reset f = f
+
+  pub asked_fits : (at : Connection → Now) → ((c : Connection) → FitConn c → IsNow (at c)) → (o : Outcome) → FitOut o → FitOut (asked m at o)
+  asked_fits at is o f = asked_for_fits at is o o.step f
+
+  -- a segment
+  pub accepted_fits : (first : ℕ) (sockets : Sockets) (s : PlainSegment) → IsAddr sockets.peer → sockets.peer_port.0 < 65536 → FitConn (accepted first sockets s)
+  accepted_fits first sockets s a p = record { rest = λ r. absurd (cc); captures = all_nil IsMoment; addr = a; port = p }
+
+  closing_fits : (c : Connection) (numbers : List ℕ) (s : PlainSegment) → FitConn c → All IsWord numbers → FitOut (peer_closes m c numbers s)
+  unfolding peer_closes
+  closing_fits c numbers s f n =
+      let x = hears_is m pages lawful numbers c.part s.text in
+      let d : Connection = in_state CloseWait (with_window s.window (with_part (hears m numbers c.part s.text).part (takes (length s.text + 1) c))) in
+      let g : FitConn d = fit_like c d refl x.captures (λ r. absurd (cc)) f in
+      let k : All IsWord (hears m numbers c.part s.text).numbers = hears_numbers numbers c.part s.text n in
+      choose (λ (o : Outcome). FitOut o) (ltb 0 c.len) _ _ (λ e. record { conn = g; numbers = k }) (λ e. record { conn = g; numbers = k })
+
+  going_fits : (acked : Bool) (c : Connection) (numbers : List ℕ) (s : PlainSegment) → FitConn c → All IsWord numbers → FitOut (goes_on m acked c numbers s)
+  unfolding goes_on
+  going_fits acked c numbers s f n =
+      let x = hears_is m pages lawful numbers c.part s.text in
+      let d : Connection = with_window s.window (with_part (hears m numbers c.part s.text).part (takes (length s.text) c)) in
+      let g : FitConn d = fit_like c d refl x.captures f.rest f in
+      let k : All IsWord (hears m numbers c.part s.text).numbers = hears_numbers numbers c.part s.text n in
+      choose (λ (o : Outcome). FitOut o) (not acked && not (has_text s)) _ _ (λ e. record { conn = g; numbers = k })
+      (λ e. choose (λ (o : Outcome). FitOut o) (ltb 0 c.len) _ _ (λ i. record { conn = g; numbers = k }) (λ i. record { conn = g; numbers = k }))
+
+  established_fits : (acked : Bool) (c : Connection) (numbers : List ℕ) (s : PlainSegment) → FitConn c → All IsWord numbers → FitOut (in_established m acked c numbers s)
+  unfolding in_established
+  established_fits acked c numbers s f n = choose (λ (o : Outcome). FitOut o) (has_fin s.flags) _ _ (λ e. closing_fits c numbers s f n) (λ e. going_fits acked c numbers s f n)
+
+  acked_fits : (c : Connection) (numbers : List ℕ) → FitConn c → FitConn (with_part (m.acked numbers c.part c.len).part (rests c))
+  acked_fits c numbers f = fit_like c _ refl (lawful.acked_captures numbers c.part c.len) (λ r. omega arith) f
+
+  by_state_fits : (st : State) (acked : Bool) (c : Connection) (numbers : List ℕ) (s : PlainSegment) → FitConn c → All IsWord numbers → FitOut (by_state m st acked c numbers s)
+  unfolding fin_acked fin_waits in_fin_wait_2
+  by_state_fits Closed acked c numbers s f n = record { conn = f; numbers = n }
+  by_state_fits SynRcvd true c numbers s f n =
+      let port : ℕ = c.sockets.own_port.0 in
+      let x = hears_is m pages lawful (m.connected numbers port).numbers (m.connected numbers port).part s.text in
+      let none : (hears m (m.connected numbers port).numbers (m.connected numbers port).part s.text).part.captures ≡ [] = x.captures ∙ lawful.connected_captures numbers port in
+      record {
+        conn = record { rest = λ r. absurd (cc); captures = subst (λ l. All IsMoment l) (sym none) (all_nil IsMoment); addr = f.addr; port = f.port };
+        numbers = hears_numbers (m.connected numbers port).numbers (m.connected numbers port).part s.text (lawful.connected_numbers numbers port n);
+      }
+  by_state_fits SynRcvd false c numbers s f n = record { conn = f; numbers = n }
+  by_state_fits Established true c numbers s f n =
+      established_fits true (with_part (m.acked numbers c.part c.len).part (rests c)) (m.acked numbers c.part c.len).numbers s (acked_fits c numbers f) (lawful.acked_numbers numbers c.part c.len n)
+  by_state_fits Established false c numbers s f n = established_fits false c numbers s f n
+  by_state_fits CloseWait true c numbers s f n =
+      let g = acked_fits c numbers f in
+      record { conn = record { rest = g.rest; captures = g.captures; addr = g.addr; port = g.port }; numbers = lawful.acked_numbers numbers c.part c.len n }
+  by_state_fits CloseWait false c numbers s f n = record { conn = record { rest = f.rest; captures = f.captures; addr = f.addr; port = f.port }; numbers = n }
+  by_state_fits FinWait1 true c numbers s f n =
+      choose (λ (o : Outcome). FitOut o) (has_fin s.flags) _ _
+      (λ e. record { conn = fit_like c _ refl refl (λ r. omega arith) f; numbers = n }) (λ e. record { conn = fit_like c _ refl refl (λ r. omega arith) f; numbers = n })
+  by_state_fits FinWait1 false c numbers s f n =
+      choose (λ (o : Outcome). FitOut o) (has_fin s.flags) _ _ (λ e. record { conn = fit_like c _ refl refl (λ r. absurd (cc)) f; numbers = n })
+      (λ e. choose (λ (o : Outcome). FitOut o) (has_text s) _ _ (λ i. record { conn = fit_like c _ refl refl f.rest f; numbers = n }) (λ i. record { conn = f; numbers = n }))
+  by_state_fits FinWait2 acked c numbers s f n =
+      choose (λ (o : Outcome). FitOut o) (has_fin s.flags) _ _ (λ e. record { conn = fit_like c _ refl refl (λ r. omega arith) f; numbers = n })
+      (λ e. choose (λ (o : Outcome). FitOut o) (has_text s) _ _ (λ i. record { conn = fit_like c _ refl refl f.rest f; numbers = n }) (λ i. record { conn = f; numbers = n }))
+  by_state_fits Closing true c numbers s f n = record { conn = fit_like c _ refl refl (λ r. omega arith) f; numbers = n }
+  by_state_fits Closing false c numbers s f n = record { conn = f; numbers = n }
+  by_state_fits LastAck true c numbers s f n = record { conn = fit_like c _ refl refl (λ r. absurd (cc)) f; numbers = n }
+  by_state_fits LastAck false c numbers s f n = record { conn = f; numbers = n }
+  by_state_fits TimeWait acked c numbers s f n = record { conn = f; numbers = n }
+
+  pub on_segment_fits : (c : Connection) (numbers : List ℕ) (s : PlainSegment) → FitConn c → All IsWord numbers → FitOut (on_segment m c numbers s)
+  unfolding on_segment
+  on_segment_fits c numbers s f n =
+      choose (λ (o : Outcome). FitOut o) (has_rst s.flags) _ _ (λ e. record { conn = closes_fit c f; numbers = told_numbers _ c.state c.part numbers n }) (λ e.
+      choose (λ (o : Outcome). FitOut o) (is_out_of_order c s) _ _ (λ i. record { conn = f; numbers = n }) (λ i. by_state_fits c.state (is_acked c s) c numbers s f n))
+
+  -- a tick
+  by_beat_fits : (b : Beat) (c : Connection) (numbers : List ℕ) → is_resting c.state ≡ false → FitConn c → All IsWord numbers → FitOut (by_beat m b c numbers)
+  by_beat_fits Beat.Wait c numbers r f n = record { conn = fit_like c _ refl refl (λ x. absurd (cc)) f; numbers = n }
+  by_beat_fits Beat.Again c numbers r f n = record { conn = fit_like c _ refl refl (λ x. absurd (cc)) f; numbers = n }
+  by_beat_fits Beat.GiveUp c numbers r f n = record { conn = closes_fit c f; numbers = told_numbers _ c.state c.part numbers n }
+
+  waits_fit : (c : Connection) (numbers : List ℕ) → is_resting c.state ≡ false → FitConn c → All IsWord numbers → FitOut (waits_for_ack m c numbers)
+  waits_fit c numbers r f n = by_beat_fits (beat_at (limit_of c.state) (c.age + 1)) c numbers r f n
+
+  not_last : (age : ℕ) → age < 120 → eqb (age + 1) 120 ≡ false → age + 1 < 120
+  not_last age h e = grind (arith, common_steps)
+
+  rests_fit : (c : Connection) (numbers : List ℕ) → FitConn c → All IsWord numbers → FitOut (rests_on c numbers)
+  unfolding rests_on
+  rests_fit c numbers f n =
+      choose (λ (o : Outcome). FitOut o) (eqb (c.age + 1) rest_time) _ _ (λ e. record { conn = closes_fit c f; numbers = n })
+      (λ e. record { conn = fit_like c _ refl refl (λ r. not_last c.age (f.rest r) e) f; numbers = n })
+
+  established_ticks : (c : Connection) (numbers : List ℕ) → is_resting c.state ≡ false → FitConn c → All IsWord numbers → FitOut (ticks_established m c numbers)
+  unfolding ticks_established
+  established_ticks c numbers r f n =
+      choose (λ (o : Outcome). FitOut o) (ltb 0 c.len) _ _ (λ e. waits_fit c numbers r f n)
+      (λ e. record { conn = fit_like c _ refl (lawful.polled_like numbers c.part).captures f.rest f; numbers = lawful.polled_numbers numbers c.part n })
+
+  tick_by_fits : (st : State) (c : Connection) (numbers : List ℕ) → c.state ≡ st → FitConn c → All IsWord numbers → FitOut (tick_by m st c numbers)
+  tick_by_fits Closed c numbers e f n = record { conn = f; numbers = n }
+  tick_by_fits SynRcvd c numbers e f n = waits_fit c numbers (ap is_resting e) f n
+  tick_by_fits Established c numbers e f n = established_ticks c numbers (ap is_resting e) f n
+  tick_by_fits CloseWait c numbers e f n = waits_fit c numbers (ap is_resting e) f n
+  tick_by_fits FinWait1 c numbers e f n = waits_fit c numbers (ap is_resting e) f n
+  tick_by_fits FinWait2 c numbers e f n = rests_fit c numbers f n
+  tick_by_fits Closing c numbers e f n = waits_fit c numbers (ap is_resting e) f n
+  tick_by_fits TimeWait c numbers e f n = rests_fit c numbers f n
+  tick_by_fits LastAck c numbers e f n = waits_fit c numbers (ap is_resting e) f n
+
+  pub on_tick_fits : (c : Connection) (numbers : List ℕ) → FitConn c → All IsWord numbers → FitOut (on_tick m c numbers)
+  on_tick_fits c numbers f n = tick_by_fits c.state c numbers refl f n

@@ -1,0 +1,231 @@
+-- What holds of one client and of the connection that serves it, as long as the client is clean.
+use Rattle.std.proofs.Common.{◌≡◌, ℕ, suc, ◌+◌, ◌<◌, ◌≤◌, Bool, true, false, List, [], ◌++◌, length, Option, Some, None, slice_get, if◌then◌else◌}
+use Rattle.uip_wire.specs.Numbers.{wrap}
+use Rattle.tcp_segment.specs.Segments.{PlainSegment, has_syn, has_fin, has_rst, has_ack}
+use Rattle.app_events.specs.Part.{Moment, Meaning}
+use Rattle.app_events.specs.Laws.{IsPrefixOf}
+use Rattle.app_events.specs.Pages.{Pages}
+use Rattle.app_events.specs.declared.state.State.{State}
+use Rattle.app_events.specs.declared.state.State.TheVariants.{Closed, SynRcvd, Established, CloseWait, FinWait1, FinWait2, Closing, TimeWait, LastAck}
+use Rattle.tcp_machine.specs.Connection.{Connection, is_live}
+use Rattle.tcp_machine.specs.Segments.{segment_of}
+use Rattle.tcp_machine.specs.Ask.{Outcome}
+use Rattle.link_client.specs.Client.{AbstractClient, ClientStep, is_receiving, has_closed, first_of}
+use Rattle.link_client.specs.declared.client_state.ClientState.{ClientState}
+use Rattle.link_client.specs.declared.client_state.ClientState.TheVariants as Is
+use Rattle.link_world.specs.World.{Sent, Content, Era, becomes_opened}
+use Rattle.link_world.specs.World.Content.{OfSegment, OfPing, OfEcho}
+use Rattle.link_world.specs.declared.who.Who.{Who}
+use Rattle.link_world.specs.declared.who.Who.TheVariants.{FromClient, FromNode}
+use Rattle.link_world.specs.History.{era}
+use Rattle.link_world.proofs.Basics.{IsPart}
+
+abbrev pub is_some : Option ℕ → Bool
+is_some None = false
+is_some (Some o) = true
+
+-- the segment of a datagram; of an echo there is none, and a RST stands in its place
+abbrev pub no_segment : PlainSegment
+no_segment = record { seq = 0; ack = 0; flags = 4; window = 0; mss = None; text = [] }
+
+abbrev pub segment_in : Content → PlainSegment
+segment_in (OfSegment id s) = s
+segment_in (OfPing datagram) = no_segment
+segment_in (OfEcho request) = no_segment
+
+abbrev pub seg : Sent → PlainSegment
+seg e = segment_in e.content
+
+-- the datagrams of the client in place k of the list, which has the number k + 1
+abbrev pub from : ℕ → Who
+from k = FromClient (suc k)
+
+abbrev pub to : ℕ → Who
+to k = FromNode (suc k)
+
+-- A step of a connection as it is seen on the line.
+pub record Spoken : Type 0 where
+  pub connection : Connection
+  pub sent : Option PlainSegment
+
+abbrev pub spoken : Meaning → Outcome → Spoken
+spoken m o = record { connection = o.connection; sent = segment_of m o.connection o.step }
+
+-- the page is whole and this is its end
+pub record IsAll (pages : Pages) (client : AbstractClient) (captures : List Moment) (at : ℕ) : Type 0 where
+  pub whole : pages.whole client.request captures ≡ true
+  pub end : at ≡ length (pages.text client.request captures)
+
+-- The connection, by its state.
+pub record AtSyn (c : Connection) : Type 0 where
+  pub taken : c.taken ≡ 0
+  pub len : c.len ≡ 1
+  pub captures : c.part.captures ≡ []
+  pub acked : c.acked ≡ 0
+
+pub record AtText (pages : Pages) (opened : Option ℕ) (client : AbstractClient) (c : Connection) : Type 0 where
+  pub opened_is : is_some opened ≡ true
+  pub heard : IsPrefixOf c.part.heard client.request
+  pub fits : c.part.acked + c.len ≤ length (pages.text c.part.heard c.part.captures)
+  pub count : c.acked ≡ 1 + c.part.acked
+
+pub record AtOpen (pages : Pages) (opened : Option ℕ) (client : AbstractClient) (c : Connection) : Type 0 where
+  pub text : AtText pages opened client c
+  pub taken : c.taken ≡ length c.part.heard
+
+pub record AtFin (pages : Pages) (opened : Option ℕ) (client : AbstractClient) (c : Connection) : Type 0 where
+  pub opened_is : is_some opened ≡ true
+  pub ends : IsAll pages client c.part.captures c.part.acked
+  pub count : c.acked ≡ 1 + c.part.acked
+
+abbrev pub StateGood : Pages → Option ℕ → AbstractClient → Connection → State → Type 0
+StateGood pages opened client c Closed = Unit {0}
+StateGood pages opened client c SynRcvd = AtSyn c
+StateGood pages opened client c Established = AtOpen pages opened client c
+StateGood pages opened client c CloseWait = AtText pages opened client c
+StateGood pages opened client c FinWait1 = AtFin pages opened client c
+StateGood pages opened client c FinWait2 = is_some opened ≡ true
+StateGood pages opened client c Closing = AtFin pages opened client c
+StateGood pages opened client c TimeWait = is_some opened ≡ true
+StateGood pages opened client c LastAck = AtFin pages opened client c
+
+pub record ConnGood (pages : Pages) (opened : Option ℕ) (client : AbstractClient) (c : Connection) : Type 0 where
+  pub peer_first : c.peer_first ≡ first_of client
+  pub state : StateGood pages opened client c c.state
+
+-- What a client has said.
+pub record IsSyn (client : AbstractClient) (opened : Option ℕ) (at_epoch : ℕ) (s : PlainSegment) : Type 0 where
+  pub syn : has_syn s.flags ≡ true
+  pub no_ack : has_ack s.flags ≡ false
+  pub no_text : s.text ≡ []
+  pub seq : s.seq ≡ first_of client
+  pub before : (o : ℕ) → opened ≡ Some o → at_epoch ≤ o
+
+pub record IsData (client : AbstractClient) (opened : Option ℕ) (s : PlainSegment) : Type 0 where
+  pub no_syn : has_syn s.flags ≡ false
+  pub opened_is : is_some opened ≡ true
+  pub at : ℕ
+  pub part : IsPart client.request s.text at
+  pub seq : 0 < length s.text → s.seq ≡ wrap (first_of client + 1 + at)
+
+pub data ClientSaid (client : AbstractClient) (opened : Option ℕ) (at_epoch : ℕ) (s : PlainSegment) : Type 0 where
+  said_reset : has_rst s.flags ≡ true → ClientSaid client opened at_epoch s
+  said_syn : IsSyn client opened at_epoch s → ClientSaid client opened at_epoch s
+  said_data : IsData client opened s → ClientSaid client opened at_epoch s
+
+-- What the node has said. IsOpen: that the client opened in the epoch of the datagram.
+pub record IsText (pages : Pages) (client : AbstractClient) (first : ℕ) (captures : List Moment) (s : PlainSegment) : Type 0 where
+  pub no_syn : has_syn s.flags ≡ false
+  pub no_fin : has_fin s.flags ≡ false
+  pub at : ℕ
+  pub part : IsPart (pages.text client.request captures) s.text at
+  pub seq : s.seq ≡ wrap (first + 1 + at)
+
+pub record IsFin (pages : Pages) (client : AbstractClient) (first : ℕ) (captures : List Moment) (s : PlainSegment) : Type 0 where
+  pub no_syn : has_syn s.flags ≡ false
+  pub is_fin : has_fin s.flags ≡ true
+  pub no_text : s.text ≡ []
+  pub at : ℕ
+  pub ends : IsAll pages client captures at
+  pub seq : s.seq ≡ wrap (first + 1 + at)
+
+pub record IsSynAck (first : ℕ) (s : PlainSegment) : Type 0 where
+  pub syn : has_syn s.flags ≡ true
+  pub seq : s.seq ≡ wrap first
+
+pub record IsAck (s : PlainSegment) : Type 0 where
+  pub no_syn : has_syn s.flags ≡ false
+  pub no_fin : has_fin s.flags ≡ false
+  pub no_text : s.text ≡ []
+
+pub data NodeSaid (pages : Pages) (client : AbstractClient) (IsOpen : Type 0) (first : ℕ) (captures : List Moment) (s : PlainSegment) : Type 0 where
+  node_reset : has_rst s.flags ≡ true → NodeSaid pages client IsOpen first captures s
+  node_syn : has_rst s.flags ≡ false → IsSynAck first s → NodeSaid pages client IsOpen first captures s
+  node_ack : has_rst s.flags ≡ false → IsAck s → NodeSaid pages client IsOpen first captures s
+  node_text : has_rst s.flags ≡ false → IsOpen → IsText pages client first captures s → NodeSaid pages client IsOpen first captures s
+  node_fin : has_rst s.flags ≡ false → IsOpen → IsFin pages client first captures s → NodeSaid pages client IsOpen first captures s
+
+-- One step of a connection that lives, seen from its client.
+pub record SentGood (pages : Pages) (opened : Option ℕ) (client : AbstractClient) (c : Connection) (s : PlainSegment) : Type 0 where
+  pub lives : has_rst s.flags ≡ false → is_live c.state ≡ true
+  pub said : NodeSaid pages client (is_some opened ≡ true) c.first c.part.captures s
+
+-- the connection afterwards, d, beside the one before, c
+pub record Moved (pages : Pages) (opened : Option ℕ) (client : AbstractClient) (c d : Connection) : Type 0 where
+  pub first : d.first ≡ c.first
+  pub more : List Moment
+  pub captures : d.part.captures ≡ c.part.captures ++ more
+  pub good : is_live d.state ≡ true → ConnGood pages opened client d
+
+pub record StepGood (pages : Pages) (opened : Option ℕ) (client : AbstractClient) (c : Connection) (step : Spoken) : Type 0 where
+  pub moved : Moved pages opened client c step.connection
+  pub said : (s : PlainSegment) → step.sent ≡ Some s → SentGood pages opened client step.connection s
+
+-- What is kept of each datagram.
+pub record FromGood (client : AbstractClient) (opened : Option ℕ) (past : List Era) (e : Sent) : Type 0 where
+  pub time : e.epoch ≤ length past
+  pub said : ClientSaid client opened e.epoch (seg e)
+
+pub record ToGood (pages : Pages) (client : AbstractClient) (opened : Option ℕ) (past : List Era) (c : Connection) (e : Sent) : Type 0 where
+  pub time : e.epoch ≤ length past
+  pub lives : has_rst (seg e).flags ≡ false → e.epoch ≡ length past → is_live c.state ≡ true
+  pub said : NodeSaid pages client (opened ≡ Some e.epoch) (era past c e.epoch).first (era past c e.epoch).captures (seg e)
+
+-- it has not opened
+abbrev pub is_early : ClientState → Bool
+is_early Is.Idle = true
+is_early Is.Opening = true
+is_early Is.Reset = true
+is_early Is.Opened = false
+is_early Is.Closing = false
+is_early Is.Closed = false
+is_early Is.Ended = false
+
+-- it may still open
+abbrev pub is_unasked : ClientState → Bool
+is_unasked Is.Idle = true
+is_unasked Is.Opening = true
+is_unasked Is.Opened = false
+is_unasked Is.Closing = false
+is_unasked Is.Closed = false
+is_unasked Is.Ended = false
+is_unasked Is.Reset = false
+
+pub record NotOpened (client : AbstractClient) : Type 0 where
+  pub early : is_early client.state ≡ true
+  pub nothing : client.received ≡ []
+
+pub record HasOpened (pages : Pages) (client : AbstractClient) (past : List Era) (c : Connection) (o : ℕ) : Type 0 where
+  pub time : o ≤ length past
+  pub then_live : o ≡ length past → is_live c.state ≡ true
+  pub live_then : is_live c.state ≡ true → o ≡ length past
+  pub asked : is_unasked client.state ≡ false
+  pub part : IsPart (pages.text client.request (era past c o).captures) client.received 0
+  pub expected : is_receiving client.state ≡ true → client.expected ≡ wrap ((era past c o).first + 1 + length client.received)
+  pub all : has_closed client.state ≡ true → IsAll pages client (era past c o).captures (length client.received)
+
+abbrev pub OpenedGood : Pages → AbstractClient → List Era → Connection → Option ℕ → Type 0
+OpenedGood pages client past c None = NotOpened client
+OpenedGood pages client past c (Some o) = HasOpened pages client past c o
+
+pub record Steady (client : AbstractClient) : Type 0 where
+  pub short : length client.request ≤ 4096
+  pub low : first_of client < 4294967296
+  pub out_fits : client.acked + client.out ≤ length client.request
+
+-- what is known of one clean client
+pub record Good (pages : Pages) (number : ℕ) (client : AbstractClient) (opened : Option ℕ) (past : List Era) (c : Connection) (sent : List Sent) : Type 0 where
+  pub steady : Steady client
+  pub opened_good : OpenedGood pages client past c opened
+  pub connection : is_live c.state ≡ true → ConnGood pages opened client c
+  pub of_client : (k : ℕ) (e : Sent) → slice_get sent k ≡ Some e → e.who ≡ from number → FromGood client opened past e
+  pub of_node : (k : ℕ) (e : Sent) → slice_get sent k ≡ Some e → e.who ≡ to number → ToGood pages client opened past c e
+
+-- One step of a client.
+pub record TookGood (pages : Pages) (client : AbstractClient) (past : List Era) (c : Connection) (opened next : Option ℕ) (took : ClientStep) : Type 0 where
+  pub next_is : next ≡ (if becomes_opened client.state took.client.state then Some (length past) else opened)
+  pub request : took.client.request ≡ client.request
+  pub setup : first_of took.client ≡ first_of client
+  pub steady : Steady took.client
+  pub opened_good : OpenedGood pages took.client past c next
+  pub said : (s : PlainSegment) → took.sent ≡ Some s → ClientSaid took.client next (length past) s

@@ -1,0 +1,248 @@
+-- No act looks at the mark; so what the lines of a schedule reach, a list of acts reaches.
+use Rattle.std.specs.List.{All}
+use Rattle.std.proofs.Common.{◌≡◌, ℕ, zero, suc, ◌+◌, inl, inr, Bool, List, [], ◌∷◌, ◌++◌, length, map, flat_map, replicate, reverse, refl, sym, ap, ◌∙◌, arith, Option, Some, None, Result, Ok, Err, ltb, if◌then◌else◌}
+use Rattle.std.proofs.lemmas.List.Elements.{All-append}
+use Rattle.app_events.specs.Part.{Meaning}
+use Rattle.tcp_segment.specs.Segments.{PlainSegment}
+use Rattle.uip_node.specs.Events.{Event as NodeEvent, Reply, tick}
+use Rattle.uip_node.specs.Events.Event.{EchoAsked, Arrived}
+use Rattle.uip_node.specs.Events.Reply.{Echo, Tcp}
+use Rattle.uip_node.specs.Edge.{event_of}
+use Rattle.uip_node.specs.Node.{NodeStep, step}
+use Rattle.link_client.specs.Client.{AbstractClient, ClientStep, client_takes, client_opens, client_again, client_closes, client_aborts, tells_window}
+use Rattle.link_world.specs.World.{World, Side, Sent, Content, numbered, buries, posts_reply, node_handles, with_client, with_side, posts_of_client, client_stepped, marked, sockets_of, gives_node, gives_client, delivers, gives}
+use Rattle.link_world.specs.World.Content.{OfSegment, OfPing, OfEcho}
+use Rattle.link_world.specs.Bytes.{bytes_by, bytes_of, changed, hears}
+use Rattle.link_world.specs.Acts.{client_acts, handles_all, client_handed, handed, hands_over, damages_at, does, no_byte, named_fault, or_full, fault_of, done_or, acts, and_then, runs}
+use Rattle.link_world.specs.Schedule.{past_mark, acts_of, mark_after, with_mark, goes_on_with, plays_from}
+use Rattle.link_world.specs.declared.act.Act.{Act}
+use Rattle.link_schedule.specs.declared.event.Event.{Event}
+use Rattle.link_world.specs.declared.step_fault.StepFault.{StepFault}
+use Rattle.link_world.specs.declared.step_fault.StepFault.TheVariants.{NoByte}
+use Rattle.link_world.specs.declared.who.Who.{Who}
+use Rattle.link_world.specs.declared.who.Who.TheVariants.{FromClient, FromNode, Pinger}
+use Rattle.link_world.specs.Headline.{IsAct, IsPlainAct, OfLine, LinesAreActs}
+use Rattle.link_world.proofs.Fits.{all_nil, all_cons}
+
+abbrev at_mark : ℕ → World → World
+at_mark x w = record w { mark = x }
+
+module _ (m : Meaning) (served : ℕ → Bool) (x : ℕ) where
+  reply_mark : (w : World) (r : Option Reply) → posts_reply (at_mark x w) r ≡ at_mark x (posts_reply w r)
+  reply_mark w None = refl
+  reply_mark w (Some (Echo request)) = refl
+  reply_mark w (Some (Tcp sockets id again s)) = refl
+
+  handles_mark : (w : World) (e : NodeEvent) → node_handles m served (at_mark x w) e ≡ at_mark x (node_handles m served w e)
+  handles_mark w e = let r : NodeStep = step m served w.node e in reply_mark (record w { node = r.node; sides = buries r.gone w.sides }) r.sent
+
+  all_mark : (es : List NodeEvent) (w : World) → handles_all m served es (at_mark x w) ≡ at_mark x (handles_all m served es w)
+  all_mark [] w = refl
+  all_mark (e ∷ es) w = ap (λ (v : World). handles_all m served es v) (handles_mark w e) ∙ all_mark es (node_handles m served w e)
+
+  said_mark : (w : World) (n : ℕ) (s : Option PlainSegment) → posts_of_client (at_mark x w) n s ≡ at_mark x (posts_of_client w n s)
+  said_mark w n None = refl
+  said_mark w n (Some s) = refl
+
+  stepped_mark : (w : World) (n : ℕ) (side : Side) (took : ClientStep) → client_stepped (at_mark x w) n side took ≡ at_mark x (client_stepped w n side took)
+  stepped_mark w n side took = said_mark (with_side w n (with_client side took.client)) n took.sent
+
+  client_mark : (w : World) (n : ℕ) (act : AbstractClient → ClientStep) (side : Option Side) → client_acts (at_mark x w) n act side ≡ at_mark x (client_acts w n act side)
+  client_mark w n act None = refl
+  client_mark w n act (Some side) = stepped_mark w n side (act side.client)
+
+  to_node_mark : (w : World) (n k : ℕ) (e : Sent) (s : PlainSegment) (side : Option Side) → gives_node m served (at_mark x w) n k e s side ≡ at_mark x (gives_node m served w n k e s side)
+  to_node_mark w n k e s None = refl
+  to_node_mark w n k e s (Some side) = handles_mark (with_side w n (marked side k e)) (Arrived (sockets_of side) s)
+
+  to_client_mark : (w : World) (n k : ℕ) (e : Sent) (s : PlainSegment) (side : Option Side) → gives_client (at_mark x w) n k e s side ≡ at_mark x (gives_client w n k e s side)
+  to_client_mark w n k e s None = refl
+  to_client_mark w n k e s (Some side) = stepped_mark w n (marked side k e) (client_takes side.client s)
+
+  delivers_mark : (w : World) (k : ℕ) (e : Sent) (who : Who) (content : Content) → delivers m served (at_mark x w) k e who content ≡ at_mark x (delivers m served w k e who content)
+  delivers_mark w k e (FromClient n) (OfSegment id s) = to_node_mark w n k e s (numbered w.sides n)
+  delivers_mark w k e (FromNode n) (OfSegment id s) = to_client_mark w n k e s (numbered w.sides n)
+  delivers_mark w k e Pinger (OfPing datagram) = handles_mark w (EchoAsked datagram)
+  delivers_mark w k e (FromClient n) (OfPing datagram) = refl
+  delivers_mark w k e (FromClient n) (OfEcho request) = refl
+  delivers_mark w k e (FromNode n) (OfPing datagram) = refl
+  delivers_mark w k e (FromNode n) (OfEcho request) = refl
+  delivers_mark w k e Pinger (OfSegment id s) = refl
+  delivers_mark w k e Pinger (OfEcho request) = refl
+
+  gives_mark : (w : World) (k : ℕ) (e : Option Sent) → gives m served (at_mark x w) k e ≡ at_mark x (gives m served w k e)
+  gives_mark w k None = refl
+  gives_mark w k (Some e) = delivers_mark w k e e.who e.content
+
+  bytes_mark : (w : World) (who : Who) (content : Content) → bytes_by (at_mark x w) who content ≡ bytes_by w who content
+  bytes_mark w (FromClient n) (OfSegment id s) = refl
+  bytes_mark w (FromNode n) (OfSegment id s) = refl
+  bytes_mark w Pinger (OfSegment id s) = refl
+  bytes_mark w (FromClient n) (OfPing datagram) = refl
+  bytes_mark w (FromNode n) (OfPing datagram) = refl
+  bytes_mark w Pinger (OfPing datagram) = refl
+  bytes_mark w (FromClient n) (OfEcho request) = refl
+  bytes_mark w (FromNode n) (OfEcho request) = refl
+  bytes_mark w Pinger (OfEcho request) = refl
+
+  heard_mark : (w : World) (n : ℕ) (side : Side) (s : Option PlainSegment) → client_handed (at_mark x w) n side s ≡ at_mark x (client_handed w n side s)
+  heard_mark w n side None = refl
+  heard_mark w n side (Some s) = stepped_mark w n side (client_takes side.client s)
+
+  handed_mark : (w : World) (n : ℕ) (bytes : List ℕ) (side : Option Side) → handed (at_mark x w) n bytes side ≡ at_mark x (handed w n bytes side)
+  handed_mark w n bytes None = refl
+  handed_mark w n bytes (Some side) = heard_mark w n side (hears side.client.setup bytes)
+
+  over_mark : (w : World) (bytes : List ℕ) (who : Who) → hands_over m served (at_mark x w) bytes who ≡ at_mark x (hands_over m served w bytes who)
+  over_mark w bytes (FromClient n) = handles_mark w (event_of w.node.addr bytes)
+  over_mark w bytes Pinger = handles_mark w (event_of w.node.addr bytes)
+  over_mark w bytes (FromNode n) = handed_mark w n bytes (numbered w.sides n)
+
+  damages_mark : (w : World) (at mask : ℕ) (e : Option Sent) → damages_at m served (at_mark x w) at mask e ≡ at_mark x (damages_at m served w at mask e)
+  damages_mark w at mask None = refl
+  damages_mark w at mask (Some e) =
+      ap (λ (b : List ℕ). hands_over m served (at_mark x w) (changed b at mask) e.who) (bytes_mark w e.who e.content) ∙ over_mark w (changed (bytes_of w e) at mask) e.who
+
+  does_mark : (w : World) (act : Act) → does m served (at_mark x w) act ≡ at_mark x (does m served w act)
+  does_mark w (Act.Opens n) = client_mark w n client_opens (numbered w.sides n)
+  does_mark w (Act.Again n) = client_mark w n client_again (numbered w.sides n)
+  does_mark w (Act.Closes n) = client_mark w n client_closes (numbered w.sides n)
+  does_mark w (Act.Aborts n) = client_mark w n client_aborts (numbered w.sides n)
+  does_mark w (Act.Window n y) = client_mark w n (tells_window y) (numbered w.sides n)
+  does_mark w (Act.Ping source) = refl
+  does_mark w (Act.Give k) = gives_mark w k (numbered w.sent k)
+  does_mark w (Act.Damage k at mask) = damages_mark w at mask (numbered w.sent k)
+  does_mark w Act.Tick = all_mark tick w
+
+  byte_mark : (w : World) (at : ℕ) (e : Option Sent) → no_byte (at_mark x w) at e ≡ no_byte w at e
+  byte_mark w at None = refl
+  byte_mark w at (Some e) = ap (λ (b : List ℕ). if ltb at (length b) then None else Some NoByte) (bytes_mark w e.who e.content)
+
+  named_mark : (w : World) (act : Act) → named_fault (at_mark x w) act ≡ named_fault w act
+  named_mark w (Act.Opens n) = refl
+  named_mark w (Act.Again n) = refl
+  named_mark w (Act.Closes n) = refl
+  named_mark w (Act.Aborts n) = refl
+  named_mark w (Act.Window n y) = refl
+  named_mark w (Act.Ping source) = refl
+  named_mark w (Act.Give k) = refl
+  named_mark w (Act.Damage k at mask) = byte_mark w at (numbered w.sent k)
+  named_mark w Act.Tick = refl
+
+  full_mark : (w : World) (act : Act) (f : Option StepFault) → or_full (at_mark x w) act f ≡ or_full w act f
+  full_mark w act None = refl
+  full_mark w act (Some f) = refl
+
+  fault_mark : (w : World) (act : Act) → fault_of (at_mark x w) act ≡ fault_of w act
+  fault_mark w act = ap (λ (f : Option StepFault). or_full (at_mark x w) act f) (named_mark w act) ∙ full_mark w act (named_fault w act)
+
+  done_mark : (w : World) (f : Option StepFault) → done_or (at_mark x w) f ≡ with_mark x (done_or w f)
+  done_mark w None = refl
+  done_mark w (Some f) = refl
+
+  pub acts_mark : (w : World) (act : Act) → acts m served (at_mark x w) act ≡ with_mark x (acts m served w act)
+  acts_mark w act =
+      ap (λ (v : World). done_or v (fault_of (at_mark x w) act)) (does_mark w act) ∙ ap (λ (f : Option StepFault). done_or (at_mark x (does m served w act)) f) (fault_mark w act) ∙ done_mark (does m served w act) (fault_of w act)
+
+  then_mark : (more : List Act) → ((w : World) → runs m served more (at_mark x w) ≡ with_mark x (runs m served more w)) → (r : Result World StepFault) →
+      and_then (runs m served more) (with_mark x r) ≡ with_mark x (and_then (runs m served more) r)
+  then_mark more h (Ok v) = h v
+  then_mark more h (Err f) = refl
+
+  pub runs_mark : (schedule : List Act) (w : World) → runs m served schedule (at_mark x w) ≡ with_mark x (runs m served schedule w)
+  runs_mark [] w = refl
+  runs_mark (act ∷ more) w = ap (λ r. and_then (runs m served more) r) (acts_mark w act) ∙ then_mark more (λ v. runs_mark more v) (acts m served w act)
+
+module _ (m : Meaning) (served : ℕ → Bool) where
+  same_mark : (w u : World) (r : Result World StepFault) → r ≡ with_mark w.mark r → r ≡ Ok u → u.mark ≡ w.mark
+  same_mark w u (Ok v) h e = let q : v ≡ u = cc in let z : v ≡ at_mark w.mark v = cc in ap (λ (y : World). y.mark) (sym q) ∙ ap (λ (y : World). y.mark) z
+  same_mark w u (Err f) h e = absurd (cc)
+
+  pub keeps_mark : (schedule : List Act) (w u : World) → runs m served schedule w ≡ Ok u → u.mark ≡ w.mark
+  keeps_mark schedule w u e = same_mark w u (runs m served schedule w) (runs_mark m served w.mark schedule w) e
+
+  then_joined : (front back : List Act) → ((w : World) → runs m served (front ++ back) w ≡ and_then (runs m served back) (runs m served front w)) → (r : Result World StepFault) →
+      and_then (runs m served (front ++ back)) r ≡ and_then (runs m served back) (and_then (runs m served front) r)
+  then_joined front back h (Ok v) = h v
+  then_joined front back h (Err f) = refl
+
+  pub runs_joined : (front back : List Act) (w : World) → runs m served (front ++ back) w ≡ and_then (runs m served back) (runs m served front w)
+  runs_joined [] back w = refl
+  runs_joined (act ∷ front) back w = then_joined front back (λ v. runs_joined front back v) (acts m served w act)
+
+  back_at : (k : ℕ) (u v : World) (r : Result World StepFault) → with_mark k r ≡ Ok (at_mark k v) → ((z : World) → r ≡ Ok z → z.mark ≡ u.mark) → r ≡ Ok (at_mark u.mark v)
+  back_at k u v (Ok z) e same =
+      let q : at_mark k z ≡ at_mark k v = cc in
+      let p : at_mark u.mark z ≡ at_mark u.mark v = ap (λ (y : World). at_mark u.mark y) q in
+      let s : z ≡ at_mark u.mark z = ap (λ n. at_mark n z) (same z refl) in
+      ap Ok (s ∙ p)
+  back_at k u v (Err f) e same = absurd (cc)
+
+  -- a schedule of acts for lines
+  record Acted (P Q : Act → Type 0) (w v : World) : Type 0 where
+    schedule : List Act
+    all : All P schedule
+    other : All Q schedule
+    runs_to : runs m served schedule w ≡ Ok (at_mark w.mark v)
+
+  given : (P : Act → Type 0) (ks : List ℕ) → ((k : ℕ) → P (Act.Give k)) → All P (map Act.Give ks)
+  given P [] h = all_nil P
+  given P (k ∷ ks) h = all_cons P (Act.Give k) (map Act.Give ks) (h k) (given P ks h)
+
+  twice : (P : Act → Type 0) (ks : List ℕ) → ((k : ℕ) → P (Act.Give k)) → All P (flat_map (λ k. Act.Give k ∷ Act.Give k ∷ []) ks)
+  twice P [] h = all_nil P
+  twice P (k ∷ ks) h = All-append P (Act.Give k ∷ Act.Give k ∷ []) (flat_map (λ k. Act.Give k ∷ Act.Give k ∷ []) ks) (all_cons P (Act.Give k) (Act.Give k ∷ []) (h k) (all_cons P (Act.Give k) [] (h k) (all_nil P))) (twice P ks h)
+
+  ticked : (P : Act → Type 0) (n : ℕ) → P Act.Tick → All P (replicate n Act.Tick)
+  ticked P zero h = all_nil P
+  ticked P (suc n) h = all_cons P Act.Tick (replicate n Act.Tick) h (ticked P n h)
+
+  one : (P : Act → Type 0) (act : Act) → P act → All P (act ∷ [])
+  one P act h = all_cons P act [] h (all_nil P)
+
+  pub line_acts : (P : Act → Type 0) (w : World) (e : Event) → OfLine P e → All P (acts_of w e)
+  line_acts P w (Event.Opens n) h = one P (Act.Opens n) h
+  line_acts P w (Event.Again n) h = one P (Act.Again n) h
+  line_acts P w (Event.Closes n) h = one P (Act.Closes n) h
+  line_acts P w (Event.Aborts n) h = one P (Act.Aborts n) h
+  line_acts P w (Event.Window n y) h = one P (Act.Window n y) h
+  line_acts P w (Event.Ping source) h = one P (Act.Ping source) h
+  line_acts P w (Event.Give k) h = one P (Act.Give k) h
+  line_acts P w (Event.Damage k at mask) h = one P (Act.Damage k at mask) h
+  line_acts P w (Event.Tick n) h = ticked P n h
+  line_acts P w Event.Round h = given P (past_mark w) h
+  line_acts P w Event.Twice h = twice P (past_mark w) h
+  line_acts P w Event.Reverse h = given P (reverse (past_mark w)) h
+  line_acts P w Event.Half h = given P _ h
+  line_acts P w Event.Lose h = all_nil P
+
+  line_acted : (P Q : Act → Type 0) (place : ℕ) (e : Event) (more : List Event) (w v : World) (r : Result World StepFault) → All P (acts_of w e) → All Q (acts_of w e) →
+      ((u : World) → plays_from m served (place + 1) more u ≡ Ok v → Acted P Q u v) → runs m served (acts_of w e) w ≡ r →
+      goes_on_with place (plays_from m served (place + 1) more) (with_mark (mark_after w e) r) ≡ Ok v → Acted P Q w v
+  line_acted P Q place e more w v (Err f) a b next q h = absurd (cc)
+  line_acted P Q place e more w v (Ok u) a b next q h =
+      let k : ℕ = mark_after w e in
+      let rest : Acted P Q (at_mark k u) v = next (at_mark k u) h in
+      let kept : u.mark ≡ w.mark = keeps_mark (acts_of w e) w u q in
+      let ran : runs m served rest.schedule u ≡ Ok (at_mark u.mark v) = back_at k u v (runs m served rest.schedule u) (sym (runs_mark m served k rest.schedule u) ∙ rest.runs_to) (λ z y. keeps_mark rest.schedule u z y) in
+      record {
+        schedule = acts_of w e ++ rest.schedule;
+        all = All-append P (acts_of w e) rest.schedule a rest.all;
+        other = All-append Q (acts_of w e) rest.schedule b rest.other;
+        runs_to = runs_joined (acts_of w e) rest.schedule w ∙ ap (λ r. and_then (runs m served rest.schedule) r) q ∙ ran ∙ ap (λ n. Ok (at_mark n v)) kept;
+      }
+
+  lines_acted : (P Q : Act → Type 0) (place : ℕ) (lines : List Event) (w v : World) → All (OfLine P) lines → All (OfLine Q) lines → plays_from m served place lines w ≡ Ok v → Acted P Q w v
+  lines_acted P Q place [] w v a b e = record { schedule = []; all = all_nil P; other = all_nil Q; runs_to = (let q : w ≡ v = cc in ap (λ (y : World). Ok (at_mark w.mark y)) q) }
+  lines_acted P Q place (e ∷ more) w v a b h =
+      line_acted P Q place e more w v (runs m served (acts_of w e) w) (line_acts P w e (a zero e (omega arith))) (line_acts Q w e (b zero e (omega arith)))
+      (λ u g. lines_acted P Q (place + 1) more u v (λ n d l. a (suc n) d (omega (arith, l))) (λ n d l. b (suc n) d (omega (arith, l))) g) refl h
+
+pub lines_are_acts : LinesAreActs
+lines_are_acts m pages w r =
+    elim r.bytes [
+      | inl page ↦ (let s = lines_acted m r.served IsAct IsAct 0 r.lines _ w r.are_acts r.are_acts r.accepted in
+          record { served = r.served; addr = r.addr; is_addr = r.is_addr; numbers = r.numbers; in_range = r.in_range; plan = r.plan; is_plan = r.is_plan; schedule = s.schedule; are_acts = s.all; bytes = inl page; accepted = s.runs_to })
+      | inr plain ↦ (let s = lines_acted m r.served IsAct IsPlainAct 0 r.lines _ w r.are_acts plain r.accepted in
+          record { served = r.served; addr = r.addr; is_addr = r.is_addr; numbers = r.numbers; in_range = r.in_range; plan = r.plan; is_plan = r.is_plan; schedule = s.schedule; are_acts = s.all; bytes = inr s.other; accepted = s.runs_to })
+    ]

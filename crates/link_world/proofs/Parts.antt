@@ -1,0 +1,117 @@
+-- The parts that hold together of a clean client, from what is known of it.
+use Rattle.std.proofs.Common.{◌≡◌, ℕ, ◌+◌, ◌<◌, ◌≤◌, ◌⊎◌, inl, inr, Bool, true, false, List, [], length, refl, sym, ap, ◌∙◌, subst, arith, Option, Some, None, is_some}
+use Rattle.std.proofs.lemmas.Bool.{cases_lt}
+use Rattle.uip_wire.specs.Numbers.{wrap}
+use Rattle.tcp_segment.specs.Segments.{PlainSegment, has_syn, has_fin, has_rst, has_ack}
+use Rattle.app_events.specs.Laws.{IsPrefixOf}
+use Rattle.app_events.specs.Pages.{Pages}
+use Rattle.app_events.specs.declared.state.State.{State}
+use Rattle.app_events.specs.declared.state.State.TheVariants.{Closed, SynRcvd, Established, CloseWait, FinWait1, FinWait2, Closing, TimeWait, LastAck}
+use Rattle.tcp_machine.specs.Connection.{Connection, is_live}
+use Rattle.link_client.specs.Client.{AbstractClient, fin_sent, one_if}
+use Rattle.link_world.specs.World.{Side, Era, Sent}
+use Rattle.link_world.specs.History.{era}
+use Rattle.link_world.specs.Headline.{server_side}
+use Rattle.link_world.specs.Parts.{IsSlice, SaysPage, AsksRequest, HasTaken, HasOneEpoch, CleanParts}
+use Rattle.link_world.proofs.Basics.{IsPart}
+use Rattle.link_world.proofs.Good.{seg, segment_in, StateGood, NodeSaid, ClientSaid, OpenedGood, Good}
+use Rattle.link_world.proofs.Good.NodeSaid.{node_reset, node_syn, node_ack, node_text, node_fin}
+use Rattle.link_world.proofs.Good.ClientSaid.{said_reset, said_syn, said_data}
+use Rattle.link_world.proofs.Prefix.{all_good}
+use Rattle.link_world.proofs.Requests.{RequestedBy, all_requested}
+
+slice_of : (whole text : List ℕ) (at : ℕ) → IsPart whole text at → IsSlice whole text at
+slice_of whole text at p = record { fits = p.fits; same = p.same }
+
+no_text : (s : PlainSegment) → s.text ≡ [] → 0 < length s.text → ⊥
+no_text s e l = let z : length s.text ≡ 0 = ap (λ (x : List ℕ). length x) e in omega (arith, z, l)
+
+says_page : (pages : Pages) (side : Side) (epoch : ℕ) (era : Era) (s : PlainSegment) → has_rst s.flags ≡ false → NodeSaid pages side.client (side.opened ≡ Some epoch) era.first era.captures s → SaysPage pages side epoch era s
+says_page pages side epoch era s nr (node_reset r) = absurd (cc)
+says_page pages side epoch era s nr (node_syn r n) = record { syn = λ y. n.seq; text = λ y l. absurd (let z : has_syn s.flags ≡ true = n.syn in cc); fin = λ y f. absurd (let z : has_syn s.flags ≡ true = n.syn in cc) }
+says_page pages side epoch era s nr (node_ack r n) = record {
+  syn = λ y. absurd (let z : has_syn s.flags ≡ false = n.no_syn in cc);
+  text = λ y l. absurd (no_text s n.no_text l);
+  fin = λ y f. absurd (let z : has_fin s.flags ≡ false = n.no_fin in cc);
+}
+says_page pages side epoch era s nr (node_text r p n) = record {
+  syn = λ y. absurd (let z : has_syn s.flags ≡ false = n.no_syn in cc);
+  text = λ y l. record { opened = p; at = n.at; slice = slice_of (pages.text side.client.request era.captures) s.text n.at n.part; seq = n.seq };
+  fin = λ y f. absurd (let z : has_fin s.flags ≡ false = n.no_fin in cc);
+}
+says_page pages side epoch era s nr (node_fin r p n) = record {
+  syn = λ y. absurd (let z : has_syn s.flags ≡ false = n.no_syn in cc);
+  text = λ y l. absurd (no_text s n.no_text l);
+  fin = λ y f. record { opened = p; alone = n.no_text; whole = n.ends.whole; seq = n.seq ∙ ap (λ x. wrap (era.first + 1 + x)) n.ends.end };
+}
+
+asks_request : (side : Side) (epoch : ℕ) (s : PlainSegment) → has_rst s.flags ≡ false → 0 < length s.text → ClientSaid side.client side.opened epoch s → AsksRequest side s
+asks_request side epoch s nr l (said_reset r) = absurd (cc)
+asks_request side epoch s nr l (said_syn y) = absurd (no_text s y.no_text l)
+asks_request side epoch s nr l (said_data d) = record { at = d.at; slice = slice_of side.client.request s.text d.at d.part; seq = d.seq l }
+
+has_opened : (side : Side) (epoch : ℕ) (s : PlainSegment) → has_rst s.flags ≡ false → has_ack s.flags ≡ true → ClientSaid side.client side.opened epoch s → is_some side.opened ≡ true
+has_opened side epoch s nr a (said_reset r) = absurd (cc)
+has_opened side epoch s nr a (said_syn y) = absurd (let z : has_ack s.flags ≡ false = y.no_ack in cc)
+has_opened side epoch s nr a (said_data d) = d.opened_is
+
+not_past : (pages : Pages) (client : AbstractClient) (c : Connection) (st : State) → c.state ≡ st → is_live st ≡ true → StateGood pages None client c st → c.state ≡ SynRcvd
+not_past pages client c Closed e l g = absurd (cc)
+not_past pages client c SynRcvd e l g = e
+not_past pages client c Established e l g = absurd (let z : false ≡ true = g.text.opened_is in cc)
+not_past pages client c CloseWait e l g = absurd (let z : false ≡ true = g.opened_is in cc)
+not_past pages client c FinWait1 e l g = absurd (let z : false ≡ true = g.opened_is in cc)
+not_past pages client c FinWait2 e l g = absurd (let z : false ≡ true = g in cc)
+not_past pages client c Closing e l g = absurd (let z : false ≡ true = g.opened_is in cc)
+not_past pages client c TimeWait e l g = absurd (let z : false ≡ true = g in cc)
+not_past pages client c LastAck e l g = absurd (let z : false ≡ true = g.opened_is in cc)
+
+one_epoch : (pages : Pages) (side : Side) (c : Connection) (o : Option ℕ) → side.opened ≡ o → OpenedGood pages side.client side.past c o → (is_live c.state ≡ true → StateGood pages o side.client c c.state) → HasOneEpoch side c
+one_epoch pages side c None q h s = record {
+  nothing = λ e. h.nothing;
+  waits = λ e l. not_past pages side.client c c.state refl l (s l);
+  opened_in = λ n e l. absurd (let z : None ≡ Some n = sym q ∙ e in cc);
+}
+one_epoch pages side c (Some o) q h s = record {
+  nothing = λ e. absurd (let z : Some o ≡ None = sym q ∙ e in cc);
+  waits = λ e l. absurd (let z : Some o ≡ None = sym q ∙ e in cc);
+  opened_in = λ n e l. (let z : Some o ≡ Some n = sym q ∙ e in let y : n ≡ o = cc in y ∙ h.live_then l);
+}
+
+-- the numbers that were taken are request bytes, and maybe the FIN behind them
+split_taken : (client : AbstractClient) (taken : ℕ) (b : Bool) → fin_sent client.fin ≡ b → client.acked ≤ taken → taken ≤ client.acked + client.out + one_if b →
+    (n : ℕ) × (client.acked ≤ n) × (n ≤ client.acked + client.out) × ((taken ≡ n) ⊎ ((fin_sent client.fin ≡ true) × (taken ≡ n + 1)))
+split_taken client taken false e l h = (taken, l, omega (arith, h), inl refl)
+split_taken client taken true e l h =
+    elim (cases_lt (client.acked + client.out) taken) [
+      | inl i ↦ (client.acked + client.out, omega arith, omega arith, inr (e, omega (arith, i, h)))
+      | inr i ↦ (taken, l, i, inl refl)
+    ]
+
+at_established : (pages : Pages) (opened : Option ℕ) (client : AbstractClient) (c : Connection) → c.state ≡ Established → StateGood pages opened client c c.state → IsPrefixOf c.part.heard client.request × (c.taken ≡ length c.part.heard)
+at_established pages opened client c e g = (let h : StateGood pages opened client c Established = subst (λ s. StateGood pages opened client c s) e g in (h.text.heard, h.taken))
+
+at_close_wait : (pages : Pages) (opened : Option ℕ) (client : AbstractClient) (c : Connection) → c.state ≡ CloseWait → StateGood pages opened client c c.state → IsPrefixOf c.part.heard client.request
+at_close_wait pages opened client c e g = (let h : StateGood pages opened client c CloseWait = subst (λ s. StateGood pages opened client c s) e g in h.heard)
+
+has_taken : (pages : Pages) (k : ℕ) (client : AbstractClient) (c : Connection) (sent : List Sent) (opened : Option ℕ) → RequestedBy k client c sent opened → is_some opened ≡ true → is_live c.state ≡ true → StateGood pages opened client c c.state → HasTaken client c
+has_taken pages k client c sent None r s l g = absurd (cc)
+has_taken pages k client c sent (Some o) r s l g =
+    let q = r l in
+    let p = split_taken client c.taken (fin_sent client.fin) refl q.low q.high in
+    record { bytes = p.0; least = p.1; most = p.2; taken = p.3; established = λ e. at_established pages (Some o) client c e g; close_wait = λ e. at_close_wait pages (Some o) client c e g }
+
+pub clean_parts : CleanParts
+clean_parts m pages lawful w r k side x clean =
+    let c : Connection = server_side w side in
+    let g : Good pages k side.client side.opened side.past c w.sent = (all_good m pages lawful w r).each k side x clean in
+    record {
+      of_node = λ i e id s y who is nr. (let q : seg e ≡ s = ap segment_in is in
+          subst (λ z. SaysPage pages side e.epoch (era side.past c e.epoch) z) q (says_page pages side e.epoch (era side.past c e.epoch) (seg e) (ap (λ (z : PlainSegment). has_rst z.flags) q ∙ nr) (g.of_node i e y who).said));
+      of_client = λ i e id s y who is nr l. (let q : seg e ≡ s = ap segment_in is in
+          subst (λ z. AsksRequest side z) q (asks_request side e.epoch (seg e) (ap (λ (z : PlainSegment). has_rst z.flags) q ∙ nr) (subst (λ (z : PlainSegment). 0 < length z.text) (sym q) l) (g.of_client i e y who).said));
+      acknowledges = λ i e id s y who is nr a. (let q : seg e ≡ s = ap segment_in is in
+          has_opened side e.epoch (seg e) (ap (λ (z : PlainSegment). has_rst z.flags) q ∙ nr) (ap (λ (z : PlainSegment). has_ack z.flags) q ∙ a) (g.of_client i e y who).said);
+      requested = λ l o. has_taken pages k side.client c w.sent side.opened (((all_requested m pages lawful w r).each k side x).asked_by clean) o l (g.connection l).state;
+      epochs = one_epoch pages side c side.opened refl g.opened_good (λ l. (g.connection l).state);
+    }

@@ -1,0 +1,113 @@
+-- A step keeps the sockets of a connection, whatever its client did.
+use Rattle.std.proofs.Common.{◌≡◌, ℕ, ◌+◌, Bool, true, false, not, ◌&&◌, List, refl, ◌∙◌, eqb, ltb}
+use Rattle.tcp_segment.specs.Segments.{PlainSegment, has_fin, has_rst}
+use Rattle.rexmit_timer.specs.Ages.{beat_at}
+use Rattle.rexmit_timer.specs.declared.timer.Beat.{Beat}
+use Rattle.app_events.specs.Part.{Meaning}
+use Rattle.app_events.specs.declared.now.Now.{Now}
+use Rattle.app_events.specs.declared.state.State.{State}
+use Rattle.app_events.specs.declared.state.State.TheVariants.{Closed, SynRcvd, Established, CloseWait, FinWait1, FinWait2, Closing, TimeWait, LastAck}
+use Rattle.app_events.specs.declared.want.Want.{Want}
+use Rattle.app_events.specs.declared.want.Want.TheVariants.{Nothing, Send, Close, Abort}
+use Rattle.tcp_machine.specs.Connection.{Connection, is_live}
+use Rattle.tcp_machine.specs.Ask.{Outcome, leaves, peer_has_closed, idles, does_as_wanted, prepared, asked_for, asked}
+use Rattle.tcp_machine.specs.OnSegment.{is_out_of_order, is_acked, has_text, peer_closes, goes_on, in_established, fin_acked, fin_waits, in_fin_wait_2, by_state, on_segment, with_part, rests}
+use Rattle.tcp_machine.specs.OnTick.{limit_of, by_beat, waits_for_ack, rests_on, rest_time, ticks_established, tick_by, on_tick}
+use Rattle.tcp_machine.specs.declared.step.Step.{Step}
+use Rattle.link_world.proofs.Basics.{choose}
+
+abbrev pub Keeps : Connection → Outcome → Type 0
+Keeps c o = o.connection.sockets ≡ c.sockets
+
+module _ (m : Meaning) where
+  wanted_keeps : (w : Want) (fresh : Bool) (c : Connection) (numbers : List ℕ) → Keeps c (does_as_wanted w fresh c numbers)
+  unfolding idles
+  wanted_keeps Abort fresh c numbers = refl
+  wanted_keeps Close fresh c numbers = refl
+  wanted_keeps (Send k) fresh c numbers = refl
+  wanted_keeps Nothing fresh c numbers = choose (λ o. Keeps c o) (peer_has_closed c.state) _ _ (λ e. refl) (λ e. choose (λ o. Keeps c o) fresh _ _ (λ f. refl) (λ f. refl))
+
+  asked_for_keeps : (at : Connection → Now) (c : Connection) (o : Outcome) (s : Step) → Keeps c o → Keeps c (asked_for m at o s)
+  asked_for_keeps at c o (Step.Ask fresh) h = wanted_keeps (m.want o.numbers (m.prepare o.numbers o.connection.part (at o.connection))) fresh (prepared m (at o.connection) o.connection o.numbers) o.numbers ∙ h
+  asked_for_keeps at c o Step.Drop h = h
+  asked_for_keeps at c o Step.Ack h = h
+  asked_for_keeps at c o (Step.SynAck again) h = h
+  asked_for_keeps at c o (Step.Text again) h = h
+  asked_for_keeps at c o (Step.Fin again) h = h
+  asked_for_keeps at c o Step.Reset h = h
+
+  pub asked_keeps : (at : Connection → Now) (c : Connection) (o : Outcome) → Keeps c o → Keeps c (asked m at o)
+  asked_keeps at c o h = asked_for_keeps at c o o.step h
+
+  established_keeps : (acked : Bool) (c : Connection) (numbers : List ℕ) (s : PlainSegment) → Keeps c (in_established m acked c numbers s)
+  unfolding in_established peer_closes goes_on
+  established_keeps acked c numbers s =
+      choose (λ o. Keeps c o) (has_fin s.flags) _ _
+      (λ e. choose (λ o. Keeps c o) (ltb 0 c.len) _ _ (λ f. refl) (λ f. refl))
+      (λ e. choose (λ o. Keeps c o) (not acked && not (has_text s)) _ _ (λ f. refl) (λ f. choose (λ o. Keeps c o) (ltb 0 c.len) _ _ (λ g. refl) (λ g. refl)))
+
+  by_state_keeps : (st : State) (acked : Bool) (c : Connection) (numbers : List ℕ) (s : PlainSegment) → Keeps c (by_state m st acked c numbers s)
+  unfolding fin_acked fin_waits in_fin_wait_2
+  by_state_keeps Closed acked c numbers s = refl
+  by_state_keeps SynRcvd true c numbers s = refl
+  by_state_keeps SynRcvd false c numbers s = refl
+  by_state_keeps Established true c numbers s = established_keeps true (with_part (m.acked numbers c.part c.len).part (rests c)) (m.acked numbers c.part c.len).numbers s
+  by_state_keeps Established false c numbers s = established_keeps false c numbers s
+  by_state_keeps CloseWait true c numbers s = refl
+  by_state_keeps CloseWait false c numbers s = refl
+  by_state_keeps FinWait1 true c numbers s = choose (λ o. Keeps c o) (has_fin s.flags) _ _ (λ e. refl) (λ e. refl)
+  by_state_keeps FinWait1 false c numbers s = choose (λ o. Keeps c o) (has_fin s.flags) _ _ (λ e. refl) (λ e. choose (λ o. Keeps c o) (has_text s) _ _ (λ f. refl) (λ f. refl))
+  by_state_keeps FinWait2 acked c numbers s = choose (λ o. Keeps c o) (has_fin s.flags) _ _ (λ e. refl) (λ e. choose (λ o. Keeps c o) (has_text s) _ _ (λ f. refl) (λ f. refl))
+  by_state_keeps Closing true c numbers s = refl
+  by_state_keeps Closing false c numbers s = refl
+  by_state_keeps LastAck true c numbers s = refl
+  by_state_keeps LastAck false c numbers s = refl
+  by_state_keeps TimeWait acked c numbers s = refl
+
+  pub on_segment_keeps : (c : Connection) (numbers : List ℕ) (s : PlainSegment) → Keeps c (on_segment m c numbers s)
+  unfolding on_segment
+  on_segment_keeps c numbers s =
+      choose (λ o. Keeps c o) (has_rst s.flags) _ _ (λ e. refl) (λ e.
+      choose (λ o. Keeps c o) (is_out_of_order c s) _ _ (λ f. refl) (λ f. by_state_keeps c.state (is_acked c s) c numbers s))
+
+  by_beat_keeps : (b : Beat) (c : Connection) (numbers : List ℕ) → Keeps c (by_beat m b c numbers)
+  by_beat_keeps Beat.Wait c numbers = refl
+  by_beat_keeps Beat.Again c numbers = refl
+  by_beat_keeps Beat.GiveUp c numbers = refl
+
+  waits_keeps : (c : Connection) (numbers : List ℕ) → Keeps c (waits_for_ack m c numbers)
+  waits_keeps c numbers = by_beat_keeps (beat_at (limit_of c.state) (c.age + 1)) c numbers
+
+  rests_keeps : (c : Connection) (numbers : List ℕ) → Keeps c (rests_on c numbers)
+  unfolding rests_on
+  rests_keeps c numbers = choose (λ o. Keeps c o) (eqb (c.age + 1) rest_time) _ _ (λ e. refl) (λ e. refl)
+
+  tick_by_keeps : (st : State) (c : Connection) (numbers : List ℕ) → Keeps c (tick_by m st c numbers)
+  unfolding ticks_established
+  tick_by_keeps Closed c numbers = refl
+  tick_by_keeps SynRcvd c numbers = waits_keeps c numbers
+  tick_by_keeps Established c numbers = choose (λ o. Keeps c o) (ltb 0 c.len) _ _ (λ e. waits_keeps c numbers) (λ e. refl)
+  tick_by_keeps CloseWait c numbers = waits_keeps c numbers
+  tick_by_keeps FinWait1 c numbers = waits_keeps c numbers
+  tick_by_keeps FinWait2 c numbers = rests_keeps c numbers
+  tick_by_keeps Closing c numbers = waits_keeps c numbers
+  tick_by_keeps TimeWait c numbers = rests_keeps c numbers
+  tick_by_keeps LastAck c numbers = waits_keeps c numbers
+
+  pub on_tick_keeps : (c : Connection) (numbers : List ℕ) → Keeps c (on_tick m c numbers)
+  on_tick_keeps c numbers = tick_by_keeps c.state c numbers
+
+  tick_closed : (st : State) (c : Connection) (numbers : List ℕ) → is_live st ≡ false → tick_by m st c numbers ≡ leaves c numbers Step.Drop
+  tick_closed Closed c numbers h = refl
+  tick_closed SynRcvd c numbers h = absurd (cc)
+  tick_closed Established c numbers h = absurd (cc)
+  tick_closed CloseWait c numbers h = absurd (cc)
+  tick_closed FinWait1 c numbers h = absurd (cc)
+  tick_closed FinWait2 c numbers h = absurd (cc)
+  tick_closed Closing c numbers h = absurd (cc)
+  tick_closed TimeWait c numbers h = absurd (cc)
+  tick_closed LastAck c numbers h = absurd (cc)
+
+  -- a tick of a CLOSED connection does nothing
+  pub on_tick_closed : (c : Connection) (numbers : List ℕ) → is_live c.state ≡ false → on_tick m c numbers ≡ leaves c numbers Step.Drop
+  on_tick_closed c numbers h = tick_closed c.state c numbers h

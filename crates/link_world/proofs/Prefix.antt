@@ -1,0 +1,223 @@
+-- Prefix and whole, for every schedule.
+use Rattle.std.specs.List.{All}
+use Rattle.std.proofs.Common.{◌≡◌, ℕ, ◌≤◌, true, false, List, [], ◌∷◌, ◌++◌, length, map, replicate, refl, sym, ap, ◌∙◌, subst, arith, Option, Some, None, slice_get, take}
+use Rattle.std.proofs.Math.Seq.{take-length}
+use Rattle.std.proofs.lemmas.Bool.{eqb-true}
+use Rattle.uip_wire.specs.declared.addr.Addr.{Addr}
+use Rattle.tcp_segment.specs.declared.flags.TheConstants.{SYN}
+use Rattle.tcp_segment.specs.Segments.{PlainSegment, has_syn, has_fin, has_rst}
+use Rattle.app_events.specs.Part.{Meaning}
+use Rattle.app_events.specs.Laws.{IsPrefixOf}
+use Rattle.app_events.specs.Pages.{Pages, IsPaged, IsMoment, IsNow, IsWord}
+use Rattle.app_events.specs.declared.now.Now.{Now}
+use Rattle.tcp_machine.specs.Connection.{Sockets, Connection, closed, is_live, serves}
+use Rattle.tcp_machine.specs.Segments.{is_again, is_plain_syn, syn_ack}
+use Rattle.tcp_machine.specs.Ask.{Outcome, asked}
+use Rattle.tcp_machine.specs.OnSegment.{accepted, on_segment}
+use Rattle.tcp_machine.specs.OnTick.{on_tick}
+use Rattle.link_client.specs.Client.{AbstractClient, ClientStep, has_closed, client_takes, client_opens, client_again, client_closes, client_aborts, tells_window}
+use Rattle.link_client.specs.declared.client_state.ClientState.{ClientState}
+use Rattle.link_world.specs.World.{World, Side, Sent, Era, sockets_of, with_client, marked, is_clean}
+use Rattle.link_world.specs.History.{era, era_of, serving, captures_in, captures_of, page_of, Planned, IsPlanned, IsPlan, fresh_side, opening_world}
+use Rattle.link_world.specs.Headline.{IsReached, IsServed, PrefixAndWhole}
+use Rattle.link_world.proofs.Basics.{both_ways, append_nothing, part_prefix}
+use Rattle.link_world.proofs.Good.{is_some, seg, from, to, spoken, ClientSaid, IsSyn, SentGood, StepGood, FromGood, ToGood, OpenedGood, Good, is_early}
+use Rattle.link_world.proofs.Good.NodeSaid.{node_reset}
+use Rattle.link_world.proofs.Good.ClientSaid.{said_reset, said_syn, said_data}
+use Rattle.link_world.proofs.Later.{node_later}
+use Rattle.link_world.proofs.Views.{era_now, view_live, view_dead, view_born, view_push, view_client}
+use Rattle.link_world.proofs.Steps.{asked_good, on_segment_good, on_tick_good, says_syn}
+use Rattle.link_world.proofs.Clients.{Took_it, client_takes_good, opens_by_good, again_by_good, closes_by_good, aborts_by_good, window_good}
+use Rattle.link_world.proofs.Tables.{Free, serving_free, get_map}
+use Rattle.link_world.proofs.Fits.{FitConn}
+use Rattle.link_world.proofs.Runs.{all_closed, reached}
+use Rattle.link_world.proofs.Sides.{clean_before}
+use Rattle.link_world.proofs.Any.{Framed, Steps, Takes, speech, entry, older, does_framed}
+
+-- the opening world
+pub none_serves : (n : ℕ) (p : Sockets) → Free p (replicate n closed)
+none_serves n p k x h = ap (serves p) (sym (all_closed n k x h))
+
+pub opening_apart : (plan : List Planned) → IsPlan plan → Rattle.link_world.proofs.Sides.Apart (map fresh_side plan)
+opening_apart plan is j k a b x y e =
+    let p = get_map fresh_side plan j a x in
+    let q = get_map fresh_side plan k b y in
+    is.apart j k p.from q.from p.get q.get (ap (λ (o : Side). sockets_of o) p.is ∙ e ∙ ap (λ (o : Side). sockets_of o) (sym q.is))
+
+module _ (m : Meaning) (pages : Pages) (lawful : IsPaged m pages) where
+  opened_here : (client : AbstractClient) (past : List Era) (c : Connection) (opened : Option ℕ) → is_live c.state ≡ true → OpenedGood pages client past c opened → is_some opened ≡ true → opened ≡ Some (length past)
+  opened_here client past c None l h e = absurd (cc)
+  opened_here client past c (Some o) l h e = ap Some (h.live_then l)
+
+  -- a datagram of the client's own connection, just sent
+  entry_good : (k : ℕ) (client : AbstractClient) (opened : Option ℕ) (past : List Era) (c d : Connection) (sent : List Sent) (e : Sent) → Good pages k client opened past c sent →
+      e.epoch ≡ length past → (is_live d.state ≡ true → d ≡ c) → SentGood pages opened client d (seg e) → ToGood pages client opened past c e
+  entry_good k client opened past c d sent e g at same h = record {
+    time = omega (arith, at);
+    lives = λ r t. (let l : is_live d.state ≡ true = h.lives r in ap (λ (x : Connection). is_live x.state) (sym (same l)) ∙ l);
+    said = both_ways (has_rst (seg e).flags)
+        (λ r. node_reset r)
+        (λ r. let l : is_live d.state ≡ true = h.lives r in
+        let q : d ≡ c = same l in
+        let lc : is_live c.state ≡ true = ap (λ (x : Connection). is_live x.state) (sym q) ∙ l in
+        let n : era past c e.epoch ≡ era_of c = era_now past c e.epoch (omega (arith, at)) in
+        node_later m pages lawful client client (is_some opened ≡ true) (opened ≡ Some e.epoch) d.first (era past c e.epoch).first d.part.captures (era past c e.epoch).captures [] (seg e) refl
+        (λ y. opened_here client past c opened lc g.opened_good y ∙ ap Some (sym at)) (ap (λ (x : Era). x.first) n ∙ ap (λ (x : Connection). x.first) (sym q))
+        (ap (λ (x : Era). x.captures) n ∙ ap (λ (x : Connection). x.part.captures) (sym q) ∙ sym (append_nothing d.part.captures)) h.said);
+  }
+
+  abbrev pub G : ℕ → Side → Connection → List Sent → Type 0
+  G k side c sent = is_clean side ≡ true → Good pages k side.client side.opened side.past c sent
+
+  -- one more datagram
+  push : (k : ℕ) (side : Side) (c : Connection) (sent : List Sent) (e : Sent) → G k side c sent → (is_clean side ≡ true → (e.who ≡ from k → FromGood side.client side.opened side.past e) × (e.who ≡ to k → ToGood pages side.client side.opened side.past c e)) → G k side c (sent ++ e ∷ [])
+  push k side c sent e g s = λ cl. view_push m pages lawful k side.client side.opened side.past c sent e (g cl) (s cl).0 (s cl).1
+
+  pub other : (k : ℕ) (side : Side) (c : Connection) (sent : List Sent) (e : Sent) → G k side c sent → (e.who ≡ to k → ⊥) → (e.who ≡ from k → ⊥) → G k side c (sent ++ e ∷ [])
+  other k side c sent e g t f = push k side c sent e g (λ cl. (λ w. absurd (f w), λ w. absurd (t w)))
+
+  pub reset : (k : ℕ) (side : Side) (c : Connection) (sent : List Sent) (e : Sent) → G k side c sent → e.epoch ≡ length side.past → has_syn (seg e).flags ≡ false → has_fin (seg e).flags ≡ false → (seg e).text ≡ [] → has_rst (seg e).flags ≡ true → e.again ≡ false → e.who ≡ to k → G k side c (sent ++ e ∷ [])
+  reset k side c sent e g q sy fi te rs ag w = push k side c sent e g (λ cl. (
+    λ f. absurd (cc),
+    λ t. record { time = omega (arith, q); lives = λ n x. absurd (cc); said = node_reset rs },
+  ))
+
+  pub evict : (k : ℕ) (side : Side) (c : Connection) (sent : List Sent) → is_live c.state ≡ true → G k side c sent → G k (older side c) closed sent
+  evict k side c sent l g = λ cl. view_dead m pages lawful k side.client side.opened side.past c c closed [] sent (g cl) refl refl (sym (append_nothing c.part.captures))
+
+  pub mark : (k : ℕ) (side : Side) (c : Connection) (sent : List Sent) (n : ℕ) (e : Sent) → G k side c sent → G k (marked side n e) c sent
+  mark k side c sent n e g = λ cl. g (clean_before side n e cl).0
+
+  steps_by : (w : World) (old : Connection) (o : Outcome) (k : ℕ) (side : Side) → is_live old.state ≡ true → G k side old w.sent → (is_clean side ≡ true → StepGood pages side.opened side.client old (spoken m o)) → Steps m G other reset evict mark w o k side
+  steps_by w old o k side lv g st =
+      let live : is_live o.connection.state ≡ true → G k side o.connection w.sent = λ l cl. view_live m pages lawful k side.client side.opened side.past old o.connection w.sent (g cl) lv l (st cl).moved in
+      let last : G k (older side o.connection) closed w.sent = λ cl. view_dead m pages lawful k side.client side.opened side.past old o.connection closed (st cl).moved.more w.sent (g cl) refl (st cl).moved.first (st cl).moved.captures in
+      record {
+        quiet = λ n l. live l;
+        quiet_last = λ n l. last;
+        says = λ s e l tick id. push k side o.connection w.sent (entry (to k) side tick id (speech (is_again o.step) s)) (live l) (λ cl. (
+          λ f. absurd (cc),
+          λ t. entry_good k side.client side.opened side.past o.connection o.connection w.sent (entry (to k) side tick id (speech (is_again o.step) s)) (live l cl) refl (λ x. refl) ((st cl).said s e),
+        ));
+        says_last = λ s e l tick id. push k (older side o.connection) closed w.sent (entry (to k) (older side o.connection) tick id (speech (is_again o.step) s)) last (λ cl. (
+          λ f. absurd (cc),
+          λ t. entry_good k side.client side.opened (side.past ++ era_of o.connection ∷ []) closed o.connection w.sent (entry (to k) (older side o.connection) tick id (speech (is_again o.step) s)) (last cl) refl (λ x. absurd (cc)) ((st cl).said s e),
+        ));
+      }
+
+  pub segment : (w : World) (old : Connection) (numbers : List ℕ) (now : Connection → Now) (k j : ℕ) (side : Side) (e : Sent) → is_live old.state ≡ true → FitConn old → All IsWord numbers → ((c : Connection) → FitConn c → IsNow (now c)) →
+      slice_get w.sent j ≡ Some e → e.who ≡ from k → (is_clean side ≡ true → e.epoch ≡ length side.past) → G k side old w.sent → Steps m G other reset evict mark w (asked m now (on_segment m old numbers (seg e))) k side
+  segment w old numbers now k j side e lv f n is sent who fresh g =
+      steps_by w old (asked m now (on_segment m old numbers (seg e))) k side lv g (λ cl.
+      asked_good m pages lawful side.opened side.client now old (on_segment m old numbers (seg e))
+      (on_segment_good m pages lawful side.opened side.client e.epoch old numbers (seg e) (g cl).steady ((g cl).of_client j e sent who).said ((g cl).connection lv) lv))
+
+  pub tick : (w : World) (old : Connection) (numbers : List ℕ) (now : Connection → Now) (k : ℕ) (side : Side) → is_live old.state ≡ true → FitConn old → All IsWord numbers → ((c : Connection) → FitConn c → IsNow (now c)) →
+      G k side old w.sent → Steps m G other reset evict mark w (asked m now (on_tick m old numbers)) k side
+  tick w old numbers now k side lv f n is g =
+      steps_by w old (asked m now (on_tick m old numbers)) k side lv g (λ cl.
+      asked_good m pages lawful side.opened side.client now old (on_tick m old numbers) (on_tick_good m pages lawful side.opened side.client old numbers ((g cl).connection lv)))
+
+  pub plain_is : (s : PlainSegment) → is_plain_syn s ≡ true → s.flags ≡ SYN
+  plain_is s h = eqb-true s.flags SYN h
+
+  pub born_by : (side : Side) (e : Sent) → ClientSaid side.client side.opened e.epoch (seg e) → (seg e).flags ≡ SYN → IsSyn side.client side.opened e.epoch (seg e)
+  born_by side e (said_reset r) sy = absurd (let z : has_rst (seg e).flags ≡ false = ap has_rst sy in cc)
+  born_by side e (said_syn y) sy = y
+  born_by side e (said_data d) sy = absurd (let z : has_syn (seg e).flags ≡ true = ap has_syn sy in let y : has_syn (seg e).flags ≡ false = d.no_syn in cc)
+
+  pub birth : (w : World) (first : ℕ) (sockets : Sockets) (k j : ℕ) (side : Side) (e : Sent) → slice_get w.sent j ≡ Some e → e.who ≡ from k → (is_clean side ≡ true → e.epoch ≡ length side.past) → is_plain_syn (seg e) ≡ true → FitConn (accepted first sockets (seg e)) → G k side closed w.sent →
+      (tick id : ℕ) → G k side (accepted first sockets (seg e)) (w.sent ++ entry (to k) side tick id (speech false (syn_ack (accepted first sockets (seg e)))) ∷ [])
+  birth w first sockets k j side e sent who fresh plain fit g tick id =
+      let c : Connection = accepted first sockets (seg e) in
+      let good : G k side c w.sent = λ cl. (let y = born_by side e ((g cl).of_client j e sent who).said (plain_is (seg e) plain) in
+      view_born m pages lawful k side.client side.opened side.past closed c w.sent (g cl) refl refl
+      record { peer_first = y.seq; state = record { taken = refl; len = refl; captures = refl; acked = refl } } (λ o p. subst (λ n. n ≤ o) (fresh cl) (y.before o p))) in
+      push k side c w.sent (entry (to k) side tick id (speech false (syn_ack c))) good
+      (λ cl. (λ f. absurd (cc), λ t. entry_good k side.client side.opened side.past c c w.sent (entry (to k) side tick id (speech false (syn_ack c))) (good cl) refl (λ x. refl) (says_syn m pages lawful side.opened side.client c refl refl)))
+
+  took_by : (w : World) (k : ℕ) (base : Side) (c : Connection) (step : ClientStep) (fit : (o : ℕ) → All IsMoment (era base.past c o).captures) → (is_clean base ≡ true → Good pages k base.client base.opened base.past c w.sent) →
+      (is_clean base ≡ true → Took_it m pages lawful base.past c fit base.client base.opened step) → Takes m G other reset evict mark w k base c step
+  took_by w k base c step fit g t =
+      let good : G k (with_client base step.client) c w.sent = λ cl. (let x = t cl in subst (λ o. Good pages k step.client o base.past c w.sent) x.good.next_is (view_client m pages lawful k base.client base.opened x.next base.past c w.sent step (g cl) x.good)) in
+      record {
+        quiet = λ n. good;
+        says = λ s e tick. push k (with_client base step.client) c w.sent (entry (from k) (with_client base step.client) tick 0 (speech false s)) good
+            (λ cl. (λ f. (let x = t cl in record { time = omega arith; said = subst (λ o. ClientSaid step.client o (length base.past) s) x.good.next_is (x.good.said s e) }), λ z. absurd (cc)));
+      }
+
+  pub took : (w : World) (k j : ℕ) (side : Side) (c : Connection) (number : ℕ) (e : Sent) → ((o : ℕ) → All IsMoment (era side.past c o).captures) → slice_get w.sent j ≡ Some e → e.who ≡ to k → G k side c w.sent →
+      Takes m G other reset evict mark w k (marked side number e) c (client_takes side.client (seg e))
+  took w k j side c number e fit sent who g =
+      took_by w k (marked side number e) c (client_takes side.client (seg e)) fit (λ cl. g (clean_before side number e cl).0)
+      (λ cl. let a = clean_before side number e cl in let h = g a.0 in
+      client_takes_good m pages lawful side.past c fit side.client side.opened e h.steady h.opened_good a.1 (h.of_node j e sent who))
+
+  abbrev pub Own : (AbstractClient → ClientStep) → Type 0
+  Own act = (w : World) (k : ℕ) (side : Side) (c : Connection) → ((o : ℕ) → All IsMoment (era side.past c o).captures) → G k side c w.sent → Takes m G other reset evict mark w k side c (act side.client)
+
+  pub own_open : Own client_opens
+  own_open w k side c fit g = took_by w k side c (client_opens side.client) fit g (λ cl. opens_by_good m pages lawful side.past c fit side.client.state side.client side.opened refl (g cl).steady (g cl).opened_good)
+
+  pub own_again : Own client_again
+  own_again w k side c fit g = took_by w k side c (client_again side.client) fit g (λ cl. again_by_good m pages lawful side.past c fit side.client.state side.client side.opened refl (g cl).steady (g cl).opened_good)
+
+  pub own_close : Own client_closes
+  own_close w k side c fit g = took_by w k side c (client_closes side.client) fit g (λ cl. closes_by_good m pages lawful side.past c fit side.client.state side.client side.opened refl (g cl).steady (g cl).opened_good)
+
+  pub own_abort : Own client_aborts
+  own_abort w k side c fit g = took_by w k side c (client_aborts side.client) fit g (λ cl. aborts_by_good m pages lawful side.past c fit side.client.state side.client side.opened refl (g cl).steady (g cl).opened_good)
+
+  pub own_window : (x : ℕ) → Own (tells_window x)
+  own_window x w k side c fit g = took_by w k side c (tells_window x side.client) fit g (λ cl. window_good m pages lawful side.past c fit side.client x side.opened (g cl).steady (g cl).opened_good)
+
+  fresh_good : (k : ℕ) (p : Planned) (c : Connection) → is_live c.state ≡ false → IsPlanned p → G k (fresh_side p) c []
+  fresh_good k p c l is cl = record {
+    steady = record { short = is.short; low = is.first; out_fits = omega arith };
+    opened_good = record { early = refl; nothing = refl };
+    connection = λ x. absurd (cc);
+    of_client = λ j e x y. absurd (cc);
+    of_node = λ j e x y. absurd (cc);
+  }
+
+  pub opening_framed : (addr : Addr) (numbers : List ℕ) (plan : List Planned) → IsPlan plan → Framed m G other reset evict mark (opening_world addr numbers plan)
+  opening_framed addr numbers plan is = record {
+    apart = opening_apart plan is;
+    single = λ p i j x y a b u v. absurd (let z = none_serves 10 p i x a in cc);
+    each = λ k side x. (let p = get_map fresh_side plan k side x in
+        let e : serving (sockets_of side) (replicate 10 closed) ≡ closed = serving_free (replicate 10 closed) (sockets_of side) (none_serves 10 (sockets_of side)) in
+        subst (λ (o : Side). G k o (serving (sockets_of side) (replicate 10 closed)) []) p.is (fresh_good k p.from (serving (sockets_of side) (replicate 10 closed)) (ap (λ (z : Connection). is_live z.state) e) (is.each k p.from p.get)));
+  }
+
+  pub all_good : (w : World) → IsReached m pages w → Framed m G other reset evict mark w
+  all_good w r = reached m pages lawful (λ v. Framed m G other reset evict mark v)
+      (λ served v act harm g fits. does_framed m G other reset evict mark pages lawful served segment tick birth took own_open own_again own_close own_abort own_window v act harm g fits)
+      opening_framed w r
+
+  not_early : (st : ClientState) → is_early st ≡ true → has_closed st ≡ true → ⊥
+  not_early Rattle.link_client.specs.declared.client_state.ClientState.TheVariants.Idle h e = cc
+  not_early Rattle.link_client.specs.declared.client_state.ClientState.TheVariants.Opening h e = cc
+  not_early Rattle.link_client.specs.declared.client_state.ClientState.TheVariants.Reset h e = cc
+  not_early Rattle.link_client.specs.declared.client_state.ClientState.TheVariants.Opened h e = cc
+  not_early Rattle.link_client.specs.declared.client_state.ClientState.TheVariants.Closing h e = cc
+  not_early Rattle.link_client.specs.declared.client_state.ClientState.TheVariants.Closed h e = cc
+  not_early Rattle.link_client.specs.declared.client_state.ClientState.TheVariants.Ended h e = cc
+
+  served_by : (w : World) (side : Side) (o : Option ℕ) → side.opened ≡ o → OpenedGood pages side.client side.past (serving (sockets_of side) w.node.connections) o → IsServed pages w side
+  served_by w side None q h = record {
+    prefix = (let p : IsPrefixOf [] (page_of pages w side) = record { rest = page_of pages w side; joined = refl } in subst (λ x. IsPrefixOf x (page_of pages w side)) (sym h.nothing) p);
+    all = λ e. absurd (not_early side.client.state h.early e);
+    whole = λ e. absurd (not_early side.client.state h.early e);
+  }
+  served_by w side (Some o) q h =
+      let c : Connection = serving (sockets_of side) w.node.connections in
+      let k : captures_of w side ≡ (era side.past c o).captures = ap (λ x. captures_in x side.past c) q in
+      let p : page_of pages w side ≡ pages.text side.client.request (era side.past c o).captures = ap (λ x. pages.text side.client.request x) k in
+      record {
+        prefix = subst (λ x. IsPrefixOf side.client.received x) (sym p) (part_prefix (pages.text side.client.request (era side.past c o).captures) side.client.received h.part);
+        all = λ e. h.part.same ∙ ap (λ n. take n (pages.text side.client.request (era side.past c o).captures)) (h.all e).end ∙ take-length (pages.text side.client.request (era side.past c o).captures) ∙ sym p;
+        whole = λ e. ap (λ x. pages.whole side.client.request x) k ∙ (h.all e).whole;
+      }
+
+pub prefix_and_whole : PrefixAndWhole
+prefix_and_whole m pages lawful w r k side x c = served_by m pages lawful w side side.opened refl ((all_good m pages lawful w r).each k side x c).opened_good

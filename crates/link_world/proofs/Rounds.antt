@@ -1,0 +1,131 @@
+-- A round with one datagram under way, and what its delivery leaves.
+use Rattle.std.proofs.Common.{◌≡◌, ℕ, suc, ◌+◌, ◌-◌, ◌≤◌, max, Bool, true, false, if◌then◌else◌, List, [], ◌∷◌, ◌++◌, length, map, refl, ap, ◌∙◌, arith, Option, Some, None, Result, Ok, Err, slice_get, length-append}
+use Rattle.std.proofs.lemmas.Bool.{le-ltb}
+use Rattle.app_events.specs.Part.{Meaning}
+use Rattle.tcp_segment.specs.Segments.{PlainSegment}
+use Rattle.tcp_machine.specs.Connection.{same_sockets}
+use Rattle.uip_node.specs.Events.Reply.{Tcp}
+use Rattle.uip_node.specs.Counters.{ticks_of}
+use Rattle.uip_node.specs.Node.{AbstractNode, NodeStep, arrives}
+use Rattle.link_client.specs.Client.{AbstractClient, ClientStep, client_takes}
+use Rattle.link_world.specs.World.{World, Side, Sent, numbered, sockets_of, becomes_opened, posts, delivers, gives, client_stepped, node_stepped}
+use Rattle.link_world.specs.World.Content.{OfSegment}
+use Rattle.link_world.specs.Acts.{does, no_datagram, or_full, fault_of, done_or, acts, and_then, runs}
+use Rattle.link_world.specs.Schedule.{numbers_from, mark_after, with_mark, plays_line}
+use Rattle.link_world.specs.declared.act.Act.{Act}
+use Rattle.link_schedule.specs.declared.event.Event.TheVariants.{Round}
+use Rattle.link_world.specs.declared.step_fault.StepFault.{StepFault}
+use Rattle.link_world.specs.declared.step_fault.StepFault.TheVariants.{Full}
+use Rattle.link_world.specs.declared.who.Who.{Who}
+use Rattle.link_world.specs.declared.who.Who.TheVariants.{FromClient, FromNode}
+use Rattle.link_world.proofs.SocketPairs.{same_self}
+
+-- the side of a client to which nothing stale came, and whose connection never became CLOSED
+abbrev pub only_side : AbstractClient → Option ℕ → Side
+only_side c opened = record { client = c; past = []; opened = opened; first_stale = None }
+
+-- one client, and one datagram that no round has gone past
+abbrev pub under_way : AbstractNode → Side → List Sent → Sent → World
+under_way node side before e = record { node = node; sides = side ∷ []; sent = before ++ e ∷ []; mark = length before }
+
+-- one client, and none
+abbrev pub at_rest : AbstractNode → Side → List Sent → World
+at_rest node side before = record { node = node; sides = side ∷ []; sent = before; mark = length before }
+
+-- a datagram of the first epoch
+abbrev pub sent_by : Who → ℕ → Bool → ℕ → PlainSegment → Sent
+sent_by who tick again id s = record { who = who; tick = tick; epoch = 0; again = again; content = OfSegment id s }
+
+pub one_longer : {X : Type 0} (xs : List X) (x : X) → length (xs ++ x ∷ []) ≡ suc (length xs)
+one_longer xs x = omega (arith, length-append xs (x ∷ []))
+
+pub last_there : {X : Type 0} (xs : List X) (x : X) → slice_get (xs ++ x ∷ []) (length xs) ≡ Some x
+last_there [] x = refl
+last_there (y ∷ xs) x = last_there xs x
+
+last_numbered : {X : Type 0} (xs : List X) (x : X) (k : ℕ) → k ≡ suc (length xs) → numbered (xs ++ x ∷ []) k ≡ Some x
+last_numbered xs x k e = ap (λ n. numbered (xs ++ x ∷ []) n) e ∙ last_there xs x
+
+-- there is one number above the mark, or none
+one_past : (k n : ℕ) → n ≡ suc k → numbers_from (k + 1) (n - k) ≡ suc k ∷ []
+one_past k n e =
+    let left : n - k ≡ 1 = omega (arith, e) in
+    let next : k + 1 ≡ suc k = omega arith in
+    ap (λ x. numbers_from (k + 1) x) left ∙ ap (λ x. x ∷ []) next
+
+none_past : (k : ℕ) → numbers_from (k + 1) (k - k) ≡ []
+none_past k = let left : k - k ≡ 0 = omega arith in ap (λ x. numbers_from (k + 1) x) left
+
+highest : (k n : ℕ) → k ≤ n → max k n ≡ n
+highest k n h = omega arith
+
+module _ (m : Meaning) (served : ℕ → Bool) where
+  only_act : (r : Result World StepFault) → and_then (runs m served []) r ≡ r
+  only_act (Ok w) = refl
+  only_act (Err f) = refl
+
+  -- there is room for the answer of one delivery
+  has_room : (w : World) (k : ℕ) (e : Sent) → numbered w.sent k ≡ Some e → length w.sent + 1 ≤ 65535 → fault_of w (Act.Give k) ≡ None
+  has_room w k e there room =
+      ap (λ o. or_full w (Act.Give k) (no_datagram o)) there
+      ∙ ap (λ b. if b then Some Full else None) (le-ltb 65535 (length w.sent + 1) room)
+
+  delivered : (w : World) (k : ℕ) (e : Sent) → numbered w.sent k ≡ Some e → length w.sent + 1 ≤ 65535 → acts m served w (Act.Give k) ≡ Ok (delivers m served w k e e.who e.content)
+  delivered w k e there room =
+      ap (λ f. done_or (does m served w (Act.Give k)) f) (has_room w k e there room)
+      ∙ ap (λ o. Ok (gives m served w k o)) there
+
+  pub round_of_one : (node : AbstractNode) (side : Side) (before : List Sent) (e : Sent) → suc (length before) + 1 ≤ 65535 →
+      plays_line m served (under_way node side before e) Round
+      ≡ Ok (record (delivers m served (under_way node side before e) (suc (length before)) e e.who e.content) { mark = length (before ++ e ∷ []) })
+  round_of_one node side before e room =
+      let w : World = under_way node side before e in
+      let k : ℕ = suc (length before) in
+      let more : length (before ++ e ∷ []) ≡ k = one_longer before e in
+      let mark : max (length before) (length (before ++ e ∷ [])) ≡ length (before ++ e ∷ []) = highest (length before) (length (before ++ e ∷ [])) (omega (arith, more)) in
+      let there : numbered (before ++ e ∷ []) k ≡ Some e = last_there before e in
+      let result : acts m served w (Act.Give k) ≡ Ok (delivers m served w k e e.who e.content) = delivered w k e there (omega (arith, more, room)) in
+      ap (λ ks. with_mark (mark_after w Round) (runs m served (map Act.Give ks) w)) (one_past (length before) (length (before ++ e ∷ [])) more)
+      ∙ ap (λ r. with_mark (mark_after w Round) r) (only_act (acts m served w (Act.Give k)) ∙ result)
+      ∙ ap (λ n. with_mark n (Ok (delivers m served w k e e.who e.content))) mark
+
+  pub round_of_none : (node : AbstractNode) (side : Side) (sent : List Sent) → plays_line m served (at_rest node side sent) Round ≡ Ok (at_rest node side sent)
+  round_of_none node side sent =
+      let w : World = at_rest node side sent in
+      ap (λ ks. with_mark (mark_after w Round) (runs m served (map Act.Give ks) w)) (none_past (length sent))
+      ∙ ap (λ n. with_mark n (Ok w)) (highest (length sent) (length sent) (omega arith))
+
+  -- What a delivery to the node leaves, where the connection answers and lives on.
+  pub node_answers : (n d : AbstractNode) (c : AbstractClient) (opened : Option ℕ) (before : List Sent) (tick id number : ℕ) (again : Bool) (s t : PlainSegment) → suc (length before) + 1 ≤ 65535 →
+      arrives m served n (sockets_of (only_side c opened)) s ≡ record { node = d; sent = Some (Tcp (sockets_of (only_side c opened)) number again t); gone = None } →
+      plays_line m served (under_way n (only_side c opened) before (sent_by (FromClient 1) tick false id s)) Round
+      ≡ Ok (under_way d (only_side c opened) (before ++ sent_by (FromClient 1) tick false id s ∷ []) (sent_by (FromNode 1) (ticks_of d.past) again number t))
+  node_answers n d c opened before tick id number again s t room e =
+      let side : Side = only_side c opened in
+      let first : Sent = sent_by (FromClient 1) tick false id s in
+      let all : List Sent = before ++ first ∷ [] in
+      let own : same_sockets (sockets_of side) (sockets_of side) ≡ true = same_self (sockets_of side) in
+      round_of_one n side before first room
+      ∙ ap (λ (r : NodeStep). Ok (record (node_stepped (under_way n side before first) r) { mark = length all })) e
+      ∙ ap (λ b. Ok (record (posts (record (under_way n side before first) { node = d }) (FromNode (if b then 1 else 0)) again (OfSegment number t)) { mark = length all })) own
+
+  -- What a delivery to the client leaves, where it answers, and where it is silent.
+  pub client_answers : (n : AbstractNode) (c d : AbstractClient) (opened : Option ℕ) (before : List Sent) (tick id : ℕ) (again : Bool) (s t : PlainSegment) → suc (length before) + 1 ≤ 65535 →
+      client_takes c s ≡ record { client = d; sent = Some t } →
+      plays_line m served (under_way n (only_side c opened) before (sent_by (FromNode 1) tick again id s)) Round
+      ≡ Ok (under_way n (only_side d (if becomes_opened c.state d.state then Some 0 else opened)) (before ++ sent_by (FromNode 1) tick again id s ∷ []) (sent_by (FromClient 1) (ticks_of n.past) false 0 t))
+  client_answers n c d opened before tick id again s t room e =
+      let side : Side = only_side c opened in
+      let first : Sent = sent_by (FromNode 1) tick again id s in
+      round_of_one n side before first room
+      ∙ ap (λ (r : ClientStep). Ok (record (client_stepped (under_way n side before first) 1 side r) { mark = length (before ++ first ∷ []) })) e
+
+  pub client_is_silent : (n : AbstractNode) (c d : AbstractClient) (opened : Option ℕ) (before : List Sent) (tick id : ℕ) (again : Bool) (s : PlainSegment) → suc (length before) + 1 ≤ 65535 →
+      client_takes c s ≡ record { client = d; sent = None } →
+      plays_line m served (under_way n (only_side c opened) before (sent_by (FromNode 1) tick again id s)) Round
+      ≡ Ok (at_rest n (only_side d (if becomes_opened c.state d.state then Some 0 else opened)) (before ++ sent_by (FromNode 1) tick again id s ∷ []))
+  client_is_silent n c d opened before tick id again s room e =
+      let side : Side = only_side c opened in
+      let first : Sent = sent_by (FromNode 1) tick again id s in
+      round_of_one n side before first room
+      ∙ ap (λ (r : ClientStep). Ok (record (client_stepped (under_way n side before first) 1 side r) { mark = length (before ++ first ∷ []) })) e

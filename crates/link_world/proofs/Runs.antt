@@ -1,0 +1,121 @@
+-- What every act keeps holds of every world that is reached.
+use Rattle.std.specs.List.{All}
+use Rattle.std.proofs.Common.{◌≡◌, ℕ, zero, suc, ◌⊎◌, inl, inr, Bool, List, [], ◌∷◌, replicate, refl, subst, arith, Option, Some, None, Result, Ok, Err, slice_get}
+use Rattle.uip_wire.specs.declared.addr.Addr.{Addr}
+use Rattle.app_events.specs.Part.{Meaning}
+use Rattle.app_events.specs.Pages.{Pages, IsPaged, IsMoment, IsWord, IsAddr}
+use Rattle.tcp_machine.specs.Connection.{Connection, closed}
+use Rattle.link_world.specs.World.{World, Side}
+use Rattle.link_world.specs.Acts.{does, fault_of, done_or, acts, and_then, runs}
+use Rattle.link_world.specs.declared.act.Act.{Act}
+use Rattle.link_world.specs.declared.step_fault.StepFault.{StepFault}
+use Rattle.link_world.specs.History.{Planned, IsPlanned, IsPlan, fresh_side, opening_world}
+use Rattle.link_world.specs.Headline.{IsAct, IsPlainAct, HasBytes, IsReached}
+use Rattle.link_world.proofs.Tables.{get_map}
+use Rattle.link_world.proofs.Fits.{FitConn, all_nil}
+use Rattle.link_world.proofs.FitWorlds.{FitSide, FitWorld, closed_fits}
+use Rattle.link_world.proofs.FitActs.{does_fit}
+use Rattle.link_world.proofs.Harmless.{Harmless, plain_harmless}
+use Rattle.link_world.proofs.Sound.{Lens, closed_lens, IsSoundClient}
+use Rattle.link_world.proofs.SoundWorlds.{SoundWorld, does_sound}
+use Rattle.link_world.proofs.Damages.{act_harmless}
+
+-- the opening world
+pub all_closed : (n k : ℕ) (x : Connection) → slice_get (replicate n closed) k ≡ Some x → closed ≡ x
+all_closed zero k x h = absurd (cc)
+all_closed (suc n) zero x h = let e : closed ≡ x = cc in e
+all_closed (suc n) (suc k) x h = all_closed n k x h
+
+opening_fits : (addr : Addr) (numbers : List ℕ) (plan : List Planned) → All IsWord numbers → IsPlan plan → FitWorld (opening_world addr numbers plan)
+opening_fits addr numbers plan n is = record {
+  node = record { size = omega arith; conns = λ i c x. subst (λ z. FitConn z) (all_closed 10 i c x) closed_fits; numbers = n };
+  sides = λ k side x. (let p = get_map fresh_side plan k side x in let g : IsPlanned p.from = is.each k p.from p.get in
+      subst (λ (o : Side). FitSide o) p.is record { eras = λ i. all_nil IsMoment; addr = g.addr; port = g.port });
+}
+
+opening_sound : (addr : Addr) (numbers : List ℕ) (plan : List Planned) → IsAddr addr → IsPlan plan → SoundWorld (opening_world addr numbers plan)
+opening_sound addr numbers plan a is = record {
+  addr = a;
+  conns = λ i c x. subst (λ z. Lens z) (all_closed 10 i c x) closed_lens;
+  sides = λ k side x. (let p = get_map fresh_side plan k side x in let g : IsPlanned p.from = is.each k p.from p.get in
+      subst (λ (o : Side). IsSoundClient o.client) p.is record {
+        addr = g.addr;
+        port = g.port;
+        server = g.server;
+        server_port = g.server_port;
+        first = g.first;
+        offered = g.offered;
+        seg = g.seg.1;
+        request = g.all_bytes;
+        expected = omega arith;
+        window = omega arith;
+        out = omega arith;
+      });
+  sent = λ k e x. absurd (cc);
+}
+
+-- the acts in turn, for any fact that each accepted one of them keeps
+done_world : (v w : World) (f : Option StepFault) → done_or v f ≡ Ok w → v ≡ w
+done_world v w None e = cc
+done_world v w (Some f) e = absurd (cc)
+
+no_fault : (v w : World) (f : Option StepFault) → done_or v f ≡ Ok w → f ≡ None
+no_fault v w None e = refl
+no_fault v w (Some f) e = absurd (cc)
+
+module _ (m : Meaning) (served : ℕ → Bool) (Fine : Act → Type 0) (P : World → Type 0) (step : (w : World) (act : Act) → Fine act → fault_of w act ≡ None → P w → P (does m served w act)) where
+  one_keeps : (v w : World) (act : Act) (more : List Act) (r : Result World StepFault) → acts m served v act ≡ r → Fine act → P v →
+      ((u : World) → P u → runs m served more u ≡ Ok w → P w) → and_then (runs m served more) r ≡ Ok w → P w
+  one_keeps v w act more (Ok u) q f p rest e =
+      rest u (subst P (done_world (does m served v act) u (fault_of v act) q) (step v act f (no_fault (does m served v act) u (fault_of v act) q) p)) e
+  one_keeps v w act more (Err f) q g p rest e = absurd (cc)
+
+  run_keeps : (schedule : List Act) (v w : World) → All Fine schedule → P v → runs m served schedule v ≡ Ok w → P w
+  run_keeps [] v w a p e = subst P (let z : v ≡ w = cc in z) p
+  run_keeps (act ∷ more) v w a p e =
+      one_keeps v w act more (acts m served v act) refl (a 0 act (omega arith)) p
+      (λ u q. run_keeps more u w (λ k d l. a (suc k) d (omega (arith, l))) q) e
+
+module _ (m : Meaning) (pages : Pages) (lawful : IsPaged m pages) (served : ℕ → Bool) (P : World → Type 0)
+    (step : (w : World) (act : Act) → Harmless m served w act → P w → FitWorld w → P (does m served w act)) where
+  record Kept (w : World) : Type 0 where
+    fact : P w
+    fits : FitWorld w
+    sound : HasBytes pages → SoundWorld w
+
+  abbrev Fine : Act → Type 0
+  Fine act = IsAct act × (HasBytes pages ⊎ IsPlainAct act)
+
+  harmless : (w : World) (act : Act) → Fine act → fault_of w act ≡ None → Kept w → Harmless m served w act
+  harmless w act f n k = elim f.1 [ inl page ↦ act_harmless m served w act f.0 n (k.sound page) | inr plain ↦ plain_harmless m served w act plain ]
+
+  act_keeps : (w : World) (act : Act) → Fine act → fault_of w act ≡ None → Kept w → Kept (does m served w act)
+  act_keeps w act f n k =
+      let h : Harmless m served w act = harmless w act f n k in
+      record {
+        fact = step w act h k.fact k.fits;
+        fits = does_fit m pages lawful served w act h k.fits;
+        sound = λ page. does_sound m pages lawful page served w act f.0 h k.fits (k.sound page);
+      }
+
+  fine : (schedule : List Act) → All IsAct schedule → HasBytes pages ⊎ All IsPlainAct schedule → All Fine schedule
+  fine schedule a b k d l = (a k d l, elim b [ inl page ↦ inl page | inr plain ↦ inr (plain k d l) ])
+
+  schedule_keeps : (addr : Addr) (numbers : List ℕ) (plan : List Planned) (schedule : List Act) (w : World) → IsAddr addr → All IsWord numbers → IsPlan plan → All Fine schedule →
+      runs m served schedule (opening_world addr numbers plan) ≡ Ok w → P (opening_world addr numbers plan) → Kept w
+  schedule_keeps addr numbers plan schedule w a n is f e p =
+      run_keeps m served Fine Kept act_keeps schedule (opening_world addr numbers plan) w f
+      record { fact = p; fits = opening_fits addr numbers plan n is; sound = λ page. opening_sound addr numbers plan a is } e
+
+-- any fact that each harmless act keeps
+pub reached : (m : Meaning) (pages : Pages) → IsPaged m pages → (P : World → Type 0) → ((served : ℕ → Bool) (w : World) (act : Act) → Harmless m served w act → P w → FitWorld w → P (does m served w act)) →
+    ((addr : Addr) (numbers : List ℕ) (plan : List Planned) → IsPlan plan → P (opening_world addr numbers plan)) → (w : World) → IsReached m pages w → P w
+reached m pages lawful P step opening w r =
+    (schedule_keeps m pages lawful r.served P (step r.served) r.addr r.numbers r.plan r.schedule w r.is_addr r.in_range r.is_plan
+    (fine m pages lawful r.served P (step r.served) r.schedule r.are_acts r.bytes) r.accepted (opening r.addr r.numbers r.plan r.is_plan)).fact
+
+-- every world that is reached is sound
+pub reached_sound : (m : Meaning) (pages : Pages) → IsPaged m pages → HasBytes pages → (w : World) → IsReached m pages w → SoundWorld w
+reached_sound m pages lawful page w r =
+    (schedule_keeps m pages lawful r.served (λ v. Unit {0}) (λ v act h p f. tt) r.addr r.numbers r.plan r.schedule w r.is_addr r.in_range r.is_plan
+    (fine m pages lawful r.served (λ v. Unit {0}) (λ v act h p f. tt) r.schedule r.are_acts r.bytes) r.accepted tt).sound page

@@ -1,0 +1,407 @@
+-- Same bytes: what is sent again while it is outstanding is the same, and is marked so.
+use Rattle.std.specs.List.{All}
+use Rattle.std.proofs.Common.{◌≡◌, ℕ, suc, ◌+◌, ◌<◌, ◌≤◌, min, Bool, true, false, ◌⊎◌, inl, inr, List, [], ◌∷◌, ◌++◌, length, map, replicate, refl, sym, ap, ◌∙◌, subst, arith, Option, Some, None, slice_get, eqb, length-append, if◌then◌else◌}
+use Rattle.std.proofs.lemmas.Grind.{common_steps}
+use Rattle.uip_wire.specs.Numbers.{wrap}
+use Rattle.uip_wire.specs.declared.addr.Addr.{Addr}
+use Rattle.uip_wire.specs.declared.sizes.TheConstants.{OWN_MSS}
+use Rattle.tcp_segment.specs.Segments.{PlainSegment, has_syn, has_fin, has_rst}
+use Rattle.app_events.specs.Part.{Meaning}
+use Rattle.app_events.specs.Pages.{Pages, IsPaged, IsMoment, IsNow, IsWord}
+use Rattle.app_events.specs.declared.now.Now.{Now}
+use Rattle.app_events.specs.declared.state.State.{State}
+use Rattle.app_events.specs.declared.state.State.TheVariants.{Closed, SynRcvd, Established, CloseWait, FinWait1, FinWait2, Closing, TimeWait, LastAck}
+use Rattle.tcp_machine.specs.Connection.{Sockets, Connection, closed, is_live}
+use Rattle.tcp_machine.specs.Segments.{segment_of, is_again, has_place, is_plain_syn, syn_ack}
+use Rattle.tcp_machine.specs.Ask.{Outcome, asked}
+use Rattle.tcp_machine.specs.OnSegment.{first_mss, accepted, on_segment}
+use Rattle.tcp_machine.specs.OnTick.{on_tick}
+use Rattle.link_client.specs.Client.{ClientStep, client_takes}
+use Rattle.link_world.specs.World.{World, Side, Sent, Content, sockets_of, with_client, marked, is_clean}
+use Rattle.link_world.specs.World.Content.{OfSegment, OfPing, OfEcho}
+use Rattle.link_world.specs.History.{era_of, serving, Planned, IsPlan, opening_world}
+use Rattle.link_world.specs.Headline.{Alike, IsReached, SameBytes, AgainExactly}
+use Rattle.link_world.proofs.Basics.{choose, same_place, get_push, nothing_placed, only_some}
+use Rattle.link_world.proofs.Basics.AtEnd.{older, newest}
+use Rattle.link_world.proofs.Good.{seg, segment_in, from, to}
+use Rattle.link_world.proofs.Views.{length_push}
+use Rattle.link_world.proofs.Tables.{serving_free}
+use Rattle.link_world.proofs.Fits.{FitConn, FitOut, asked_fits, on_segment_fits, on_tick_fits, prepared_captures}
+use Rattle.link_world.proofs.FitWorlds.{closed_fits}
+use Rattle.link_world.proofs.Told.{Safe, SafeState, IsDue, Onto, Tells, StepTells, OutTells, OutTold, due, alike_trans, alike_sym, alike_refl, asked_tells, segment_tells, tick_tells}
+use Rattle.link_world.proofs.Prefix.{none_serves, opening_apart}
+use Rattle.link_world.proofs.Runs.{reached}
+use Rattle.link_world.proofs.Any.{Framed, Steps, Takes, speech, entry, does_framed}
+use Rattle.link_world.proofs.Any
+
+not_zero : (w : ℕ) → eqb w 0 ≡ false → 0 < w
+not_zero w h = grind (arith, common_steps)
+
+same_or_more : (a b : ℕ) → a ≤ b → (a ≡ b) ⊎ (a < b)
+same_or_more a b h = grind arith
+
+-- the list with one more at its end keeps what it had
+pub get_older : {X : Type 0} (xs : List X) (y x : X) (k : ℕ) → slice_get xs k ≡ Some x → slice_get (xs ++ y ∷ []) k ≡ Some x
+get_older [] y x k h = absurd (cc)
+get_older (a ∷ xs) y x Rattle.std.proofs.Common.zero h = h
+get_older (a ∷ xs) y x (suc k) h = get_older xs y x k h
+
+get_newest : {X : Type 0} (xs : List X) (y : X) → slice_get (xs ++ y ∷ []) (length xs) ≡ Some y
+get_newest [] y = refl
+get_newest (a ∷ xs) y = get_newest xs y
+
+get_inside : {X : Type 0} (xs : List X) (x : X) (k : ℕ) → slice_get xs k ≡ Some x → k < length xs
+get_inside [] x k h = absurd (cc)
+get_inside (a ∷ xs) x Rattle.std.proofs.Common.zero h = omega arith
+get_inside (a ∷ xs) x (suc k) h = let i = get_inside xs x k h in omega (arith, i)
+
+-- an earlier datagram at the same number
+pub record Before (sent : List Sent) (e : Sent) (i : ℕ) : Type 0 where
+  pub place : ℕ
+  pub earlier : place < i
+  pub it : Sent
+  pub there : slice_get sent place ≡ Some it
+  pub who : it.who ≡ e.who
+  pub epoch : it.epoch ≡ e.epoch
+  pub placed : has_place (seg it) ≡ true
+  pub seq : (seg it).seq ≡ (seg e).seq
+  pub alike : Alike (seg it) (seg e)
+
+before_more : (sent : List Sent) (new e : Sent) (i : ℕ) → Before sent e i → Before (sent ++ new ∷ []) e i
+before_more sent new e i b = record { place = b.place; earlier = b.earlier; it = b.it; there = get_older sent new b.it b.place b.there; who = b.who; epoch = b.epoch; placed = b.placed; seq = b.seq; alike = b.alike }
+
+pub record IsOld (c : Connection) (s : PlainSegment) : Type 0 where
+  pub at : ℕ
+  pub seq : s.seq ≡ wrap (c.first + at)
+  pub past : at < c.acked
+
+module _ (m : Meaning) (pages : Pages) (lawful : IsPaged m pages) where
+  -- what is outstanding was sent
+  pub record WasSent (k : ℕ) (side : Side) (c : Connection) (sent : List Sent) : Type 0 where
+    pub place : ℕ
+    pub it : Sent
+    pub there : slice_get sent place ≡ Some it
+    pub who : it.who ≡ to k
+    pub epoch : it.epoch ≡ length side.past
+    pub placed : has_place (seg it) ≡ true
+    pub due_now : IsDue m pages lawful c (seg it)
+
+  pub record Told (k : ℕ) (side : Side) (c : Connection) (sent : List Sent) : Type 0 where
+    pub fit : FitConn c
+    pub safe : is_live c.state ≡ true → Safe m pages lawful c
+    pub was_sent : is_live c.state ≡ true → 0 < c.len → WasSent k side c sent
+    pub time : (j : ℕ) (e : Sent) → slice_get sent j ≡ Some e → e.who ≡ to k → e.epoch ≤ length side.past
+    pub tells : (j : ℕ) (e : Sent) → slice_get sent j ≡ Some e → e.who ≡ to k → has_place (seg e) ≡ true → e.epoch ≡ length side.past → (is_live c.state ≡ true) × (IsOld c (seg e) ⊎ IsDue m pages lawful c (seg e))
+    pub repeats : (i : ℕ) (e : Sent) → slice_get sent i ≡ Some e → e.who ≡ to k → e.again ≡ true → Before sent e i
+    pub agree : (i j : ℕ) (e f : Sent) → slice_get sent i ≡ Some e → slice_get sent j ≡ Some f → j < i → e.who ≡ to k → f.who ≡ to k → e.epoch ≡ f.epoch →
+        has_place (seg e) ≡ true → has_place (seg f) ≡ true → (seg e).seq ≡ (seg f).seq → (e.again ≡ true) × Alike (seg f) (seg e)
+
+  pub off_low : (c : Connection) (st : State) → All IsMoment c.part.captures → SafeState m pages lawful c st → c.acked < 4294967296
+  off_low c Closed f h = absurd h
+  off_low c SynRcvd f h = omega (arith, h.acked)
+  off_low c Established f h = (let s = lawful.short c.part.heard c.part.captures f in omega (arith, h.fits, h.count, s))
+  off_low c CloseWait f h = (let s = lawful.short c.part.heard c.part.captures f in let a = h.text.fits in let b = h.text.count in omega (arith, a, b, s))
+  off_low c FinWait1 f h = omega (arith, h.low)
+  off_low c FinWait2 f h = omega (arith, h.low)
+  off_low c Closing f h = omega (arith, h.low)
+  off_low c TimeWait f h = omega (arith, h.low)
+  off_low c LastAck f h = omega (arith, h.low)
+
+  -- a list with one more, of which nothing has to be told
+  record IsSilent (side : Side) (e : Sent) : Type 0 where
+    epoch : e.epoch ≤ length side.past
+    unplaced : has_place (seg e) ≡ true → ⊥
+    unmarked : e.again ≡ true → ⊥
+
+  push_silent : (k : ℕ) (side : Side) (c : Connection) (sent : List Sent) (new : Sent) → Told k side c sent → (new.who ≡ to k → IsSilent side new) → Told k side c (sent ++ new ∷ [])
+  push_silent k side c sent new t q = record {
+    fit = t.fit;
+    safe = t.safe;
+    was_sent = λ l z. (let x = t.was_sent l z in record { place = x.place; it = x.it; there = get_older sent new x.it x.place x.there; who = x.who; epoch = x.epoch; placed = x.placed; due_now = x.due_now });
+    time = λ j e x w. elim (get_push sent new j e x) [ older h ↦ t.time j e h w | newest i h ↦ (let s = (q (ap (λ n. n.who) h ∙ w)).epoch in subst (λ n. n ≤ length side.past) (ap (λ n. n.epoch) h) s) ];
+    tells = λ j e x w p y. elim (get_push sent new j e x) [ older h ↦ t.tells j e h w p y | newest i h ↦ absurd ((q (ap (λ n. n.who) h ∙ w)).unplaced (ap (λ n. has_place (seg n)) h ∙ p)) ];
+    repeats = λ j e x w a. elim (get_push sent new j e x) [ older h ↦ before_more sent new e j (t.repeats j e h w a) | newest i h ↦ absurd ((q (ap (λ n. n.who) h ∙ w)).unmarked (ap (λ n. n.again) h ∙ a)) ];
+    agree = λ i j e f x y l we wf ep pe pf se. elim (get_push sent new i e x) [
+      | older h ↦ elim (get_push sent new j f y) [
+        | older g ↦ t.agree i j e f h g l we wf ep pe pf se
+        | newest b g ↦ absurd ((q (ap (λ n. n.who) g ∙ wf)).unplaced (ap (λ n. has_place (seg n)) g ∙ pf))
+      ]
+      | newest b h ↦ absurd ((q (ap (λ n. n.who) h ∙ we)).unplaced (ap (λ n. has_place (seg n)) h ∙ pe))
+    ];
+  }
+
+  pub other : (k : ℕ) (side : Side) (c : Connection) (sent : List Sent) (e : Sent) → Told k side c sent → (e.who ≡ to k → ⊥) → (e.who ≡ from k → ⊥) → Told k side c (sent ++ e ∷ [])
+  other k side c sent e t n f = push_silent k side c sent e t (λ w. absurd (n w))
+
+  pub reset : (k : ℕ) (side : Side) (c : Connection) (sent : List Sent) (e : Sent) → Told k side c sent → e.epoch ≡ length side.past → has_syn (seg e).flags ≡ false → has_fin (seg e).flags ≡ false → (seg e).text ≡ [] → has_rst (seg e).flags ≡ true → e.again ≡ false → e.who ≡ to k → Told k side c (sent ++ e ∷ [])
+  reset k side c sent e t q a b x rs ag w = push_silent k side c sent e t (λ w. record { epoch = omega (arith, q); unplaced = λ p. nothing_placed (seg e) a b x p; unmarked = λ p. absurd (cc) })
+
+  -- the connection is gone
+  leaves : (k : ℕ) (side : Side) (c d dead : Connection) (sent : List Sent) → is_live dead.state ≡ false → FitConn dead → Told k side c sent → Told k (Any.older side d) dead sent
+  leaves k side c d dead sent l f t = record {
+    fit = f;
+    safe = λ x. absurd (cc);
+    was_sent = λ x. absurd (cc);
+    time = λ j e x w. omega (arith, t.time j e x w, length_push side.past (era_of d));
+    tells = λ j e x w p q. absurd (omega (arith, t.time j e x w, length_push side.past (era_of d), q));
+    repeats = t.repeats;
+    agree = t.agree;
+  }
+
+  pub evict : (k : ℕ) (side : Side) (c : Connection) (sent : List Sent) → is_live c.state ≡ true → Told k side c sent → Told k (Any.older side c) closed sent
+  evict k side c sent l t = leaves k side c c closed sent refl closed_fits t
+
+  same_past : (k : ℕ) (side new : Side) (c : Connection) (sent : List Sent) → new.past ≡ side.past → Told k side c sent → Told k new c sent
+  same_past k side new c sent q t = record {
+    fit = t.fit;
+    safe = t.safe;
+    was_sent = λ l z. (let x = t.was_sent l z in record { place = x.place; it = x.it; there = x.there; who = x.who; epoch = x.epoch ∙ ap length (sym q); placed = x.placed; due_now = x.due_now });
+    time = λ j e x w. subst (λ p. e.epoch ≤ length p) (sym q) (t.time j e x w);
+    tells = λ j e x w p y. t.tells j e x w p (y ∙ ap length q);
+    repeats = t.repeats;
+    agree = t.agree;
+  }
+
+  pub mark : (k : ℕ) (side : Side) (c : Connection) (sent : List Sent) (n : ℕ) (e : Sent) → Told k side c sent → Told k (marked side n e) c sent
+  mark k side c sent n e t = same_past k side (marked side n e) c sent refl t
+
+  -- what was told of c holds of d, into which it goes on, apart from what is outstanding
+  module _ (k : ℕ) (side : Side) (c d : Connection) (sent : List Sent) (t : Told k side c sent) (live : is_live c.state ≡ true) (l : is_live d.state ≡ true) (o : Onto m pages lawful c d) (f : Safe m pages lawful d) (fit : FitConn d) where
+    tells_on : (j : ℕ) (e : Sent) → slice_get sent j ≡ Some e → e.who ≡ to k → has_place (seg e) ≡ true → e.epoch ≡ length side.past → (is_live d.state ≡ true) × (IsOld d (seg e) ⊎ IsDue m pages lawful d (seg e))
+    tells_on j e x w p q = (
+      l,
+      elim (t.tells j e x w p q).1 [
+        | inl a ↦ inl record { at = a.at; seq = a.seq ∙ ap (λ n. wrap (n + a.at)) (sym o.first); past = omega (arith, a.past, o.grows) }
+        | inr n ↦ elim (same_or_more c.acked d.acked o.grows) [
+          | inl s ↦ (let z = o.kept n.len (sym s) in inr record {
+            len = z.0;
+            seq = n.seq ∙ ap (λ x. wrap (x + c.acked)) (sym o.first) ∙ ap (λ x. wrap (d.first + x)) s;
+            alike = alike_trans (seg e) (due m c.state c) (due m d.state d) n.alike (alike_sym (due m d.state d) (due m c.state c) z.1);
+          })
+          | inr y ↦ inl record { at = c.acked; seq = n.seq ∙ ap (λ x. wrap (x + c.acked)) (sym o.first); past = y }
+        ]
+      ],
+    )
+
+    -- what was outstanding and is so still
+    still_sent : 0 < c.len → d.acked ≡ c.acked → WasSent k side d sent
+    still_sent z s =
+        let x = t.was_sent live z in
+        let y = o.kept z s in
+        record {
+          place = x.place;
+          it = x.it;
+          there = x.there;
+          who = x.who;
+          epoch = x.epoch;
+          placed = x.placed;
+          due_now = record {
+            len = y.0;
+            seq = x.due_now.seq ∙ ap (λ n. wrap (n + c.acked)) (sym o.first) ∙ ap (λ n. wrap (d.first + n)) (sym s);
+            alike = alike_trans (seg x.it) (due m c.state c) (due m d.state d) x.due_now.alike (alike_sym (due m d.state d) (due m c.state c) y.1);
+          };
+        }
+
+    moves : (0 < d.len → WasSent k side d sent) → Told k side d sent
+    moves was = record { fit = fit; safe = λ x. f; was_sent = λ x z. was z; time = t.time; tells = tells_on; repeats = t.repeats; agree = t.agree }
+
+    -- a new datagram that has a place
+    module _ (again : Bool) (new : Sent) (who : new.who ≡ to k) (epoch : new.epoch ≡ length side.past) (mark_is : new.again ≡ again) (placed : has_place (seg new) ≡ true) (h : Tells m pages lawful c d again (seg new)) where
+      low : d.acked < 4294967296
+      low = off_low d d.state fit.captures f.state
+
+      -- an earlier datagram at its number is the same, and then this one is a repetition
+      meets : (j : ℕ) (e : Sent) → slice_get sent j ≡ Some e → e.who ≡ to k → has_place (seg e) ≡ true → e.epoch ≡ length side.past → (seg e).seq ≡ (seg new).seq → (again ≡ true) × Alike (seg e) (seg new)
+      meets j e x w p q s =
+          elim (t.tells j e x w p q).1 [
+            | inl a ↦ (let z : a.at ≡ d.acked = same_place d.first a.at d.acked (let g = a.past in omega (arith, g, low, o.grows)) low (ap (λ n. wrap (n + a.at)) o.first ∙ sym a.seq ∙ s ∙ h.due_now.seq) in absurd (let g = a.past in omega (arith, g, o.grows, z)))
+            | inr n ↦ (let cl : c.acked < 4294967296 = omega (arith, low, o.grows) in
+                let z : c.acked ≡ d.acked = same_place d.first c.acked d.acked cl low (ap (λ x. wrap (x + c.acked)) o.first ∙ sym n.seq ∙ s ∙ h.due_now.seq) in
+                let y = o.kept n.len (sym z) in (
+                  must again (λ b. (let g = h.new b n.len in absurd (omega (arith, g, z)))),
+                  alike_trans (seg e) (due m c.state c) (seg new) n.alike
+                      (alike_trans (due m c.state c) (due m d.state d) (seg new) (alike_sym (due m d.state d) (due m c.state c) y.1) (alike_sym (seg new) (due m d.state d) h.due_now.alike)),
+                ))
+          ]
+        where
+          must : (b : Bool) → (b ≡ false → b ≡ true) → b ≡ true
+          must true f = refl
+          must false f = f refl
+
+      before_it : again ≡ true → Before (sent ++ new ∷ []) new (length sent)
+      before_it a =
+          let r = h.repeated a in
+          let x = t.was_sent live r.0 in
+          let s : (seg x.it).seq ≡ (seg new).seq = x.due_now.seq ∙ ap (λ n. wrap (n + c.acked)) (sym o.first) ∙ ap (λ n. wrap (d.first + n)) (sym r.1) ∙ sym h.due_now.seq in
+          record {
+            place = x.place;
+            earlier = get_inside sent x.it x.place x.there;
+            it = x.it;
+            there = get_older sent new x.it x.place x.there;
+            who = x.who ∙ sym who;
+            epoch = x.epoch ∙ sym epoch;
+            placed = x.placed;
+            seq = s;
+            alike = (meets x.place x.it x.there x.who x.placed x.epoch s).1;
+          }
+
+      says_placed : Told k side d (sent ++ new ∷ [])
+      says_placed = record {
+        fit = fit;
+        safe = λ x. f;
+        was_sent = λ x z. record { place = length sent; it = new; there = get_newest sent new; who = who; epoch = epoch; placed = placed; due_now = h.due_now };
+        time = λ j e x w. elim (get_push sent new j e x) [ older g ↦ t.time j e g w | newest i g ↦ (let q : e.epoch ≡ length side.past = ap (λ n. n.epoch) (sym g) ∙ epoch in omega (arith, q)) ];
+        tells = λ j e x w p q. elim (get_push sent new j e x) [
+          | older g ↦ tells_on j e g w p q
+          | newest i g ↦ (l, inr (subst (λ n. IsDue m pages lawful d (seg n)) g h.due_now))
+        ];
+        repeats = λ j e x w a. elim (get_push sent new j e x) [
+          | older g ↦ before_more sent new e j (t.repeats j e g w a)
+          | newest i g ↦ subst (λ n. Before (sent ++ new ∷ []) n j) g (subst (λ n. Before (sent ++ new ∷ []) new n) (sym i) (before_it (sym mark_is ∙ ap (λ n. n.again) g ∙ a)))
+        ];
+        agree = λ i j e e' x y lt we wf ep pe pf se. elim (get_push sent new i e x) [
+          | older g ↦ elim (get_push sent new j e' y) [
+            | older g' ↦ t.agree i j e e' g g' lt we wf ep pe pf se
+            | newest b g' ↦ absurd (let n = get_inside sent e i g in omega (arith, n, b, lt))
+          ]
+          | newest b g ↦ elim (get_push sent new j e' y) [
+            | older g' ↦ (let r = meets j e' g' wf pf (sym ep ∙ ap (λ n. n.epoch) (sym g) ∙ epoch) (sym se ∙ ap (λ n. (seg n).seq) (sym g)) in
+                (ap (λ n. n.again) (sym g) ∙ mark_is ∙ r.0, subst (λ n. Alike (seg e') (seg n)) g r.1))
+            | newest b' g' ↦ absurd (omega (arith, b, b', lt))
+          ]
+        ];
+      }
+
+  pub steps_by : (w : World) (old : Connection) (o : Outcome) (k : ℕ) (side : Side) → is_live old.state ≡ true → FitConn o.connection → StepTells m pages lawful old o.connection (segment_of m o.connection o.step) (is_again o.step) → Told k side old w.sent → Steps m Told other reset evict mark w o k side
+  steps_by w old o k side live fit h t = record {
+    quiet = λ n l. moves k side old o.connection w.sent t live l (h.onto l) (h.safe l) fit
+        (λ z. elim (h.still l z) [
+          | inl y ↦ still_sent k side old o.connection w.sent t live l (h.onto l) (h.safe l) fit y.some y.same
+          | inr y ↦ absurd (let e : Some y.said ≡ None = sym y.is ∙ n in cc)
+        ]);
+    quiet_last = λ n l. leaves k side old o.connection closed w.sent refl closed_fits t;
+    says = λ s e l tick id. Rattle.link_world.proofs.Basics.both_ways (has_place s)
+        (λ p. says_placed k side old o.connection w.sent t live l (h.onto l) (h.safe l) fit (is_again o.step) (entry (to k) side tick id (speech (is_again o.step) s)) refl refl refl p (h.said s e p))
+        (λ p. push_silent k side o.connection w.sent (entry (to k) side tick id (speech (is_again o.step) s))
+        (moves k side old o.connection w.sent t live l (h.onto l) (h.safe l) fit
+        (λ z. elim (h.still l z) [
+          | inl y ↦ still_sent k side old o.connection w.sent t live l (h.onto l) (h.safe l) fit y.some y.same
+          | inr y ↦ absurd (let q : Some y.said ≡ Some s = sym y.is ∙ e in let u : has_place s ≡ true = only_some (λ x. has_place x ≡ true) y.said s q y.placed in cc)
+        ]))
+        (λ w'. record { epoch = omega arith; unplaced = λ x. absurd (cc); unmarked = λ x. absurd (let u : has_place s ≡ true = h.marked s e x in cc) }));
+    says_last = λ s e l tick id. push_silent k (Any.older side o.connection) closed w.sent (entry (to k) (Any.older side o.connection) tick id (speech (is_again o.step) s)) (leaves k side old o.connection closed w.sent refl closed_fits t)
+        (λ w'. record { epoch = omega arith; unplaced = λ x. absurd (let u : is_live o.connection.state ≡ true = (h.said s e x).live in cc); unmarked = λ x. absurd (let u : is_live o.connection.state ≡ true = (h.said s e (h.marked s e x)).live in cc) });
+  }
+
+  some_mss : (n : ℕ) → 0 < (if eqb n 0 then 536 else min OWN_MSS n)
+  some_mss n = choose (λ x. 0 < x) (eqb n 0) _ _ (λ e. omega arith) (λ e. (let z : 0 < n = not_zero n e in omega (arith, z)))
+
+  mss_some : (n : Option ℕ) → 0 < first_mss n
+  mss_some None = omega arith
+  mss_some (Some n) = some_mss n
+
+  pub birth : (w : World) (first : ℕ) (sockets : Sockets) (k j : ℕ) (side : Side) (e : Sent) → slice_get w.sent j ≡ Some e → e.who ≡ from k → (is_clean side ≡ true → e.epoch ≡ length side.past) → is_plain_syn (seg e) ≡ true → FitConn (accepted first sockets (seg e)) → Told k side closed w.sent →
+      (tick id : ℕ) → Told k side (accepted first sockets (seg e)) (w.sent ++ entry (to k) side tick id (speech false (syn_ack (accepted first sockets (seg e)))) ∷ [])
+  birth w first sockets k j side e sent who fresh plain fit t tick id =
+      let c : Connection = accepted first sockets (seg e) in
+      let new : Sent = entry (to k) side tick id (speech false (syn_ack c)) in
+      let due_now : IsDue m pages lawful c (syn_ack c) = record { len = omega arith; seq = refl; alike = alike_refl (syn_ack c) } in
+      let none : (j : ℕ) (x : Sent) → slice_get w.sent j ≡ Some x → x.who ≡ to k → has_place (seg x) ≡ true → x.epoch ≡ length side.past → ⊥ = λ j x g w p q. absurd (let z = (t.tells j x g w p q).0 in cc) in
+      record {
+        fit = fit;
+        safe = λ l. record { mss = mss_some (seg e).mss; initial = mss_some (seg e).mss; state = record { len = refl; acked = refl } };
+        was_sent = λ x z. record { place = length w.sent; it = new; there = get_newest w.sent new; who = refl; epoch = refl; placed = refl; due_now = due_now };
+        time = λ i x g wh. elim (get_push w.sent new i x g) [ older h ↦ t.time i x h wh | newest b h ↦ (let q : x.epoch ≡ length side.past = ap (λ n. n.epoch) (sym h) in omega (arith, q)) ];
+        tells = λ i x g wh p q. elim (get_push w.sent new i x g) [ older h ↦ absurd (none i x h wh p q) | newest b h ↦ (refl, inr (subst (λ n. IsDue m pages lawful c (seg n)) h due_now)) ];
+        repeats = λ i x g wh a. elim (get_push w.sent new i x g) [ older h ↦ before_more w.sent new x i (t.repeats i x h wh a) | newest b h ↦ absurd (let z : false ≡ true = ap (λ n. n.again) h ∙ a in cc) ];
+        agree = λ i j x y g g' lt we wf ep pe pf se. elim (get_push w.sent new i x g) [
+          | older h ↦ elim (get_push w.sent new j y g') [
+            | older h' ↦ t.agree i j x y h h' lt we wf ep pe pf se
+            | newest b h' ↦ absurd (let n = get_inside w.sent x i h in omega (arith, n, b, lt))
+          ]
+          | newest b h ↦ elim (get_push w.sent new j y g') [
+            | older h' ↦ absurd (none j y h' wf pf (sym ep ∙ ap (λ n. n.epoch) (sym h)))
+            | newest b' h' ↦ absurd (omega (arith, b, b', lt))
+          ]
+        ];
+      }
+
+  -- a client's step leaves what the node said
+  pub takes : (w : World) (k : ℕ) (base : Side) (c : Connection) (step : ClientStep) → Told k base c w.sent → Takes m Told other reset evict mark w k base c step
+  takes w k base c step t =
+      let good : Told k (with_client base step.client) c w.sent = same_past k base (with_client base step.client) c w.sent refl t in
+      record { quiet = λ n. good; says = λ s e tick. push_silent k (with_client base step.client) c w.sent (entry (from k) (with_client base step.client) tick 0 (speech false s)) good (λ x. absurd (cc)) }
+
+  pub opening_told : (addr : Addr) (numbers : List ℕ) (plan : List Planned) → IsPlan plan → Framed m Told other reset evict mark (opening_world addr numbers plan)
+  opening_told addr numbers plan is = record {
+    apart = opening_apart plan is;
+    single = λ p i j x y a b u v. absurd (let z = none_serves 10 p i x a in cc);
+    each = λ k side x. (let e : serving (sockets_of side) (replicate 10 closed) ≡ closed = serving_free (replicate 10 closed) (sockets_of side) (none_serves 10 (sockets_of side)) in
+        subst (λ c. Told k side c []) (sym e) (record { fit = closed_fits; safe = λ l. absurd (cc); was_sent = λ l. absurd (cc); time = λ j e' y. absurd (cc); tells = λ j e' y. absurd (cc); repeats = λ j e' y. absurd (cc); agree = λ i j e' f y. absurd (cc) }));
+  }
+
+  asks_fit : (o : Outcome) → All IsWord o.numbers → FitConn o.connection → (now : Now) → IsNow now → All IsMoment (m.prepare o.numbers o.connection.part now).captures
+  asks_fit o n f now is = prepared_captures m pages lawful o.numbers o.connection.part now n is f.captures
+
+  pub stepped_fits : (now : Connection → Now) (o : Outcome) → ((c : Connection) → FitConn c → IsNow (now c)) → FitOut o → FitConn (asked m now o).connection
+  stepped_fits now o is fo = (asked_fits m pages lawful now is o fo).conn
+
+  pub stepped_tells : (now : Connection → Now) (old : Connection) (o : Outcome) → ((c : Connection) → FitConn c → IsNow (now c)) → FitOut o → OutTells m pages lawful old o.connection o.step → OutTold m pages lawful old (asked m now o)
+  stepped_tells now old o is fo h = asked_tells m pages lawful now old o (λ x q. asks_fit o fo.numbers fo.conn x (subst IsNow (sym q) (is o.connection fo.conn))) h
+
+  told_all : (w : World) → IsReached m pages w → Framed m Told other reset evict mark w
+  told_all w r = reached m pages lawful (λ v. Framed m Told other reset evict mark v)
+      (λ served v act harm g fits. does_framed m Told other reset evict mark pages lawful served
+      (λ w old numbers now k j side e l f n is sent who fresh t.
+      let o : Outcome = on_segment m old numbers (seg e) in
+      let fo : FitOut o = on_segment_fits m pages lawful old numbers (seg e) f n in
+      steps_by w old (asked m now o) k side l (stepped_fits now o is fo) (stepped_tells now old o is fo (segment_tells m pages lawful old numbers (seg e) (t.safe l))) t)
+      (λ w old numbers now k side l f n is t.
+      let o : Outcome = on_tick m old numbers in
+      let fo : FitOut o = on_tick_fits m pages lawful old numbers f n in
+      steps_by w old (asked m now o) k side l (stepped_fits now o is fo) (stepped_tells now old o is fo (tick_tells m pages lawful old numbers (t.safe l))) t)
+      birth
+      (λ w k j side c number e fit sent who t. takes w k (marked side number e) c (client_takes side.client (seg e)) (mark k side c w.sent number e t))
+      (λ w k side c fit t. takes w k side c _ t) (λ w k side c fit t. takes w k side c _ t) (λ w k side c fit t. takes w k side c _ t) (λ w k side c fit t. takes w k side c _ t)
+      (λ x w k side c fit t. takes w k side c _ t)
+      v act harm g fits)
+      opening_told w r
+
+-- a content with a place is a segment
+pub record IsSegment (content : Content) : Type 0 where
+  pub id : ℕ
+  pub segment : PlainSegment
+  pub is : content ≡ OfSegment id segment
+
+is_segment : (content : Content) → has_place (segment_in content) ≡ true → IsSegment content
+is_segment (OfSegment id s) h = record { id = id; segment = s; is = refl }
+is_segment (OfPing d) h = absurd (let z : false ≡ true = h in cc)
+is_segment (OfEcho d) h = absurd (let z : false ≡ true = h in cc)
+
+pub same_bytes : SameBytes
+same_bytes m pages lawful w r k side x i e id s g who content again =
+    let b = ((told_all m pages lawful w r).each k side x).repeats i e g who again in
+    let q : seg e ≡ s = ap segment_in content in
+    let c = is_segment b.it.content b.placed in
+    let t : seg b.it ≡ c.segment = ap segment_in c.is in (
+      b.place,
+      record {
+        earlier = b.earlier;
+        sent = b.it;
+        there = b.there;
+        who = b.who;
+        epoch = b.epoch;
+        id = c.id;
+        segment = c.segment;
+        content = c.is;
+        seq = ap (λ n. n.seq) (sym t) ∙ b.seq ∙ ap (λ n. n.seq) q;
+        alike = subst (λ n. Alike c.segment n) q (subst (λ n. Alike n (seg e)) t b.alike);
+      },
+    )
+
+pub again_exactly : AgainExactly
+again_exactly m pages lawful w r k side x i j e f id id' s t g h lt we wf ce cf ep se pe pf =
+    let q : seg e ≡ s = ap segment_in ce in
+    let q' : seg f ≡ t = ap segment_in cf in
+    let a = ((told_all m pages lawful w r).each k side x).agree i j e f g h lt we wf ep (ap has_place q ∙ pe) (ap has_place q' ∙ pf) (ap (λ n. n.seq) q ∙ se ∙ ap (λ n. n.seq) (sym q')) in
+    (a.0, subst (λ n. Alike n s) q' (subst (λ n. Alike (seg f) n) q a.1))

@@ -1,0 +1,167 @@
+-- Every datagram that was ever sent is sound.
+use Rattle.std.proofs.Common.{◌≡◌, ℕ, zero, suc, ◌<◌, Bool, false, List, [], ◌∷◌, map, refl, sym, ap, ◌∙◌, subst, arith, Option, Some, None, slice_get}
+use Rattle.uip_wire.specs.declared.addr.Addr.{Addr}
+use Rattle.tcp_segment.specs.Segments.{PlainSegment}
+use Rattle.app_events.specs.Part.{Meaning}
+use Rattle.app_events.specs.Pages.{Pages, IsPaged, IsAddr}
+use Rattle.tcp_machine.specs.Connection.{Connection, same_sockets}
+use Rattle.uip_node.specs.Events.{Reply}
+use Rattle.uip_node.specs.Events.Event.{Arrived, EchoAsked, Periodic}
+use Rattle.uip_node.specs.Events.Reply.{Echo, Tcp}
+use Rattle.uip_node.specs.Node.{NodeStep, step}
+use Rattle.link_client.specs.Client.{AbstractClient, ClientStep, client_takes, client_opens, client_again, client_closes, client_aborts, tells_window}
+use Rattle.link_world.specs.World.{World, Side, Sent, Content, numbered, sockets_of, buries, buries_in, addressed, posts, posts_reply, node_stepped, node_handles, with_client, with_side, posts_of_client, client_stepped, marked, gives_node, gives_client, delivers, gives}
+use Rattle.link_world.specs.World.Content.{OfSegment, OfPing, OfEcho}
+use Rattle.link_world.specs.Bytes.{ping_from}
+use Rattle.link_world.specs.Acts.{client_acts, handles_all, does}
+use Rattle.link_world.specs.declared.act.Act.{Act}
+use Rattle.link_world.specs.declared.who.Who.{Who}
+use Rattle.link_world.specs.declared.who.Who.TheVariants.{FromClient, FromNode, Pinger}
+use Rattle.link_world.specs.Headline.{IsAct, IsLoss, HasBytes}
+use Rattle.link_world.proofs.Basics.{choose, only_some, get_push}
+use Rattle.link_world.proofs.Basics.AtEnd.{older, newest}
+use Rattle.link_world.proofs.Tables.{get_map, get_set}
+use Rattle.link_world.proofs.Tables.Written.{here, there}
+use Rattle.link_world.proofs.FitWorlds.{FitWorld, put_fits, periodic_fits}
+use Rattle.link_world.proofs.Sound.{IsSoundSegment, IsSoundClient, SoundStep, takes_sound, opens_sound, again_sound, closes_sound, aborts_sound, window_sound}
+use Rattle.link_world.proofs.SoundNodes.{LensAll, SoundReply, SoundNode, arrival_node, periodic_node}
+use Rattle.link_world.proofs.Harmless.{Harmless}
+
+pub data SoundSent (addr : Addr) (who : Who) (content : Content) : Type 0 where
+  of_segment : (id : ℕ) (s : PlainSegment) → content ≡ OfSegment id s → id < 65536 → IsSoundSegment s → SoundSent addr who content
+  of_ping : (source : Addr) → who ≡ Pinger → content ≡ OfPing (ping_from source addr) → IsAddr source → SoundSent addr who content
+  of_echo : (request : List ℕ) → who ≡ FromNode 0 → content ≡ OfEcho request → SoundSent addr who content
+
+abbrev pub SoundSides : List Side → Type 0
+SoundSides sides = (k : ℕ) (side : Side) → slice_get sides k ≡ Some side → IsSoundClient side.client
+
+pub record SoundWorld (w : World) : Type 0 where
+  pub addr : IsAddr w.node.addr
+  pub conns : LensAll w.node.connections
+  pub sides : SoundSides w.sides
+  pub sent : (k : ℕ) (e : Sent) → slice_get w.sent k ≡ Some e → SoundSent w.node.addr e.who e.content
+
+posts_sound : (w : World) (who : Who) (again : Bool) (content : Content) → SoundSent w.node.addr who content → SoundWorld w → SoundWorld (posts w who again content)
+posts_sound w who again content s h = record {
+  addr = h.addr;
+  conns = h.conns;
+  sides = h.sides;
+  sent = λ k e x. elim (get_push w.sent _ k e x) [ older y ↦ h.sent k e y | newest i y ↦ subst (λ (z : Sent). SoundSent w.node.addr z.who z.content) y s ];
+}
+
+reply_sound : (w : World) (r : Option Reply) → ((x : Reply) → r ≡ Some x → SoundReply x) → SoundWorld w → SoundWorld (posts_reply w r)
+reply_sound w None f h = h
+reply_sound w (Some (Echo request)) f h = posts_sound w (FromNode 0) false (OfEcho request) (of_echo request refl refl) h
+reply_sound w (Some (Tcp sockets id again s)) f h =
+    let g : (id < 65536) × IsSoundSegment s = f (Tcp sockets id again s) refl in
+    posts_sound w (FromNode (addressed 1 sockets w.sides)) again (OfSegment id s) (of_segment id s refl g.0 g.1) h
+
+buried_sound : (gone : Option Connection) (sides : List Side) → SoundSides sides → SoundSides (buries gone sides)
+buried_sound None sides h k side x = h k side x
+buried_sound (Some g) sides h k side x =
+    let p = get_map (buries_in g) sides k side x in
+    let s : IsSoundClient p.from.client = h k p.from p.get in
+    subst (λ (o : Side). IsSoundClient o.client) p.is (choose (λ (o : Side). IsSoundClient o.client) (same_sockets g.sockets (sockets_of p.from)) _ _ (λ e. s) (λ e. s))
+
+stepped_sound : (w : World) (r : NodeStep) → SoundNode w.node r → SoundWorld w → SoundWorld (node_stepped w r)
+stepped_sound w r g h = reply_sound (record w { node = r.node; sides = buries r.gone w.sides }) r.sent g.said record {
+  addr = subst (λ x. IsAddr x) (sym g.addr) h.addr;
+  conns = g.conns;
+  sides = buried_sound r.gone w.sides h.sides;
+  sent = λ k e x. subst (λ z. SoundSent z e.who e.content) (sym g.addr) (h.sent k e x);
+}
+
+put_sound : (w : World) (n : ℕ) (new : Side) → IsSoundClient new.client → SoundWorld w → SoundWorld (with_side w (suc n) new)
+put_sound w n new s h = record {
+  addr = h.addr;
+  conns = h.conns;
+  sides = λ k x y. elim (get_set w.sides n new k x y) [ here e p ↦ subst (λ (o : Side). IsSoundClient o.client) p s | there e g ↦ h.sides k x g ];
+  sent = h.sent;
+}
+
+client_sound : (w : World) (n : ℕ) (base : Side) (took : ClientStep) → SoundStep took → SoundWorld w → SoundWorld (client_stepped w (suc n) base took)
+client_sound w n base took s h = go took.sent s.said (put_sound w n (with_client base took.client) s.client h)
+  where
+    go : (x : Option PlainSegment) → ((y : PlainSegment) → x ≡ Some y → IsSoundSegment y) → SoundWorld (with_side w (suc n) (with_client base took.client)) → SoundWorld (posts_of_client (with_side w (suc n) (with_client base took.client)) (suc n) x)
+    go None f g = g
+    go (Some x) f g = posts_sound (with_side w (suc n) (with_client base took.client)) (FromClient (suc n)) false (OfSegment 0 x) (of_segment 0 x refl (omega arith) (f x refl)) g
+
+same_segment : (P : PlainSegment → Type 0) (id id' : ℕ) (s t : PlainSegment) → OfSegment id s ≡ OfSegment id' t → P t → P s
+same_segment P id id' s t e h = subst P (let f : t ≡ s = cc in f) h
+
+segment_inside : (addr : Addr) (who : Who) (id : ℕ) (s : PlainSegment) → SoundSent addr who (OfSegment id s) → IsSoundSegment s
+segment_inside addr who id s h = elim h [
+  | of_segment id' t e l g ↦ same_segment (λ x. IsSoundSegment x) id id' s t e g
+  | of_ping source r e a ↦ absurd (cc)
+  | of_echo request r e ↦ absurd (cc)
+]
+
+pub loss_sound : (w v : World) → IsLoss w v → SoundWorld w → SoundWorld v
+loss_sound w v l h = record {
+  addr = subst (λ x. IsAddr x) (sym l.addr) h.addr;
+  conns = subst LensAll (sym l.connections) h.conns;
+  sides = subst SoundSides (sym l.sides) h.sides;
+  sent = λ k e x. subst (λ z. SoundSent z e.who e.content) (sym l.addr) (h.sent k e (ap (λ (z : List Sent). slice_get z k) (sym l.sent) ∙ x));
+}
+
+module _ (m : Meaning) (pages : Pages) (lawful : IsPaged m pages) (page : HasBytes pages) (served : ℕ → Bool) where
+  gives_node_sound : (w : World) (n k : ℕ) (e : Sent) (s : PlainSegment) (side : Option Side) → slice_get w.sides n ≡ side → IsSoundSegment s → FitWorld w → SoundWorld w → SoundWorld (gives_node m served w (suc n) k e s side)
+  gives_node_sound w n k e s None at g f h = h
+  gives_node_sound w n k e s (Some side) at g f h =
+      let v : World = with_side w (suc n) (marked side k e) in
+      let vf : FitWorld v = put_fits w n side (marked side k e) at refl refl f in
+      let vh : SoundWorld v = put_sound w n (marked side k e) (h.sides n side at) h in
+      stepped_sound v (step m served v.node (Arrived (sockets_of side) s)) (arrival_node m pages lawful page served v.node (sockets_of side) s (f.sides n side at).addr (f.sides n side at).port g vf.node vh.conns) vh
+
+  gives_client_sound : (w : World) (n k : ℕ) (e : Sent) (s : PlainSegment) (side : Option Side) → slice_get w.sides n ≡ side → SoundWorld w → SoundWorld (gives_client w (suc n) k e s side)
+  gives_client_sound w n k e s None at h = h
+  gives_client_sound w n k e s (Some side) at h = client_sound w n (marked side k e) (client_takes side.client s) (takes_sound side.client s (h.sides n side at)) h
+
+  echo_sound : (w : World) (datagram : List ℕ) → SoundWorld w → SoundWorld (node_handles m served w (EchoAsked datagram))
+  echo_sound w datagram h = stepped_sound w (step m served w.node (EchoAsked datagram)) record { addr = refl; conns = h.conns; said = λ x e. only_some (λ r. SoundReply r) (Echo datagram) x e tt } h
+
+  delivers_sound : (w : World) (k : ℕ) (e : Sent) (who : Who) (content : Content) → SoundSent w.node.addr who content → FitWorld w → SoundWorld w → SoundWorld (delivers m served w k e who content)
+  delivers_sound w k e (FromClient zero) (OfSegment id s) g f h = h
+  delivers_sound w k e (FromClient (suc n)) (OfSegment id s) g f h = gives_node_sound w n k e s (slice_get w.sides n) refl (segment_inside w.node.addr (FromClient (suc n)) id s g) f h
+  delivers_sound w k e (FromNode zero) (OfSegment id s) g f h = h
+  delivers_sound w k e (FromNode (suc n)) (OfSegment id s) g f h = gives_client_sound w n k e s (slice_get w.sides n) refl h
+  delivers_sound w k e Pinger (OfPing datagram) g f h = echo_sound w datagram h
+  delivers_sound w k e (FromClient n) (OfPing datagram) g f h = h
+  delivers_sound w k e (FromClient n) (OfEcho request) g f h = h
+  delivers_sound w k e (FromNode n) (OfPing datagram) g f h = h
+  delivers_sound w k e (FromNode n) (OfEcho request) g f h = h
+  delivers_sound w k e Pinger (OfSegment id s) g f h = h
+  delivers_sound w k e Pinger (OfEcho request) g f h = h
+
+  gives_sound : (w : World) (k j : ℕ) (e : Option Sent) → slice_get w.sent j ≡ e → FitWorld w → SoundWorld w → SoundWorld (gives m served w k e)
+  gives_sound w k j None at f h = h
+  gives_sound w k j (Some e) at f h = delivers_sound w k e e.who e.content (h.sent j e at) f h
+
+  number_sound : (w : World) (k : ℕ) → FitWorld w → SoundWorld w → SoundWorld (gives m served w k (numbered w.sent k))
+  number_sound w zero f h = h
+  number_sound w (suc j) f h = gives_sound w (suc j) j (slice_get w.sent j) refl f h
+
+  own_sound : (w : World) (n : ℕ) (act : AbstractClient → ClientStep) (side : Option Side) → slice_get w.sides n ≡ side → ((c : AbstractClient) → IsSoundClient c → SoundStep (act c)) → SoundWorld w → SoundWorld (client_acts w (suc n) act side)
+  own_sound w n act None at s h = h
+  own_sound w n act (Some side) at s h = client_sound w n side (act side.client) (s side.client (h.sides n side at)) h
+
+  act_sound : (w : World) (number : ℕ) (act : AbstractClient → ClientStep) → ((c : AbstractClient) → IsSoundClient c → SoundStep (act c)) → SoundWorld w → SoundWorld (client_acts w number act (numbered w.sides number))
+  act_sound w zero act s h = h
+  act_sound w (suc n) act s h = own_sound w n act (slice_get w.sides n) refl s h
+
+  slots_sound : (slots : List ℕ) (w : World) → FitWorld w → SoundWorld w → SoundWorld (handles_all m served (map Periodic slots) w)
+  slots_sound [] w f h = h
+  slots_sound (slot ∷ slots) w f h =
+      slots_sound slots (node_handles m served w (Periodic slot)) (periodic_fits m pages lawful served w slot f)
+      (stepped_sound w (step m served w.node (Periodic slot)) (periodic_node m pages lawful page served w.node slot f.node h.conns) h)
+
+  pub does_sound : (w : World) (act : Act) → IsAct act → Harmless m served w act → FitWorld w → SoundWorld w → SoundWorld (does m served w act)
+  does_sound w (Act.Opens n) is l f h = act_sound w n client_opens (λ c s. opens_sound c.state c s) h
+  does_sound w (Act.Again n) is l f h = act_sound w n client_again (λ c s. again_sound c.state c s) h
+  does_sound w (Act.Closes n) is l f h = act_sound w n client_closes (λ c s. closes_sound c.state c s) h
+  does_sound w (Act.Aborts n) is l f h = act_sound w n client_aborts (λ c s. aborts_sound c.state c s) h
+  does_sound w (Act.Window n x) is l f h = act_sound w n (tells_window x) (λ c s. window_sound x c is s) h
+  does_sound w (Act.Ping source) is l f h = posts_sound w Pinger false (OfPing (ping_from source w.node.addr)) (of_ping source refl refl is) h
+  does_sound w (Act.Give k) is l f h = number_sound w k f h
+  does_sound w (Act.Damage k at mask) is l f h = loss_sound w (does m served w (Act.Damage k at mask)) l h
+  does_sound w Act.Tick is l f h = slots_sound (0 ∷ 1 ∷ 2 ∷ 3 ∷ 4 ∷ 5 ∷ 6 ∷ 7 ∷ 8 ∷ 9 ∷ []) w f h

@@ -1,0 +1,497 @@
+-- One step of a connection keeps what holds of it.
+use Rattle.std.proofs.Common.{◌≡◌, ℕ, ◌+◌, ◌<◌, ◌≤◌, min, Bool, true, false, not, ◌&&◌, inl, inr, List, [], ◌∷◌, ◌++◌, length, take, drop, refl, sym, ap, ◌∙◌, subst, arith, Option, Some, None, length-append, eqb, ltb, append_assoc}
+use Rattle.uip_wire.specs.Numbers.{wrap}
+use Rattle.tcp_segment.specs.Segments.{PlainSegment, has_fin, has_rst, has_ack}
+use Rattle.rexmit_timer.specs.Ages.{beat_at}
+use Rattle.rexmit_timer.specs.declared.timer.Beat.{Beat}
+use Rattle.app_events.specs.Part.{Part, Moment, Meaning}
+use Rattle.app_events.specs.Laws.{IsPrefixOf}
+use Rattle.app_events.specs.Pages.{Pages, IsPaged, MayWant}
+use Rattle.app_events.specs.declared.now.Now.{Now}
+use Rattle.app_events.specs.declared.state.State.{State}
+use Rattle.app_events.specs.declared.state.State.TheVariants.{Closed, SynRcvd, Established, CloseWait, FinWait1, FinWait2, Closing, TimeWait, LastAck}
+use Rattle.app_events.specs.declared.want.Want.{Want}
+use Rattle.app_events.specs.declared.want.Want.TheVariants.{Nothing, Send, Close, Abort}
+use Rattle.tcp_machine.specs.Connection.{Connection, is_live, rcv_nxt}
+use Rattle.tcp_machine.specs.Segments.{bare_ack, syn_ack, text_of, fin_of, reset_of}
+use Rattle.tcp_machine.specs.Ask.{Outcome, leaves, closes, sends_text, sends_fin, after_own_fin, peer_has_closed, idles, does_as_wanted, prepared, ask, asked_for, asked}
+use Rattle.tcp_machine.specs.OnSegment.{is_out_of_order, is_acked, rests, has_text, hears, takes, with_part, in_state, with_window, connects, peer_closes, goes_on, in_established, fin_acked, fin_waits, in_fin_wait_2, by_state, on_segment}
+use Rattle.tcp_machine.specs.OnTick.{outstanding, limit_of, grows_older, by_beat, waits_for_ack, rests_on, rest_time, ticks_established, tick_by, on_tick}
+use Rattle.tcp_machine.specs.declared.step.Step.{Step}
+use Rattle.link_client.specs.Client.{AbstractClient, first_of}
+use Rattle.link_world.proofs.Basics.{IsPart, prefix_part, prefix_length, prefix_joins, and_true, same_place, empty_part, zero_or_more, ltb-zero, in_place, choose, append_nothing, cut_part, part_prefix}
+use Rattle.link_world.proofs.Later.{page_more, page_heard, front_grows, front_all}
+use Rattle.link_world.proofs.Good.{Spoken, spoken, AtSyn, AtText, AtOpen, AtFin, ConnGood, StateGood, Moved, StepGood, SentGood, ClientSaid, IsData, Steady}
+use Rattle.link_world.proofs.Good.NodeSaid.{node_reset, node_syn, node_ack, node_text, node_fin}
+use Rattle.link_world.proofs.Good.ClientSaid.{said_reset, said_syn, said_data}
+
+-- the application is asked only in these
+abbrev pub is_open : State → Bool
+is_open Established = true
+is_open CloseWait = true
+is_open Closed = false
+is_open SynRcvd = false
+is_open FinWait1 = false
+is_open FinWait2 = false
+is_open Closing = false
+is_open TimeWait = false
+is_open LastAck = false
+
+pub open_live : (st : State) → is_open st ≡ true → is_live st ≡ true
+open_live Established h = refl
+open_live CloseWait h = refl
+open_live Closed h = absurd (cc)
+open_live SynRcvd h = absurd (cc)
+open_live FinWait1 h = absurd (cc)
+open_live FinWait2 h = absurd (cc)
+open_live Closing h = absurd (cc)
+open_live TimeWait h = absurd (cc)
+open_live LastAck h = absurd (cc)
+
+module _ (m : Meaning) (pages : Pages) (lawful : IsPaged m pages) where
+  -- what hearing text does to a part
+  pub record Heard (p q : Part) (text : List ℕ) : Type 0 where
+    pub heard : q.heard ≡ p.heard ++ text
+    pub captures : q.captures ≡ p.captures
+    pub acked : q.acked ≡ p.acked
+
+  pub hears_is : (numbers : List ℕ) (p : Part) (text : List ℕ) → Heard p (hears m numbers p text).part text
+  hears_is numbers p [] = record { heard = sym (append_nothing p.heard); captures = refl; acked = refl }
+  hears_is numbers p (x ∷ xs) = record { heard = lawful.newdata_heard numbers p (x ∷ xs); captures = lawful.newdata_captures numbers p (x ∷ xs); acked = lawful.newdata_acked numbers p (x ∷ xs) }
+
+  -- taking captures
+  pub record Prepared (p q : Part) : Type 0 where
+    pub heard : q.heard ≡ p.heard
+    pub more : List Moment
+    pub captures : q.captures ≡ p.captures ++ more
+    pub acked : q.acked ≡ p.acked
+
+  pub prepare_is : (numbers : List ℕ) (p : Part) (now : Now) → Prepared p (m.prepare numbers p now)
+  prepare_is numbers p now =
+      elim (lawful.prepare_captures numbers p now) [
+        | inl e ↦ record { heard = lawful.prepare_heard numbers p now; more = []; captures = e ∙ sym (append_nothing p.captures); acked = lawful.prepare_acked numbers p now }
+        | inr e ↦ record { heard = lawful.prepare_heard numbers p now; more = record { numbers = numbers; now = now } ∷ []; captures = e; acked = lawful.prepare_acked numbers p now }
+      ]
+
+  module _ (opened : Option ℕ) (client : AbstractClient) where
+    -- what a connection may say
+    says_ack : (d : Connection) → is_live d.state ≡ true → SentGood pages opened client d (bare_ack d)
+    says_ack d l = record { lives = λ e. l; said = node_ack refl record { no_syn = refl; no_fin = refl; no_text = refl } }
+
+    says_reset : (d c : Connection) → SentGood pages opened client d (reset_of c)
+    says_reset d c = record { lives = λ e. absurd (let z : true ≡ false = e in cc); said = node_reset refl }
+
+    pub says_syn : (d : Connection) → is_live d.state ≡ true → d.acked ≡ 0 → SentGood pages opened client d (syn_ack d)
+    says_syn d l z = record { lives = λ e. l; said = node_syn refl record { syn = refl; seq = ap wrap (omega (arith, z)) } }
+
+    says_text : (d : Connection) → is_live d.state ≡ true → AtText pages opened client d → SentGood pages opened client d (text_of m d)
+    says_text d l h =
+        let said : m.said d.part ≡ pages.text d.part.heard d.part.captures = lawful.said d.part in
+        record {
+          lives = λ e. l;
+          said = node_text refl h.opened_is record {
+            no_syn = refl;
+            no_fin = refl;
+            at = d.part.acked;
+            part = subst (λ t. IsPart (pages.text client.request d.part.captures) (take d.len (drop d.part.acked t)) d.part.acked) (sym said)
+                (prefix_part (pages.text d.part.heard d.part.captures) (pages.text client.request d.part.captures) (take d.len (drop d.part.acked (pages.text d.part.heard d.part.captures))) d.part.acked
+                (front_grows m pages lawful d.part.heard client.request d.part.captures h.heard) (cut_part (pages.text d.part.heard d.part.captures) d.part.acked d.len h.fits));
+            seq = ap wrap (omega (arith, h.count));
+          };
+        }
+
+    says_fin : (d : Connection) → is_live d.state ≡ true → AtFin pages opened client d → SentGood pages opened client d (fin_of d)
+    says_fin d l h = record {
+      lives = λ e. l;
+      said = node_fin refl h.opened_is record { no_syn = refl; is_fin = refl; no_text = refl; at = d.part.acked; ends = h.ends; seq = ap wrap (omega (arith, h.count)) };
+    }
+
+    move_silent : (c d : Connection) → Moved pages opened client c d → StepGood pages opened client c (record { connection = d; sent = None })
+    move_silent c d h = record { moved = h; said = λ s e. absurd (cc) }
+
+    move_says : (c d : Connection) (s : PlainSegment) → Moved pages opened client c d → SentGood pages opened client d s → StepGood pages opened client c (record { connection = d; sent = Some s })
+    move_says c d s h g = record { moved = h; said = λ x e. subst (λ y. SentGood pages opened client d y) (let e' : s ≡ x = cc in e') g }
+
+    stays_good : (c : Connection) → ConnGood pages opened client c → Moved pages opened client c c
+    stays_good c g = record { first = refl; more = []; captures = sym (append_nothing c.part.captures); good = λ l. g }
+
+    -- d is c in another state, or with other counts
+    turns : (c d : Connection) → d.first ≡ c.first → d.part.captures ≡ c.part.captures → d.peer_first ≡ first_of client → StateGood pages opened client d d.state → Moved pages opened client c d
+    turns c d f k pf s = record { first = f; more = []; captures = k ∙ sym (append_nothing c.part.captures); good = λ y. record { peer_first = pf; state = s } }
+
+    closes_good : (c d : Connection) → d.first ≡ c.first → d.part.captures ≡ c.part.captures → Moved pages opened client c (closes d)
+    closes_good c d f k = record { first = f; more = []; captures = k ∙ sym (append_nothing c.part.captures); good = λ l. absurd (cc) }
+
+    -- a step from b, which c had become
+    from_good : (c b : Connection) (step : Spoken) (more : List Moment) → b.first ≡ c.first → b.part.captures ≡ c.part.captures ++ more → StepGood pages opened client b step → StepGood pages opened client c step
+    from_good c b step more f k g = record {
+      moved = record {
+        first = g.moved.first ∙ f;
+        more = more ++ g.moved.more;
+        captures = g.moved.captures ∙ ap (λ l. l ++ g.moved.more) k ∙ append_assoc c.part.captures more g.moved.more;
+        good = g.moved.good;
+      };
+      said = g.said;
+    }
+
+    state_at : (d : Connection) (st : State) → d.state ≡ st → StateGood pages opened client d st → StateGood pages opened client d d.state
+    state_at d st e h = subst (λ x. StateGood pages opened client d x) (sym e) h
+
+    -- in ESTABLISHED and CLOSE-WAIT
+    text_at : (c : Connection) (st : State) → is_open st ≡ true → StateGood pages opened client c st → AtText pages opened client c
+    text_at c Established o h = h.text
+    text_at c CloseWait o h = h
+    text_at c Closed o h = absurd (cc)
+    text_at c SynRcvd o h = absurd (cc)
+    text_at c FinWait1 o h = absurd (cc)
+    text_at c FinWait2 o h = absurd (cc)
+    text_at c Closing o h = absurd (cc)
+    text_at c TimeWait o h = absurd (cc)
+    text_at c LastAck o h = absurd (cc)
+
+    text_state : (c d : Connection) (st : State) → is_open st ≡ true → StateGood pages opened client c st → AtText pages opened client d → d.taken ≡ c.taken → d.part.heard ≡ c.part.heard → StateGood pages opened client d st
+    text_state c d Established o h t e f = record { text = t; taken = e ∙ h.taken ∙ ap length (sym f) }
+    text_state c d CloseWait o h t e f = t
+    text_state c d Closed o h t e f = absurd (cc)
+    text_state c d SynRcvd o h t e f = absurd (cc)
+    text_state c d FinWait1 o h t e f = absurd (cc)
+    text_state c d FinWait2 o h t e f = absurd (cc)
+    text_state c d Closing o h t e f = absurd (cc)
+    text_state c d TimeWait o h t e f = absurd (cc)
+    text_state c d LastAck o h t e f = absurd (cc)
+
+    fin_state : (d : Connection) (st : State) → is_open st ≡ true → AtFin pages opened client d → StateGood pages opened client d (after_own_fin st)
+    fin_state d Established o h = h
+    fin_state d CloseWait o h = h
+    fin_state d Closed o h = h
+    fin_state d SynRcvd o h = h
+    fin_state d FinWait1 o h = h
+    fin_state d FinWait2 o h = h
+    fin_state d Closing o h = h
+    fin_state d TimeWait o h = h
+    fin_state d LastAck o h = h
+
+    fin_lives : (st : State) → is_live (after_own_fin st) ≡ true
+    fin_lives Established = refl
+    fin_lives CloseWait = refl
+    fin_lives Closed = refl
+    fin_lives SynRcvd = refl
+    fin_lives FinWait1 = refl
+    fin_lives FinWait2 = refl
+    fin_lives Closing = refl
+    fin_lives TimeWait = refl
+    fin_lives LastAck = refl
+
+    -- the same text with other counts
+    like_text : (c d : Connection) → d.part.heard ≡ c.part.heard → d.part.captures ≡ c.part.captures → d.acked ≡ 1 + d.part.acked → d.part.acked + d.len ≤ length (pages.text c.part.heard c.part.captures) → AtText pages opened client c → AtText pages opened client d
+    like_text c d f k n l h =
+        let e : length (pages.text d.part.heard d.part.captures) ≡ length (pages.text c.part.heard c.part.captures) = ap (λ q. length (pages.text q d.part.captures)) f ∙ ap (λ q. length (pages.text c.part.heard q)) k in
+        record { opened_is = h.opened_is; heard = subst (λ q. IsPrefixOf q client.request) (sym f) h.heard; fits = omega (arith, e, l); count = n }
+
+    -- what is wanted
+    wanted_good : (w : Want) (fresh : Bool) (c : Connection) (numbers : List ℕ) → is_open c.state ≡ true → ConnGood pages opened client c → AtText pages opened client c → MayWant pages c.part w →
+        StepGood pages opened client c (spoken m (does_as_wanted w fresh c numbers))
+    unfolding idles
+    wanted_good Abort fresh c numbers o g h w = move_says c (closes c) (reset_of (closes c)) (closes_good c c refl refl) (says_reset (closes c) (closes c))
+    wanted_good Close fresh c numbers o g h w =
+        let d : Connection = sends_fin (after_own_fin c.state) c in
+        let a : AtFin pages opened client d = record { opened_is = h.opened_is; ends = front_all m pages lawful client c.part.heard c.part.captures c.part.acked h.heard w.0 w.1; count = h.count } in
+        move_says c d (fin_of d) (turns c d refl refl g.peer_first (fin_state d c.state o a)) (says_fin d (fin_lives c.state) a)
+    wanted_good (Send n) fresh c numbers o g h w =
+        let d : Connection = sends_text (min n c.mss) c in
+        let t : AtText pages opened client d = like_text c d refl refl h.count (omega (arith, w.1)) h in
+        move_says c d (text_of m d) (turns c d refl refl g.peer_first (text_state c d c.state o g.state t refl refl)) (says_text d (open_live c.state o) t)
+    wanted_good Nothing fresh c numbers o g h w =
+        choose (λ (x : Outcome). StepGood pages opened client c (spoken m x)) (peer_has_closed c.state) _ _
+        (λ e. move_says c (closes c) (reset_of (closes c)) (closes_good c c refl refl) (says_reset (closes c) (closes c)))
+        (λ e. choose (λ (x : Outcome). StepGood pages opened client c (spoken m x)) fresh _ _
+        (λ f. move_says c c (bare_ack c) (stays_good c g) (says_ack c (open_live c.state o)))
+        (λ f. move_silent c c (stays_good c g)))
+
+    -- a step that ends by asking
+    pub record AskGood (c d : Connection) : Type 0 where
+      pub moved : Moved pages opened client c d
+      pub is_asked : is_open d.state ≡ true
+      pub idle : d.len ≡ 0
+
+    pub asking_good : (c d : Connection) (now : Now) (fresh : Bool) (numbers : List ℕ) → AskGood c d → StepGood pages opened client c (spoken m (ask m now fresh d numbers))
+    asking_good c d now fresh numbers a =
+        let g : ConnGood pages opened client d = a.moved.good (open_live d.state a.is_asked) in
+        let h : AtText pages opened client d = text_at d d.state a.is_asked g.state in
+        let p = prepare_is numbers d.part now in
+        let q : Part = m.prepare numbers d.part now in
+        let b : Connection = prepared m now d numbers in
+        let e : length (pages.text q.heard q.captures) ≡ length (pages.text d.part.heard (d.part.captures ++ p.more)) = ap (λ x. length (pages.text x q.captures)) p.heard ∙ ap (λ x. length (pages.text d.part.heard x)) p.captures in
+        let more : length (pages.text d.part.heard d.part.captures) ≤ length (pages.text d.part.heard (d.part.captures ++ p.more)) = prefix_length (pages.text d.part.heard d.part.captures) (pages.text d.part.heard (d.part.captures ++ p.more)) (page_more m pages lawful d.part.heard d.part.captures p.more) in
+        let t : AtText pages opened client b = record { opened_is = h.opened_is; heard = subst (λ x. IsPrefixOf x client.request) (sym p.heard) h.heard; fits = omega (arith, e, more, h.fits, p.acked); count = omega (arith, h.count, p.acked) } in
+        let gb : ConnGood pages opened client b = record { peer_first = g.peer_first; state = text_state d b d.state a.is_asked g.state t refl p.heard } in
+        from_good c b (spoken m (ask m now fresh d numbers)) (a.moved.more ++ p.more) a.moved.first
+        (p.captures ∙ ap (λ l. l ++ p.more) a.moved.captures ∙ append_assoc c.part.captures a.moved.more p.more)
+        (wanted_good (m.want numbers q) fresh b numbers a.is_asked gb t (lawful.wants numbers q))
+
+    abbrev pub OutBy : Connection → Connection → Step → Type 0
+    OutBy c d (Step.Ask fresh) = AskGood c d
+    OutBy c d Step.Drop = StepGood pages opened client c (record { connection = d; sent = None })
+    OutBy c d Step.Ack = StepGood pages opened client c (record { connection = d; sent = Some (bare_ack d) })
+    OutBy c d (Step.SynAck again) = StepGood pages opened client c (record { connection = d; sent = Some (syn_ack d) })
+    OutBy c d (Step.Text again) = StepGood pages opened client c (record { connection = d; sent = Some (text_of m d) })
+    OutBy c d (Step.Fin again) = StepGood pages opened client c (record { connection = d; sent = Some (fin_of d) })
+    OutBy c d Step.Reset = StepGood pages opened client c (record { connection = d; sent = Some (reset_of d) })
+
+    abbrev pub OutGood : Connection → Outcome → Type 0
+    OutGood c o = OutBy c o.connection o.step
+
+    asked_for_good : (moment : Connection → Now) (c d : Connection) (numbers : List ℕ) (s : Step) → OutBy c d s → StepGood pages opened client c (spoken m (asked_for m moment (leaves d numbers s) s))
+    asked_for_good moment c d numbers (Step.Ask fresh) h = asking_good c d (moment d) fresh numbers h
+    asked_for_good moment c d numbers Step.Drop h = h
+    asked_for_good moment c d numbers Step.Ack h = h
+    asked_for_good moment c d numbers (Step.SynAck again) h = h
+    asked_for_good moment c d numbers (Step.Text again) h = h
+    asked_for_good moment c d numbers (Step.Fin again) h = h
+    asked_for_good moment c d numbers Step.Reset h = h
+
+    pub asked_good : (moment : Connection → Now) (c : Connection) (o : Outcome) → OutGood c o → StepGood pages opened client c (spoken m (asked m moment o))
+    asked_good moment c o h = asked_for_good moment c o.connection o.numbers o.step h
+
+    -- the peer's text stands in its request where the connection expects it
+    said_part : (at_epoch : ℕ) (c : Connection) (s : PlainSegment) (n : ℕ) → Steady client → ClientSaid client opened at_epoch s → has_rst s.flags ≡ false →
+        c.peer_first ≡ first_of client → c.taken ≡ n → n ≤ length client.request → (0 < length s.text → s.seq ≡ rcv_nxt c) → IsPart client.request s.text n
+    said_part at_epoch c s n steady (said_reset r) nr pf t l e = absurd (cc)
+    said_part at_epoch c s n steady (said_syn y) nr pf t l e = empty_part client.request s.text n (ap length y.no_text) l
+    said_part at_epoch c s n steady (said_data d) nr pf t l e =
+        elim (zero_or_more (length s.text)) [
+          | inl z ↦ empty_part client.request s.text n z l
+          | inr k ↦ (let a : s.seq ≡ wrap (first_of client + 1 + d.at) = d.seq k in
+              let b : s.seq ≡ wrap (c.peer_first + 1 + c.taken) = e k in
+              let f : d.at ≡ n = same_place (first_of client + 1) d.at n (omega (arith, d.part.fits, steady.short)) (omega (arith, l, steady.short)) (sym a ∙ b ∙ ap (λ x. wrap (x + 1 + c.taken)) pf ∙ ap (λ x. wrap (first_of client + 1 + x)) t) in
+              subst (λ x. IsPart client.request s.text x) f d.part)
+        ]
+
+    is_data : (at_epoch : ℕ) (s : PlainSegment) → ClientSaid client opened at_epoch s → has_rst s.flags ≡ false → has_ack s.flags ≡ true → IsData client opened s
+    is_data at_epoch s (said_reset r) nr a = absurd (cc)
+    is_data at_epoch s (said_syn y) nr a = absurd (let n : has_ack s.flags ≡ false = y.no_ack in cc)
+    is_data at_epoch s (said_data d) nr a = d
+
+    -- text is heard in ESTABLISHED; the state may change, and the peer's window
+    heard_text : (c d : Connection) (text : List ℕ) → AtText pages opened client c → IsPart client.request text (length c.part.heard) → Heard c.part d.part text → d.acked ≡ c.acked → d.len ≡ c.len → AtText pages opened client d
+    heard_text c d text h p x ea el =
+        let e : length (pages.text d.part.heard d.part.captures) ≡ length (pages.text (c.part.heard ++ text) c.part.captures) = ap (λ q. length (pages.text q d.part.captures)) x.heard ∙ ap (λ q. length (pages.text (c.part.heard ++ text) q)) x.captures in
+        let more : length (pages.text c.part.heard c.part.captures) ≤ length (pages.text (c.part.heard ++ text) c.part.captures) = prefix_length (pages.text c.part.heard c.part.captures) (pages.text (c.part.heard ++ text) c.part.captures) (page_heard m pages lawful c.part.heard text c.part.captures) in
+        record {
+          opened_is = h.opened_is;
+          heard = subst (λ q. IsPrefixOf q client.request) (sym x.heard) (prefix_joins client.request c.part.heard text h.heard p);
+          fits = omega (arith, e, more, h.fits, x.acked, el);
+          count = omega (arith, h.count, x.acked, ea);
+        }
+
+    front_fits : (c : Connection) → AtText pages opened client c → length c.part.heard ≤ length client.request
+    front_fits c h = prefix_length c.part.heard client.request h.heard
+
+    peer_closes_good : (c : Connection) (numbers : List ℕ) (s : PlainSegment) → c.peer_first ≡ first_of client → AtOpen pages opened client c → IsPart client.request s.text (length c.part.heard) → OutGood c (peer_closes m c numbers s)
+    unfolding peer_closes
+    peer_closes_good c numbers s pf h part =
+        let x = hears_is numbers c.part s.text in
+        let d : Connection = in_state CloseWait (with_window s.window (with_part (hears m numbers c.part s.text).part (takes (length s.text + 1) c))) in
+        let t : AtText pages opened client d = heard_text c d s.text h.text part x refl refl in
+        let w : Moved pages opened client c d = turns c d refl x.captures pf t in
+        choose (λ (o : Outcome). OutGood c o) (ltb 0 c.len) _ _
+        (λ e. move_says c d (bare_ack d) w (says_ack d refl))
+        (λ e. record { moved = w; is_asked = refl; idle = ltb-zero c.len e })
+
+    goes_on_good : (acked : Bool) (c : Connection) (numbers : List ℕ) (s : PlainSegment) → c.state ≡ Established → c.peer_first ≡ first_of client → AtOpen pages opened client c → IsPart client.request s.text (length c.part.heard) → OutGood c (goes_on m acked c numbers s)
+    unfolding goes_on
+    goes_on_good acked c numbers s st pf h part =
+        let x = hears_is numbers c.part s.text in
+        let d : Connection = with_window s.window (with_part (hears m numbers c.part s.text).part (takes (length s.text) c)) in
+        let t : AtText pages opened client d = heard_text c d s.text h.text part x refl refl in
+        let a : AtOpen pages opened client d = record { text = t; taken = omega (arith, h.taken, ap length x.heard, length-append c.part.heard s.text) } in
+        let w : Moved pages opened client c d = turns c d refl x.captures pf (state_at d Established st a) in
+        let l : is_live d.state ≡ true = ap is_live st in
+        choose (λ (o : Outcome). OutGood c o) (not acked && not (has_text s)) _ _
+        (λ e. move_silent c d w)
+        (λ e. choose (λ (o : Outcome). OutGood c o) (ltb 0 c.len) _ _
+        (λ f. move_says c d (bare_ack d) w (says_ack d l))
+        (λ f. record { moved = w; is_asked = ap is_open st; idle = ltb-zero c.len f }))
+
+    established_good : (at_epoch : ℕ) (acked : Bool) (c : Connection) (numbers : List ℕ) (s : PlainSegment) → Steady client → ClientSaid client opened at_epoch s → has_rst s.flags ≡ false →
+        c.state ≡ Established → c.peer_first ≡ first_of client → AtOpen pages opened client c → (0 < length s.text → s.seq ≡ rcv_nxt c) → OutGood c (in_established m acked c numbers s)
+    unfolding in_established
+    established_good at_epoch acked c numbers s steady said nr st pf h e =
+        let part : IsPart client.request s.text (length c.part.heard) = said_part at_epoch c s (length c.part.heard) steady said nr pf h.taken (front_fits c h.text) e in
+        choose (λ (o : Outcome). OutGood c o) (has_fin s.flags) _ _
+        (λ f. peer_closes_good c numbers s pf h part)
+        (λ f. goes_on_good acked c numbers s st pf h part)
+
+    -- an acknowledgement of text
+    ack_text : (c : Connection) (numbers : List ℕ) → AtText pages opened client c → AtText pages opened client (with_part (m.acked numbers c.part c.len).part (rests c))
+    ack_text c numbers h =
+        let n : (m.acked numbers c.part c.len).part.acked ≡ c.part.acked + c.len = lawful.acked_moves numbers c.part c.len in
+        like_text c (with_part (m.acked numbers c.part c.len).part (rests c)) (lawful.acked_like numbers c.part c.len) (lawful.acked_captures numbers c.part c.len) (omega (arith, n, h.count)) (omega (arith, n, h.fits)) h
+
+    out_from : (c b : Connection) (d : Connection) (s : Step) → b.first ≡ c.first → b.part.captures ≡ c.part.captures → OutBy b d s → OutBy c d s
+    out_from c b d (Step.Ask fresh) f k h = record {
+      moved = record { first = h.moved.first ∙ f; more = h.moved.more; captures = h.moved.captures ∙ ap (λ l. l ++ h.moved.more) k; good = h.moved.good };
+      is_asked = h.is_asked;
+      idle = h.idle;
+    }
+    out_from c b d Step.Drop f k h = from_good c b (record { connection = d; sent = None }) [] f (k ∙ sym (append_nothing c.part.captures)) h
+    out_from c b d Step.Ack f k h = from_good c b (record { connection = d; sent = Some (bare_ack d) }) [] f (k ∙ sym (append_nothing c.part.captures)) h
+    out_from c b d (Step.SynAck again) f k h = from_good c b (record { connection = d; sent = Some (syn_ack d) }) [] f (k ∙ sym (append_nothing c.part.captures)) h
+    out_from c b d (Step.Text again) f k h = from_good c b (record { connection = d; sent = Some (text_of m d) }) [] f (k ∙ sym (append_nothing c.part.captures)) h
+    out_from c b d (Step.Fin again) f k h = from_good c b (record { connection = d; sent = Some (fin_of d) }) [] f (k ∙ sym (append_nothing c.part.captures)) h
+    out_from c b d Step.Reset f k h = from_good c b (record { connection = d; sent = Some (reset_of d) }) [] f (k ∙ sym (append_nothing c.part.captures)) h
+
+    connects_good : (at_epoch : ℕ) (c : Connection) (numbers : List ℕ) (s : PlainSegment) → Steady client → ClientSaid client opened at_epoch s → has_rst s.flags ≡ false → has_ack s.flags ≡ true →
+        c.peer_first ≡ first_of client → AtSyn c → (0 < length s.text → s.seq ≡ rcv_nxt c) → OutGood c (connects m c numbers s)
+    connects_good at_epoch c numbers s steady said nr ac pf h e =
+        let told = is_data at_epoch s said nr ac in
+        let start : Part = (m.connected numbers c.sockets.own_port.0).part in
+        let x = hears_is (m.connected numbers c.sockets.own_port.0).numbers start s.text in
+        let d : Connection = with_part (hears m (m.connected numbers c.sockets.own_port.0).numbers start s.text).part (takes (length s.text) (in_state Established (rests c))) in
+        let none : start.heard ≡ [] = lawful.connected_heard numbers c.sockets.own_port.0 in
+        let heard : d.part.heard ≡ s.text = x.heard ∙ ap (λ l. l ++ s.text) none in
+        let part : IsPart client.request s.text 0 = said_part at_epoch c s 0 steady said nr pf h.taken (omega arith) e in
+        let acked : d.part.acked ≡ 0 = x.acked ∙ lawful.connected_acked numbers c.sockets.own_port.0 in
+        let k : d.part.captures ≡ [] = x.captures ∙ lawful.connected_captures numbers c.sockets.own_port.0 in
+        record {
+          moved = turns c d refl (k ∙ sym h.captures) pf record {
+            text = record {
+              opened_is = told.opened_is;
+              heard = subst (λ q. IsPrefixOf q client.request) (sym heard) (part_prefix client.request s.text part);
+              fits = omega (arith, acked);
+              count = omega (arith, acked, h.acked, h.len);
+            };
+            taken = omega (arith, h.taken, ap length heard);
+          };
+          is_asked = refl;
+          idle = refl;
+        }
+
+    by_state_good : (at_epoch : ℕ) (st : State) (acked : Bool) (c : Connection) (numbers : List ℕ) (s : PlainSegment) → Steady client → ClientSaid client opened at_epoch s → has_rst s.flags ≡ false →
+        c.state ≡ st → c.peer_first ≡ first_of client → StateGood pages opened client c st → is_acked c s ≡ acked → (0 < length s.text → s.seq ≡ rcv_nxt c) → is_live st ≡ true →
+        OutGood c (by_state m st acked c numbers s)
+    unfolding fin_acked fin_waits in_fin_wait_2
+    by_state_good at_epoch Closed acked c numbers s steady said nr st pf h ac e lv = absurd (cc)
+    by_state_good at_epoch SynRcvd true c numbers s steady said nr st pf h ac e lv = connects_good at_epoch c numbers s steady said nr (and_true _ _ ac).0 pf h e
+    by_state_good at_epoch SynRcvd false c numbers s steady said nr st pf h ac e lv = move_silent c c (stays_good c record { peer_first = pf; state = state_at c SynRcvd st h })
+    by_state_good at_epoch Established true c numbers s steady said nr st pf h ac e lv =
+        let b : Connection = with_part (m.acked numbers c.part c.len).part (rests c) in
+        let o : Outcome = in_established m true b (m.acked numbers c.part c.len).numbers s in
+        out_from c b o.connection o.step refl (lawful.acked_captures numbers c.part c.len)
+        (established_good at_epoch true b (m.acked numbers c.part c.len).numbers s steady said nr st pf record { text = ack_text c numbers h.text; taken = h.taken ∙ ap length (sym (lawful.acked_like numbers c.part c.len)) } e)
+    by_state_good at_epoch Established false c numbers s steady said nr st pf h ac e lv = established_good at_epoch false c numbers s steady said nr st pf h e
+    by_state_good at_epoch CloseWait true c numbers s steady said nr st pf h ac e lv =
+        let b : Connection = with_part (m.acked numbers c.part c.len).part (rests c) in
+        let d : Connection = with_window s.window b in
+        let t : AtText pages opened client b = ack_text c numbers h in
+        let u : AtText pages opened client d = record { opened_is = t.opened_is; heard = t.heard; fits = t.fits; count = t.count } in
+        record { moved = turns c d refl (lawful.acked_captures numbers c.part c.len) pf (state_at d CloseWait st u); is_asked = ap is_open st; idle = refl }
+    by_state_good at_epoch CloseWait false c numbers s steady said nr st pf h ac e lv =
+        let d : Connection = with_window s.window c in
+        let u : AtText pages opened client d = record { opened_is = h.opened_is; heard = h.heard; fits = h.fits; count = h.count } in
+        move_silent c d (turns c d refl refl pf (state_at d CloseWait st u))
+    by_state_good at_epoch FinWait1 true c numbers s steady said nr st pf h ac e lv =
+        choose (λ (o : Outcome). OutGood c o) (has_fin s.flags) _ _
+        (λ f. let d : Connection = in_state TimeWait (takes (length s.text + 1) (rests c)) in move_says c d (bare_ack d) (turns c d refl refl pf h.opened_is) (says_ack d refl))
+        (λ f. let d : Connection = in_state FinWait2 (takes (length s.text) (rests c)) in move_silent c d (turns c d refl refl pf h.opened_is))
+    by_state_good at_epoch FinWait1 false c numbers s steady said nr st pf h ac e lv =
+        let g : ConnGood pages opened client c = record { peer_first = pf; state = state_at c FinWait1 st h } in
+        choose (λ (o : Outcome). OutGood c o) (has_fin s.flags) _ _
+        (λ f. let d : Connection = in_state Closing (takes (length s.text + 1) c) in
+        let a : AtFin pages opened client d = record { opened_is = h.opened_is; ends = h.ends; count = h.count } in
+        move_says c d (bare_ack d) (turns c d refl refl pf a) (says_ack d refl))
+        (λ f. choose (λ (o : Outcome). OutGood c o) (has_text s) _ _
+        (λ i. let d : Connection = takes (length s.text) c in
+        let a : AtFin pages opened client d = record { opened_is = h.opened_is; ends = h.ends; count = h.count } in
+        move_says c d (bare_ack d) (turns c d refl refl pf (state_at d FinWait1 st a)) (says_ack d (ap is_live st)))
+        (λ i. move_silent c c (stays_good c g)))
+    by_state_good at_epoch FinWait2 acked c numbers s steady said nr st pf h ac e lv =
+        choose (λ (o : Outcome). OutGood c o) (has_fin s.flags) _ _
+        (λ f. let d : Connection = record (in_state TimeWait (takes (length s.text + 1) c)) { age = 0 } in move_says c d (bare_ack d) (turns c d refl refl pf h) (says_ack d refl))
+        (λ f. choose (λ (o : Outcome). OutGood c o) (has_text s) _ _
+        (λ i. let d : Connection = takes (length s.text) c in move_says c d (bare_ack d) (turns c d refl refl pf (state_at d FinWait2 st h)) (says_ack d (ap is_live st)))
+        (λ i. move_silent c c (stays_good c record { peer_first = pf; state = state_at c FinWait2 st h })))
+    by_state_good at_epoch Closing true c numbers s steady said nr st pf h ac e lv =
+        let d : Connection = in_state TimeWait (rests c) in move_silent c d (turns c d refl refl pf h.opened_is)
+    by_state_good at_epoch Closing false c numbers s steady said nr st pf h ac e lv = move_silent c c (stays_good c record { peer_first = pf; state = state_at c Closing st h })
+    by_state_good at_epoch LastAck true c numbers s steady said nr st pf h ac e lv = move_silent c (closes (rests c)) (closes_good c (rests c) refl refl)
+    by_state_good at_epoch LastAck false c numbers s steady said nr st pf h ac e lv = move_silent c c (stays_good c record { peer_first = pf; state = state_at c LastAck st h })
+    by_state_good at_epoch TimeWait acked c numbers s steady said nr st pf h ac e lv =
+        move_says c c (bare_ack c) (stays_good c record { peer_first = pf; state = state_at c TimeWait st h }) (says_ack c (ap is_live st))
+
+    -- a segment of its client
+    pub on_segment_good : (at_epoch : ℕ) (c : Connection) (numbers : List ℕ) (s : PlainSegment) → Steady client → ClientSaid client opened at_epoch s → ConnGood pages opened client c → is_live c.state ≡ true →
+        OutGood c (on_segment m c numbers s)
+    unfolding on_segment
+    on_segment_good at_epoch c numbers s steady said g lv =
+        choose (λ (o : Outcome). OutGood c o) (has_rst s.flags) _ _
+        (λ r. move_silent c (closes c) (closes_good c c refl refl))
+        (λ r. choose (λ (o : Outcome). OutGood c o) (is_out_of_order c s) _ _
+        (λ f. move_says c c (bare_ack c) (stays_good c g) (says_ack c lv))
+        (λ f. by_state_good at_epoch c.state (is_acked c s) c numbers s steady said r refl g.peer_first g.state refl (in_place s (rcv_nxt c) f) lv))
+
+    -- the timer
+    older : (c : Connection) (st : State) → StateGood pages opened client c st → StateGood pages opened client (grows_older c) st
+    older c Closed h = tt
+    older c SynRcvd h = record { taken = h.taken; len = h.len; captures = h.captures; acked = h.acked }
+    older c Established h = record { text = record { opened_is = h.text.opened_is; heard = h.text.heard; fits = h.text.fits; count = h.text.count }; taken = h.taken }
+    older c CloseWait h = record { opened_is = h.opened_is; heard = h.heard; fits = h.fits; count = h.count }
+    older c FinWait1 h = record { opened_is = h.opened_is; ends = h.ends; count = h.count }
+    older c FinWait2 h = h
+    older c Closing h = record { opened_is = h.opened_is; ends = h.ends; count = h.count }
+    older c TimeWait h = h
+    older c LastAck h = record { opened_is = h.opened_is; ends = h.ends; count = h.count }
+
+    older_moved : (c : Connection) → ConnGood pages opened client c → Moved pages opened client c (grows_older c)
+    older_moved c g = turns c (grows_older c) refl refl g.peer_first (older c c.state g.state)
+
+    -- what is outstanding is sent again
+    again_good : (c d : Connection) (st : State) → Moved pages opened client c d → d.state ≡ st → StateGood pages opened client d st → OutBy c d (outstanding true st)
+    again_good c d Closed w e h = move_silent c d w
+    again_good c d SynRcvd w e h = move_says c d (syn_ack d) w (says_syn d (ap is_live e) h.acked)
+    again_good c d Established w e h = move_says c d (text_of m d) w (says_text d (ap is_live e) h.text)
+    again_good c d CloseWait w e h = move_says c d (text_of m d) w (says_text d (ap is_live e) h)
+    again_good c d FinWait1 w e h = move_says c d (fin_of d) w (says_fin d (ap is_live e) h)
+    again_good c d FinWait2 w e h = move_silent c d w
+    again_good c d Closing w e h = move_says c d (fin_of d) w (says_fin d (ap is_live e) h)
+    again_good c d TimeWait w e h = move_silent c d w
+    again_good c d LastAck w e h = move_says c d (fin_of d) w (says_fin d (ap is_live e) h)
+
+    by_beat_good : (b : Beat) (c : Connection) (numbers : List ℕ) → ConnGood pages opened client c → OutGood c (by_beat m b c numbers)
+    by_beat_good Beat.Wait c numbers g = move_silent c (grows_older c) (older_moved c g)
+    by_beat_good Beat.Again c numbers g = again_good c (grows_older c) c.state (older_moved c g) refl (older c c.state g.state)
+    by_beat_good Beat.GiveUp c numbers g = move_says c (closes c) (reset_of (closes c)) (closes_good c c refl refl) (says_reset (closes c) (closes c))
+
+    waits_good : (c : Connection) (numbers : List ℕ) → ConnGood pages opened client c → OutGood c (waits_for_ack m c numbers)
+    waits_good c numbers g = by_beat_good (beat_at (limit_of c.state) (c.age + 1)) c numbers g
+
+    rests_good : (c : Connection) (numbers : List ℕ) → ConnGood pages opened client c → OutGood c (rests_on c numbers)
+    unfolding rests_on
+    rests_good c numbers g =
+        choose (λ (o : Outcome). OutGood c o) (eqb (c.age + 1) rest_time) _ _
+        (λ e. move_silent c (closes c) (closes_good c c refl refl))
+        (λ e. move_silent c (grows_older c) (older_moved c g))
+
+    ticks_good : (c : Connection) (numbers : List ℕ) → c.state ≡ Established → ConnGood pages opened client c → AtOpen pages opened client c → OutGood c (ticks_established m c numbers)
+    unfolding ticks_established
+    ticks_good c numbers st g h =
+        choose (λ (o : Outcome). OutGood c o) (ltb 0 c.len) _ _
+        (λ e. waits_good c numbers g)
+        (λ e. let x = lawful.polled_like numbers c.part in
+        let d : Connection = with_part (m.polled numbers c.part).part c in
+        let t : AtText pages opened client d = like_text c d x.heard x.captures (omega (arith, h.text.count, x.acked)) (omega (arith, h.text.fits, x.acked)) h.text in
+        record { moved = turns c d refl x.captures g.peer_first (state_at d Established st record { text = t; taken = h.taken ∙ ap length (sym x.heard) }); is_asked = ap is_open st; idle = ltb-zero c.len e })
+
+    tick_by_good : (st : State) (c : Connection) (numbers : List ℕ) → c.state ≡ st → ConnGood pages opened client c → StateGood pages opened client c st → OutGood c (tick_by m st c numbers)
+    tick_by_good Closed c numbers e g h = move_silent c c (stays_good c g)
+    tick_by_good SynRcvd c numbers e g h = waits_good c numbers g
+    tick_by_good Established c numbers e g h = ticks_good c numbers e g h
+    tick_by_good CloseWait c numbers e g h = waits_good c numbers g
+    tick_by_good FinWait1 c numbers e g h = waits_good c numbers g
+    tick_by_good FinWait2 c numbers e g h = rests_good c numbers g
+    tick_by_good Closing c numbers e g h = waits_good c numbers g
+    tick_by_good TimeWait c numbers e g h = rests_good c numbers g
+    tick_by_good LastAck c numbers e g h = waits_good c numbers g
+
+    pub on_tick_good : (c : Connection) (numbers : List ℕ) → ConnGood pages opened client c → OutGood c (on_tick m c numbers)
+    on_tick_good c numbers g = tick_by_good c.state c numbers refl g g.state

@@ -1,0 +1,603 @@
+-- What a step tells of what is outstanding: it stays the same until it is acknowledged, and is sent again as it was.
+use Rattle.std.specs.List.{All}
+use Rattle.std.proofs.Common.{◌≡◌, ℕ, ◌+◌, ◌<◌, ◌≤◌, min, Bool, true, false, not, ◌&&◌, ◌||◌, ◌⊎◌, inl, inr, List, ◌++◌, length, take, drop, refl, sym, ap, ◌∙◌, subst, arith, Option, Some, None, eqb, ltb, if◌then◌else◌}
+use Rattle.std.proofs.lemmas.Grind.{common_steps}
+use Rattle.uip_wire.specs.Numbers.{wrap}
+use Rattle.tcp_segment.specs.Segments.{PlainSegment, has_fin, has_rst, has_syn}
+use Rattle.rexmit_timer.specs.Ages.{beat_at}
+use Rattle.rexmit_timer.specs.declared.timer.Beat.{Beat}
+use Rattle.app_events.specs.Part.{Part, Meaning}
+use Rattle.app_events.specs.Laws.{IsPrefixOf}
+use Rattle.app_events.specs.Pages.{Pages, IsPaged, IsMoment, MayWant}
+use Rattle.app_events.specs.declared.now.Now.{Now}
+use Rattle.app_events.specs.declared.state.State.{State}
+use Rattle.app_events.specs.declared.state.State.TheVariants.{Closed, SynRcvd, Established, CloseWait, FinWait1, FinWait2, Closing, TimeWait, LastAck}
+use Rattle.app_events.specs.declared.want.Want.{Want}
+use Rattle.app_events.specs.declared.want.Want.TheVariants.{Nothing, Send, Close, Abort}
+use Rattle.tcp_machine.specs.Connection.{Connection, is_live, snd_nxt}
+use Rattle.tcp_machine.specs.Segments.{has_place, bare_ack, syn_ack, text_of, fin_of, reset_of, segment_of, is_again}
+use Rattle.tcp_machine.specs.Ask.{Outcome, leaves, closes, sends_text, sends_fin, after_own_fin, peer_has_closed, idles, does_as_wanted, prepared, ask, asked_for, asked}
+use Rattle.tcp_machine.specs.OnSegment.{is_out_of_order, is_acked, rests, has_text, hears, takes, with_part, in_state, with_window, peer_closes, goes_on, in_established, fin_acked, fin_waits, in_fin_wait_2, by_state, on_segment}
+use Rattle.tcp_machine.specs.OnTick.{outstanding, limit_of, grows_older, by_beat, waits_for_ack, rests_on, rest_time, ticks_established, tick_by, on_tick}
+use Rattle.tcp_machine.specs.declared.step.Step.{Step}
+use Rattle.link_world.specs.Headline.{Alike}
+use Rattle.link_world.proofs.Basics.{choose, append_nothing, only_some, ltb-zero, ltb-lt, ltb-yes, part_grows, cut_part, cut_length, IsPart, prefix_length}
+use Rattle.link_world.proofs.Later.{page_more, page_heard}
+use Rattle.link_world.proofs.Steps.{is_open, Heard, hears_is, prepare_is}
+
+-- what is outstanding in a state
+abbrev pub due : Meaning → State → Connection → PlainSegment
+due m SynRcvd c = syn_ack c
+due m Established c = text_of m c
+due m CloseWait c = text_of m c
+due m FinWait1 c = fin_of c
+due m Closing c = fin_of c
+due m LastAck c = fin_of c
+due m FinWait2 c = bare_ack c
+due m TimeWait c = bare_ack c
+due m Closed c = bare_ack c
+
+pub alike_refl : (s : PlainSegment) → Alike s s
+alike_refl s = record { flags = refl; text = refl }
+
+pub alike_trans : (s t u : PlainSegment) → Alike s t → Alike t u → Alike s u
+alike_trans s t u a b = record { flags = a.flags ∙ b.flags; text = a.text ∙ b.text }
+
+pub alike_sym : (s t : PlainSegment) → Alike s t → Alike t s
+alike_sym s t a = record { flags = sym a.flags; text = sym a.text }
+
+slice_same : (p q : List ℕ) (at n : ℕ) → IsPrefixOf p q → at + n ≤ length p → take n (drop at q) ≡ take n (drop at p)
+slice_same p q at n h l =
+    let c : IsPart p (take n (drop at p)) at = cut_part p at n l in
+    let g : IsPart (p ++ h.rest) (take n (drop at p)) at = part_grows p h.rest (take n (drop at p)) at c in
+    let e : length (take n (drop at p)) ≡ n = cut_length p at n l in
+    subst (λ x. take n (drop at x) ≡ take n (drop at p)) h.joined (sym (g.same ∙ ap (λ k. take k (drop at (p ++ h.rest))) e))
+
+not_zero : (w : ℕ) → eqb w 0 ≡ false → 0 < w
+not_zero w h = grind (arith, common_steps)
+
+window_some : (initial w : ℕ) → 0 < initial → 0 < (if eqb w 0 then initial else min initial w)
+window_some initial w h = choose (λ x. 0 < x) (eqb w 0) _ _ (λ e. h) (λ e. (let z : 0 < w = not_zero w e in omega arith))
+
+placed_by_length : (s : PlainSegment) → 0 < length s.text → has_place s ≡ true
+placed_by_length s h = ap (λ b. b || (has_syn s.flags || has_fin s.flags)) (ltb-yes (length s.text) h)
+
+module _ (m : Meaning) (pages : Pages) (lawful : IsPaged m pages) where
+  -- in ESTABLISHED and CLOSE-WAIT
+  pub record TextSafe (c : Connection) : Type 0 where
+    pub fits : c.part.acked + c.len ≤ length (pages.text c.part.heard c.part.captures)
+    pub count : c.acked ≡ 1 + c.part.acked
+
+  pub record ControlSafe (c : Connection) : Type 0 where
+    pub len : c.len ≡ 1
+    pub low : c.acked < 1073741826
+
+  pub record RestSafe (c : Connection) : Type 0 where
+    pub len : c.len ≡ 0
+    pub low : c.acked < 1073741827
+
+  pub record SynSafe (c : Connection) : Type 0 where
+    pub len : c.len ≡ 1
+    pub acked : c.acked ≡ 0
+
+  pub record WaitSafe (c : Connection) : Type 0 where
+    pub text : TextSafe c
+    pub some : 0 < c.len
+
+  abbrev pub SafeState : Connection → State → Type 0
+  SafeState c Closed = ⊥
+  SafeState c SynRcvd = SynSafe c
+  SafeState c Established = TextSafe c
+  SafeState c CloseWait = WaitSafe c
+  SafeState c FinWait1 = ControlSafe c
+  SafeState c FinWait2 = RestSafe c
+  SafeState c Closing = ControlSafe c
+  SafeState c TimeWait = RestSafe c
+  SafeState c LastAck = ControlSafe c
+
+  pub record Safe (c : Connection) : Type 0 where
+    pub mss : 0 < c.mss
+    pub initial : 0 < c.initial_mss
+    pub state : SafeState c c.state
+
+  -- what is outstanding
+  pub record IsDue (c : Connection) (s : PlainSegment) : Type 0 where
+    pub len : 0 < c.len
+    pub seq : s.seq ≡ wrap (c.first + c.acked)
+    pub alike : Alike s (due m c.state c)
+
+  -- d comes after c
+  pub record Onto (c d : Connection) : Type 0 where
+    pub first : d.first ≡ c.first
+    pub grows : c.acked ≤ d.acked
+    pub kept : 0 < c.len → d.acked ≡ c.acked → (0 < d.len) × Alike (due m d.state d) (due m c.state c)
+
+  pub record Tells (c d : Connection) (again : Bool) (s : PlainSegment) : Type 0 where
+    pub live : is_live d.state ≡ true
+    pub due_now : IsDue d s
+    pub repeated : again ≡ true → (0 < c.len) × (d.acked ≡ c.acked)
+    pub new : again ≡ false → 0 < c.len → c.acked < d.acked
+
+  -- what is outstanding after a step was so before it, or is sent in it
+  pub record Still (c d : Connection) : Type 0 where
+    pub some : 0 < c.len
+    pub same : d.acked ≡ c.acked
+
+  pub record Anew (sent : Option PlainSegment) : Type 0 where
+    pub said : PlainSegment
+    pub is : sent ≡ Some said
+    pub placed : has_place said ≡ true
+
+  pub record StepTells (c d : Connection) (sent : Option PlainSegment) (again : Bool) : Type 0 where
+    pub onto : is_live d.state ≡ true → Onto c d
+    pub safe : is_live d.state ≡ true → Safe d
+    pub said : (s : PlainSegment) → sent ≡ Some s → has_place s ≡ true → Tells c d again s
+    pub marked : (s : PlainSegment) → sent ≡ Some s → again ≡ true → has_place s ≡ true
+    pub still : is_live d.state ≡ true → 0 < d.len → Still c d ⊎ Anew sent
+
+  pub record AskTells (c d : Connection) : Type 0 where
+    pub onto : Onto c d
+    pub is_asked : is_open d.state ≡ true
+    pub idle : d.len ≡ 0
+    pub mss : 0 < d.mss
+    pub initial : 0 < d.initial_mss
+    pub text : TextSafe d
+    pub new : 0 < c.len → c.acked < d.acked
+
+  abbrev pub OutTells : Connection → Connection → Step → Type 0
+  OutTells c d (Step.Ask fresh) = AskTells c d
+  OutTells c d Step.Drop = StepTells c d None false
+  OutTells c d Step.Ack = StepTells c d (Some (bare_ack d)) false
+  OutTells c d (Step.SynAck again) = StepTells c d (Some (syn_ack d)) again
+  OutTells c d (Step.Text again) = StepTells c d (Some (text_of m d)) again
+  OutTells c d (Step.Fin again) = StepTells c d (Some (fin_of d)) again
+  OutTells c d Step.Reset = StepTells c d (Some (reset_of d)) false
+
+  -- the same state: only text may differ
+  alike_same : (st : State) (c d : Connection) → take d.len (drop d.part.acked (m.said d.part)) ≡ take c.len (drop c.part.acked (m.said c.part)) → Alike (due m st d) (due m st c)
+  alike_same Closed c d h = record { flags = refl; text = refl }
+  alike_same SynRcvd c d h = record { flags = refl; text = refl }
+  alike_same Established c d h = record { flags = refl; text = h }
+  alike_same CloseWait c d h = record { flags = refl; text = h }
+  alike_same FinWait1 c d h = record { flags = refl; text = refl }
+  alike_same FinWait2 c d h = record { flags = refl; text = refl }
+  alike_same Closing c d h = record { flags = refl; text = refl }
+  alike_same TimeWait c d h = record { flags = refl; text = refl }
+  alike_same LastAck c d h = record { flags = refl; text = refl }
+
+  onto_same : (c : Connection) → Onto c c
+  onto_same c = record { first = refl; grows = omega arith; kept = λ l e. (l, alike_refl (due m c.state c)) }
+
+  onto_then : (c b d : Connection) → Onto c b → Onto b d → Onto c d
+  onto_then c b d x y = record {
+    first = y.first ∙ x.first;
+    grows = omega (arith, x.grows, y.grows);
+    kept = λ l e. (let p = x.kept l (omega (arith, x.grows, y.grows)) in let q = y.kept p.0 (omega (arith, x.grows, y.grows)) in
+        (q.0, alike_trans (due m d.state d) (due m b.state b) (due m c.state c) q.1 p.1));
+  }
+
+  -- more is acknowledged
+  onto_more : (c d : Connection) → d.first ≡ c.first → c.acked < d.acked → Onto c d
+  onto_more c d f l = record { first = f; grows = omega (arith, l); kept = λ x e. absurd (omega (arith, l, e)) }
+
+  -- nothing was outstanding
+  onto_idle : (c d : Connection) → d.first ≡ c.first → c.len ≡ 0 → d.acked ≡ c.acked → Onto c d
+  onto_idle c d f z e = record { first = f; grows = omega (arith, e); kept = λ x y. absurd (omega (arith, x, z)) }
+
+  silent_tells : (c d : Connection) → Onto c d → (is_live d.state ≡ true → Safe d) → (0 < d.len → Still c d) → StepTells c d None false
+  silent_tells c d o s k = record { onto = λ l. o; safe = s; said = λ x e p. absurd (cc); marked = λ x e p. absurd (cc); still = λ l z. inl (k z) }
+
+  ack_tells : (c d : Connection) → Onto c d → (is_live d.state ≡ true → Safe d) → (0 < d.len → Still c d) → StepTells c d (Some (bare_ack d)) false
+  ack_tells c d o s k = record { still = λ l z. inl (k z); onto = λ l. o; safe = s; said = λ x e p. absurd (let z : has_place x ≡ false = only_some (λ y. has_place y ≡ false) (bare_ack d) x e refl in cc); marked = λ x e p. absurd (cc) }
+
+  reset_tells : (c b : Connection) → StepTells c (closes b) (Some (reset_of (closes b))) false
+  reset_tells c b = record { still = λ l z. absurd (cc); onto = λ l. absurd (cc); safe = λ l. absurd (cc); said = λ x e p. absurd (let z : has_place x ≡ false = only_some (λ y. has_place y ≡ false) (reset_of (closes b)) x e refl in cc); marked = λ x e p. absurd (cc) }
+
+  dead_tells : (c b : Connection) → StepTells c (closes b) None false
+  dead_tells c b = record { still = λ l z. absurd (cc); onto = λ l. absurd (cc); safe = λ l. absurd (cc); said = λ x e p. absurd (cc); marked = λ x e p. absurd (cc) }
+
+  -- something is sent for the first time
+  new_tells : (c d : Connection) (s : PlainSegment) → Onto c d → is_live d.state ≡ true → Safe d → IsDue d s → (0 < c.len → c.acked < d.acked) → has_place s ≡ true → StepTells c d (Some s) false
+  new_tells c d s o l f n new placed = record {
+    still = λ x z. inr record { said = s; is = refl; placed = placed };
+    onto = λ x. o;
+    safe = λ x. f;
+    said = λ x e p. record { live = l; due_now = only_some (λ y. IsDue d y) s x e n; repeated = λ z. absurd (cc); new = λ z. new };
+    marked = λ x e p. absurd (cc);
+  }
+
+  -- a step from b, which c had become
+  from_tells : (c b d : Connection) (sent : Option PlainSegment) → Onto c b → (0 < c.len → c.acked < b.acked) → b.len ≡ 0 → StepTells b d sent false → StepTells c d sent false
+  from_tells c b d sent o new z t = record {
+    still = λ l x. elim (t.still l x) [ inl y ↦ absurd (let p = y.some in omega (arith, p, z)) | inr y ↦ inr y ];
+    onto = λ l. onto_then c b d o (t.onto l);
+    safe = t.safe;
+    said = λ s e p. (let h = t.said s e p in record { live = h.live; due_now = h.due_now; repeated = λ x. absurd (cc); new = λ x y. (let g = (t.onto h.live).grows in omega (arith, new y, g)) });
+    marked = t.marked;
+  }
+
+  state_at : (d : Connection) (st : State) → d.state ≡ st → SafeState d st → SafeState d d.state
+  state_at d st e h = subst (λ x. SafeState d x) (sym e) h
+
+  open_live : (st : State) → is_open st ≡ true → is_live st ≡ true
+  open_live st h = Rattle.link_world.proofs.Steps.open_live st h
+
+  text_due : (d : Connection) (st : State) → is_open st ≡ true → Alike (text_of m d) (due m st d)
+  text_due d Established o = alike_refl (text_of m d)
+  text_due d CloseWait o = alike_refl (text_of m d)
+  text_due d Closed o = absurd (cc)
+  text_due d SynRcvd o = absurd (cc)
+  text_due d FinWait1 o = absurd (cc)
+  text_due d FinWait2 o = absurd (cc)
+  text_due d Closing o = absurd (cc)
+  text_due d TimeWait o = absurd (cc)
+  text_due d LastAck o = absurd (cc)
+
+  text_safe : (d : Connection) (st : State) → is_open st ≡ true → TextSafe d → 0 < d.len → SafeState d st
+  text_safe d Established o h l = h
+  text_safe d CloseWait o h l = record { text = h; some = l }
+  text_safe d Closed o h l = absurd (cc)
+  text_safe d SynRcvd o h l = absurd (cc)
+  text_safe d FinWait1 o h l = absurd (cc)
+  text_safe d FinWait2 o h l = absurd (cc)
+  text_safe d Closing o h l = absurd (cc)
+  text_safe d TimeWait o h l = absurd (cc)
+  text_safe d LastAck o h l = absurd (cc)
+
+  fin_safe : (d : Connection) (st : State) → is_open st ≡ true → ControlSafe d → SafeState d (after_own_fin st)
+  fin_safe d Established o h = h
+  fin_safe d CloseWait o h = h
+  fin_safe d Closed o h = absurd (cc)
+  fin_safe d SynRcvd o h = absurd (cc)
+  fin_safe d FinWait1 o h = absurd (cc)
+  fin_safe d FinWait2 o h = absurd (cc)
+  fin_safe d Closing o h = absurd (cc)
+  fin_safe d TimeWait o h = absurd (cc)
+  fin_safe d LastAck o h = absurd (cc)
+
+  fin_due : (d : Connection) (st : State) → is_open st ≡ true → Alike (fin_of d) (due m (after_own_fin st) d)
+  fin_due d Established o = alike_refl (fin_of d)
+  fin_due d CloseWait o = alike_refl (fin_of d)
+  fin_due d Closed o = absurd (cc)
+  fin_due d SynRcvd o = absurd (cc)
+  fin_due d FinWait1 o = absurd (cc)
+  fin_due d FinWait2 o = absurd (cc)
+  fin_due d Closing o = absurd (cc)
+  fin_due d TimeWait o = absurd (cc)
+  fin_due d LastAck o = absurd (cc)
+
+  fin_lives : (st : State) → is_open st ≡ true → is_live (after_own_fin st) ≡ true
+  fin_lives Established o = refl
+  fin_lives CloseWait o = refl
+  fin_lives Closed o = absurd (cc)
+  fin_lives SynRcvd o = absurd (cc)
+  fin_lives FinWait1 o = absurd (cc)
+  fin_lives FinWait2 o = absurd (cc)
+  fin_lives Closing o = absurd (cc)
+  fin_lives TimeWait o = absurd (cc)
+  fin_lives LastAck o = absurd (cc)
+
+  -- with nothing wanted, ESTABLISHED rests
+  idle_safe : (d : Connection) (st : State) → is_open st ≡ true → peer_has_closed st ≡ false → TextSafe d → SafeState d st
+  idle_safe d Established o p h = h
+  idle_safe d CloseWait o p h = absurd (cc)
+  idle_safe d Closed o p h = absurd (cc)
+  idle_safe d SynRcvd o p h = absurd (cc)
+  idle_safe d FinWait1 o p h = absurd (cc)
+  idle_safe d FinWait2 o p h = absurd (cc)
+  idle_safe d Closing o p h = absurd (cc)
+  idle_safe d TimeWait o p h = absurd (cc)
+  idle_safe d LastAck o p h = absurd (cc)
+
+  abbrev pub OutTold : Connection → Outcome → Type 0
+  OutTold c o = StepTells c o.connection (segment_of m o.connection o.step) (is_again o.step)
+
+  text_placed : (d : Connection) → TextSafe d → 0 < d.len → has_place (text_of m d) ≡ true
+  text_placed d h l =
+      let e : length (take d.len (drop d.part.acked (m.said d.part))) ≡ d.len = ap (λ t. length (take d.len (drop d.part.acked t))) (lawful.said d.part) ∙ cut_length (pages.text d.part.heard d.part.captures) d.part.acked d.len h.fits in
+      placed_by_length (text_of m d) (omega (arith, e, l))
+
+  wanted_tells : (w : Want) (fresh : Bool) (c : Connection) (numbers : List ℕ) → is_open c.state ≡ true → c.len ≡ 0 → 0 < c.mss → 0 < c.initial_mss → TextSafe c → All IsMoment c.part.captures → MayWant pages c.part w →
+      OutTold c (does_as_wanted w fresh c numbers)
+  unfolding idles
+  wanted_tells Abort fresh c numbers o z ms ini h fit w = reset_tells c c
+  wanted_tells Close fresh c numbers o z ms ini h fit w =
+      let d : Connection = sends_fin (after_own_fin c.state) c in
+      let small : length (pages.text c.part.heard c.part.captures) < 1073741824 = lawful.short c.part.heard c.part.captures fit in
+      new_tells c d (fin_of d) (onto_idle c d refl z refl) (fin_lives c.state o)
+      record { mss = ms; initial = ini; state = fin_safe d c.state o record { len = refl; low = omega (arith, h.count, w.1, small) } }
+      record { len = omega arith; seq = refl; alike = fin_due d c.state o } (λ x. absurd (omega (arith, x, z))) refl
+  wanted_tells (Send n) fresh c numbers o z ms ini h fit w =
+      let d : Connection = sends_text (min n c.mss) c in
+      let some : 0 < d.len = omega (arith, w.0, ms) in
+      let t : TextSafe d = record { fits = omega (arith, w.1); count = h.count } in
+      new_tells c d (text_of m d) (onto_idle c d refl z refl) (open_live c.state o)
+      record { mss = ms; initial = ini; state = text_safe d c.state o t some }
+      record { len = some; seq = refl; alike = text_due d c.state o } (λ x. absurd (omega (arith, x, z))) (text_placed d t some)
+  wanted_tells Nothing fresh c numbers o z ms ini h fit w =
+      choose (λ (x : Outcome). OutTold c x) (peer_has_closed c.state) _ _ (λ e. reset_tells c c)
+      (λ e. let f : Safe c = record { mss = ms; initial = ini; state = idle_safe c c.state o e h } in
+      choose (λ (x : Outcome). OutTold c x) fresh _ _ (λ g. ack_tells c c (onto_same c) (λ l. f) (λ z. record { some = z; same = refl })) (λ g. silent_tells c c (onto_same c) (λ l. f) (λ z. record { some = z; same = refl })))
+
+  wanted_again : (w : Want) (fresh : Bool) (c : Connection) (numbers : List ℕ) → is_again (does_as_wanted w fresh c numbers).step ≡ false
+  unfolding idles
+  wanted_again Abort fresh c numbers = refl
+  wanted_again Close fresh c numbers = refl
+  wanted_again (Send n) fresh c numbers = refl
+  wanted_again Nothing fresh c numbers = choose (λ (x : Outcome). is_again x.step ≡ false) (peer_has_closed c.state) _ _ (λ e. refl) (λ e. choose (λ (x : Outcome). is_again x.step ≡ false) fresh _ _ (λ g. refl) (λ g. refl))
+
+  asking_tells : (c d : Connection) (now : Now) (fresh : Bool) (numbers : List ℕ) → AskTells c d → All IsMoment (m.prepare numbers d.part now).captures → OutTold c (ask m now fresh d numbers)
+  asking_tells c d now fresh numbers a fit =
+      let p = prepare_is m pages lawful numbers d.part now in
+      let q : Part = m.prepare numbers d.part now in
+      let b : Connection = prepared m now d numbers in
+      let e : length (pages.text q.heard q.captures) ≡ length (pages.text d.part.heard (d.part.captures ++ p.more)) = ap (λ x. length (pages.text x q.captures)) p.heard ∙ ap (λ x. length (pages.text d.part.heard x)) p.captures in
+      let more : length (pages.text d.part.heard d.part.captures) ≤ length (pages.text d.part.heard (d.part.captures ++ p.more)) = prefix_length (pages.text d.part.heard d.part.captures) (pages.text d.part.heard (d.part.captures ++ p.more)) (page_more m pages lawful d.part.heard d.part.captures p.more) in
+      let h : TextSafe d = a.text in
+      let t : TextSafe b = record { fits = omega (arith, e, more, h.fits, p.acked); count = omega (arith, h.count, p.acked) } in
+      let o : Outcome = ask m now fresh d numbers in
+      let w : OutTold b o = wanted_tells (m.want numbers q) fresh b numbers a.is_asked a.idle a.mss a.initial t fit (lawful.wants numbers q) in
+      let n : is_again o.step ≡ false = wanted_again (m.want numbers q) fresh b numbers in
+      let w' : StepTells b o.connection (segment_of m o.connection o.step) false = subst (λ x. StepTells b o.connection (segment_of m o.connection o.step) x) n w in
+      subst (λ x. StepTells c o.connection (segment_of m o.connection o.step) x) (sym n)
+      (from_tells c b o.connection (segment_of m o.connection o.step) (onto_then c d b a.onto (onto_idle d b refl a.idle refl)) a.new a.idle w')
+
+  asked_for_tells : (moment : Connection → Now) (c d : Connection) (numbers : List ℕ) (s : Step) → ((now : Now) → now ≡ moment d → All IsMoment (m.prepare numbers d.part now).captures) → OutTells c d s → OutTold c (asked_for m moment (leaves d numbers s) s)
+  asked_for_tells moment c d numbers (Step.Ask fresh) fit h = asking_tells c d (moment d) fresh numbers h (fit (moment d) refl)
+  asked_for_tells moment c d numbers Step.Drop fit h = h
+  asked_for_tells moment c d numbers Step.Ack fit h = h
+  asked_for_tells moment c d numbers (Step.SynAck again) fit h = h
+  asked_for_tells moment c d numbers (Step.Text again) fit h = h
+  asked_for_tells moment c d numbers (Step.Fin again) fit h = h
+  asked_for_tells moment c d numbers Step.Reset fit h = h
+
+  pub asked_tells : (moment : Connection → Now) (c : Connection) (o : Outcome) → ((now : Now) → now ≡ moment o.connection → All IsMoment (m.prepare o.numbers o.connection.part now).captures) → OutTells c o.connection o.step → OutTold c (asked m moment o)
+  asked_tells moment c o fit h = asked_for_tells moment c o.connection o.numbers o.step fit h
+
+  -- text is heard while something may be outstanding
+  heard_due : (c d : Connection) (text : List ℕ) (st : State) → TextSafe c → Heard m pages lawful c.part d.part text → d.len ≡ c.len → take d.len (drop d.part.acked (m.said d.part)) ≡ take c.len (drop c.part.acked (m.said c.part))
+  heard_due c d text st h x el =
+      let grown : IsPrefixOf (pages.text c.part.heard c.part.captures) (pages.text (c.part.heard ++ text) c.part.captures) = page_heard m pages lawful c.part.heard text c.part.captures in
+      let same : take c.len (drop c.part.acked (pages.text (c.part.heard ++ text) c.part.captures)) ≡ take c.len (drop c.part.acked (pages.text c.part.heard c.part.captures)) = slice_same (pages.text c.part.heard c.part.captures) (pages.text (c.part.heard ++ text) c.part.captures) c.part.acked c.len grown h.fits in
+      ap (λ t. take d.len (drop d.part.acked t)) (lawful.said d.part)
+      ∙ ap (λ n. take n (drop d.part.acked (pages.text d.part.heard d.part.captures))) el
+      ∙ ap (λ n. take c.len (drop n (pages.text d.part.heard d.part.captures))) x.acked
+      ∙ ap (λ q. take c.len (drop c.part.acked (pages.text q d.part.captures))) x.heard
+      ∙ ap (λ k. take c.len (drop c.part.acked (pages.text (c.part.heard ++ text) k))) x.captures
+      ∙ same
+      ∙ ap (λ t. take c.len (drop c.part.acked t)) (sym (lawful.said c.part))
+
+  heard_text : (c d : Connection) (text : List ℕ) → TextSafe c → Heard m pages lawful c.part d.part text → d.acked ≡ c.acked → d.len ≡ c.len → TextSafe d
+  heard_text c d text h x ea el =
+      let e : length (pages.text d.part.heard d.part.captures) ≡ length (pages.text (c.part.heard ++ text) c.part.captures) = ap (λ q. length (pages.text q d.part.captures)) x.heard ∙ ap (λ q. length (pages.text (c.part.heard ++ text) q)) x.captures in
+      let more : length (pages.text c.part.heard c.part.captures) ≤ length (pages.text (c.part.heard ++ text) c.part.captures) = prefix_length (pages.text c.part.heard c.part.captures) (pages.text (c.part.heard ++ text) c.part.captures) (page_heard m pages lawful c.part.heard text c.part.captures) in
+      record { fits = omega (arith, e, more, h.fits, x.acked, el); count = omega (arith, h.count, x.acked, ea) }
+
+  -- text of ESTABLISHED that is outstanding stays so in CLOSE-WAIT
+  open_due : (c d : Connection) → c.state ≡ Established → is_open d.state ≡ true → take d.len (drop d.part.acked (m.said d.part)) ≡ take c.len (drop c.part.acked (m.said c.part)) → Alike (due m d.state d) (due m c.state c)
+  open_due c d e o h =
+      alike_trans (due m d.state d) (text_of m d) (due m c.state c) (alike_sym (text_of m d) (due m d.state d) (text_due d d.state o))
+      (alike_trans (text_of m d) (text_of m c) (due m c.state c) record { flags = refl; text = h } (text_due c c.state (ap is_open e)))
+
+  heard_onto : (c d : Connection) (text : List ℕ) → c.state ≡ Established → is_open d.state ≡ true → TextSafe c → Heard m pages lawful c.part d.part text → d.first ≡ c.first → d.acked ≡ c.acked → d.len ≡ c.len → Onto c d
+  heard_onto c d text st o h x f ea el = record {
+    first = f;
+    grows = omega (arith, ea);
+    kept = λ l e. (omega (arith, l, el), open_due c d st o (heard_due c d text c.state h x el));
+  }
+
+  closing_tells : (c : Connection) (numbers : List ℕ) (s : PlainSegment) → c.state ≡ Established → 0 < c.mss → 0 < c.initial_mss → TextSafe c → (let o : Outcome = peer_closes m c numbers s in OutTells c o.connection o.step)
+  unfolding peer_closes
+  closing_tells c numbers s st ms ini h =
+      let x = hears_is m pages lawful numbers c.part s.text in
+      let d : Connection = in_state CloseWait (with_window s.window (with_part (hears m numbers c.part s.text).part (takes (length s.text + 1) c))) in
+      let t : TextSafe d = heard_text c d s.text h x refl refl in
+      let o : Onto c d = heard_onto c d s.text st refl h x refl refl refl in
+      let w : 0 < d.mss = window_some c.initial_mss s.window ini in
+      choose (λ (y : Outcome). OutTells c y.connection y.step) (ltb 0 c.len) _ _
+      (λ e. ack_tells c d o (λ l. record { mss = w; initial = ini; state = record { text = t; some = ltb-lt 0 c.len e } }) (λ z. record { some = z; same = refl }))
+      (λ e. record { onto = o; is_asked = refl; idle = ltb-zero c.len e; mss = w; initial = ini; text = t; new = λ y. absurd (omega (arith, y, ltb-zero c.len e)) })
+
+  going_tells : (acked : Bool) (c : Connection) (numbers : List ℕ) (s : PlainSegment) → c.state ≡ Established → 0 < c.mss → 0 < c.initial_mss → TextSafe c → (let o : Outcome = goes_on m acked c numbers s in OutTells c o.connection o.step)
+  unfolding goes_on
+  going_tells acked c numbers s st ms ini h =
+      let x = hears_is m pages lawful numbers c.part s.text in
+      let d : Connection = with_window s.window (with_part (hears m numbers c.part s.text).part (takes (length s.text) c)) in
+      let t : TextSafe d = heard_text c d s.text h x refl refl in
+      let o : Onto c d = heard_onto c d s.text st (ap is_open st) h x refl refl refl in
+      let w : 0 < d.mss = window_some c.initial_mss s.window ini in
+      let f : Safe d = record { mss = w; initial = ini; state = state_at d Established st t } in
+      choose (λ (y : Outcome). OutTells c y.connection y.step) (not acked && not (has_text s)) _ _ (λ e. silent_tells c d o (λ l. f) (λ z. record { some = z; same = refl }))
+      (λ e. choose (λ (y : Outcome). OutTells c y.connection y.step) (ltb 0 c.len) _ _ (λ i. ack_tells c d o (λ l. f) (λ z. record { some = z; same = refl }))
+      (λ i. record { onto = o; is_asked = ap is_open st; idle = ltb-zero c.len i; mss = w; initial = ini; text = t; new = λ y. absurd (omega (arith, y, ltb-zero c.len i)) }))
+
+  established_tells : (acked : Bool) (c : Connection) (numbers : List ℕ) (s : PlainSegment) → c.state ≡ Established → 0 < c.mss → 0 < c.initial_mss → TextSafe c → (let o : Outcome = in_established m acked c numbers s in OutTells c o.connection o.step)
+  unfolding in_established
+  established_tells acked c numbers s st ms ini h =
+      choose (λ (y : Outcome). OutTells c y.connection y.step) (has_fin s.flags) _ _ (λ e. closing_tells c numbers s st ms ini h) (λ e. going_tells acked c numbers s st ms ini h)
+
+  -- a step from b, to which c came by an acknowledgement of all that was outstanding
+  acked_tells : (c b d : Connection) (sent : Option PlainSegment) → Onto c b → (0 < c.len → c.acked < b.acked) → b.len ≡ 0 → StepTells b d sent false → StepTells c d sent false
+  acked_tells c b d sent o new none t = record {
+    still = λ l x. elim (t.still l x) [ inl y ↦ absurd (let p = y.some in omega (arith, p, none)) | inr y ↦ inr y ];
+    onto = λ l. onto_then c b d o (t.onto l);
+    safe = t.safe;
+    said = λ s e p. (let h = t.said s e p in record { live = h.live; due_now = h.due_now; repeated = λ x. absurd (cc); new = λ x y. (let g = (t.onto h.live).grows in omega (arith, new y, g)) });
+    marked = λ s e p. absurd (cc);
+  }
+
+  out_from : (c b d : Connection) (s : Step) → is_again s ≡ false → Onto c b → (0 < c.len → c.acked < b.acked) → b.len ≡ 0 → OutTells b d s → OutTells c d s
+  out_from c b d (Step.Ask fresh) n o new none h = record { onto = onto_then c b d o h.onto; is_asked = h.is_asked; idle = h.idle; mss = h.mss; initial = h.initial; text = h.text; new = λ y. (let g = h.onto.grows in omega (arith, new y, g)) }
+  out_from c b d Step.Drop n o new none h = acked_tells c b d None o new none h
+  out_from c b d Step.Ack n o new none h = acked_tells c b d (Some (bare_ack d)) o new none h
+  out_from c b d (Step.SynAck again) n o new none h = subst (λ x. StepTells c d (Some (syn_ack d)) x) (sym n) (acked_tells c b d (Some (syn_ack d)) o new none (subst (λ x. StepTells b d (Some (syn_ack d)) x) n h))
+  out_from c b d (Step.Text again) n o new none h = subst (λ x. StepTells c d (Some (text_of m d)) x) (sym n) (acked_tells c b d (Some (text_of m d)) o new none (subst (λ x. StepTells b d (Some (text_of m d)) x) n h))
+  out_from c b d (Step.Fin again) n o new none h = subst (λ x. StepTells c d (Some (fin_of d)) x) (sym n) (acked_tells c b d (Some (fin_of d)) o new none (subst (λ x. StepTells b d (Some (fin_of d)) x) n h))
+  out_from c b d Step.Reset n o new none h = acked_tells c b d (Some (reset_of d)) o new none h
+
+  established_again : (acked : Bool) (c : Connection) (numbers : List ℕ) (s : PlainSegment) → is_again (in_established m acked c numbers s).step ≡ false
+  unfolding in_established peer_closes goes_on
+  established_again acked c numbers s =
+      choose (λ (y : Outcome). is_again y.step ≡ false) (has_fin s.flags) _ _
+      (λ e. choose (λ (y : Outcome). is_again y.step ≡ false) (ltb 0 c.len) _ _ (λ f. refl) (λ f. refl))
+      (λ e. choose (λ (y : Outcome). is_again y.step ≡ false) (not acked && not (has_text s)) _ _ (λ f. refl) (λ f. choose (λ (y : Outcome). is_again y.step ≡ false) (ltb 0 c.len) _ _ (λ g. refl) (λ g. refl)))
+
+  ack_text : (c : Connection) (numbers : List ℕ) → TextSafe c → TextSafe (with_part (m.acked numbers c.part c.len).part (rests c))
+  ack_text c numbers h =
+      let n : (m.acked numbers c.part c.len).part.acked ≡ c.part.acked + c.len = lawful.acked_moves numbers c.part c.len in
+      let q : Part = (m.acked numbers c.part c.len).part in
+      let e : length (pages.text q.heard q.captures) ≡ length (pages.text c.part.heard c.part.captures) = ap (λ x. length (pages.text x q.captures)) (lawful.acked_like numbers c.part c.len) ∙ ap (λ x. length (pages.text c.part.heard x)) (lawful.acked_captures numbers c.part c.len) in
+      record { fits = omega (arith, e, h.fits, n); count = omega (arith, h.count, n) }
+
+  acked_len : (c : Connection) (s : PlainSegment) → is_acked c s ≡ true → 0 < c.len
+  acked_len c s h = ltb-lt 0 c.len (Rattle.link_world.proofs.Basics.and_true _ _ (Rattle.link_world.proofs.Basics.and_true _ _ h).1).0
+
+  -- the rest of a control connection, its counts told
+  control_safe : (c d : Connection) → d.len ≡ c.len → d.acked ≡ c.acked → ControlSafe c → ControlSafe d
+  control_safe c d l a h = record { len = l ∙ h.len; low = omega (arith, a, h.low) }
+
+  by_state_tells : (st : State) (acked : Bool) (c : Connection) (numbers : List ℕ) (s : PlainSegment) → c.state ≡ st → is_acked c s ≡ acked → 0 < c.mss → 0 < c.initial_mss → SafeState c st →
+      (let o : Outcome = by_state m st acked c numbers s in OutTells c o.connection o.step)
+  unfolding fin_acked fin_waits in_fin_wait_2
+  by_state_tells Closed acked c numbers s e ac ms ini h = absurd h
+  by_state_tells SynRcvd true c numbers s e ac ms ini h =
+      let port : ℕ = c.sockets.own_port.0 in
+      let start : Part = (m.connected numbers port).part in
+      let x = hears_is m pages lawful (m.connected numbers port).numbers start s.text in
+      let d : Connection = with_part (hears m (m.connected numbers port).numbers start s.text).part (takes (length s.text) (in_state Established (rests c))) in
+      let z : d.part.acked ≡ 0 = x.acked ∙ lawful.connected_acked numbers port in
+      record { onto = onto_more c d refl (omega (arith, h.len)); is_asked = refl; idle = refl; mss = ms; initial = ini; text = record { fits = omega (arith, z); count = omega (arith, z, h.acked, h.len) }; new = λ y. omega (arith, h.len) }
+  by_state_tells SynRcvd false c numbers s e ac ms ini h = silent_tells c c (onto_same c) (λ l. record { mss = ms; initial = ini; state = state_at c SynRcvd e h }) (λ z. record { some = z; same = refl })
+  by_state_tells Established true c numbers s e ac ms ini h =
+      let b : Connection = with_part (m.acked numbers c.part c.len).part (rests c) in
+      let o : Outcome = in_established m true b (m.acked numbers c.part c.len).numbers s in
+      let some : 0 < c.len = acked_len c s ac in
+      out_from c b o.connection o.step (established_again true b (m.acked numbers c.part c.len).numbers s) (onto_more c b refl (omega (arith, some))) (λ y. omega (arith, some)) refl
+      (established_tells true b (m.acked numbers c.part c.len).numbers s e ms ini (ack_text c numbers h))
+  by_state_tells Established false c numbers s e ac ms ini h = established_tells false c numbers s e ms ini h
+  by_state_tells CloseWait true c numbers s e ac ms ini h =
+      let b : Connection = with_part (m.acked numbers c.part c.len).part (rests c) in
+      let d : Connection = with_window s.window b in
+      let some : 0 < c.len = acked_len c s ac in
+      let t : TextSafe b = ack_text c numbers h.text in
+      record { onto = onto_more c d refl (omega (arith, some)); is_asked = ap is_open e; idle = refl; mss = window_some c.initial_mss s.window ini; initial = ini; text = record { fits = t.fits; count = t.count }; new = λ y. omega (arith, some) }
+  by_state_tells CloseWait false c numbers s e ac ms ini h =
+      let d : Connection = with_window s.window c in
+      silent_tells c d record { first = refl; grows = omega arith; kept = λ l z. (l, alike_same c.state c d refl) }
+      (λ l. record { mss = window_some c.initial_mss s.window ini; initial = ini; state = state_at d CloseWait e record { text = record { fits = h.text.fits; count = h.text.count }; some = h.some } }) (λ z. record { some = z; same = refl })
+  by_state_tells FinWait1 true c numbers s e ac ms ini h =
+      choose (λ (y : Outcome). OutTells c y.connection y.step) (has_fin s.flags) _ _
+      (λ f. let d : Connection = in_state TimeWait (takes (length s.text + 1) (rests c)) in
+      ack_tells c d (onto_more c d refl (omega (arith, h.len))) (λ l. record { mss = ms; initial = ini; state = record { len = refl; low = omega (arith, h.low, h.len) } }) (λ z. absurd (omega arith)))
+      (λ f. let d : Connection = in_state FinWait2 (takes (length s.text) (rests c)) in
+      silent_tells c d (onto_more c d refl (omega (arith, h.len))) (λ l. record { mss = ms; initial = ini; state = record { len = refl; low = omega (arith, h.low, h.len) } }) (λ z. absurd (omega arith)))
+  by_state_tells FinWait1 false c numbers s e ac ms ini h =
+      choose (λ (y : Outcome). OutTells c y.connection y.step) (has_fin s.flags) _ _
+      (λ f. let d : Connection = in_state Closing (takes (length s.text + 1) c) in
+      ack_tells c d record { first = refl; grows = omega arith; kept = λ l z. (l, subst (λ x. Alike (fin_of d) (due m x c)) (sym e) (record { flags = refl; text = refl })) }
+      (λ l. record { mss = ms; initial = ini; state = control_safe c d refl refl h }) (λ z. record { some = z; same = refl }))
+      (λ f. choose (λ (y : Outcome). OutTells c y.connection y.step) (has_text s) _ _
+      (λ i. let d : Connection = takes (length s.text) c in
+      ack_tells c d record { first = refl; grows = omega arith; kept = λ l z. (l, alike_same c.state c d refl) }
+      (λ l. record { mss = ms; initial = ini; state = state_at d FinWait1 e (control_safe c d refl refl h) }) (λ z. record { some = z; same = refl }))
+      (λ i. silent_tells c c (onto_same c) (λ l. record { mss = ms; initial = ini; state = state_at c FinWait1 e h }) (λ z. record { some = z; same = refl })))
+  by_state_tells FinWait2 acked c numbers s e ac ms ini h =
+      choose (λ (y : Outcome). OutTells c y.connection y.step) (has_fin s.flags) _ _
+      (λ f. let d : Connection = record (in_state TimeWait (takes (length s.text + 1) c)) { age = 0 } in
+      ack_tells c d (onto_idle c d refl h.len refl) (λ l. record { mss = ms; initial = ini; state = record { len = h.len; low = h.low } }) (λ z. record { some = z; same = refl }))
+      (λ f. choose (λ (y : Outcome). OutTells c y.connection y.step) (has_text s) _ _
+      (λ i. let d : Connection = takes (length s.text) c in
+      ack_tells c d (onto_idle c d refl h.len refl) (λ l. record { mss = ms; initial = ini; state = state_at d FinWait2 e record { len = h.len; low = h.low } }) (λ z. record { some = z; same = refl }))
+      (λ i. silent_tells c c (onto_same c) (λ l. record { mss = ms; initial = ini; state = state_at c FinWait2 e h }) (λ z. record { some = z; same = refl })))
+  by_state_tells Closing true c numbers s e ac ms ini h =
+      let d : Connection = in_state TimeWait (rests c) in
+      silent_tells c d (onto_more c d refl (omega (arith, h.len))) (λ l. record { mss = ms; initial = ini; state = record { len = refl; low = omega (arith, h.low, h.len) } }) (λ z. absurd (omega arith))
+  by_state_tells Closing false c numbers s e ac ms ini h = silent_tells c c (onto_same c) (λ l. record { mss = ms; initial = ini; state = state_at c Closing e h }) (λ z. record { some = z; same = refl })
+  by_state_tells LastAck true c numbers s e ac ms ini h = dead_tells c (rests c)
+  by_state_tells LastAck false c numbers s e ac ms ini h = silent_tells c c (onto_same c) (λ l. record { mss = ms; initial = ini; state = state_at c LastAck e h }) (λ z. record { some = z; same = refl })
+  by_state_tells TimeWait acked c numbers s e ac ms ini h = ack_tells c c (onto_same c) (λ l. record { mss = ms; initial = ini; state = state_at c TimeWait e h }) (λ z. record { some = z; same = refl })
+
+  pub segment_tells : (c : Connection) (numbers : List ℕ) (s : PlainSegment) → Safe c → (let o : Outcome = on_segment m c numbers s in OutTells c o.connection o.step)
+  unfolding on_segment
+  segment_tells c numbers s f =
+      choose (λ (y : Outcome). OutTells c y.connection y.step) (has_rst s.flags) _ _ (λ e. dead_tells c c) (λ e.
+      choose (λ (y : Outcome). OutTells c y.connection y.step) (is_out_of_order c s) _ _ (λ i. ack_tells c c (onto_same c) (λ l. f) (λ z. record { some = z; same = refl }))
+      (λ i. by_state_tells c.state (is_acked c s) c numbers s refl refl f.mss f.initial f.state))
+
+  -- the timer
+  older_safe : (c : Connection) (st : State) → SafeState c st → SafeState (grows_older c) st
+  older_safe c Closed h = h
+  older_safe c SynRcvd h = record { len = h.len; acked = h.acked }
+  older_safe c Established h = record { fits = h.fits; count = h.count }
+  older_safe c CloseWait h = record { text = record { fits = h.text.fits; count = h.text.count }; some = h.some }
+  older_safe c FinWait1 h = record { len = h.len; low = h.low }
+  older_safe c FinWait2 h = record { len = h.len; low = h.low }
+  older_safe c Closing h = record { len = h.len; low = h.low }
+  older_safe c TimeWait h = record { len = h.len; low = h.low }
+  older_safe c LastAck h = record { len = h.len; low = h.low }
+
+  older_onto : (c : Connection) → Onto c (grows_older c)
+  older_onto c = record { first = refl; grows = omega arith; kept = λ l e. (l, alike_same c.state c (grows_older c) refl) }
+
+  older_is_safe : (c : Connection) → Safe c → Safe (grows_older c)
+  older_is_safe c f = record { mss = f.mss; initial = f.initial; state = older_safe c c.state f.state }
+
+  -- what is outstanding is sent again
+  repeat_tells : (c : Connection) (s : PlainSegment) → is_live c.state ≡ true → Safe c → 0 < c.len → s.seq ≡ snd_nxt c → Alike s (due m c.state (grows_older c)) → has_place s ≡ true → StepTells c (grows_older c) (Some s) true
+  repeat_tells c s l f some seq alike placed = record {
+    still = λ x z. inl record { some = some; same = refl };
+    onto = λ x. older_onto c;
+    safe = λ x. older_is_safe c f;
+    said = λ x e p. record { live = l; due_now = record { len = some; seq = only_some (λ y. y.seq ≡ snd_nxt c) s x e seq; alike = only_some (λ y. Alike y (due m c.state (grows_older c))) s x e alike }; repeated = λ y. (some, refl); new = λ y. absurd (cc) };
+    marked = λ x e p. only_some (λ y. has_place y ≡ true) s x e placed;
+  }
+
+  text_place : (c : Connection) → TextSafe c → 0 < c.len → has_place (text_of m (grows_older c)) ≡ true
+  text_place c h l = text_placed (grows_older c) record { fits = h.fits; count = h.count } l
+
+  again_tells : (c : Connection) (st : State) → c.state ≡ st → is_live st ≡ true → Safe c → SafeState c st → 0 < c.len → OutTells c (grows_older c) (outstanding true st)
+  again_tells c Closed e l f h some = absurd (cc)
+  again_tells c SynRcvd e l f h some = repeat_tells c (syn_ack (grows_older c)) (ap is_live e) f some refl (subst (λ x. Alike (syn_ack (grows_older c)) (due m x (grows_older c))) (sym e) (alike_refl (syn_ack (grows_older c)))) refl
+  again_tells c Established e l f h some = repeat_tells c (text_of m (grows_older c)) (ap is_live e) f some refl (subst (λ x. Alike (text_of m (grows_older c)) (due m x (grows_older c))) (sym e) (alike_refl (text_of m (grows_older c)))) (text_place c h some)
+  again_tells c CloseWait e l f h some = repeat_tells c (text_of m (grows_older c)) (ap is_live e) f some refl (subst (λ x. Alike (text_of m (grows_older c)) (due m x (grows_older c))) (sym e) (alike_refl (text_of m (grows_older c)))) (text_place c h.text some)
+  again_tells c FinWait1 e l f h some = repeat_tells c (fin_of (grows_older c)) (ap is_live e) f some refl (subst (λ x. Alike (fin_of (grows_older c)) (due m x (grows_older c))) (sym e) (alike_refl (fin_of (grows_older c)))) refl
+  again_tells c Closing e l f h some = repeat_tells c (fin_of (grows_older c)) (ap is_live e) f some refl (subst (λ x. Alike (fin_of (grows_older c)) (due m x (grows_older c))) (sym e) (alike_refl (fin_of (grows_older c)))) refl
+  again_tells c LastAck e l f h some = repeat_tells c (fin_of (grows_older c)) (ap is_live e) f some refl (subst (λ x. Alike (fin_of (grows_older c)) (due m x (grows_older c))) (sym e) (alike_refl (fin_of (grows_older c)))) refl
+  again_tells c FinWait2 e l f h some = silent_tells c (grows_older c) (older_onto c) (λ x. older_is_safe c f) (λ z. record { some = z; same = refl })
+  again_tells c TimeWait e l f h some = silent_tells c (grows_older c) (older_onto c) (λ x. older_is_safe c f) (λ z. record { some = z; same = refl })
+
+  by_beat_tells : (b : Beat) (c : Connection) (numbers : List ℕ) → is_live c.state ≡ true → Safe c → 0 < c.len → (let o : Outcome = by_beat m b c numbers in OutTells c o.connection o.step)
+  by_beat_tells Beat.Wait c numbers l f some = silent_tells c (grows_older c) (older_onto c) (λ x. older_is_safe c f) (λ z. record { some = z; same = refl })
+  by_beat_tells Beat.Again c numbers l f some = again_tells c c.state refl l f f.state some
+  by_beat_tells Beat.GiveUp c numbers l f some = reset_tells c c
+
+  waits_tell : (c : Connection) (numbers : List ℕ) → is_live c.state ≡ true → Safe c → 0 < c.len → (let o : Outcome = waits_for_ack m c numbers in OutTells c o.connection o.step)
+  waits_tell c numbers l f some = by_beat_tells (beat_at (limit_of c.state) (c.age + 1)) c numbers l f some
+
+  rests_tell : (c : Connection) (numbers : List ℕ) → Safe c → (let o : Outcome = rests_on c numbers in OutTells c o.connection o.step)
+  unfolding rests_on
+  rests_tell c numbers f = choose (λ (y : Outcome). OutTells c y.connection y.step) (eqb (c.age + 1) rest_time) _ _ (λ e. dead_tells c c) (λ e. silent_tells c (grows_older c) (older_onto c) (λ x. older_is_safe c f) (λ z. record { some = z; same = refl }))
+
+  polls_tell : (c : Connection) (numbers : List ℕ) → c.state ≡ Established → Safe c → TextSafe c → (let o : Outcome = ticks_established m c numbers in OutTells c o.connection o.step)
+  unfolding ticks_established
+  polls_tell c numbers e f h =
+      choose (λ (y : Outcome). OutTells c y.connection y.step) (ltb 0 c.len) _ _ (λ i. waits_tell c numbers (ap is_live e) f (ltb-lt 0 c.len i))
+      (λ i. let x = lawful.polled_like numbers c.part in
+      let d : Connection = with_part (m.polled numbers c.part).part c in
+      let z : c.len ≡ 0 = ltb-zero c.len i in
+      let q : length (pages.text d.part.heard d.part.captures) ≡ length (pages.text c.part.heard c.part.captures) = ap (λ y. length (pages.text y d.part.captures)) x.heard ∙ ap (λ y. length (pages.text c.part.heard y)) x.captures in
+      record { onto = onto_idle c d refl z refl; is_asked = ap is_open e; idle = z; mss = f.mss; initial = f.initial; text = record { fits = omega (arith, q, h.fits, x.acked); count = omega (arith, h.count, x.acked) }; new = λ y. absurd (omega (arith, y, z)) })
+
+  tick_by_tells : (st : State) (c : Connection) (numbers : List ℕ) → c.state ≡ st → Safe c → SafeState c st → (let o : Outcome = tick_by m st c numbers in OutTells c o.connection o.step)
+  tick_by_tells Closed c numbers e f h = absurd h
+  tick_by_tells SynRcvd c numbers e f h = waits_tell c numbers (ap is_live e) f (omega (arith, h.len))
+  tick_by_tells Established c numbers e f h = polls_tell c numbers e f h
+  tick_by_tells CloseWait c numbers e f h = waits_tell c numbers (ap is_live e) f h.some
+  tick_by_tells FinWait1 c numbers e f h = waits_tell c numbers (ap is_live e) f (omega (arith, h.len))
+  tick_by_tells FinWait2 c numbers e f h = rests_tell c numbers f
+  tick_by_tells Closing c numbers e f h = waits_tell c numbers (ap is_live e) f (omega (arith, h.len))
+  tick_by_tells TimeWait c numbers e f h = rests_tell c numbers f
+  tick_by_tells LastAck c numbers e f h = waits_tell c numbers (ap is_live e) f (omega (arith, h.len))
+
+  pub tick_tells : (c : Connection) (numbers : List ℕ) → Safe c → (let o : Outcome = on_tick m c numbers in OutTells c o.connection o.step)
+  tick_tells c numbers f = tick_by_tells c.state c numbers refl f f.state

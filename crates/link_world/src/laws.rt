@@ -1,0 +1,64 @@
+//! The headline of the link world: whatever a schedule loses, repeats or reorders, a clean client has received a prefix of its
+//! page, and the whole of it where it saw a plain close. Each law is the clause of a function without parameters; how the
+//! proof goes is told in docs/LINK_THEOREM.md.
+
+ghost use Rattle.link_world.specs.Parts.{CleanParts};
+ghost use Rattle.link_world.specs.Honest.{HonestLink};
+ghost use Rattle.link_world.specs.Reading.{BytesAreRead, SentToClients};
+ghost use Rattle.link_world.specs.Headline.{PrefixAndWhole, SameBytes, AgainExactly, Tick, DamageIsLoss, OneSegment, LinesAreActs};
+
+/// A clean client has received a prefix of its page, and the whole page where it took the server's FIN in sequence.
+pub fn prefix_and_whole()
+    ensures { PrefixAndWhole }
+{}
+
+/// What is sent again while it is outstanding has the same number, flags and text as before.
+pub fn same_bytes()
+    ensures { SameBytes }
+{}
+
+/// A datagram is marked as sent again exactly where an earlier one of the same connection stands at its number.
+pub fn again_exactly()
+    ensures { AgainExactly }
+{}
+
+/// An expired timer below its limit sends what is outstanding in that tick.
+pub fn tick()
+    ensures { Tick }
+{}
+
+/// A whole datagram that is handed over with one byte changed changes no client, no connection, no number and no list.
+pub fn damage_is_loss()
+    ensures { DamageIsLoss }
+{}
+
+/// While its connection lives, a clean client expects a number inside what is outstanding there, and it has acknowledged no more.
+pub fn one_segment()
+    ensures { OneSegment }
+{}
+
+/// What the lines of a schedule reach is reached by a list of acts.
+pub fn lines_are_acts()
+    ensures { LinesAreActs }
+{}
+
+/// What holds together of a clean client: the slices of its page, its FINs, its epochs and its requests.
+pub fn clean_parts()
+    ensures { CleanParts }
+{}
+
+/// Over a link that loses nothing a client is served whole, within two rounds for each part of its request, two for each text of
+/// its page, and six more.
+pub fn honest_link()
+    ensures { HonestLink }
+{}
+
+/// The bytes of each datagram say to its receiver what was sent, and are no more than the largest datagram has.
+pub fn bytes_are_read()
+    ensures { BytesAreRead }
+{}
+
+/// Each segment is of a client or to one: the node speaks to clients alone.
+pub fn sent_to_clients()
+    ensures { SentToClients }
+{}
