@@ -7,7 +7,7 @@ use Rattle.app_events.specs.Pages.{IsWord}
 use Rattle.file_tree.specs.Site.{files_of}
 use Rattle.site_image.specs.Files.{File}
 use Rattle.web_pages.specs.WebMeaning.{web_meaning}
-use Rattle.web_theorem.proofs.Web.{honest_pages}
+use Rattle.replay_tools.proofs.Web.{honest_pages}
 use Rattle.link_schedule.specs.Clients.{Plan}
 use Rattle.link_schedule.specs.Kept.{client_in_range, is_between}
 use Rattle.link_world.specs.History.{IsPlan, IsPlanned, Planned}

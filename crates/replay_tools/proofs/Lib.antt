@@ -7,3 +7,7 @@ pub mod Texts
 pub mod Told
 pub mod Typed
 pub mod Undisturbed
+pub mod Counting
+pub mod Answering
+pub mod Web
+pub mod Worked

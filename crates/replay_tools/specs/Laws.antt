@@ -9,7 +9,7 @@ use Rattle.uip_edge.specs.Shelving.{Files, IsMissing}
 use Rattle.web_pages.specs.Pages.{pages_of}
 use Rattle.web_pages.specs.Requests.{wanted}
 use Rattle.web_pages.specs.Requests.Wanted.{NotYet}
-use Rattle.web_theorem.specs.Web.{parts_of, texts_of}
+use Rattle.replay_tools.specs.Web.{parts_of, texts_of}
 use Rattle.link_world.specs.World.{World}
 use Rattle.link_schedule.specs.declared.event.Event.TheVariants.{Opens, Round}
 use Rattle.link_schedule.specs.Clients.{Plan}

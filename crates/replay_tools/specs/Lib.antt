@@ -3,3 +3,5 @@ pub mod Laws
 pub mod Playing
 pub mod Promises
 pub mod Telling
+pub mod Web
+pub mod Worked

@@ -2,6 +2,7 @@
 //! web server of the site, and the report is written to a sink. The contract of `replay` has the headline: what each client received.
 #![tactic(auto)]
 
+mod headline;
 mod laws;
 mod lines;
 mod playing;
@@ -10,6 +11,7 @@ mod replaying;
 mod seeing;
 
 pub use file_tree::{SiteError, SiteWhy};
+pub use headline::{honest_pages, pages_are_received, worked_replays};
 pub use laws::{honest_replay, replay_is_told};
 pub use link_schedule::Why;
 pub use replay_end::ReplayEnd;

@@ -27,8 +27,8 @@ use Rattle.web_pages.proofs.Bounds.{text_bound}
 use Rattle.link_world.specs.Honest.{GoesOnBy, AnswersIn}
 use Rattle.link_world.proofs.Basics.{prefix_length, both_ways, ltb-zero, not-true}
 use Rattle.link_world.proofs.Fits.{all_nil, all_cons}
-use Rattle.web_theorem.specs.Web.{most_of, texts_for, pieces_for}
-use Rattle.web_theorem.proofs.Counting.{left_in, behind, counted, shorter, one_less}
+use Rattle.replay_tools.specs.Web.{most_of, texts_for, pieces_for}
+use Rattle.replay_tools.proofs.Counting.{left_in, behind, counted, shorter, one_less}
 
 silent_none : (function : Function) → takes_capture function ≡ false → length_at_most function ≡ 0
 silent_none FileStats e = absurd cc

@@ -20,8 +20,8 @@ use Rattle.web_pages.specs.Pages.{pages_of}
 use Rattle.web_pages.specs.WebMeaning.{web_meaning}
 use Rattle.web_pages.proofs.PageLaws.{keeps_page_laws}
 use Rattle.web_pages.proofs.ByteLaws.{made_of_bytes}
-use Rattle.web_theorem.specs.Web.{PagesAreReceived, HonestPages, parts_of, texts_of}
-use Rattle.web_theorem.proofs.Answering.{fine, left, answers}
+use Rattle.replay_tools.specs.Web.{PagesAreReceived, HonestPages, parts_of, texts_of}
+use Rattle.replay_tools.proofs.Answering.{fine, left, answers}
 
 pub pages_are_received : PagesAreReceived
 pages_are_received site loaded bytes w r k side there clean =

@@ -1,9 +1,8 @@
 //! The headline for the web server: what its clients receive of the pages of a site, whatever a schedule loses, repeats,
 //! reorders or damages. Each law is the clause of a function without parameters.
-#![tactic(auto)]
 
-ghost use Rattle.web_theorem.specs.Web.{PagesAreReceived, HonestPages};
-ghost use Rattle.web_theorem.specs.Worked.{AreWorkedReplays};
+ghost use Rattle.replay_tools.specs.Web.{PagesAreReceived, HonestPages};
+ghost use Rattle.replay_tools.specs.Worked.{AreWorkedReplays};
 
 /// A client to and from which nothing stale was delivered has received a prefix of its page, and the whole page where it saw a
 /// plain close.

@@ -1,4 +1,0 @@
-pub mod Counting
-pub mod Answering
-pub mod Web
-pub mod Worked
