@@ -17,3 +17,11 @@ pub mod Losing
 pub mod Answered
 pub mod Opened
 pub mod Played
+pub mod Hearing
+pub mod Listing
+pub mod Saying
+pub mod Standing
+pub mod Telling
+pub mod WorkedReports
+pub mod Counted
+pub mod WorkedSummaries

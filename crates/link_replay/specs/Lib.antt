@@ -7,3 +7,9 @@ pub mod Stands
 pub mod Telling
 pub mod Opening
 pub mod Playing
+pub mod Report
+pub mod Writing
+pub mod WorkedReports
+pub mod Kinds
+pub mod Summary
+pub mod WorkedSummaries

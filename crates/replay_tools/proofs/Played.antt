@@ -19,7 +19,7 @@ use Rattle.link_world.specs.World.{World}
 use Rattle.link_replay.specs.Opening.{opening}
 use Rattle.link_replay.specs.Playing.{Plays, Reaches, Refuses, event_at}
 use Rattle.link_replay.specs.Reaching.{IsAt}
-use Rattle.link_report.specs.Report.{report}
+use Rattle.link_replay.specs.Report.{report}
 use Rattle.replay_tools.specs.Playing.{bad_schedule, is_served, no_hits}
 use Rattle.replay_tools.specs.Telling.{Answers, IsDue, Tells, Writes}
 use Rattle.replay_tools.specs.declared.replay_end.ReplayEnd.{ReplayEnd}

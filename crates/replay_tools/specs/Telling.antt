@@ -5,7 +5,7 @@ use Rattle.site_image.specs.Files.{File}
 use Rattle.uip_edge.specs.Causes.{Rose}
 use Rattle.uip_edge.specs.Writing.{AppendsPrefix}
 use Rattle.link_world.specs.World.{World}
-use Rattle.link_report.specs.Report.{report}
+use Rattle.link_replay.specs.Report.{report}
 use Rattle.replay_tools.specs.Playing.{IsFirstBad, IsPlayed, bad_schedule}
 use Rattle.replay_tools.specs.Promises.{KeepsPromises}
 use Rattle.replay_tools.specs.declared.replay_end.ReplayEnd.{ReplayEnd}

@@ -8,7 +8,7 @@ ghost use Rattle.link_schedule.specs.Reading.{read_text};
 ghost use Rattle.link_world.specs.World.{World as PlainWorld};
 ghost use Rattle.link_replay.specs.Reaching.{IsAt};
 ghost use Rattle.link_replay.specs.Stands.{WorldStands};
-ghost use Rattle.link_report.specs.Report.{report as report_of};
+ghost use Rattle.link_replay.specs.Report.{report as report_of};
 ghost use Rattle.replay_tools.specs.Playing.{bad_schedule as line_of};
 ghost use Rattle.replay_tools.specs.Telling.{Answers, IsDue, Tells, Writes};
 ghost use Rattle.replay_tools.specs.declared.replay_end.ReplayEnd.TheVariants as ends;
@@ -20,7 +20,6 @@ use app_events::App;
 use file_tree::Site;
 use httpd::{Httpd, Web};
 use link_replay::{World, play};
-use link_report::report;
 use link_schedule::{ReadSchedule, Schedule, Why};
 use std::alloc::Global;
 use uip_edge::Sink;
@@ -69,7 +68,7 @@ fn tell<A: App, K: Sink>(world: &World<A>, show: bool, out: &mut K) -> ReplayEnd
     ensures { (m : Meaning) (served : ℕ → Bool) (w : PlainWorld) → WorldStands A.App world.now w → IsAt m served w
         → Writes (report_of show w) ends.Done (K.written out.old) (K.written out.new) (K.faults out.old) (K.faults out.new) result }
 {
-    match report(world, show, out) {
+    match world.report(show, out) {
         Ok(()) => ReplayEnd::Done,
         Err(_) => ReplayEnd::WriteFault,
     }

@@ -5,7 +5,7 @@ use httpd::{Httpd, Web};
 use link_replay::play;
 use std::test::Fail;
 use uip_edge::MemSink;
-use workload::{make, summary};
+use workload::make;
 
 const IMAGE: &[u8] = b"UIPSITE1\0\x01\x0b/index.html\0\0\0\x06hello\n";
 
@@ -24,7 +24,7 @@ fn a_made_schedule_is_played(rt: HostRuntime) -> Result<(), Fail> {
     let Ok(mut sink) = MemSink::new(alloc, 4096, Vec::new(alloc)) else {
         return Err("no memory".into());
     };
-    assert!(rt; summary(&world, &mut sink).is_ok());
+    assert!(rt; world.summary(&mut sink).is_ok());
     let told: &[u8] =
         b"closed 11 open 2 reset 1 other 2 stale 0 bytes 1023 datagrams 249 again 48\n";
     assert_eq!(rt; sink.written(), told);

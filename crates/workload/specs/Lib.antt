@@ -1,5 +1,2 @@
-pub mod Counts
-pub mod Summary
-pub mod Worked
 pub mod Workload
 pub mod WorkedWorkload

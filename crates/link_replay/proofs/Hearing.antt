@@ -1,0 +1,90 @@
+-- What a datagram is, as its receiver reads it.
+use Rattle.std.proofs.Common.{◌≡◌, ℕ, zero, suc, ◌<◌, List, length, Bool, true, false, if◌then◌else◌, Some, None, refl, sym, ap, ◌∙◌, subst, arith, ◌⊎◌, inl, inr}
+use Rattle.std.specs.Prelude.{slice_index_or, option_map}
+use Rattle.std.proofs.lemmas.Option.{slice_get-get_or, slice_get_past}
+use Rattle.uip_wire.specs.declared.addr.Addr.{Addr}
+use Rattle.tcp_machine.specs.Connection.{Sockets, same_sockets}
+use Rattle.tcp_segment.specs.Segments.{PlainSegment}
+use Rattle.uip_node.specs.Edge.{event_of}
+use Rattle.uip_node.specs.Events.{Event}
+use Rattle.uip_node.specs.Events.Event.{IpRefused, IcmpRefused, TcpRefused, EchoAsked, Arrived, Overlong, Periodic}
+use Rattle.link_client.specs.declared.setup.Setup.{Setup}
+use Rattle.link_client.specs.Client.{AbstractClient}
+use Rattle.link_world.specs.World.{World, Side, Content, numbered, sockets_of}
+use Rattle.link_world.specs.World.Content.{OfSegment, OfPing, OfEcho}
+use Rattle.link_world.specs.Bytes.{heard_by, server_of}
+use Rattle.link_world.specs.declared.who.Who.TheVariants.{FromClient, FromNode}
+use Rattle.link_world.specs.Reading.{IsRead, IsSentBy}
+use Rattle.link_replay.specs.Matched.{Matched}
+use Rattle.link_replay.specs.Stands.{SideStands}
+use Rattle.link_replay.specs.declared.side.Side.{Side as CodeSide}
+use Rattle.link_replay.specs.declared.kind.Kind.{Kind}
+use Rattle.link_replay.specs.declared.kind.Kind.TheVariants.{EchoReply}
+use Rattle.link_replay.specs.Report.{kind_of, segment_kind}
+use Rattle.link_replay.proofs.Listing.{partner}
+
+abbrev pub addr_of : Side → Addr
+addr_of side = side.client.setup.addr
+
+if_heard : (b : Bool) (s t : PlainSegment) → (if b then Some s else None) ≡ Some t → s ≡ t
+if_heard true s t e = cc
+if_heard false s t e = absurd cc
+
+-- what a client hears arrived at its address
+pub heard_arrived : (setup : Setup) (event : Event) (s : PlainSegment) → heard_by setup event ≡ Some s → (sockets : Sockets) × (event ≡ Arrived sockets s)
+heard_arrived setup (Arrived sockets t) s e = (sockets, ap (λ x. Arrived sockets x) (if_heard (same_sockets sockets (server_of setup)) t s e))
+heard_arrived setup (IpRefused fate) s e = absurd cc
+heard_arrived setup (IcmpRefused fate) s e = absurd cc
+heard_arrived setup (TcpRefused fate) s e = absurd cc
+heard_arrived setup (EchoAsked datagram) s e = absurd cc
+heard_arrived setup Overlong s e = absurd cc
+heard_arrived setup (Periodic place) s e = absurd cc
+
+-- a datagram of a client
+pub client_kind : (w : World) (number : ℕ) (content : Content) (bytes : List ℕ) (kind : Kind)
+    → ((sockets : Sockets) (s : PlainSegment) → event_of w.node.addr bytes ≡ Arrived sockets s → kind ≡ segment_kind s)
+    → ((side : Side) → numbered w.sides number ≡ Some side → side.client.setup.server ≡ w.node.addr)
+    → IsRead w (FromClient number) content bytes → IsSentBy w.sides (FromClient number) content → kind ≡ kind_of content
+client_kind w number (OfSegment id s) bytes kind reads server read by = reads (sockets_of by.0) s (read by.0 by.1 (server by.0 by.1))
+client_kind w number (OfPing datagram) bytes kind reads server read by = absurd by
+client_kind w number (OfEcho request) bytes kind reads server read by = absurd by
+
+-- the client that a datagram goes to is there
+pub node_kind : (w : World) (number : ℕ) (content : Content) (bytes : List ℕ) (own : Addr) (kind : Kind)
+    → Some own ≡ option_map addr_of (numbered w.sides number)
+    → ((sockets : Sockets) (s : PlainSegment) → event_of own bytes ≡ Arrived sockets s → kind ≡ segment_kind s)
+    → ((side : Side) → numbered w.sides number ≡ Some side → side.client.setup.server ≡ w.node.addr)
+    → IsRead w (FromNode number) content bytes → IsSentBy w.sides (FromNode number) content → kind ≡ kind_of content
+node_kind w number (OfSegment id s) bytes own kind found reads server read by =
+    let side = by.0 in
+    let here : Some own ≡ Some (addr_of side) = found ∙ ap (λ o. option_map addr_of o) by.1 in
+    let same : addr_of side ≡ own = cc in
+    let arrived = heard_arrived side.client.setup (event_of side.client.setup.addr bytes) s (read side by.1 (server side by.1)) in
+    reads arrived.0 s (subst (λ (a : Addr). event_of a bytes ≡ Arrived arrived.0 s) same arrived.1)
+node_kind w number (OfPing datagram) bytes own kind found reads server read by = absurd by
+node_kind w number (OfEcho request) bytes own kind found reads server read by =
+    let none : option_map addr_of (numbered w.sides number) ≡ None = ap (λ n. option_map addr_of (numbered w.sides n)) by in
+    absurd cc
+
+-- no client is there
+pub no_client_kind : (w : World) (number : ℕ) (content : Content) → None ≡ option_map addr_of (numbered w.sides number)
+    → IsSentBy w.sides (FromNode number) content → EchoReply ≡ kind_of content
+no_client_kind w number (OfSegment id s) found by =
+    let here : None ≡ Some (addr_of by.0) = found ∙ ap (λ o. option_map addr_of o) by.1 in
+    absurd cc
+no_client_kind w number (OfPing datagram) found by = absurd by
+no_client_kind w number (OfEcho request) found by = refl
+
+-- the address of a client that is there
+pub address_there : (sides : List CodeSide) (ss : List Side) (place : ℕ) (d : CodeSide) → Matched SideStands sides ss → place < length sides
+    → Some (slice_index_or sides place d).client.setup.addr ≡ option_map addr_of (numbered ss (suc place))
+address_there sides ss place d m lt =
+    let there = partner SideStands sides ss place (slice_index_or sides place d) m (slice_get-get_or sides place d lt) in
+    ap (λ (c : AbstractClient). Some c.setup.addr) there.2.client ∙ sym (ap (λ o. option_map addr_of o) there.1)
+
+-- no client is there
+pub address_past : (sides : List CodeSide) (ss : List Side) (number : ℕ) → Matched SideStands sides ss → (number ≡ 0) ⊎ (length sides < number)
+    → None ≡ option_map addr_of (numbered ss number)
+address_past sides ss zero m past = refl
+address_past sides ss (suc place) m (inl none) = absurd (omega arith)
+address_past sides ss (suc place) m (inr past) = sym (ap (λ o. option_map addr_of o) (slice_get_past ss place (omega (arith, m.same_length))))

@@ -1,0 +1,67 @@
+-- Texts that are written one after another.
+use Rattle.std.proofs.Common.{◌≡◌, ℕ, List, [], ◌++◌, Option, Result, Ok, Err, refl, sym, ap, ◌∙◌, append_assoc, append-nil, subst}
+use Rattle.std.specs.Io.KnownBytes.{Appends}
+use Rattle.uip_edge.proofs.Told.{Appends-none, Appends-then, appends_by, prefix_by, prefix_more, prefix_then}
+use Rattle.link_replay.specs.Writing.{Wrote}
+
+-- a front of the whole text was written, and this is the rest
+pub record Saying (first now : Option (List ℕ)) (whole rest : List ℕ) : Type 0 where
+  pub front : List ℕ
+  pub parts : whole ≡ front ++ rest
+  pub told : Appends first now front
+
+pub saying_starts : (first : Option (List ℕ)) (whole : List ℕ) → Saying first first whole whole
+saying_starts first whole = record { front = []; parts = refl; told = Appends-none first }
+
+-- a part more
+pub saying_more : {T E : Type 0} (first mid now : Option (List ℕ)) (whole rest text more : List ℕ) (t : T) → Saying first mid whole rest → rest ≡ text ++ more
+    → Wrote {T = T} {E = E} mid now (Ok t) text → Saying first now whole more
+saying_more first mid now whole rest text more t s e w = record {
+  front = s.front ++ text;
+  parts = s.parts ∙ ap (λ l. s.front ++ l) e ∙ sym (append_assoc s.front text more);
+  told = Appends-then first mid now s.front text s.told w.whole;
+}
+
+-- a part failed
+pub saying_stops : {T U E D : Type 0} (first mid now : Option (List ℕ)) (whole rest text more : List ℕ) (e : E) (d : D) (r : Result U D) → r ≡ Err d → Saying first mid whole rest
+    → rest ≡ text ++ more → Wrote {T = T} {E = E} mid now (Err e) text → Wrote first now r whole
+saying_stops first mid now whole rest text more e d (Ok u) is s same w = absurd cc
+saying_stops first mid now whole rest text more e d (Err f) is s same w = record {
+  whole = tt;
+  front = prefix_by first now (s.front ++ rest) whole s.parts
+      (prefix_then first mid now s.front rest s.told (prefix_more mid now text more rest (sym same) w.front));
+}
+
+-- the last part is written, or fails
+pub saying_ends : {T E : Type 0} (first mid now : Option (List ℕ)) (whole rest : List ℕ) (r : Result T E) → Saying first mid whole rest
+    → Wrote mid now r rest → Wrote first now r whole
+saying_ends first mid now whole rest (Ok t) s w = record {
+  whole = appends_by first now (s.front ++ rest) whole s.parts (Appends-then first mid now s.front rest s.told w.whole);
+  front = tt;
+}
+saying_ends first mid now whole rest (Err e) s w = record {
+  whole = tt;
+  front = prefix_by first now (s.front ++ rest) whole s.parts (prefix_then first mid now s.front rest s.told w.front);
+}
+
+-- nothing is left
+pub saying_done : {T E : Type 0} (first now : Option (List ℕ)) (whole rest : List ℕ) (t : T) → Saying first now whole rest → rest ≡ []
+    → Wrote {T = T} {E = E} first now (Ok t) whole
+saying_done first now whole rest t s none = record {
+  whole = appends_by first now s.front whole (s.parts ∙ ap (λ l. s.front ++ l) none ∙ append-nil s.front) s.told;
+  front = tt;
+}
+
+-- two texts, of which the first failed
+pub wrote_stop : {T U E D : Type 0} (old now : Option (List ℕ)) (text more : List ℕ) (e : E) (d : D) (r : Result U D) → r ≡ Err d
+    → Wrote {T = T} {E = E} old now (Err e) text → Wrote old now r (text ++ more)
+wrote_stop old now text more e d r is w = saying_stops old old now (text ++ more) (text ++ more) text more e d r is (saying_starts old (text ++ more)) refl w
+
+-- and of which the first was written
+pub wrote_then : {T U D E : Type 0} (old mid now : Option (List ℕ)) (text more : List ℕ) (t : T) (r : Result U D) → Wrote {T = T} {E = E} old mid (Ok t) text
+    → Wrote mid now r more → Wrote old now r (text ++ more)
+wrote_then old mid now text more t r w v =
+    saying_ends old mid now (text ++ more) more r (saying_more old old mid (text ++ more) (text ++ more) text more t (saying_starts old (text ++ more)) refl w) v
+
+pub wrote_by : {T E : Type 0} (old now : Option (List ℕ)) (r : Result T E) (xs ys : List ℕ) → xs ≡ ys → Wrote old now r xs → Wrote old now r ys
+wrote_by old now r xs ys e w = subst (Wrote old now r) e w

@@ -1,0 +1,102 @@
+-- The text of a report.
+use Rattle.std.specs.Prelude.{ℕ, ◌+◌, Bool, List, [], ◌∷◌, ◌++◌, length, if◌then◌else◌, Option, Some, None, codes, decimal}
+use Rattle.hex.specs.Hex.{encode_lower}
+use Rattle.tcp_segment.specs.Segments.{PlainSegment, has_syn, has_ack, has_psh, has_fin, has_rst}
+use Rattle.uip_node.specs.Counters.{ticks_of}
+use Rattle.link_client.specs.declared.client_state.ClientState.{ClientState}
+use Rattle.link_client.specs.declared.client_state.ClientState.TheVariants.{Idle, Opening, Opened, Closing, Closed, Ended, Reset}
+use Rattle.link_world.specs.World.{World, Side, Sent, Content}
+use Rattle.link_world.specs.World.Content.{OfSegment, OfPing, OfEcho}
+use Rattle.link_world.specs.declared.who.Who.{Who}
+use Rattle.link_world.specs.declared.who.Who.TheVariants.{FromClient, FromNode, Pinger}
+use Rattle.link_replay.specs.declared.kind.Kind.{Kind}
+use Rattle.link_replay.specs.declared.kind.Kind.TheVariants.{Segment, EchoRequest, EchoReply}
+
+abbrev pub word_if : Bool → List ℕ → List ℕ
+word_if told word = if told then word else []
+
+-- the sender, or for a datagram of the node the client that it goes to
+abbrev pub who_word : Who → List ℕ
+who_word (FromClient number) = codes "c" ++ decimal number
+who_word (FromNode number) = codes "n" ++ decimal number
+who_word Pinger = codes "p"
+
+-- the letters of the flags that are set (RFC 793, section 3.1)
+abbrev pub flag_letters : ℕ → List ℕ
+flag_letters flags =
+    word_if (has_syn flags) (codes "S") ++ word_if (has_ack flags) (codes "A") ++ word_if (has_psh flags) (codes "P") ++ word_if (has_fin flags) (codes "F")
+    ++ word_if (has_rst flags) (codes "R")
+
+abbrev pub segment_kind : PlainSegment → Kind
+segment_kind s = Segment s.flags s.seq (length s.text)
+
+-- what is told of a datagram's content
+abbrev pub kind_of : Content → Kind
+kind_of (OfSegment id s) = segment_kind s
+kind_of (OfPing datagram) = EchoRequest
+kind_of (OfEcho request) = EchoReply
+
+-- flags, sequence number and length
+abbrev pub kind_words : Kind → List ℕ
+kind_words (Segment flags seq len) = flag_letters flags ++ codes " " ++ decimal seq ++ codes " " ++ decimal len
+kind_words EchoRequest = codes "echo 0 0"
+kind_words EchoReply = codes "reply 0 0"
+
+abbrev pub datagram_line : ℕ → ℕ → Who → Kind → Bool → List ℕ
+datagram_line number tick who kind again =
+    decimal number ++ codes " " ++ decimal tick ++ codes " " ++ who_word who ++ codes " " ++ kind_words kind ++ word_if again (codes " again") ++ codes "\n"
+
+-- number, ticks at sending, who, what, and whether it was sent again
+abbrev pub line_of_datagram : ℕ → Sent → List ℕ
+line_of_datagram number e = datagram_line number e.tick e.who (kind_of e.content) e.again
+
+abbrev pub state_word : ClientState → List ℕ
+state_word Idle = codes "idle"
+state_word Opening = codes "opening"
+state_word Opened = codes "open"
+state_word Closing = codes "closing"
+state_word Closed = codes "closed"
+state_word Ended = codes "ended"
+state_word Reset = codes "reset"
+
+-- whether a stale datagram was delivered, and where all is shown the number of the first
+abbrev pub clean_words : Bool → Option ℕ → List ℕ
+clean_words show None = codes "clean"
+clean_words show (Some number) = codes "stale" ++ word_if show (codes " " ++ decimal number)
+
+abbrev pub client_line : Bool → ℕ → ClientState → ℕ → Option ℕ → List ℕ
+client_line show number state len first_stale =
+    codes "client " ++ decimal number ++ codes " " ++ state_word state ++ codes " " ++ decimal len ++ codes " " ++ clean_words show first_stale ++ codes "\n"
+
+-- number, state, how many bytes of its page it received, and whether it is clean
+abbrev pub line_of_client : Bool → ℕ → Side → List ℕ
+line_of_client show number side = client_line show number side.client.state (length side.client.received) side.first_stale
+
+-- bytes as pairs of digits
+abbrev pub digits_or_dash : List ℕ → List ℕ
+digits_or_dash [] = codes "-"
+digits_or_dash (byte ∷ bytes) = encode_lower (byte ∷ bytes)
+
+abbrev pub text_line : List ℕ → List ℕ
+text_line bytes = codes "text " ++ digits_or_dash bytes ++ codes "\n"
+
+-- where all is shown, the bytes that a client received stand on a line of their own
+abbrev pub lines_of_client : Bool → ℕ → Side → List ℕ
+lines_of_client show number side = line_of_client show number side ++ word_if show (text_line side.client.received)
+
+abbrev pub counts_line : ℕ → ℕ → List ℕ
+counts_line ticks datagrams = codes "ticks " ++ decimal ticks ++ codes " datagrams " ++ decimal datagrams ++ codes "\n"
+
+-- how many ticks there were, and how many datagrams
+abbrev pub last_line : World → List ℕ
+last_line w = counts_line (ticks_of w.node.past) (length w.sent)
+
+-- the text of each element, numbered from here on
+abbrev pub numbered_texts : {X : Type 0} → (ℕ → X → List ℕ) → ℕ → List X → List ℕ
+numbered_texts text number [] = []
+numbered_texts text number (x ∷ xs) = text number x ++ numbered_texts text (number + 1) xs
+
+-- the datagrams where all is shown, the clients, and how much happened
+abbrev pub report : Bool → World → List ℕ
+report show w =
+    word_if show (numbered_texts line_of_datagram 1 w.sent) ++ numbered_texts (lines_of_client show) 1 w.sides ++ last_line w

@@ -1,0 +1,46 @@
+//! The lines of the clients.
+
+ghost use Rattle.std.specs.Prelude.{◌≡◌, ◌++◌, List, length};
+ghost use Rattle.uip_edge.specs.Causes.{HasCause};
+ghost use Rattle.link_world.specs.World.{Side as PlainSide};
+ghost use Rattle.link_replay.specs.Matched.{Matched};
+ghost use Rattle.link_replay.specs.Stands.{SideStands};
+ghost use Rattle.link_replay.specs.Report.{client_line as client_text, lines_of_client, numbered_texts, text_line, word_if};
+ghost use Rattle.link_replay.specs.Writing.{Wrote};
+
+use crate::client_lines::client_line;
+use crate::texts::{write_text_line, write_word};
+use crate::side::Side;
+use uip_edge::{Failed, Sink};
+
+/// Writes the lines of each client.
+pub(crate) fn write_clients<K: Sink>(show: bool, sides: &[Side], sink: &mut K) -> Result<(), Failed>
+    ensures wrote { (ss : List PlainSide) → Matched SideStands sides.now ss
+        → Wrote (K.written sink.old) (K.written sink.new) result (numbered_texts (lines_of_client show) 1 ss) }
+    ensures cause { HasCause (K.faults sink.old) (K.faults sink.new) result }
+{
+    for (place, side) in sides.iter().enumerate() {
+        write_client(show, place + 1, side, sink)?;
+    }
+    Ok(())
+}
+
+/// Writes the line of a client with its number, and where all is shown the bytes that it received.
+fn write_client<K: Sink>(show: bool, number: usize, side: &Side, sink: &mut K) -> Result<(), Failed>
+    ensures wrote { (s : PlainSide) → SideStands side.now s → Wrote (K.written sink.old) (K.written sink.new) result (lines_of_client show number s) }
+    ensures cause { HasCause (K.faults sink.old) (K.faults sink.new) result }
+{
+    write_word(client_line(show, number, side).bytes(), sink)?;
+    write_received(show, &side.received, sink)
+}
+
+/// Writes the bytes that a client received where all is shown.
+fn write_received<K: Sink>(show: bool, received: &[u8], sink: &mut K) -> Result<(), Failed>
+    ensures wrote { Wrote (K.written sink.old) (K.written sink.new) result (word_if show (text_line received.now)) }
+    ensures cause { HasCause (K.faults sink.old) (K.faults sink.new) result }
+{
+    if show {
+        return write_text_line(received, sink);
+    }
+    Ok(())
+}

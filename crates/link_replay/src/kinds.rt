@@ -1,0 +1,81 @@
+//! What a datagram is, as its receiver reads its bytes.
+
+ghost use Rattle.std.specs.Prelude.{◌≡◌, ◌≤◌, List, length, option_map};
+ghost use Rattle.uip_ipv4.specs.Head.{IsHeadOf};
+ghost use Rattle.tcp_machine.specs.Connection.{Sockets};
+ghost use Rattle.tcp_segment.specs.Received.{segment_or_fate};
+ghost use Rattle.tcp_segment.specs.Segments.{PlainSegment};
+ghost use Rattle.uip_node.specs.Edge.{by_segment, event_of};
+ghost use Rattle.uip_node.specs.Events.Event.{Arrived};
+ghost use Rattle.link_world.specs.World.{Sent as PlainSent, Side as PlainSide, World as PlainWorld, numbered};
+ghost use Rattle.link_world.specs.Bytes.{bytes_of};
+ghost use Rattle.link_world.specs.Reading.{IsRead, IsSentBy};
+ghost use Rattle.link_replay.specs.Matched.{Matched};
+ghost use Rattle.link_replay.specs.Stands.{IsLink, LinkStands, SentStands, SideStands};
+ghost use Rattle.link_replay.specs.Report.{kind_of as kind_meant, segment_kind};
+
+use crate::kind::Kind;
+use crate::link::Link;
+use crate::sent::Sent;
+use crate::side::Side;
+use link_world::Who;
+use tcp_segment::check as check_segment;
+use uip_ipv4::{IpHead, Proto, check as check_head};
+use uip_wire::Addr;
+
+/// What a datagram is at the node of this address. A segment is read as its receiver reads it; what no receiver can read is told as
+/// an echo reply.
+pub(crate) fn kind_of(addr: Addr, link: &Link, sent: &Sent) -> Kind
+    ensures { (w : PlainWorld) (e : PlainSent) → addr ≡ w.node.addr → LinkStands link.now w → IsLink w.node.addr link.now → SentStands w sent.now e
+        → IsRead w e.who e.content (bytes_of w e) → IsSentBy w.sides e.who e.content → result ≡ kind_meant e.content }
+{
+    match sent.who {
+        Who::Pinger => Kind::EchoRequest,
+        Who::FromClient(_) => read_at(addr, &sent.bytes),
+        Who::FromNode(number) => match address_of(link.sides.as_slice(), number) {
+            Some(own) => read_at(own, &sent.bytes),
+            None => Kind::EchoReply,
+        },
+    }
+}
+
+/// The address of the client with a number, counted from 1.
+fn address_of(sides: &[Side], number: u8) -> Option<Addr>
+    ensures { (ss : List PlainSide) → Matched SideStands sides.now ss → result ≡ option_map (λ s. s.client.setup.addr) (numbered ss number) }
+{
+    let place = usize::from(number);
+    if place == 0 || place > sides.len() {
+        return None;
+    }
+    Some(sides[place - 1].client.setup.addr)
+}
+
+/// What these bytes are at an address, if they are a segment there.
+fn read_at(own: Addr, bytes: &[u8]) -> Kind
+    ensures { (sockets : Sockets) (s : PlainSegment) → event_of own bytes.now ≡ Arrived sockets s → result ≡ segment_kind s }
+{
+    match check_head(bytes, own) {
+        Ok(head) => match head.proto {
+            Proto::Tcp => read_segment(bytes, &head),
+            Proto::Icmp => Kind::EchoReply,
+        },
+        Err(_) => Kind::EchoReply,
+    }
+}
+
+/// What the bytes behind a header are, if they are a segment.
+fn read_segment(bytes: &[u8], head: &IpHead) -> Kind
+    requires head { IsHeadOf head.now bytes.now }
+    requires most { head.now.total ≤ length bytes.now }
+    ensures { (sockets : Sockets) (s : PlainSegment) → by_segment head.now bytes.now (segment_or_fate head.now bytes.now) ≡ Arrived sockets s
+        → result ≡ segment_kind s }
+{
+    match check_segment(bytes, head) {
+        Ok(segment) => Kind::Segment {
+            flags: segment.flags,
+            seq: segment.seq.0,
+            len: segment.text_len,
+        },
+        Err(_) => Kind::EchoReply,
+    }
+}

@@ -1,0 +1,47 @@
+//! The report of a replay: what became of each client, and where it is asked for, each datagram that was sent. It is written to a
+//! sink line by line, and no call is given an allocator.
+
+ghost use Rattle.std.specs.Prelude.{◌≡◌, ℕ, Bool, OnErr, OnOk};
+ghost use Rattle.std.specs.Io.KnownBytes.{Appends};
+ghost use Rattle.app_events.specs.Part.{Meaning};
+ghost use Rattle.uip_edge.specs.Causes.{HasCause};
+ghost use Rattle.uip_edge.specs.Writing.{AppendsPrefix};
+ghost use Rattle.link_world.specs.World.{World as PlainWorld};
+ghost use Rattle.link_replay.specs.Reaching.{IsAt};
+ghost use Rattle.link_replay.specs.Stands.{WorldStands};
+ghost use Rattle.link_replay.specs.Report.{report as report_of};
+ghost use Rattle.link_replay.specs.Writing.{Wrote};
+
+use crate::client_lines::last_line;
+use crate::clients::write_clients;
+use crate::datagrams::write_shown;
+use crate::texts::write_word;
+use app_events::App;
+use crate::world::World;
+use uip_edge::{Failed, Sink};
+
+impl<A: App> World<A> {
+    /// Writes the report of a world, and where all is shown a line for each datagram and the bytes that each client received. No
+    /// call in it is given an allocator. A failed call has written a front of the report.
+    pub fn report<K: Sink>(&self, show: bool, sink: &mut K) -> Result<(), Failed>
+        ensures ok { OnOk result ((m : Meaning) (served : ℕ → Bool) (w : PlainWorld) → WorldStands A.App self.now w → IsAt m served w
+            → Appends (K.written sink.old) (K.written sink.new) (report_of show w)) }
+        ensures err { OnErr result ((m : Meaning) (served : ℕ → Bool) (w : PlainWorld) → WorldStands A.App self.now w → IsAt m served w
+            → AppendsPrefix (K.written sink.old) (K.written sink.new) (report_of show w)) }
+        ensures cause { HasCause (K.faults sink.old) (K.faults sink.new) result }
+    {
+        write_report(self, show, sink)
+    }
+}
+
+/// Writes the report of a world.
+fn write_report<A: App, K: Sink>(world: &World<A>, show: bool, sink: &mut K) -> Result<(), Failed>
+    ensures wrote { (m : Meaning) (served : ℕ → Bool) (w : PlainWorld) → WorldStands A.App world.now w → IsAt m served w
+        → Wrote (K.written sink.old) (K.written sink.new) result (report_of show w) }
+    ensures cause { HasCause (K.faults sink.old) (K.faults sink.new) result }
+{
+    write_shown(show, world.node.addr, &world.link, sink)?;
+    write_clients(show, world.link.sides.as_slice(), sink)?;
+    let line = last_line(world.node.counts.ticks, world.link.sent.len());
+    write_word(line.bytes(), sink)
+}

@@ -1,0 +1,46 @@
+//! What a replay came to, in one line.
+
+ghost use Rattle.std.specs.Prelude.{◌≡◌, OnErr, OnOk};
+ghost use Rattle.std.specs.Io.KnownBytes.{Appends};
+ghost use Rattle.uip_edge.specs.Causes.{HasCause};
+ghost use Rattle.uip_edge.specs.Writing.{AppendsPrefix};
+ghost use Rattle.link_world.specs.World.{World as PlainWorld};
+ghost use Rattle.link_replay.specs.Stands.{WorldStands};
+ghost use Rattle.link_replay.specs.Summary.{summary_of, tally_line};
+
+use crate::line::Line;
+use crate::tally::{Tally, count_up};
+use crate::world::World;
+use app_events::App;
+use uip_edge::{Failed, Sink};
+
+impl<A: App> World<A> {
+    /// Writes in one line what a replay came to. No call in it is given an allocator. A failed call has written a front of the line.
+    pub fn summary<K: Sink>(&self, sink: &mut K) -> Result<(), Failed>
+        ensures ok { OnOk result ((w : PlainWorld) → WorldStands A.App self.now w
+            → Appends (K.written sink.old) (K.written sink.new) (summary_of w)) }
+        ensures err { OnErr result ((w : PlainWorld) → WorldStands A.App self.now w
+            → AppendsPrefix (K.written sink.old) (K.written sink.new) (summary_of w)) }
+        ensures cause { HasCause (K.faults sink.old) (K.faults sink.new) result }
+    {
+        let line = line_of(&count_up(&self.link));
+        sink.write_whole(line.bytes())
+    }
+}
+
+/// The line of a tally.
+fn line_of(tally: &Tally) -> Line
+    ensures { result.text.items ≡ tally_line tally.now }
+{
+    let mut line = Line::new();
+    line.put_count(b"closed ", tally.closed);
+    line.put_count(b" open ", tally.opened);
+    line.put_count(b" reset ", tally.reset);
+    line.put_count(b" other ", tally.other);
+    line.put_count(b" stale ", tally.stale);
+    line.put_total(b" bytes ", tally.bytes);
+    line.put_count(b" datagrams ", tally.datagrams);
+    line.put_count(b" again ", tally.again);
+    line.put(b"\n");
+    line
+}

@@ -1,0 +1,156 @@
+//! What became of a replay's clients and datagrams, in numbers.
+
+ghost use Rattle.std.specs.Prelude.{◌≡◌, Bool, count_by, is_none, length, not, sum_by};
+ghost use Rattle.link_world.specs.World.{World as PlainWorld};
+ghost use Rattle.link_replay.specs.Stands.{LinkStands};
+ghost use Rattle.link_replay.specs.Kinds.{is_closed as closed_state, is_open as open_state, is_other as other_state, is_reset as reset_state};
+ghost use Rattle.link_replay.specs.Summary.{tally_of};
+
+use link_client::ClientState;
+use crate::link::Link;
+use crate::sent::Sent;
+use crate::side::Side;
+
+/// How many clients there are by their states, how many are not clean, how many bytes they took of their pages together, how many
+/// datagrams were sent, and how many of them again.
+#[derive(Clone, Copy, Debug, PartialEq, Eq)]
+pub struct Tally {
+    pub closed: usize,
+    pub opened: usize,
+    pub reset: usize,
+    pub other: usize,
+    pub stale: usize,
+    pub bytes: u128,
+    pub datagrams: usize,
+    pub again: usize,
+}
+
+/// The tally of a replay's clients and datagrams.
+pub(crate) fn count_up(link: &Link) -> Tally
+    ensures { (w : PlainWorld) → LinkStands link.now w → result ≡ tally_of w }
+{
+    let sides = link.sides.as_slice();
+    let sent = link.sent.as_slice();
+    Tally {
+        closed: closed(sides),
+        opened: opened(sides),
+        reset: reset(sides),
+        other: other(sides),
+        stale: stale(sides),
+        bytes: bytes_taken(sides),
+        datagrams: sent.len(),
+        again: again(sent),
+    }
+}
+
+/// Whether a client took the server's FIN while it was open.
+fn is_closed(state: ClientState) -> bool
+    ensures { result ≡ closed_state state }
+{
+    match state {
+        ClientState::Closed => true,
+        _ => false,
+    }
+}
+
+/// Whether a client is open.
+fn is_open(state: ClientState) -> bool
+    ensures { result ≡ open_state state }
+{
+    match state {
+        ClientState::Opened => true,
+        _ => false,
+    }
+}
+
+/// Whether a client was reset.
+fn is_reset(state: ClientState) -> bool
+    ensures { result ≡ reset_state state }
+{
+    match state {
+        ClientState::Reset => true,
+        _ => false,
+    }
+}
+
+/// Whether a client has another state.
+fn is_other(state: ClientState) -> bool
+    ensures { result ≡ other_state state }
+{
+    match state {
+        ClientState::Closed | ClientState::Opened | ClientState::Reset => false,
+        _ => true,
+    }
+}
+
+/// Whether a stale datagram was delivered from a client or to it.
+fn is_stale(side: &Side) -> bool
+    ensures { result ≡ not (is_none side.now.first_stale) }
+{
+    !side.first_stale.is_none()
+}
+
+/// How many clients are closed.
+fn closed(sides: &[Side]) -> usize
+    ensures { result ≡ count_by (λ side. closed_state side.client.state) sides.now }
+{
+    sides
+        .iter()
+        .filter(|side| is_closed(side.client.state))
+        .count()
+}
+
+/// How many clients are open.
+fn opened(sides: &[Side]) -> usize
+    ensures { result ≡ count_by (λ side. open_state side.client.state) sides.now }
+{
+    sides
+        .iter()
+        .filter(|side| is_open(side.client.state))
+        .count()
+}
+
+/// How many clients were reset.
+fn reset(sides: &[Side]) -> usize
+    ensures { result ≡ count_by (λ side. reset_state side.client.state) sides.now }
+{
+    sides
+        .iter()
+        .filter(|side| is_reset(side.client.state))
+        .count()
+}
+
+/// How many clients have another state.
+fn other(sides: &[Side]) -> usize
+    ensures { result ≡ count_by (λ side. other_state side.client.state) sides.now }
+{
+    sides
+        .iter()
+        .filter(|side| is_other(side.client.state))
+        .count()
+}
+
+/// How many clients are not clean.
+fn stale(sides: &[Side]) -> usize
+    ensures { result ≡ count_by (λ side. not (is_none side.first_stale)) sides.now }
+{
+    sides.iter().filter(|side| is_stale(side)).count()
+}
+
+/// How many bytes the clients took of their pages together.
+fn bytes_taken(sides: &[Side]) -> u128
+    ensures { result ≡ sum_by (λ side. length side.received.items) sides.now }
+{
+    let mut total: u128 = 0;
+    for side in sides.iter() {
+        total += side.received.len() as u128;
+    }
+    total
+}
+
+/// How many datagrams were sent again.
+fn again(sent: &[Sent]) -> usize
+    ensures { result ≡ count_by (λ e. e.again) sent.now }
+{
+    sent.iter().filter(|e| e.again).count()
+}
