@@ -1,6 +1,6 @@
 #!/usr/bin/env python3
 """Builds the image of the example site from its files, apart from the program, and compares it with examples/site.img, which
-the program packed, and with the copy that a test of crates/trials reads.
+the program packed, and with the copy that a test of crates/cross_tests reads.
 
     python3 examples/image.py            # compares
     python3 examples/image.py literal    # writes the copy anew from examples/site.img
@@ -9,7 +9,7 @@ import os
 import sys
 
 HERE = os.path.dirname(os.path.abspath(__file__))
-COPY = os.path.join(HERE, "..", "crates", "trials", "src", "example_image.rt")
+COPY = os.path.join(HERE, "..", "crates", "cross_tests", "src", "example_image.rt")
 NAMES = ["index.html", "stats.shtml", "footer.html", "style.css", "logo.png", "404.html"]
 
 
@@ -58,7 +58,7 @@ def main():
         sys.exit("examples/site.img is not the image of examples/site: run examples/pack.sh")
     with open(COPY) as f:
         if f.read() != literal(image):
-            sys.exit("the copy in crates/trials is not examples/site.img: run examples/image.py literal")
+            sys.exit("the copy in crates/cross_tests is not examples/site.img: run examples/image.py literal")
     print("the example image is that of its files, and so is the copy that is tested")
 
 

@@ -21,7 +21,7 @@ pub mod Hearing
 pub mod Listing
 pub mod Saying
 pub mod Standing
-pub mod Telling
+pub mod ReportTold
 pub mod WorkedReports
 pub mod Counted
 pub mod WorkedSummaries

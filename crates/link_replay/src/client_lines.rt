@@ -4,8 +4,8 @@ ghost use Rattle.std.specs.Prelude.{◌≡◌, ◌+◌, ◌≤◌, ◌++◌, len
 ghost use Rattle.link_replay.specs.Report.{clean_words, client_line as client_text, counts_line, state_word as word_of};
 
 use crate::line::Line;
-use link_client::ClientState;
 use crate::side::Side;
+use link_client::ClientState;
 
 /// The line of a client with its number.
 pub(crate) fn client_line(show: bool, number: usize, side: &Side) -> Line

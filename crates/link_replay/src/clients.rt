@@ -9,8 +9,8 @@ ghost use Rattle.link_replay.specs.Report.{client_line as client_text, lines_of_
 ghost use Rattle.link_replay.specs.Writing.{Wrote};
 
 use crate::client_lines::client_line;
-use crate::texts::{write_text_line, write_word};
 use crate::side::Side;
+use crate::texts::{write_text_line, write_word};
 use uip_edge::{Failed, Sink};
 
 /// Writes the lines of each client.

@@ -5,7 +5,7 @@ ghost use Rattle.link_replay.specs.Report.{datagram_line as datagram_text, flag_
 
 use crate::kind::Kind;
 use crate::line::Line;
-use link_replay::Sent;
+use crate::sent::Sent;
 use link_world::Who;
 use tcp_segment::{ACK, FIN, PSH, RST, SYN};
 

@@ -13,9 +13,9 @@ ghost use Rattle.link_replay.specs.Writing.{Wrote};
 
 use crate::datagram_line::datagram_line;
 use crate::kinds::kind_of;
-use crate::texts::write_word;
 use crate::link::Link;
 use crate::sent::Sent;
+use crate::texts::write_word;
 use uip_edge::{Failed, Sink};
 use uip_wire::Addr;
 

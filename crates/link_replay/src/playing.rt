@@ -15,8 +15,7 @@ ghost use Rattle.link_replay.specs.Stands.{IsKept, WorldStands};
 use crate::types::{is_addr, is_short};
 use crate::world::World;
 use app_events::App;
-use link_schedule::{Line, ReadSchedule, Schedule, Why};
-use link_schedule::Event;
+use link_schedule::{Event, Line, ReadSchedule, Schedule, Why};
 use link_world::StepFault;
 use std::alloc::Global;
 

@@ -16,8 +16,8 @@ use crate::client_lines::last_line;
 use crate::clients::write_clients;
 use crate::datagrams::write_shown;
 use crate::texts::write_word;
-use app_events::App;
 use crate::world::World;
+use app_events::App;
 use uip_edge::{Failed, Sink};
 
 impl<A: App> World<A> {

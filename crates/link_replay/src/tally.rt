@@ -6,10 +6,10 @@ ghost use Rattle.link_replay.specs.Stands.{LinkStands};
 ghost use Rattle.link_replay.specs.Kinds.{is_closed as closed_state, is_open as open_state, is_other as other_state, is_reset as reset_state};
 ghost use Rattle.link_replay.specs.Summary.{tally_of};
 
-use link_client::ClientState;
 use crate::link::Link;
 use crate::sent::Sent;
 use crate::side::Side;
+use link_client::ClientState;
 
 /// How many clients there are by their states, how many are not clean, how many bytes they took of their pages together, how many
 /// datagrams were sent, and how many of them again.

@@ -3,9 +3,9 @@ ghost use Rattle.std.specs.Str.{bytes_eq};
 ghost use Rattle.link_schedule.specs.Events.{bare as bare_meant, damage as damage_meant, event_of as event_meant};
 ghost use Rattle.link_schedule.specs.Events.{window as window_meant, with_one as one_meant, with_three as three_meant, with_two as two_meant};
 
+use crate::event::Event;
 use crate::numbers::{addressed, named, within};
 use crate::why::Why;
-use crate::event::Event;
 
 /// What the words of a line say, where so many clients stand above it.
 pub fn event_of(clients: usize, words: &[&[u8]]) -> Result<Event, Why>

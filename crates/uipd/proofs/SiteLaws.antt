@@ -2,11 +2,11 @@
 use Rattle.std.proofs.Common.{◌≡◌, Option, ap, inl, inr}
 use Rattle.std.specs.Prelude.{◌⊎◌}
 use Rattle.uip_edge.specs.Shelving.{Files}
-use Rattle.site_tools.specs.declared.site_end.SiteEnd.{SiteEnd}
-use Rattle.site_tools.specs.declared.site_end.SiteEnd.TheVariants as ends
-use Rattle.site_tools.specs.Due.{Due}
-use Rattle.site_tools.specs.Ending.{Desk, Ends, IsCalm, IsDue, LacksFile, end_of}
-use Rattle.site_tools.proofs.EndLaws.{as_due}
+use Rattle.site_commands.specs.declared.site_end.SiteEnd.{SiteEnd}
+use Rattle.site_commands.specs.declared.site_end.SiteEnd.TheVariants as ends
+use Rattle.site_commands.specs.Due.{Due}
+use Rattle.site_commands.specs.Ending.{Desk, Ends, IsCalm, IsDue, LacksFile, end_of}
+use Rattle.site_commands.proofs.EndLaws.{as_due}
 use Rattle.uipd.specs.declared.status.Status.{Status}
 use Rattle.uipd.specs.declared.status.Status.TheVariants as status
 use Rattle.uipd.specs.Running.{SiteRuns, status_of_site}

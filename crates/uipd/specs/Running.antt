@@ -1,13 +1,13 @@
 -- What a run does to the outside, by what the words ask for.
 use Rattle.std.specs.Prelude.{◌≡◌, ℕ, Bool, List, Option, None, Some}
 use Rattle.uip_edge.specs.Shelving.{Files}
-use Rattle.site_tools.specs.declared.site_end.SiteEnd.{SiteEnd}
-use Rattle.site_tools.specs.declared.site_end.SiteEnd.TheVariants as ends
-use Rattle.site_tools.specs.Due.{Due, check_due, page_due, pack_due, upgrade_due}
-use Rattle.site_tools.specs.Ending.{Desk, Ends}
-use Rattle.replay_tools.specs.Ending.{ReplayEnds}
-use Rattle.replay_tools.specs.declared.replay_end.ReplayEnd.{ReplayEnd}
-use Rattle.replay_tools.specs.declared.replay_end.ReplayEnd.TheVariants as replays
+use Rattle.site_commands.specs.declared.site_end.SiteEnd.{SiteEnd}
+use Rattle.site_commands.specs.declared.site_end.SiteEnd.TheVariants as ends
+use Rattle.site_commands.specs.Due.{Due, check_due, page_due, pack_due, upgrade_due}
+use Rattle.site_commands.specs.Ending.{Desk, Ends}
+use Rattle.replay_command.specs.Ending.{ReplayEnds}
+use Rattle.replay_command.specs.declared.replay_end.ReplayEnd.{ReplayEnd}
+use Rattle.replay_command.specs.declared.replay_end.ReplayEnd.TheVariants as replays
 use Rattle.uipd.specs.declared.status.Status.{Status}
 use Rattle.uipd.specs.declared.status.Status.TheVariants as status
 use Rattle.uipd.specs.SiteServing.{SiteServes}

@@ -2,7 +2,7 @@
 use Rattle.std.specs.Prelude.{◌≡◌, ℕ, List, Option}
 use Rattle.uip_edge.specs.declared.item.Item.{Item}
 use Rattle.uip_edge.specs.Shelving.{Files}
-use Rattle.site_tools.specs.Ending.{Desk}
+use Rattle.site_commands.specs.Ending.{Desk}
 use Rattle.serve_loop.specs.Outside.{Outside as Line}
 
 -- a shelf, a line and its output, as they are told, with the counts of their faults

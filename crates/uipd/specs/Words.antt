@@ -8,7 +8,7 @@ use Rattle.uip_wire.specs.Addr.{quad_of}
 use Rattle.uip_wire.specs.declared.addr.Addr.{Addr}
 use Rattle.site_image.specs.Names.{is_kind}
 use Rattle.file_tree.specs.Upgrading.{KindContent}
-use Rattle.site_tools.specs.Gathering.{NamedContent}
+use Rattle.site_commands.specs.Gathering.{NamedContent}
 use Rattle.uipd.specs.declared.words.Command.{Command}
 use Rattle.uipd.specs.declared.words.Command.TheVariants.{Serve, Check, Page, Pack, Upgrade, Replay}
 use Rattle.uipd.specs.declared.words.Limits.{Limits}

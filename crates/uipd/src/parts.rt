@@ -2,8 +2,8 @@ ghost use Rattle.std.specs.Prelude.{◌≡◌, map, string_bytes, IfOk};
 ghost use Rattle.std.specs.List.{list_all};
 ghost use Rattle.uipd.specs.Words.{back_part, front_part, has_parts as has_two, is_kind_word as kind_form, kind_word as kind_meant, named_file as file_meant};
 
+use site_commands::{KindWord, NamedFile};
 use site_image::is_kind;
-use site_tools::{KindWord, NamedFile};
 use std::alloc::{AllocError, Global};
 
 /// The parts of a word around its first `=`; without one they are the whole word and nothing.

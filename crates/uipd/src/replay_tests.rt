@@ -1,8 +1,8 @@
 // Schedules that were worked by hand: the file `h` holds the image of a site, and `i` the schedule.
 use crate::site_tests::{HITS, IMAGE, Row, bad, check_rows, running};
 use crate::status::Status;
-use replay_tools::Why;
-use site_tools::SiteWhy;
+use replay_command::Why;
+use site_commands::SiteWhy;
 use std::test::Fail;
 
 // A client gets a page.

@@ -1,9 +1,9 @@
 ghost use Rattle.std.specs.Prelude.{◌≡◌};
-ghost use Rattle.site_tools.specs.Ending.{desk};
+ghost use Rattle.site_commands.specs.Ending.{desk};
 ghost use Rattle.uipd.specs.Running.{ReplayRuns};
 
 use crate::status::{Status, replayed};
-use replay_tools::replay;
+use replay_command::replay;
 use std::alloc::Global;
 use uip_edge::{Shelf, Sink};
 

@@ -3,7 +3,7 @@ use crate::file_shelf::FileShelf;
 use crate::run::run;
 use crate::status::Status;
 use crate::tests::words_of;
-use site_tools::{SiteError, SiteWhy};
+use site_commands::{SiteError, SiteWhy};
 use std::alloc::{AllocError, Global};
 use std::fs;
 use std::process::Abort;

@@ -1,13 +1,13 @@
 ghost use Rattle.std.specs.Prelude.{◌≡◌, ◌<◌, All, IsTrue, map, string_bytes};
 ghost use Rattle.site_image.specs.Names.{is_kind};
-ghost use Rattle.site_tools.specs.Due.{check_due, page_due, pack_due, upgrade_due};
-ghost use Rattle.site_tools.specs.Ending.{desk};
+ghost use Rattle.site_commands.specs.Due.{check_due, page_due, pack_due, upgrade_due};
+ghost use Rattle.site_commands.specs.Ending.{desk};
 ghost use Rattle.uipd.specs.Running.{SiteRuns};
 ghost use Rattle.uipd.specs.Words.{back_part, kind_word, named_file};
 
 use crate::parts::{kind_words, named_files};
 use crate::status::{Status, worked};
-use site_tools::{check, pack, page, upgrade};
+use site_commands::{check, pack, page, upgrade};
 use std::alloc::Global;
 use uip_edge::{Shelf, Sink};
 

@@ -2,8 +2,8 @@ ghost use Rattle.std.specs.Prelude.{◌≡◌};
 ghost use Rattle.uipd.specs.Running.{exit_code_of, status_of_replay, status_of_site};
 ghost use Rattle.uipd.specs.Serving.{status_of};
 
-use replay_tools::{ReplayEnd, Why};
-use site_tools::{SiteEnd, SiteError};
+use replay_command::{ReplayEnd, Why};
+use site_commands::{SiteEnd, SiteError};
 use uip_edge::ServeEnd;
 
 /// How a run ends.

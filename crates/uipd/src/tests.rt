@@ -1,7 +1,7 @@
 // The worked exchanges, over a link and a sink in memory, with the items cut in every way.
 use crate::run::run;
 use crate::status::Status;
-use site_tools::{SiteError, SiteWhy};
+use site_commands::{SiteError, SiteWhy};
 use std::alloc::{AllocError, Global};
 use std::process::Abort;
 use std::test::Fail;

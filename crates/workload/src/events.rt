@@ -7,8 +7,7 @@ ghost use Rattle.rand_pcg.specs.Pcg.{pcg32};
 ghost use Rattle.link_schedule.specs.declared.event.Event.TheVariants.{Opens, Round as RoundEvent};
 ghost use Rattle.workload.specs.Workload.{event_by as event_meant, happens as meant, numbered_from};
 
-use link_schedule::Line;
-use link_schedule::Event;
+use link_schedule::{Event, Line};
 use rand_core::utils::NextWord;
 use rand_pcg::Pcg32;
 use std::alloc::Global;

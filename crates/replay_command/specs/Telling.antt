@@ -1,0 +1,47 @@
+-- What the sink gets of a text, and how a replay ends with it.
+use Rattle.std.specs.Prelude.{◌≡◌, ◌⊎◌, ℕ, Bool, List, Option}
+use Rattle.std.specs.Io.KnownBytes.{Appends}
+use Rattle.site_image.specs.Files.{File}
+use Rattle.uip_edge.specs.Causes.{Rose}
+use Rattle.uip_edge.specs.Writing.{AppendsPrefix}
+use Rattle.link_world.specs.World.{World}
+use Rattle.link_replay.specs.Report.{report}
+use Rattle.replay_command.specs.Playing.{IsFirstBad, IsPlayed, bad_schedule}
+use Rattle.replay_command.specs.Promises.{KeepsPromises}
+use Rattle.replay_command.specs.declared.replay_end.ReplayEnd.{ReplayEnd}
+use Rattle.replay_command.specs.declared.replay_end.ReplayEnd.TheVariants as ends
+
+-- the schedule's text is played to its end by the server of these files, and this reports the world that is reached
+pub record IsPlayReport (files : List File) (bytes : List ℕ) (show : Bool) (text : List ℕ) : Type 0 where
+  pub world : World
+  pub played : IsPlayed files bytes world
+  pub told : text ≡ report show world
+  pub promises : KeepsPromises files world
+
+-- the text that is due with an end, for the files of a site and the text of a schedule
+abbrev pub IsDue : List File → List ℕ → Bool → List ℕ → ReplayEnd → Type 0
+IsDue files bytes show text ends.Done = IsPlayReport files bytes show text
+IsDue files bytes show text (ends.BadSchedule line why) = IsFirstBad files bytes line why × (text ≡ bad_schedule line why)
+IsDue files bytes show text (ends.BadSite error) = ⊥
+IsDue files bytes show text ends.ShelfFault = ⊥
+IsDue files bytes show text ends.WriteFault = ⊥
+IsDue files bytes show text ends.NoMemory = ⊥
+
+-- The text was written whole, which ends so, or the sink failed behind a front of it.
+abbrev pub Writes : List ℕ → ReplayEnd → Option (List ℕ) → Option (List ℕ) → ℕ → ℕ → ReplayEnd → Type 0
+Writes text end old new before now result =
+    ((result ≡ end) × Appends old new text × (now ≡ before))
+    ⊎ ((result ≡ ends.WriteFault) × AppendsPrefix old new text × Rose before now)
+
+-- memory was wanting, and nothing was written
+abbrev pub IsShort : Option (List ℕ) → Option (List ℕ) → ℕ → ℕ → ReplayEnd → Type 0
+IsShort old new before now result = (result ≡ ends.NoMemory) × (new ≡ old) × (now ≡ before)
+
+-- this text was written, or memory was wanting
+abbrev pub Tells : List ℕ → ReplayEnd → Option (List ℕ) → Option (List ℕ) → ℕ → ℕ → ReplayEnd → Type 0
+Tells text end old new before now result = Writes text end old new before now result ⊎ IsShort old new before now result
+
+-- a text that is due with an end was written, or memory was wanting
+abbrev pub Answers : (List ℕ → ReplayEnd → Type 0) → Option (List ℕ) → Option (List ℕ) → ℕ → ℕ → ReplayEnd → Type 0
+Answers Due old new before now result =
+    ((text : List ℕ) × (end : ReplayEnd) × Due text end × Writes text end old new before now result) ⊎ IsShort old new before now result

@@ -1,0 +1,94 @@
+ghost use Rattle.std.specs.Prelude.{◌≡◌, ℕ, Bool, List, Err, Ok};
+ghost use Rattle.file_tree.specs.Site.{files_of};
+ghost use Rattle.site_commands.specs.Ending.{desk};
+ghost use Rattle.site_commands.specs.Opening.{IsRead};
+ghost use Rattle.site_commands.specs.Report.{bad_line as line_of};
+ghost use Rattle.replay_command.specs.Ending.{ReplayEnds};
+ghost use Rattle.replay_command.specs.Telling.{Tells};
+ghost use Rattle.replay_command.specs.declared.replay_end.ReplayEnd.TheVariants as ends;
+
+use crate::lines::write_text;
+use crate::playing::play_text;
+use crate::replay_end::ReplayEnd;
+use file_tree::{LoadFault, Site, SiteError, read_file};
+use site_commands::{bad_line, open_site};
+use std::alloc::Global;
+use uip_edge::{Shelf, Sink};
+
+/// The most bytes of a schedule's text. One byte more is read, which shows that it is too long.
+const MOST_BYTES: usize = 4194304;
+
+/// Plays the schedule that the shelf holds under a name, by the web server of the site whose image it holds under another, and writes
+/// the report; `-` is the site without files. Where the image or the schedule is bad, one line tells it.
+pub fn replay<H: Shelf, K: Sink>(
+    alloc: Global,
+    site: &[u8],
+    schedule: &[u8],
+    show: bool,
+    shelf: &mut H,
+    out: &mut K,
+) -> ReplayEnd
+    ensures ends { ReplayEnds site.now schedule.now show (desk H.held K.written H.faults K.faults shelf.old out.old)
+        (desk H.held K.written H.faults K.faults shelf.new out.new) result }
+    ensures kept { H.held shelf.new ≡ H.held shelf.old }
+{
+    match open_site(alloc, site, shelf) {
+        Ok(site) => replay_site(alloc, site, schedule, show, shelf, out),
+        Err(LoadFault::Bad(error)) => refuse_site(alloc, error, schedule, shelf, out),
+        Err(LoadFault::Shelf) => ReplayEnd::ShelfFault,
+        Err(LoadFault::NoMemory) => ReplayEnd::NoMemory,
+    }
+}
+
+/// Plays the schedule that the shelf holds under the name, by the web server of a site.
+fn replay_site<H: Shelf, K: Sink>(
+    alloc: Global,
+    site: Site,
+    schedule: &[u8],
+    show: bool,
+    shelf: &mut H,
+    out: &mut K,
+) -> ReplayEnd
+    ensures ends { (name : List ℕ) → IsRead name (H.held shelf.old) (Ok (files_of site))
+        → ReplayEnds name schedule.now show (desk H.held K.written H.faults K.faults shelf.old out.old)
+        (desk H.held K.written H.faults K.faults shelf.new out.new) result }
+    ensures kept { H.held shelf.new ≡ H.held shelf.old }
+{
+    match read_file(alloc, shelf, schedule, MOST_BYTES) {
+        Ok(text) => play_text(alloc, site, &text, show, out),
+        Err(LoadFault::Shelf) => ReplayEnd::ShelfFault,
+        Err(LoadFault::NoMemory) => ReplayEnd::NoMemory,
+        Err(LoadFault::Bad(_)) => unreachable!(),
+    }
+}
+
+/// Writes the line of a bad image. The schedule is asked for too: one that the shelf lacks is a fault of the shelf.
+fn refuse_site<H: Shelf, K: Sink>(
+    alloc: Global,
+    error: SiteError,
+    schedule: &[u8],
+    shelf: &mut H,
+    out: &mut K,
+) -> ReplayEnd
+    ensures ends { (name : List ℕ) (show : Bool) → IsRead name (H.held shelf.old) (Err error)
+        → ReplayEnds name schedule.now show (desk H.held K.written H.faults K.faults shelf.old out.old)
+        (desk H.held K.written H.faults K.faults shelf.new out.new) result }
+    ensures kept { H.held shelf.new ≡ H.held shelf.old }
+{
+    match read_file(alloc, shelf, schedule, MOST_BYTES) {
+        Ok(_schedule) => tell_site(alloc, error, out),
+        Err(LoadFault::Shelf) => ReplayEnd::ShelfFault,
+        Err(LoadFault::NoMemory) => ReplayEnd::NoMemory,
+        Err(LoadFault::Bad(_)) => unreachable!(),
+    }
+}
+
+/// Writes the line of a bad image.
+fn tell_site<K: Sink>(alloc: Global, error: SiteError, out: &mut K) -> ReplayEnd
+    ensures { Tells (line_of error) (ends.BadSite error) (K.written out.old) (K.written out.new) (K.faults out.old) (K.faults out.new) result }
+{
+    match bad_line(alloc, error) {
+        Ok(text) => write_text(&text, ReplayEnd::BadSite(error), out),
+        Err(_) => ReplayEnd::NoMemory,
+    }
+}

@@ -1,0 +1,70 @@
+-- What is to be written for a shelf's files, and whether something is wrong with the image.
+use Rattle.std.specs.Prelude.{◌≡◌, ⊤, ℕ, List, [], codes, if◌then◌else◌, Option, None, Some, option_map, Result, Ok, Err}
+use Rattle.std.specs.Str.{bytes_eq}
+use Rattle.uip_edge.specs.Shelving.{Files}
+use Rattle.file_tree.specs.declared.load_fault.LoadFault.{LoadFault}
+use Rattle.file_tree.specs.declared.load_fault.LoadFault.TheVariants as fault
+use Rattle.file_tree.specs.Packing.{listed, packed}
+use Rattle.file_tree.specs.Upgrading.{KindContent, upgraded, second_image}
+use Rattle.site_image.specs.Faults.{◌>>=◌}
+use Rattle.site_commands.specs.declared.halt.Halt.{Halt}
+use Rattle.site_commands.specs.declared.halt.Halt.TheVariants as halt
+use Rattle.site_commands.specs.Gathering.{NamedContent, list_of}
+use Rattle.site_image.specs.declared.site_error.SiteError.{SiteError}
+use Rattle.site_image.specs.Files.{File}
+use Rattle.site_image.specs.Faults.{read_image}
+use Rattle.web_pages.specs.ZeroPages.{zero_page}
+use Rattle.site_commands.specs.Report.{report, bad_line}
+
+-- the text, and the first fault of the image, if it has one
+pub record Due : Type 0 where
+  pub text : List ℕ
+  pub fault : Option SiteError
+
+-- the report on an image that was read, or the line of its first fault
+abbrev pub checked : Result (List File) SiteError → Due
+checked (Ok files) = record { text = report files; fault = None }
+checked (Err error) = record { text = bad_line error; fault = Some error }
+
+-- what is due for the image under the name; none where the file is missing
+abbrev pub check_due : List ℕ → Files → Option Due
+check_due name files = option_map (λ content. checked (read_image content)) (files name)
+
+-- an image, or its first fault, for which nothing is written
+abbrev pub imaged : Result (List ℕ) SiteError → Due
+imaged (Ok image) = record { text = image; fault = None }
+imaged (Err error) = record { text = []; fault = Some error }
+
+-- what is due for a list of named files: its image in version 1
+abbrev pub pack_due : List NamedContent → Files → Option Due
+pack_due named files = option_map (λ list. imaged (list >>= λ entries. packed (listed entries))) (list_of named files)
+
+-- what is due for the site under the name and the words that give content types: its image in version 2
+abbrev pub upgrade_due : List ℕ → List KindContent → Files → Option Due
+upgrade_due name words files =
+    option_map (λ content. imaged (read_image content >>= λ old. second_image (upgraded words old))) (files name)
+
+-- the image is what was made, unless memory was short
+abbrev pub MakesImage : Result (List ℕ) SiteError → Result Due Halt → Type 0
+MakesImage image (Ok made) = made ≡ imaged image
+MakesImage image (Err halt.NoMemory) = ⊤
+MakesImage image (Err halt.Shelf) = ⊥
+
+-- what is made of a fault
+abbrev pub Refuses : LoadFault → Result Due Halt → Type 0
+Refuses fault.Shelf made = made ≡ Err halt.Shelf
+Refuses (fault.Bad error) made = made ≡ Ok (imaged (Err error))
+Refuses fault.NoMemory made = made ≡ Err halt.NoMemory
+
+-- what reading the image under the name gives, and `-` is the site without files; nothing where the file is missing
+abbrev pub site_read : List ℕ → Files → Option (Result (List File) SiteError)
+site_read name files = if bytes_eq name (codes "-") then Some (Ok []) else option_map read_image (files name)
+
+-- the page of a target, as a node says it at which nothing has happened; nothing is written of an image with a fault
+abbrev pub paged : List ℕ → Result (List File) SiteError → Due
+paged target (Ok files) = record { text = zero_page files target; fault = None }
+paged target (Err error) = record { text = []; fault = Some error }
+
+-- what is due for a target of the site under the name
+abbrev pub page_due : List ℕ → List ℕ → Files → Option Due
+page_due name target files = option_map (paged target) (site_read name files)

@@ -1,0 +1,41 @@
+ghost use Rattle.std.specs.Prelude.{◌≡◌};
+ghost use Rattle.site_commands.specs.Due.{check_due};
+ghost use Rattle.site_commands.specs.Ending.{desk, Ends, Makes};
+
+use crate::finish::finish;
+use crate::halt::Halt;
+use crate::outcome::Outcome;
+use crate::report::{bad_line, report};
+use crate::site_end::SiteEnd;
+use file_tree::{LoadFault, Site};
+use std::alloc::Global;
+use uip_edge::{Shelf, Sink};
+
+/// Writes the files of the image that the shelf holds under the name, each with the greatest length of its page, and their
+/// count, or the line of the image's first fault.
+pub fn check<H: Shelf, K: Sink>(alloc: Global, name: &[u8], shelf: &mut H, out: &mut K) -> SiteEnd
+    ensures ends { Ends (check_due name.now) (desk H.held K.written H.faults K.faults shelf.old out.old)
+        (desk H.held K.written H.faults K.faults shelf.new out.new) result }
+    ensures kept { H.held shelf.new ≡ H.held shelf.old }
+{
+    finish(make(alloc, name, shelf), out)
+}
+
+/// The report on the image, or the line of its first fault.
+fn make<H: Shelf>(alloc: Global, name: &[u8], shelf: &mut H) -> Result<Outcome, Halt>
+    ensures made { Makes (check_due name.now) (H.held shelf.old) (H.faults shelf.old) (H.faults shelf.new) result }
+    ensures kept { H.held shelf.new ≡ H.held shelf.old }
+{
+    match Site::load(alloc, shelf, name) {
+        Ok(site) => Ok(Outcome {
+            text: report(alloc, &site)?,
+            fault: None,
+        }),
+        Err(LoadFault::Bad(error)) => Ok(Outcome {
+            text: bad_line(alloc, error)?,
+            fault: Some(error),
+        }),
+        Err(LoadFault::Shelf) => Err(Halt::Shelf),
+        Err(LoadFault::NoMemory) => Err(Halt::NoMemory),
+    }
+}

@@ -1,0 +1,33 @@
+ghost use Rattle.std.specs.Prelude.{◌≡◌, List, ℕ, Result, OnOk};
+ghost use Rattle.site_image.specs.declared.site_error.SiteError.{SiteError as AnyError};
+ghost use Rattle.file_tree.specs.Answers.{Gives};
+ghost use Rattle.site_commands.specs.Due.{MakesImage, Refuses};
+
+use crate::halt::Halt;
+use crate::outcome::Outcome;
+use file_tree::LoadFault;
+use std::alloc::Global;
+
+/// An image to write, or its first fault with nothing to write.
+pub(crate) fn imaged(alloc: Global, made: Result<Vec<u8>, LoadFault>) -> Result<Outcome, Halt>
+    ensures { (image : Result (List ℕ) AnyError) → Gives (λ bytes. bytes.items) made image → MakesImage image result }
+{
+    match made {
+        Ok(text) => Ok(Outcome { text, fault: None }),
+        Err(fault) => refused(alloc, fault),
+    }
+}
+
+/// Nothing to write, for the fault.
+pub(crate) fn refused(alloc: Global, fault: LoadFault) -> Result<Outcome, Halt>
+    ensures { Refuses fault result }
+{
+    match fault {
+        LoadFault::Shelf => Err(Halt::Shelf),
+        LoadFault::Bad(error) => Ok(Outcome {
+            text: Vec::new(alloc),
+            fault: Some(error),
+        }),
+        LoadFault::NoMemory => Err(Halt::NoMemory),
+    }
+}

@@ -1,0 +1,38 @@
+ghost use Rattle.std.specs.Prelude.{◌≡◌};
+ghost use Rattle.site_commands.specs.Due.{pack_due};
+ghost use Rattle.site_commands.specs.Ending.{desk, Ends, Makes};
+
+use crate::finish::finish;
+use crate::gathering::gather;
+use crate::halt::Halt;
+use crate::imaging::{imaged, refused};
+use crate::named_file::NamedFile;
+use crate::outcome::Outcome;
+use crate::site_end::SiteEnd;
+use std::alloc::Global;
+use uip_edge::{Shelf, Sink};
+
+/// Writes the image of the named files in version 1. A bad list writes nothing.
+pub fn pack<H: Shelf, K: Sink>(
+    alloc: Global,
+    files: &[NamedFile],
+    shelf: &mut H,
+    out: &mut K,
+) -> SiteEnd
+    ensures ends { Ends (pack_due files.now) (desk H.held K.written H.faults K.faults shelf.old out.old)
+        (desk H.held K.written H.faults K.faults shelf.new out.new) result }
+    ensures kept { H.held shelf.new ≡ H.held shelf.old }
+{
+    finish(make(alloc, files, shelf), out)
+}
+
+/// The image, or the first fault of the list with nothing to write.
+fn make<H: Shelf>(alloc: Global, files: &[NamedFile], shelf: &mut H) -> Result<Outcome, Halt>
+    ensures made { Makes (pack_due files.now) (H.held shelf.old) (H.faults shelf.old) (H.faults shelf.new) result }
+    ensures kept { H.held shelf.new ≡ H.held shelf.old }
+{
+    match gather(alloc, files, shelf) {
+        Ok(list) => imaged(alloc, file_tree::pack(alloc, &list)),
+        Err(fault) => refused(alloc, fault),
+    }
+}

@@ -1,0 +1,57 @@
+ghost use Rattle.std.specs.Prelude.{◌≡◌, None, Ok};
+ghost use Rattle.file_tree.specs.Site.{files_of};
+ghost use Rattle.web_pages.specs.ZeroPages.{zero_page};
+ghost use Rattle.site_commands.specs.Due.{page_due};
+ghost use Rattle.site_commands.specs.Ending.{desk, Ends, Writes};
+ghost use Rattle.site_commands.specs.Opening.{Opens};
+
+use crate::site_end::SiteEnd;
+use file_tree::{LoadFault, Site};
+use httpd::page_zero;
+use std::alloc::Global;
+use uip_edge::{Shelf, Sink};
+
+/// Writes the page of a target, as a node says it at which nothing has happened, of the site whose image the shelf holds under
+/// the name, or of the site without files where the name is `-`. A page is written as it is made. Nothing is written of an
+/// image that has a fault.
+pub fn page<H: Shelf, K: Sink>(
+    alloc: Global,
+    name: &[u8],
+    target: &[u8],
+    shelf: &mut H,
+    out: &mut K,
+) -> SiteEnd
+    ensures ends { Ends (page_due name.now target.now) (desk H.held K.written H.faults K.faults shelf.old out.old)
+        (desk H.held K.written H.faults K.faults shelf.new out.new) result }
+    ensures kept { H.held shelf.new ≡ H.held shelf.old }
+{
+    match open_site(alloc, name, shelf) {
+        Ok(site) => write_page(&site, target, out),
+        Err(LoadFault::Bad(error)) => SiteEnd::Bad(error),
+        Err(LoadFault::Shelf) => SiteEnd::ShelfFault,
+        Err(LoadFault::NoMemory) => SiteEnd::NoMemory,
+    }
+}
+
+/// The site of the image that the shelf holds under the name, or the site without files where the name is `-`.
+pub fn open_site<H: Shelf>(alloc: Global, name: &[u8], shelf: &mut H) -> Result<Site, LoadFault>
+    ensures opens { Opens name.now (H.held shelf.old) (H.faults shelf.old) (H.faults shelf.new) result }
+    ensures kept { H.held shelf.new ≡ H.held shelf.old }
+{
+    let none: &[u8] = b"-";
+    if name == none {
+        return Ok(Site::empty(alloc));
+    }
+    Site::load(alloc, shelf, name)
+}
+
+/// Writes the page of a target.
+fn write_page<K: Sink>(site: &Site, target: &[u8], out: &mut K) -> SiteEnd
+    ensures { Writes (Ok (record { text = zero_page (files_of site.now) target.now; fault = None })) (K.written out.old) (K.written out.new)
+        (K.faults out.old) (K.faults out.new) result }
+{
+    match page_zero(site, target, out) {
+        Ok(()) => SiteEnd::Done,
+        Err(_) => SiteEnd::WriteFault,
+    }
+}

@@ -1,0 +1,47 @@
+ghost use Rattle.std.specs.Prelude.{◌≡◌, All, IsTrue};
+ghost use Rattle.site_image.specs.Names.{is_kind};
+ghost use Rattle.site_commands.specs.Due.{upgrade_due};
+ghost use Rattle.site_commands.specs.Ending.{desk, Ends, Makes};
+
+use crate::finish::finish;
+use crate::halt::Halt;
+use crate::imaging::{imaged, refused};
+use crate::outcome::Outcome;
+use crate::site_end::SiteEnd;
+use file_tree::{KindWord, Site};
+use std::alloc::Global;
+use uip_edge::{Shelf, Sink};
+
+/// Writes the image in version 2 of the site that the shelf holds under the name, with the content types that the words give.
+/// A bad image, or a bad new list, writes nothing.
+pub fn upgrade<H: Shelf, K: Sink>(
+    alloc: Global,
+    name: &[u8],
+    words: &[KindWord],
+    shelf: &mut H,
+    out: &mut K,
+) -> SiteEnd
+    requires { All (λ word. IsTrue (is_kind word.kind)) words.now }
+    ensures ends { Ends (upgrade_due name.now words.now) (desk H.held K.written H.faults K.faults shelf.old out.old)
+        (desk H.held K.written H.faults K.faults shelf.new out.new) result }
+    ensures kept { H.held shelf.new ≡ H.held shelf.old }
+{
+    finish(make(alloc, name, words, shelf), out)
+}
+
+/// The new image, or the first fault of the old one or of the new list, with nothing to write.
+fn make<H: Shelf>(
+    alloc: Global,
+    name: &[u8],
+    words: &[KindWord],
+    shelf: &mut H,
+) -> Result<Outcome, Halt>
+    requires { All (λ word. IsTrue (is_kind word.kind)) words.now }
+    ensures made { Makes (upgrade_due name.now words.now) (H.held shelf.old) (H.faults shelf.old) (H.faults shelf.new) result }
+    ensures kept { H.held shelf.new ≡ H.held shelf.old }
+{
+    match Site::load(alloc, shelf, name) {
+        Ok(site) => imaged(alloc, file_tree::upgrade(alloc, &site, words)),
+        Err(fault) => refused(alloc, fault),
+    }
+}
