@@ -1,6 +1,10 @@
+pub mod AddrLaws
 pub mod EventLaws
 pub mod FrontLaws
 pub mod NodeLaws
 pub mod PaceLaws
 pub mod RunLaws
 pub mod ServeLaws
+pub mod SlipLaws
+pub mod SlipServeLaws
+pub mod TakenLaws

@@ -1,19 +1,22 @@
--- One call of the node, told of an abstract node that it stands for.
-use Rattle.std.proofs.Common.{◌≡◌, ℕ, ◌≤◌, ◌<◌, ◌+◌, ◌-◌, Bool, List, [], ◌∷◌, ◌++◌, Option, Result, Ok, Err, OnErr, suc, zero, refl, sym, ap, ◌∙◌, subst, add-one, add-suc, add-zero, append-nil, append_assoc, arith}
+-- One call of the node, told of a station at which it stands.
+use Rattle.std.proofs.Common.{◌≡◌, ℕ, ◌≤◌, ◌<◌, ◌+◌, ◌-◌, Bool, List, [], ◌∷◌, ◌++◌, Option, Result, Ok, Err, OnErr, suc, zero, map, refl, sym, ap, ◌∙◌, subst, add-one, add-suc, add-zero, append-nil, append_assoc, arith}
 use Rattle.std.specs.Io.KnownBytes.{Appends}
 use Rattle.uip_wire.specs.declared.addr.Addr.{Addr}
 use Rattle.app_events.specs.Part.{Meaning}
 use Rattle.app_events.specs.declared.app.App.{Ghosts}
 use Rattle.uip_edge.specs.Writing.{AppendsPrefix}
+use Rattle.uip_edge.proofs.Told.{appends_by, Appends-none}
 use Rattle.uip_node.specs.declared.node.Node.{Node}
 use Rattle.uip_node.specs.Events.{Event, Reply, tick}
 use Rattle.uip_node.specs.Events.Event.{Periodic}
 use Rattle.uip_node.specs.Node.{AbstractNode, step}
 use Rattle.uip_node.specs.Spoken.{IsSent}
-use Rattle.uip_node.specs.StandsFor.{Steps}
-use Rattle.serve_loop.specs.Running.{Broke, Wrote, text_for}
-use Rattle.serve_loop.specs.Turns.{IsNode}
-use Rattle.serve_loop.proofs.RunLaws.{broke_by, broke_more, broke_one, broke_then, step-addr, wrote_one}
+use Rattle.uip_node.specs.StandsFor.{Stands, Steps}
+use Rattle.serve_loop.specs.DeedRuns.{FrontSaid, Deed, Does, Happens, Station, AllSaid, after, after_deed, said, text_behind}
+use Rattle.line_medium.specs.Ways.{Way, all_said}
+use Rattle.serve_loop.specs.Turns.{IsHere, IsNode}
+use Rattle.serve_loop.proofs.AddrLaws.{step-addr}
+use Rattle.serve_loop.proofs.RunLaws.{broke_by, broke_more, broke_one, broke_then, wrote_one}
 
 pub on_err_weaker : {T E P Q : Type 0} (r : Result T E) → (P → Q) → OnErr r P → OnErr r Q
 on_err_weaker (Ok x) f p = tt
@@ -24,6 +27,12 @@ module _ {A S : Type 0} (g : Ghosts A S) where
   At m own node n = IsNode g m own node n
 
   -- a step of the node is the step of each abstract node that it stands for
+  pub node_on : (m : Meaning) (own : Addr) (old new : Node A S) (event : Event) (n : AbstractNode) → g.kept new.shared ≡ g.kept old.shared
+      → Stands g new (step m g.served n event).node (step m g.served n event).node.past → At m own old n
+      → At m own new (step m g.served n event).node
+  node_on m own old new event n same s p =
+      record { meant = ap (λ k. g.meaning k) same ∙ p.meant; address = step-addr m g.served n event ∙ p.address; stands = s }
+
   node_step : (m : Meaning) (own : Addr) (old new : Node A S) (result : Option ℕ) (event : Event) (n : AbstractNode) → g.kept new.shared ≡ g.kept old.shared
       → Steps g new result (step (g.meaning (g.kept old.shared)) g.served n event) → At m own old n
       → At m own new (step m g.served n event).node × IsSent own (step m g.served n event).sent result new.packet
@@ -31,59 +40,90 @@ module _ {A S : Type 0} (g : Ghosts A S) where
       let t : Steps g new result (step m g.served n event) =
       subst (λ (k : Meaning). Steps g new result (step k g.served n event)) p.meant s in
       let kept_addr : (step m g.served n event).node.addr ≡ own = step-addr m g.served n event ∙ p.address in (
-        record { meant = ap (λ k. g.meaning k) same ∙ p.meant; address = kept_addr; stands = t.stands },
+        node_on m own old new event n same t.stands p,
         subst (λ (a : Addr). IsSent a (step m g.served n event).sent result new.packet) (t.stands.addr ∙ kept_addr) t.sent,
       )
 
-  pub call_wrote : (m : Meaning) (own : Addr) (old new : Node A S) (result : Option ℕ) (event : Event) (a b : Option (List ℕ)) → g.kept new.shared ≡ g.kept old.shared
-      → ((n : AbstractNode) → At m own old n → Steps g new result (step (g.meaning (g.kept old.shared)) g.served n event))
-      → ((own : Addr) (reply : Option Reply) → IsSent own reply result new.packet → Appends a b (text_for own reply))
-      → Wrote m g.served own (event ∷ []) (At m own old) (At m own new) a b
-  call_wrote m own old new result event a b same steps wrote =
-      wrote_one m g.served own event (At m own old) (At m own new) a b
-      (λ n p. let both = node_step m own old new result event n same (steps n p) p in (both.0, wrote own (step m g.served n event).sent both.1))
+  module _ {C : Type 0} (w : Way C) (did did' : List C → Type 0) where
+    abbrev pub Here : (List C → Type 0) → Meaning → Addr → Node A S → Station C → Type 0
+    Here d m own node s = IsHere g d m own node s
 
-  pub call_broke : (m : Meaning) (own : Addr) (old new : Node A S) (result : Option ℕ) (event : Event) (a b : Option (List ℕ)) → g.kept new.shared ≡ g.kept old.shared
-      → ((n : AbstractNode) → At m own old n → Steps g new result (step (g.meaning (g.kept old.shared)) g.served n event))
-      → ((own : Addr) (reply : Option Reply) → IsSent own reply result new.packet → AppendsPrefix a b (text_for own reply))
-      → Broke m g.served own (event ∷ []) (At m own old) (At m own new) a b
-  call_broke m own old new result event a b same steps wrote =
-      broke_one m g.served own event (At m own old) (At m own new) a b
-      (λ n p. let both = node_step m own old new result event n same (steps n p) p in (both.0, wrote own (step m g.served n event).sent both.1))
+    pub call_wrote : (m : Meaning) (own : Addr) (old new : Node A S) (result : Option ℕ) (event : Event) (a b : Option (List ℕ)) → g.kept new.shared ≡ g.kept old.shared
+        → ((n : AbstractNode) → At m own old n → Steps g new result (step (g.meaning (g.kept old.shared)) g.served n event))
+        → ((acts : List C) → did acts → did' acts)
+        → ((acts : List C) (own : Addr) (reply : Option Reply) → did acts → IsSent own reply result new.packet → Appends a b (text_behind w acts own reply))
+        → AllSaid m g.served w own (Happens event ∷ []) (Here did m own old) (Here did' m own new) a b
+    call_wrote m own old new result event a b same steps on wrote =
+        wrote_one m g.served w own (Happens event) (Here did m own old) (Here did' m own new) a b
+        (λ s p. let both = node_step m own old new result event s.node same (steps s.node p.stands) p.stands in
+        (record { stands = both.0; acted = on s.acts p.acted }, wrote s.acts own (step m g.served s.node event).sent p.acted both.1))
+
+    pub call_broke : (m : Meaning) (own : Addr) (old new : Node A S) (result : Option ℕ) (event : Event) (a b : Option (List ℕ)) → g.kept new.shared ≡ g.kept old.shared
+        → ((n : AbstractNode) → At m own old n → Steps g new result (step (g.meaning (g.kept old.shared)) g.served n event))
+        → ((acts : List C) → did acts → did' acts)
+        → ((acts : List C) (own : Addr) (reply : Option Reply) → did acts → IsSent own reply result new.packet → AppendsPrefix a b (text_behind w acts own reply))
+        → FrontSaid m g.served w own (Happens event ∷ []) (Here did m own old) (Here did' m own new) a b
+    call_broke m own old new result event a b same steps on wrote =
+        broke_one m g.served w own (Happens event) (Here did m own old) (Here did' m own new) a b
+        (λ s p. let both = node_step m own old new result event s.node same (steps s.node p.stands) p.stands in
+        (record { stands = both.0; acted = on s.acts p.acted }, wrote s.acts own (step m g.served s.node event).sent p.acted both.1))
+
+-- the medium's own acts
+module _ {C : Type 0} (m : Meaning) (served : ℕ → Bool) (w : Way C) (own : Addr) where
+  acts_after : (acts : List C) (s : Station C) → after m served (map Does acts) s ≡ record { acts = s.acts ++ acts; node = s.node }
+  acts_after [] s = ap (λ (l : List C). record { acts = l; node = s.node }) (sym (append-nil s.acts))
+  acts_after (a ∷ acts) s =
+      acts_after acts (after_deed m served s (Does a)) ∙ ap (λ (l : List C). record { acts = l; node = s.node }) (append_assoc s.acts (a ∷ []) acts)
+
+  acts_said : (acts : List C) (s : Station C) → said m served w own (map Does acts) s ≡ all_said w acts
+  acts_said [] s = refl
+  acts_said (a ∷ acts) s = ap (λ l. w.says a ++ l) (acts_said acts (after_deed m served s (Does a)))
+
+  -- acts that say nothing
+  pub acts_wrote : (acts : List C) (P Q : Station C → Type 0) (a : Option (List ℕ)) → all_said w acts ≡ []
+      → ((s : Station C) → P s → Q (record { acts = s.acts ++ acts; node = s.node }))
+      → AllSaid m served w own (map Does acts) P Q a a
+  acts_wrote acts P Q a hushed on = record {
+    each = λ s p. (
+      subst (λ (k : Station C). Q k) (sym (acts_after acts s)) (on s p),
+      appends_by a a [] _ (acts_said acts s ∙ hushed) (Appends-none a),
+    );
+  }
 
 -- the periodic calls of the first slots
-abbrev pub calls : ℕ → List Event
+abbrev pub calls : {C : Type 0} → ℕ → List (Deed C)
 calls zero = []
-calls (suc k) = calls k ++ Periodic k ∷ []
+calls (suc k) = calls k ++ Happens (Periodic k) ∷ []
 
-pub calls-tick : calls 10 ≡ tick
+pub calls-tick : {C : Type 0} → calls {C = C} 10 ≡ map Happens tick
 calls-tick = refl
 
-pub calls-next : (k : ℕ) → calls (k + 1) ≡ calls k ++ Periodic k ∷ []
-calls-next k = ap (λ j. calls j) (add-one k)
+pub calls-next : {C : Type 0} (k : ℕ) → calls {C = C} (k + 1) ≡ calls k ++ Happens (Periodic k) ∷ []
+calls-next {C = C} k = ap (λ j. calls {C = C} j) (add-one k)
 
-calls_from : (j k : ℕ) → (rest : List Event) × (calls (k + j) ≡ calls k ++ rest)
-calls_from zero k = ([], ap (λ i. calls i) (add-zero k) ∙ sym (append-nil (calls k)))
-calls_from (suc j) k =
-    let more = calls_from j k in (
-      more.0 ++ Periodic (k + j) ∷ [],
-      ap (λ i. calls i) (add-suc k j) ∙ ap (λ l. l ++ Periodic (k + j) ∷ []) more.1 ∙ append_assoc (calls k) more.0 (Periodic (k + j) ∷ []),
+calls_from : {C : Type 0} (j k : ℕ) → (rest : List (Deed C)) × (calls {C = C} (k + j) ≡ calls k ++ rest)
+calls_from {C = C} zero k = ([], ap (λ i. calls {C = C} i) (add-zero k) ∙ sym (append-nil (calls {C = C} k)))
+calls_from {C = C} (suc j) k =
+    let more = calls_from {C = C} j k in (
+      more.0 ++ Happens (Periodic (k + j)) ∷ [],
+      ap (λ i. calls {C = C} i) (add-suc k j) ∙ ap (λ l. l ++ Happens (Periodic (k + j)) ∷ []) more.1 ∙ append_assoc (calls {C = C} k) more.0 (Happens (Periodic (k + j)) ∷ []),
     )
 
 -- the calls of a tick behind the first
-pub calls-within : (k : ℕ) → k ≤ 10 → (rest : List Event) × (tick ≡ calls k ++ rest)
-calls-within k within =
-    let more = calls_from (10 - k) k in
+pub calls-within : {C : Type 0} (k : ℕ) → k ≤ 10 → (rest : List (Deed C)) × (map Happens tick ≡ calls k ++ rest)
+calls-within {C = C} k within =
+    let more = calls_from {C = C} (10 - k) k in
     let all : 10 ≡ k + (10 - k) = omega arith in
-    (more.0, ap (λ i. calls i) all ∙ more.1)
+    (more.0, ap (λ i. calls {C = C} i) all ∙ more.1)
 
 -- a tick of which the call of a slot broke off
-pub tick_broke : (served : ℕ → Bool) (P Q R : Meaning → Addr → AbstractNode → Type 0) (a b c : Option (List ℕ)) (slot : ℕ) → slot < 10
-    → ((m : Meaning) (own : Addr) → Wrote m served own (calls slot) (P m own) (Q m own) a b)
-    → ((m : Meaning) (own : Addr) → Broke m served own (Periodic slot ∷ []) (Q m own) (R m own) b c)
-    → (m : Meaning) (own : Addr) → Broke m served own tick (P m own) (R m own) a c
-tick_broke served P Q R a b c slot within wrote broke m own =
+pub slots_broke : {Set C : Type 0} (served : ℕ → Bool) (way : Set → Way C) (P Q R : Set → Meaning → Addr → Station C → Type 0) (a b c : Option (List ℕ)) (slot : ℕ) → slot < 10
+    → ((k : Set) (m : Meaning) (own : Addr) → AllSaid m served (way k) own (calls slot) (P k m own) (Q k m own) a b)
+    → ((k : Set) (m : Meaning) (own : Addr) → FrontSaid m served (way k) own (Happens (Periodic slot) ∷ []) (Q k m own) (R k m own) b c)
+    → (k : Set) (m : Meaning) (own : Addr) → FrontSaid m served (way k) own (map Happens tick) (P k m own) (R k m own) a c
+slots_broke served way P Q R a b c slot within wrote broke k m own =
+    let w = way k in
     let rest = calls-within (slot + 1) (omega arith) in
-    broke_by m served own _ _ _ _ _ _ (rest.1 ∙ ap (λ l. l ++ rest.0) (calls-next slot))
-    (broke_more m served own _ rest.0 _ _ _ _
-    (broke_then m served own (calls slot) (Periodic slot ∷ []) _ (Q m own) _ _ b _ (wrote m own) (broke m own)))
+    broke_by m served w own _ _ _ _ _ _ (rest.1 ∙ ap (λ l. l ++ rest.0) (calls-next slot))
+    (broke_more m served w own _ rest.0 _ _ _ _
+    (broke_then m served w own (calls slot) (Happens (Periodic slot) ∷ []) _ (Q k m own) _ _ b _ (wrote k m own) (broke k m own)))

@@ -8,18 +8,18 @@ use Rattle.uip_edge.specs.declared.serve_end.ServeEnd.{ServeEnd}
 use Rattle.uip_edge.specs.declared.serve_end.ServeEnd.TheVariants as ends
 use Rattle.uip_edge.specs.Coming.{Consumes}
 use Rattle.uip_edge.proofs.Told.{Consumes-then}
-use Rattle.uip_slip.specs.Decoding.{State}
 use Rattle.uip_node.specs.declared.node.Node.{Node}
-use Rattle.uip_node.specs.Events.{Event}
-use Rattle.uip_node.specs.Node.{AbstractNode}
-use Rattle.uip_node.specs.StandsFor.{Stands}
+use Rattle.line_medium.specs.declared.medium.Medium.{Ghosts as MediumGhosts}
 use Rattle.serve_loop.specs.declared.line.Turn.TheVariants.{Stopped}
 use Rattle.serve_loop.specs.declared.pacer.Pacer.{Pacer}
-use Rattle.serve_loop.specs.LineEvents.{bytes_of, events_behind, line_events}
+use Rattle.serve_loop.specs.LineDeeds.{deeds_behind, line_deeds}
+use Rattle.serve_loop.specs.LineEvents.{bytes_of}
 use Rattle.serve_loop.specs.Outside.{IsDry, Outside, TookAll, Unfailed}
-use Rattle.serve_loop.specs.Running.{Wrote}
-use Rattle.serve_loop.specs.Serving.{EndsBy, Serves, WroteBy}
-use Rattle.serve_loop.specs.Turns.{IsNode, Turns, TurnsBy, WritesOn}
+use Rattle.serve_loop.specs.DeedRuns.{Deed, Station, AllSaid}
+use Rattle.line_medium.specs.Ways.{Way}
+use Rattle.serve_loop.specs.DeedServing.{IsAt, SaidBy, ServesOver}
+use Rattle.serve_loop.specs.Serving.{EndsBy}
+use Rattle.serve_loop.specs.Turns.{IsHere, Turns, TurnsBy, WritesOn}
 use Rattle.serve_loop.proofs.EventLaws.{events-then}
 use Rattle.serve_loop.proofs.RunLaws.{broke_by, broke_then, wrote_by, wrote_then}
 
@@ -44,12 +44,12 @@ ends_by n taken items old mid new ends.WriteFault c below fits l k t = (omega (a
 ends_by n taken items old mid new ends.Budget c below fits l k t = absurd t
 
 -- what was written up to such an end
-written_by : (m : Meaning) (served : ℕ → Bool) (own : Addr) (xs ys zs : List Event) (P Q R : AbstractNode → Type 0) (a b c : Option (List ℕ)) (end : ServeEnd)
-    → zs ≡ xs ++ ys → Wrote m served own xs P Q a b → WritesOn (Stopped end) m served own ys Q R b c → WroteBy end m served own zs P R a c
-written_by m served own xs ys zs P Q R a b c ends.End e v w = wrote_by m served own _ _ _ _ _ _ e (wrote_then m served own xs ys P Q R a b c v w)
-written_by m served own xs ys zs P Q R a b c ends.LinkFault e v w = wrote_by m served own _ _ _ _ _ _ e (wrote_then m served own xs ys P Q R a b c v w)
-written_by m served own xs ys zs P Q R a b c ends.WriteFault e v w = broke_by m served own _ _ _ _ _ _ e (broke_then m served own xs ys P Q R a b c v w)
-written_by m served own xs ys zs P Q R a b c ends.Budget e v w = absurd w
+written_by : {C : Type 0} (m : Meaning) (served : ℕ → Bool) (w : Way C) (own : Addr) (xs ys zs : List (Deed C)) (P Q R : Station C → Type 0) (a b c : Option (List ℕ)) (end : ServeEnd)
+    → zs ≡ xs ++ ys → AllSaid m served w own xs P Q a b → WritesOn (Stopped end) m served w own ys Q R b c → SaidBy end m served w own zs P R a c
+written_by m served w own xs ys zs P Q R a b c ends.End e u v = wrote_by m served w own _ _ _ _ _ _ e (wrote_then m served w own xs ys P Q R a b c u v)
+written_by m served w own xs ys zs P Q R a b c ends.LinkFault e u v = wrote_by m served w own _ _ _ _ _ _ e (wrote_then m served w own xs ys P Q R a b c u v)
+written_by m served w own xs ys zs P Q R a b c ends.WriteFault e u v = broke_by m served w own _ _ _ _ _ _ e (broke_then m served w own xs ys P Q R a b c u v)
+written_by m served w own xs ys zs P Q R a b c ends.Budget e u v = absurd v
 
 taken_within : (old new : Option (List Item)) (all taken : List Item) → old ≡ Some all → Consumes old new taken → length taken ≤ length all
 taken_within None new all taken e c = absurd (cc e)
@@ -68,69 +68,77 @@ end_told n old new all taken ends.Budget told short c e calm =
 end_told n old new all taken ends.LinkFault told short c e calm = absurd (omega (arith, e.1, calm.link, calm.link_below))
 end_told n old new all taken ends.WriteFault told short c e calm = absurd (omega (arith, e.2, calm.sink, calm.sink_below))
 
-module _ {A S : Type 0} (g : Ghosts A S) where
+module _ {A S : Type 0} (g : Ghosts A S) {C : Type 0} (w : Way C) where
+  abbrev At : (List C → Type 0) → Meaning → Addr → Node A S → Station C → Type 0
+  At did m own node s = IsHere g did m own node s
+
   -- a node stands in the public sense where it stands with its meaning and its address
-  enters : (node : Node A S) (n : AbstractNode) → Stands g node n n.past → IsNode g (g.meaning (g.kept node.shared)) node.addr node n
-  enters node n s = record { meant = refl; address = sym s.addr; stands = s }
+  enters : (did : List C → Type 0) (node : Node A S) (s : Station C) → IsAt g did node s → At did (g.meaning (g.kept node.shared)) node.addr node s
+  enters did node s p = record { stands = record { meant = refl; address = sym p.stands.addr; stands = p.stands }; acted = p.acted }
 
-  abbrev At : Meaning → Addr → Node A S → AbstractNode → Type 0
-  At m own node n = IsNode g m own node n
+  leaves : (did : List C → Type 0) (m : Meaning) (own : Addr) (node : Node A S) (s : Station C) → At did m own node s → IsAt g did node s
+  leaves did m own node s p = record { stands = p.stands.stands; acted = p.acted }
 
-  abbrev StandsAt : Node A S → AbstractNode → Type 0
-  StandsAt node n = Stands g node n n.past
+  all_public : (did did' : List C → Type 0) (deeds : List (Deed C)) (before after : Node A S) (a b : Option (List ℕ))
+      → AllSaid (g.meaning (g.kept before.shared)) g.served w before.addr deeds (At did (g.meaning (g.kept before.shared)) before.addr before) (At did' (g.meaning (g.kept before.shared)) before.addr after) a b
+      → AllSaid (g.meaning (g.kept before.shared)) g.served w before.addr deeds (IsAt g did before) (IsAt g did' after) a b
+  all_public did did' deeds before after a b v = record { each = λ s p. let it = v.each s (enters did before s p) in (leaves did' _ _ after _ it.0, it.1) }
 
-  all_public : (events : List Event) (before after : Node A S) (a b : Option (List ℕ))
-      → Wrote (g.meaning (g.kept before.shared)) g.served before.addr events (At (g.meaning (g.kept before.shared)) before.addr before) (At (g.meaning (g.kept before.shared)) before.addr after) a b
-      → Wrote (g.meaning (g.kept before.shared)) g.served before.addr events (StandsAt before) (StandsAt after) a b
-  all_public events before after a b w = record { each = λ n s. let it = w.each n (enters before n s) in (it.0.stands, it.1) }
-
-  public_wrote : (end : ServeEnd) (events : List Event) (before after : Node A S) (a b : Option (List ℕ))
-      → WroteBy end (g.meaning (g.kept before.shared)) g.served before.addr events (At (g.meaning (g.kept before.shared)) before.addr before) (At (g.meaning (g.kept before.shared)) before.addr after) a b
-      → WroteBy end (g.meaning (g.kept before.shared)) g.served before.addr events (StandsAt before) (StandsAt after) a b
-  public_wrote ends.End events before after a b w = all_public events before after a b w
-  public_wrote ends.Budget events before after a b w = all_public events before after a b w
-  public_wrote ends.LinkFault events before after a b w = all_public events before after a b w
-  public_wrote ends.WriteFault events before after a b w = record {
-    each = λ n s.
-        let it = w.each n (enters before n s) in
-        record { done = it.done; later = it.later; front = it.front; after = it.after.stands; written = it.written };
+  public_wrote : (did did' : List C → Type 0) (end : ServeEnd) (deeds : List (Deed C)) (before after : Node A S) (a b : Option (List ℕ))
+      → SaidBy end (g.meaning (g.kept before.shared)) g.served w before.addr deeds (At did (g.meaning (g.kept before.shared)) before.addr before) (At did' (g.meaning (g.kept before.shared)) before.addr after) a b
+      → SaidBy end (g.meaning (g.kept before.shared)) g.served w before.addr deeds (IsAt g did before) (IsAt g did' after) a b
+  public_wrote did did' ends.End deeds before after a b v = all_public did did' deeds before after a b v
+  public_wrote did did' ends.Budget deeds before after a b v = all_public did did' deeds before after a b v
+  public_wrote did did' ends.LinkFault deeds before after a b v = all_public did did' deeds before after a b v
+  public_wrote did did' ends.WriteFault deeds before after a b v = record {
+    each = λ s p.
+        let it = v.each s (enters did before s p) in
+        record { done = it.done; later = it.later; front = it.front; after = leaves did' _ _ after _ it.after; written = it.written };
   }
 
   -- what was written goes on with a turn
-  pub on_wrote : (pace : ℕ) (taken items : List Item) (start node node' : Node A S) (a b c : Option (List ℕ))
-      → ((m : Meaning) (own : Addr) → Wrote m g.served own (line_events own pace taken) (At m own start) (At m own node) a b)
-      → ((m : Meaning) (own : Addr) → Wrote m g.served own (events_behind own pace (bytes_of taken) items) (At m own node) (At m own node') b c)
-      → (m : Meaning) (own : Addr) → Wrote m g.served own (line_events own pace (taken ++ items)) (At m own start) (At m own node') a c
-  on_wrote pace taken items start node node' a b c w t m own =
-      wrote_by m g.served own _ _ _ _ _ _ (events-then own pace [] taken items)
-      (wrote_then m g.served own (line_events own pace taken) (events_behind own pace (bytes_of taken) items) _ (At m own node) _ _ b _ (w m own) (t m own))
+  pub on_wrote : (did did1 did2 : List C → Type 0) (pace : ℕ) (taken items : List Item) (start node node' : Node A S) (a b c : Option (List ℕ))
+      → ((m : Meaning) (own : Addr) → AllSaid m g.served w own (line_deeds w own pace taken) (At did m own start) (At did1 m own node) a b)
+      → ((m : Meaning) (own : Addr) → AllSaid m g.served w own (deeds_behind w own pace (bytes_of taken) items) (At did1 m own node) (At did2 m own node') b c)
+      → (m : Meaning) (own : Addr) → AllSaid m g.served w own (line_deeds w own pace (taken ++ items)) (At did m own start) (At did2 m own node') a c
+  on_wrote did did1 did2 pace taken items start node node' a b c v t m own =
+      wrote_by m g.served w own _ _ _ _ _ _ (events-then w own pace [] taken items)
+      (wrote_then m g.served w own (line_deeds w own pace taken) (deeds_behind w own pace (bytes_of taken) items) _ (At did1 m own node) _ _ b _ (v m own) (t m own))
 
-  -- a serving that ends in a turn
-  pub stopped : (pace n : ℕ) (taken : List Item) (start node node' : Node A S) (old mid new : Outside) (decoder : State) (pacer : Pacer) (room : ℕ) (end : ServeEnd)
+  -- a serving that took all that it might
+  pub spent : (did did1 : List C → Type 0) (pace n : ℕ) (taken : List Item) (start node : Node A S) (old new : Outside)
+      → Consumes old.coming new.coming taken → length taken ≡ n → new.link_faults ≡ old.link_faults → new.sink_faults ≡ old.sink_faults
+      → ((m : Meaning) (own : Addr) → AllSaid m g.served w own (line_deeds w own pace taken) (At did m own start) (At did1 m own node) old.written new.written)
+      → ServesOver g w did did1 pace n start node old new ends.Budget
+  spent did did1 pace n taken start node old new c all l k v = record {
+    taken = taken;
+    consumed = c;
+    ends = (all, l, k);
+    wrote = public_wrote did did1 ends.Budget _ start node _ _ (v (g.meaning (g.kept start.shared)) start.addr);
+  }
+
+-- a serving that ends in a turn
+module _ {A S M : Type 0} (g : Ghosts A S) (h : MediumGhosts M) (k : h.Set) (medium0 medium medium' : M) where
+  abbrev w : Way h.Act
+  w = h.way k
+
+  abbrev Here : M → Meaning → Addr → Node A S → Station h.Act → Type 0
+  Here x m own node s = IsHere g (h.did x k) m own node s
+
+  pub stopped : (pace n : ℕ) (taken : List Item) (start node node' : Node A S) (old mid new : Outside) (pacer : Pacer) (room : ℕ) (end : ServeEnd)
       → Consumes old.coming mid.coming taken → length taken < n → room + length taken ≤ n → mid.link_faults ≡ old.link_faults → mid.sink_faults ≡ old.sink_faults
-      → ((m : Meaning) (own : Addr) → Wrote m g.served own (line_events own pace taken) (At m own start) (At m own node) old.written mid.written)
-      → Turns g pace (bytes_of taken) node node' mid new decoder pacer room (Stopped end)
-      → Serves g pace n start node' old new end
-  stopped pace n taken start node node' old mid new decoder pacer room end c below fits l k w t =
+      → ((m : Meaning) (own : Addr) → AllSaid m g.served w own (line_deeds w own pace taken) (Here medium0 m own start) (Here medium m own node) old.written mid.written)
+      → Turns g h k pace (bytes_of taken) medium medium' node node' mid new pacer room (Stopped end)
+      → ServesOver g w (h.did medium0 k) (h.did medium' k) pace n start node' old new end
+  stopped pace n taken start node node' old mid new pacer room end c below fits l f v t =
       let m = g.meaning (g.kept start.shared) in
       let own = start.addr in
       record {
         taken = taken ++ t.items;
         consumed = Consumes-then _ _ _ taken t.items c t.consumed;
-        ends = ends_by n taken t.items old mid new end c below (let within = t.within in omega arith) l k t.cause;
-        wrote = public_wrote end _ start node' _ _
-            (written_by m g.served own (line_events own pace taken) (events_behind own pace (bytes_of taken) t.items) _ (At m own start) (At m own node) (At m own node') old.written mid.written new.written end
-            (events-then own pace [] taken t.items) (w m own) (t.wrote m own));
+        ends = ends_by n taken t.items old mid new end c below (let within = t.within in omega arith) l f t.cause;
+        wrote = public_wrote g w (h.did medium0 k) (h.did medium' k) end _ start node' _ _
+            (written_by m g.served w own (line_deeds w own pace taken) (deeds_behind w own pace (bytes_of taken) t.items) _
+            (Here medium0 m own start) (Here medium m own node) (Here medium' m own node') old.written mid.written new.written end
+            (events-then w own pace [] taken t.items) (v m own) (t.wrote m own));
       }
-
-  -- and one that took all that it might
-  pub spent : (pace n : ℕ) (taken : List Item) (start node : Node A S) (old new : Outside)
-      → Consumes old.coming new.coming taken → length taken ≡ n → new.link_faults ≡ old.link_faults → new.sink_faults ≡ old.sink_faults
-      → ((m : Meaning) (own : Addr) → Wrote m g.served own (line_events own pace taken) (At m own start) (At m own node) old.written new.written)
-      → Serves g pace n start node old new ends.Budget
-  spent pace n taken start node old new c all l k w = record {
-    taken = taken;
-    consumed = c;
-    ends = (all, l, k);
-    wrote = public_wrote ends.Budget _ start node _ _ (w (g.meaning (g.kept start.shared)) start.addr);
-  }

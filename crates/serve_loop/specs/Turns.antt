@@ -7,18 +7,19 @@ use Rattle.uip_edge.specs.declared.item.Item.{Item}
 use Rattle.uip_edge.specs.declared.serve_end.ServeEnd.TheVariants as ends
 use Rattle.uip_edge.specs.Causes.{Rose}
 use Rattle.uip_edge.specs.Coming.{Consumes}
-use Rattle.uip_slip.specs.Decoding.{State, WasFed}
 use Rattle.uip_node.specs.declared.node.Node.{Node}
-use Rattle.uip_node.specs.Events.{Event}
 use Rattle.uip_node.specs.Node.{AbstractNode}
 use Rattle.uip_node.specs.StandsFor.{Stands}
+use Rattle.line_medium.specs.Ways.{Way}
+use Rattle.line_medium.specs.declared.medium.Medium.{Ghosts as MediumGhosts}
 use Rattle.serve_loop.specs.declared.line.Turn.{Turn}
 use Rattle.serve_loop.specs.declared.line.Turn.TheVariants as turns
 use Rattle.serve_loop.specs.declared.pacer.Pacer.{Pacer}
-use Rattle.serve_loop.specs.LineEvents.{bytes_of, events_behind}
+use Rattle.serve_loop.specs.DeedRuns.{AllSaid, Deed, FrontSaid, Station}
+use Rattle.serve_loop.specs.LineDeeds.{deeds_behind}
+use Rattle.serve_loop.specs.LineEvents.{bytes_of}
 use Rattle.serve_loop.specs.Outside.{Outside, IsDry}
 use Rattle.serve_loop.specs.Pace.{HasPassed}
-use Rattle.serve_loop.specs.Running.{Wrote, Broke}
 
 -- the node stands for the abstract node, which has this address, and its application has this meaning
 pub record IsNode {A S : Type 0} (g : Ghosts A S) (m : Meaning) (own : Addr) (node : Node A S) (n : AbstractNode) : Type 0 where
@@ -26,9 +27,33 @@ pub record IsNode {A S : Type 0} (g : Ghosts A S) (m : Meaning) (own : Addr) (no
   pub address : n.addr ≡ own
   pub stands : Stands g node n n.past
 
+-- the node, and the medium that did these acts, stand at this station
+pub record IsHere {A S C : Type 0} (g : Ghosts A S) (did : List C → Type 0) (m : Meaning) (own : Addr) (node : Node A S) (s : Station C) : Type 0 where
+  pub stands : IsNode g m own node s.node
+  pub acted : did s.acts
+
+-- a medium and a node, and what is written
+pub record Place (M A S : Type 0) : Type 0 where
+  pub medium : M
+  pub node : Node A S
+  pub text : Option (List ℕ)
+
+abbrev pub place : {M A S : Type 0} → M → Node A S → Option (List ℕ) → Place M A S
+place medium node text = record { medium = medium; node = node; text = text }
+
+-- From wherever the medium, set so, and the node stood, they stand behind these deeds, and all that is said for them was written.
+abbrev pub Plays : {A S M : Type 0} (g : Ghosts A S) (h : MediumGhosts M) (k : h.Set) → (Addr → List (Deed h.Act)) → Place M A S → Place M A S → Type 0
+Plays g h k deeds old new = (m : Meaning) (own : Addr)
+    → AllSaid m g.served (h.way k) own (deeds own) (IsHere g (h.did old.medium k) m own old.node) (IsHere g (h.did new.medium k) m own new.node) old.text new.text
+
+-- The writing broke off, behind a front of these deeds.
+abbrev pub Breaks : {A S M : Type 0} (g : Ghosts A S) (h : MediumGhosts M) (k : h.Set) → (Addr → List (Deed h.Act)) → Place M A S → Place M A S → Type 0
+Breaks g h k deeds old new = (m : Meaning) (own : Addr)
+    → FrontSaid m g.served (h.way k) own (deeds own) (IsHere g (h.did old.medium k) m own old.node) (IsHere g (h.did new.medium k) m own new.node) old.text new.text
+
 -- a line at a pace has taken these bytes
-pub record HasTaken (pace : ℕ) (before : List ℕ) (decoder : State) (pacer : Pacer) : Type 0 where
-  pub fed : WasFed before decoder
+pub record HasTaken (pace : ℕ) (before : List ℕ) (fed : List ℕ → Type 0) (pacer : Pacer) : Type 0 where
+  pub taken : fed before
   pub paced : pacer.pace ≡ pace
   pub passed : HasPassed (length before) pacer
 
@@ -47,23 +72,23 @@ TurnsBy old new items (turns.Stopped ends.WriteFault) = (new.link_faults ≡ old
 TurnsBy old new items (turns.Stopped ends.Budget) = ⊥
 
 -- a turn that went on has taken the bytes
-abbrev pub TakesOn : ℕ → List ℕ → List ℕ → State → Pacer → Turn → Type 0
-TakesOn pace before bytes decoder pacer (turns.Went n) = HasTaken pace (before ++ bytes) decoder pacer
-TakesOn pace before bytes decoder pacer (turns.Stopped end) = ⊤
+abbrev pub TakesOn : ℕ → List ℕ → List ℕ → (List ℕ → Type 0) → Pacer → Turn → Type 0
+TakesOn pace before bytes fed pacer (turns.Went n) = HasTaken pace (before ++ bytes) fed pacer
+TakesOn pace before bytes fed pacer (turns.Stopped end) = ⊤
 
--- what a turn wrote for these events
-abbrev pub WritesOn : Turn → Meaning → (ℕ → Bool) → Addr → List Event → (AbstractNode → Type 0) → (AbstractNode → Type 0) → Option (List ℕ) → Option (List ℕ) → Type 0
-WritesOn (turns.Went n) m served own events Before After old new = Wrote m served own events Before After old new
-WritesOn (turns.Stopped ends.End) m served own events Before After old new = Wrote m served own events Before After old new
-WritesOn (turns.Stopped ends.LinkFault) m served own events Before After old new = Wrote m served own events Before After old new
-WritesOn (turns.Stopped ends.WriteFault) m served own events Before After old new = Broke m served own events Before After old new
-WritesOn (turns.Stopped ends.Budget) m served own events Before After old new = ⊥
+-- what a turn wrote for these deeds
+abbrev pub WritesOn : {C : Type 0} → Turn → Meaning → (ℕ → Bool) → Way C → Addr → List (Deed C) → (Station C → Type 0) → (Station C → Type 0) → Option (List ℕ) → Option (List ℕ) → Type 0
+WritesOn (turns.Went n) m served w own deeds Before After old new = AllSaid m served w own deeds Before After old new
+WritesOn (turns.Stopped ends.End) m served w own deeds Before After old new = AllSaid m served w own deeds Before After old new
+WritesOn (turns.Stopped ends.LinkFault) m served w own deeds Before After old new = AllSaid m served w own deeds Before After old new
+WritesOn (turns.Stopped ends.WriteFault) m served w own deeds Before After old new = FrontSaid m served w own deeds Before After old new
+WritesOn (turns.Stopped ends.Budget) m served w own deeds Before After old new = ⊥
 
--- a turn, with the node before and after it
-pub record Turns {A S : Type 0} (g : Ghosts A S) (pace : ℕ) (before : List ℕ) (node node' : Node A S) (old new : Outside) (decoder : State) (pacer : Pacer) (room : ℕ) (turn : Turn) : Type 0 where
+-- a turn, with the medium and the node before and after it
+pub record Turns {A S M : Type 0} (g : Ghosts A S) (h : MediumGhosts M) (k : h.Set) (pace : ℕ) (before : List ℕ) (medium medium' : M) (node node' : Node A S) (old new : Outside) (pacer : Pacer) (room : ℕ) (turn : Turn) : Type 0 where
   pub items : List Item
   pub consumed : Consumes old.coming new.coming items
   pub within : length items ≤ room
   pub cause : TurnsBy old new items turn
-  pub on : TakesOn pace before (bytes_of items) decoder pacer turn
-  pub wrote : (m : Meaning) (own : Addr) → WritesOn turn m g.served own (events_behind own pace before items) (IsNode g m own node) (IsNode g m own node') old.written new.written
+  pub on : TakesOn pace before (bytes_of items) (h.fed medium' k) pacer turn
+  pub wrote : (m : Meaning) (own : Addr) → WritesOn turn m g.served (h.way k) own (deeds_behind (h.way k) own pace before items) (IsHere g (h.did medium k) m own node) (IsHere g (h.did medium' k) m own node') old.written new.written

@@ -1,69 +1,75 @@
-ghost use Rattle.std.specs.Prelude.{◌≡◌, ◌<◌, ◌≤◌, [], ◌∷◌, List, ℕ, length, Option, OnOk, OnErr};
+ghost use Rattle.std.specs.Prelude.{◌≡◌, ◌<◌, ◌≤◌, [], ◌∷◌, List, ℕ, length, map, Option, OnOk, OnErr};
 ghost use Rattle.std.specs.Io.KnownBytes.{Appends};
-ghost use Rattle.app_events.specs.Part.{Meaning};
 ghost use Rattle.uip_edge.specs.Causes.{HasCause};
 ghost use Rattle.uip_edge.specs.Writing.{AppendsPrefix};
 ghost use Rattle.uip_wire.specs.declared.addr.Addr.{Addr as Address};
 ghost use Rattle.uip_node.specs.Edge.{event_of};
 ghost use Rattle.uip_node.specs.Events.{Reply, tick};
-ghost use Rattle.uip_node.specs.Events.Event.{Overlong, Periodic};
+ghost use Rattle.uip_node.specs.Events.Event.{Periodic};
 ghost use Rattle.uip_node.specs.Spoken.{IsSent};
 ghost use Rattle.uip_node.specs.StandsFor.{IsWhole};
-ghost use Rattle.serve_loop.specs.Running.{Wrote, Broke, text_for};
-ghost use Rattle.serve_loop.specs.Turns.{IsNode};
+ghost use Rattle.serve_loop.specs.DeedRuns.{Happens, text_behind};
+ghost use Rattle.serve_loop.specs.LineDeeds.{tick_on};
+ghost use Rattle.serve_loop.specs.Turns.{Breaks, Plays, place};
 
 use app_events::App;
+use line_medium::Medium;
 use uip_edge::{Failed, Sink};
 use uip_node::Node;
-use uip_slip::Encoder;
 use uip_wire::LARGEST_DATAGRAM;
 
 /// Writes what a call of the node has sent, if it sent a datagram.
-fn write_sent<A: App, K: Sink>(
+fn write_sent<A: App, M: Medium, K: Sink>(
     node: &Node<A>,
     sent: Option<usize>,
-    encoder: &mut Encoder,
+    medium: &mut M,
     sink: &mut K,
 ) -> Result<(), Failed>
-    ensures ok { OnOk result ((own : Address) (reply : Option Reply) → IsSent own reply sent node.now.packet
-        → Appends (K.written sink.old) (K.written sink.new) (text_for own reply)) }
-    ensures err { OnErr result ((own : Address) (reply : Option Reply) → IsSent own reply sent node.now.packet
-        → AppendsPrefix (K.written sink.old) (K.written sink.new) (text_for own reply)) }
+    ensures fed { (k : M.Set) (before : List ℕ) → M.fed medium.old k before → M.fed medium.new k before }
+    ensures did { (k : M.Set) (acts : List M.Act) → M.did medium.old k acts → M.did medium.new k acts }
+    ensures ok { OnOk result ((k : M.Set) (acts : List M.Act) (own : Address) (reply : Option Reply)
+        → M.did medium.old k acts → IsSent own reply sent node.now.packet
+        → Appends (K.written sink.old) (K.written sink.new) (text_behind (M.way k) acts own reply)) }
+    ensures err { OnErr result ((k : M.Set) (acts : List M.Act) (own : Address) (reply : Option Reply)
+        → M.did medium.old k acts → IsSent own reply sent node.now.packet
+        → AppendsPrefix (K.written sink.old) (K.written sink.new) (text_behind (M.way k) acts own reply)) }
     ensures cause { HasCause (K.faults sink.old) (K.faults sink.new) result }
 {
     match sent {
         None => Ok(()),
-        Some(_) => encoder.encode(node.packet(), sink),
+        Some(_) => medium.send(node.packet(), sink),
     }
 }
 
-/// A datagram comes to the node, and its answer is written.
-pub(crate) fn take_datagram<A: App, K: Sink>(
+/// The datagram that was just brought comes to the node, and its answer is written.
+pub(crate) fn take_datagram<A: App, M: Medium, K: Sink>(
     node: &mut Node<A>,
-    encoder: &mut Encoder,
-    datagram: &[u8],
+    medium: &mut M,
+    count: usize,
     sink: &mut K,
 ) -> Result<(), Failed>
     requires whole { IsWhole A.App node.old }
-    requires most { length datagram.now ≤ LARGEST_DATAGRAM }
+    requires shows { M.shows medium.old count }
+    requires most { length (M.shown medium.old) ≤ LARGEST_DATAGRAM }
     ensures whole { IsWhole A.App node.new }
     ensures same { A.kept node.new.shared ≡ A.kept node.old.shared }
-    ensures ok { OnOk result ((m : Meaning) (own : Address) → Wrote m A.served own (event_of own datagram.now ∷ [])
-        (IsNode A.App m own node.old) (IsNode A.App m own node.new)
-        (K.written sink.old) (K.written sink.new)) }
-    ensures err { OnErr result ((m : Meaning) (own : Address) → Broke m A.served own (event_of own datagram.now ∷ [])
-        (IsNode A.App m own node.old) (IsNode A.App m own node.new)
-        (K.written sink.old) (K.written sink.new)) }
+    ensures fed { (k : M.Set) (before : List ℕ) → M.fed medium.old k before → M.fed medium.new k before }
+    ensures ok { OnOk result ((k : M.Set) → Plays A.App M.Medium k
+        (λ own. Happens (event_of own (M.shown medium.old)) ∷ [])
+        (place medium.old node.old (K.written sink.old)) (place medium.new node.new (K.written sink.new))) }
+    ensures err { OnErr result ((k : M.Set) → Breaks A.App M.Medium k
+        (λ own. Happens (event_of own (M.shown medium.old)) ∷ [])
+        (place medium.old node.old (K.written sink.old)) (place medium.new node.new (K.written sink.new))) }
     ensures cause { HasCause (K.faults sink.old) (K.faults sink.new) result }
 {
-    let sent = node.input(datagram);
-    write_sent(node, sent, encoder, sink)
+    let sent = node.input(medium.shown(count));
+    write_sent(node, sent, medium, sink)
 }
 
 /// The periodic call of a slot, and what it sends is written.
-fn call_slot<A: App, K: Sink>(
+fn call_slot<A: App, M: Medium, K: Sink>(
     node: &mut Node<A>,
-    encoder: &mut Encoder,
+    medium: &mut M,
     slot: usize,
     sink: &mut K,
 ) -> Result<(), Failed>
@@ -71,48 +77,61 @@ fn call_slot<A: App, K: Sink>(
     requires within { slot < 10 }
     ensures whole { IsWhole A.App node.new }
     ensures same { A.kept node.new.shared ≡ A.kept node.old.shared }
-    ensures ok { OnOk result ((m : Meaning) (own : Address) → Wrote m A.served own (Periodic slot ∷ [])
-        (IsNode A.App m own node.old) (IsNode A.App m own node.new)
-        (K.written sink.old) (K.written sink.new)) }
-    ensures err { OnErr result ((m : Meaning) (own : Address) → Broke m A.served own (Periodic slot ∷ [])
-        (IsNode A.App m own node.old) (IsNode A.App m own node.new)
-        (K.written sink.old) (K.written sink.new)) }
+    ensures fed { (k : M.Set) (before : List ℕ) → M.fed medium.old k before → M.fed medium.new k before }
+    ensures ok { OnOk result ((k : M.Set) → Plays A.App M.Medium k
+        (λ own. Happens (Periodic slot) ∷ [])
+        (place medium.old node.old (K.written sink.old)) (place medium.new node.new (K.written sink.new))) }
+    ensures err { OnErr result ((k : M.Set) → Breaks A.App M.Medium k
+        (λ own. Happens (Periodic slot) ∷ [])
+        (place medium.old node.old (K.written sink.old)) (place medium.new node.new (K.written sink.new))) }
     ensures cause { HasCause (K.faults sink.old) (K.faults sink.new) result }
 {
     let sent = node.periodic(slot);
-    write_sent(node, sent, encoder, sink)
+    write_sent(node, sent, medium, sink)
 }
 
-/// A tick: the periodic calls of all slots in turn.
-pub(crate) fn tick<A: App, K: Sink>(
+/// The periodic calls of all slots in turn.
+fn call_slots<A: App, M: Medium, K: Sink>(
     node: &mut Node<A>,
-    encoder: &mut Encoder,
+    medium: &mut M,
     sink: &mut K,
 ) -> Result<(), Failed>
     requires whole { IsWhole A.App node.old }
     ensures whole { IsWhole A.App node.new }
     ensures same { A.kept node.new.shared ≡ A.kept node.old.shared }
-    ensures ok { OnOk result ((m : Meaning) (own : Address) → Wrote m A.served own tick
-        (IsNode A.App m own node.old) (IsNode A.App m own node.new)
-        (K.written sink.old) (K.written sink.new)) }
-    ensures err { OnErr result ((m : Meaning) (own : Address) → Broke m A.served own tick
-        (IsNode A.App m own node.old) (IsNode A.App m own node.new)
-        (K.written sink.old) (K.written sink.new)) }
+    ensures fed { (k : M.Set) (before : List ℕ) → M.fed medium.old k before → M.fed medium.new k before }
+    ensures ok { OnOk result ((k : M.Set) → Plays A.App M.Medium k
+        (λ own. map Happens tick)
+        (place medium.old node.old (K.written sink.old)) (place medium.new node.new (K.written sink.new))) }
+    ensures err { OnErr result ((k : M.Set) → Breaks A.App M.Medium k
+        (λ own. map Happens tick)
+        (place medium.old node.old (K.written sink.old)) (place medium.new node.new (K.written sink.new))) }
     ensures cause { HasCause (K.faults sink.old) (K.faults sink.new) result }
 {
     for slot in 0..10 {
-        call_slot(node, encoder, slot, sink)?;
+        call_slot(node, medium, slot, sink)?;
     }
     Ok(())
 }
 
-/// A frame was longer than a datagram.
-pub(crate) fn pass_overlong<A: App>(node: &mut Node<A>)
+/// A tick: the medium's, and then the periodic calls.
+pub(crate) fn tick<A: App, M: Medium, K: Sink>(
+    node: &mut Node<A>,
+    medium: &mut M,
+    sink: &mut K,
+) -> Result<(), Failed>
     requires whole { IsWhole A.App node.old }
     ensures whole { IsWhole A.App node.new }
     ensures same { A.kept node.new.shared ≡ A.kept node.old.shared }
-    ensures wrote { (m : Meaning) (own : Address) (text : Option (List ℕ)) → Wrote m A.served own (Overlong ∷ [])
-        (IsNode A.App m own node.old) (IsNode A.App m own node.new) text text }
+    ensures fed { (k : M.Set) (before : List ℕ) → M.fed medium.old k before → M.fed medium.new k before }
+    ensures ok { OnOk result ((k : M.Set) → Plays A.App M.Medium k
+        (λ own. tick_on (M.way k))
+        (place medium.old node.old (K.written sink.old)) (place medium.new node.new (K.written sink.new))) }
+    ensures err { OnErr result ((k : M.Set) → Breaks A.App M.Medium k
+        (λ own. tick_on (M.way k))
+        (place medium.old node.old (K.written sink.old)) (place medium.new node.new (K.written sink.new))) }
+    ensures cause { HasCause (K.faults sink.old) (K.faults sink.new) result }
 {
-    node.count_overlong();
+    medium.tick();
+    call_slots(node, medium, sink)
 }

@@ -5,18 +5,22 @@ ghost use Rattle.uip_edge.specs.declared.serve_end.ServeEnd.{ServeEnd as AnyEnd}
 ghost use Rattle.uip_edge.specs.declared.serve_end.ServeEnd.TheVariants.{Budget, End};
 ghost use Rattle.uip_node.specs.StandsFor.{IsWhole};
 ghost use Rattle.serve_loop.specs.Outside.{outside, Outside, Unfailed};
+ghost use Rattle.serve_loop.specs.DeedServing.{ServesOver};
 ghost use Rattle.serve_loop.specs.Serving.{EndsBy, Serves};
 ghost use Rattle.serve_loop.specs.Turns.{HasTaken};
 
-use crate::line::{Line, Turn};
+use crate::line::{Turn, take_turn};
+use crate::pacer::Pacer;
+use crate::slip::Slip;
 use app_events::App;
+use line_medium::Medium;
 use uip_edge::{Link, ServeEnd, Sink};
 use uip_node::Node;
 
 /// The most bytes that are asked of a link at once.
 const BLOCK: usize = 4096;
 
-/// Serves the line at the node, up to so many items. At a pace above 0 every so many bytes make a tick, and each silence
+/// Serves a serial line at the node, up to so many items. At a pace above 0 every so many bytes make a tick, and each silence
 /// makes one. No call in it is given an allocator.
 pub fn serve<A: App, L: Link, K: Sink>(
     node: &mut Node<A>,
@@ -32,13 +36,36 @@ pub fn serve<A: App, L: Link, K: Sink>(
         (outside L.coming K.written L.faults K.faults link.old sink.old)
         (outside L.coming K.written L.faults K.faults link.new sink.new) result }
 {
-    let mut line = Line::new(pace);
-    serve_line(&mut line, node, link, sink, items)
+    let mut medium = Slip::new();
+    serve_over(&mut medium, node, link, sink, pace, items)
 }
 
-/// Takes items of a line of which nothing was read, until so many were taken.
-fn serve_line<A: App, L: Link, K: Sink>(
-    line: &mut Line,
+/// Serves a line over a medium that was fed nothing, up to so many items. At a pace above 0 every so many bytes
+/// make a tick, and each silence makes one. No call in it is given an allocator.
+pub fn serve_over<A: App, M: Medium, L: Link, K: Sink>(
+    medium: &mut M,
+    node: &mut Node<A>,
+    link: &mut L,
+    sink: &mut K,
+    pace: u64,
+    items: u64,
+) -> ServeEnd
+    requires whole { IsWhole A.App node.old }
+    ensures whole { IsWhole A.App node.new }
+    ensures same { A.kept node.new.shared ≡ A.kept node.old.shared }
+    ensures serves { (k : M.Set) → M.fed medium.old k []
+        → ServesOver A.App (M.way k) (M.did medium.old k) (M.did medium.new k) pace items node.old node.new
+        (outside L.coming K.written L.faults K.faults link.old sink.old)
+        (outside L.coming K.written L.faults K.faults link.new sink.new) result }
+{
+    let mut pacer = Pacer::new(pace);
+    serve_line(medium, &mut pacer, node, link, sink, items)
+}
+
+/// Takes items of a line, until so many were taken.
+fn serve_line<A: App, M: Medium, L: Link, K: Sink>(
+    medium: &mut M,
+    pacer: &mut Pacer,
     node: &mut Node<A>,
     link: &mut L,
     sink: &mut K,
@@ -47,8 +74,8 @@ fn serve_line<A: App, L: Link, K: Sink>(
     requires whole { IsWhole A.App node.old }
     ensures whole { IsWhole A.App node.new }
     ensures same { A.kept node.new.shared ≡ A.kept node.old.shared }
-    ensures serves { (pace : ℕ) → HasTaken pace [] line.old.decoder line.old.pacer
-        → Serves A.App pace items node.old node.new
+    ensures serves { (k : M.Set) (pace : ℕ) → HasTaken pace [] (M.fed medium.old k) pacer.old
+        → ServesOver A.App (M.way k) (M.did medium.old k) (M.did medium.new k) pace items node.old node.new
         (outside L.coming K.written L.faults K.faults link.old sink.old)
         (outside L.coming K.written L.faults K.faults link.new sink.new) result }
 {
@@ -56,7 +83,7 @@ fn serve_line<A: App, L: Link, K: Sink>(
     let mut left = items;
     while left > 0 {
         let room = left.min(BLOCK as u64) as usize;
-        match line.turn(node, &mut buf[..room], link, sink) {
+        match take_turn(medium, pacer, node, &mut buf[..room], link, sink) {
             Turn::Went(count) => left -= count,
             Turn::Stopped(end) => return end,
         }

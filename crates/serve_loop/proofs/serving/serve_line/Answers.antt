@@ -11,12 +11,12 @@ pub loop-left-init : goal.loop-left-init
 loop-left-init g c = record {
   whole = c.requires.whole;
   same = refl;
-  served = λ pace h. record {
+  served = λ k pace h. record {
     taken = [];
     consumed = Consumes-none _;
     number = omega arith;
     at = h;
-    wrote = λ m own. wrote_none m g.A.App.served own _ _ _ (λ n p. p);
+    wrote = λ m own. wrote_none m g.A.App.served (g.M.Medium.way k) own _ _ _ (λ n p. p);
     link_same = refl;
     sink_same = refl;
   };
@@ -26,37 +26,37 @@ pub loop-left-preserved : goal.loop-left-preserved
 loop-left-preserved g c = record {
   whole = c.in-Went.ensures.whole;
   same = c.in-Went.ensures.same ∙ c.loop-left.invariant.same;
-  served = λ pace h.
-      let inv = c.loop-left.invariant.served pace h in
-      let turn = c.in-Went.ensures.turns pace (bytes_of inv.taken) inv.at in
+  served = λ k pace h.
+      let inv = c.loop-left.invariant.served k pace h in
+      let turn = c.in-Went.ensures.turns k pace (bytes_of inv.taken) inv.at in
       let room = length-take c.min-room.result c.loop-left.buf in
       record {
         taken = inv.taken ++ turn.items;
-        consumed = Consumes-then (g.L.Link.coming c.args.link.now) (g.L.Link.coming c.loop-left.link) (g.L.Link.coming c.turn.new.link) inv.taken turn.items inv.consumed turn.consumed;
+        consumed = Consumes-then (g.L.Link.coming c.args.link.now) (g.L.Link.coming c.loop-left.link) (g.L.Link.coming c.take_turn.new.link) inv.taken turn.items inv.consumed turn.consumed;
         number = omega (arith, length-append inv.taken turn.items, turn.cause.0, inv.number, c.in-Went.ensures.fits.1, room);
         at = rw bytes_of-append turn.on;
-        wrote = on_wrote g.A.App pace inv.taken turn.items c.args.node.now c.loop-left.node c.turn.new.node
-            (g.K.Sink.written c.args.sink.now) (g.K.Sink.written c.loop-left.sink) (g.K.Sink.written c.turn.new.sink) inv.wrote turn.wrote;
+        wrote = on_wrote g.A.App (g.M.Medium.way k) (g.M.Medium.did c.args.medium.now k) (g.M.Medium.did c.loop-left.medium k) (g.M.Medium.did c.take_turn.new.medium k) pace inv.taken turn.items c.args.node.now c.loop-left.node c.take_turn.new.node
+            (g.K.Sink.written c.args.sink.now) (g.K.Sink.written c.loop-left.sink) (g.K.Sink.written c.take_turn.new.sink) inv.wrote turn.wrote;
         link_same = turn.cause.1 ∙ inv.link_same;
         sink_same = turn.cause.2 ∙ inv.sink_same;
       };
 }
 
 pub returns-in-Stopped-clause-serves : goal.returns-in-Stopped-clause-serves
-returns-in-Stopped-clause-serves g c = λ pace h.
-    let inv = c.loop-left.invariant.served pace h in
+returns-in-Stopped-clause-serves g c = λ k pace h.
+    let inv = c.loop-left.invariant.served k pace h in
     let room = length-take c.min-room.result c.loop-left.buf in
-    stopped g.A.App pace c.args.items inv.taken c.args.node.now c.loop-left.node c.turn.new.node
+    stopped g.A.App g.M.Medium k c.args.medium.now c.loop-left.medium c.take_turn.new.medium pace c.args.items inv.taken c.args.node.now c.loop-left.node c.take_turn.new.node
     (outside g.L.Link.coming g.K.Sink.written g.L.Link.faults g.K.Sink.faults c.args.link.now c.args.sink.now)
     (outside g.L.Link.coming g.K.Sink.written g.L.Link.faults g.K.Sink.faults c.loop-left.link c.loop-left.sink)
-    (outside g.L.Link.coming g.K.Sink.written g.L.Link.faults g.K.Sink.faults c.turn.new.link c.turn.new.sink)
-    _ _ _ c.in-Stopped.end inv.consumed (omega arith) (omega (arith, inv.number, room)) inv.link_same inv.sink_same inv.wrote
-    (c.in-Stopped.ensures.turns pace (bytes_of inv.taken) inv.at)
+    (outside g.L.Link.coming g.K.Sink.written g.L.Link.faults g.K.Sink.faults c.take_turn.new.link c.take_turn.new.sink)
+    _ _ c.in-Stopped.end inv.consumed (omega arith) (omega (arith, inv.number, room)) inv.link_same inv.sink_same inv.wrote
+    (c.in-Stopped.ensures.turns k pace (bytes_of inv.taken) inv.at)
 
 pub returns-clause-serves : goal.returns-clause-serves
-returns-clause-serves g c = λ pace h.
-    let inv = c.loop-left.invariant.served pace h in
-    spent g.A.App pace c.args.items inv.taken c.args.node.now c.loop-left.node
+returns-clause-serves g c = λ k pace h.
+    let inv = c.loop-left.invariant.served k pace h in
+    spent g.A.App (g.M.Medium.way k) (g.M.Medium.did c.args.medium.now k) (g.M.Medium.did c.loop-left.medium k) pace c.args.items inv.taken c.args.node.now c.loop-left.node
     (outside g.L.Link.coming g.K.Sink.written g.L.Link.faults g.K.Sink.faults c.args.link.now c.args.sink.now)
     (outside g.L.Link.coming g.K.Sink.written g.L.Link.faults g.K.Sink.faults c.loop-left.link c.loop-left.sink)
     inv.consumed (omega (arith, inv.number, c.loop-left-test.false)) inv.link_same inv.sink_same inv.wrote

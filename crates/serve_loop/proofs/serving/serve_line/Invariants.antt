@@ -4,23 +4,24 @@ use Rattle.uip_edge.specs.declared.item.Item.{Item}
 use Rattle.uip_edge.specs.Coming.{Consumes}
 use Rattle.uip_wire.specs.declared.addr.Addr.{Addr}
 use Rattle.uip_node.specs.StandsFor.{IsWhole}
-use Rattle.serve_loop.specs.LineEvents.{bytes_of, line_events}
-use Rattle.serve_loop.specs.Running.{Wrote}
-use Rattle.serve_loop.specs.Turns.{HasTaken, IsNode}
+use Rattle.serve_loop.specs.LineDeeds.{line_deeds}
+use Rattle.serve_loop.specs.LineEvents.{bytes_of}
+use Rattle.serve_loop.specs.DeedRuns.{AllSaid}
+use Rattle.serve_loop.specs.Turns.{HasTaken, IsHere}
 use Rattle.serve_loop.proofs.serving.serve_line.Given as goal
 
 abbrev pub invariant-loop-left : goal.invariant-loop-left
 invariant-loop-left g l = record {
   whole : IsWhole g.A.App l.node;
   same : g.A.App.kept l.node.shared ≡ g.A.App.kept l.fn.node.shared;
-  served : (pace : ℕ) → HasTaken pace [] l.fn.line.decoder l.fn.line.pacer → record {
+  served : (k : g.M.Medium.Set) (pace : ℕ) → HasTaken pace [] (g.M.Medium.fed l.fn.medium k) l.fn.pacer → record {
     taken : List Item;
     consumed : Consumes (g.L.Link.coming l.fn.link) (g.L.Link.coming l.link) taken;
     number : length taken + l.left ≡ l.items;
-    at : HasTaken pace (bytes_of taken) l.line.decoder l.line.pacer;
-    wrote : (m : Meaning) (own : Addr) → Wrote m g.A.App.served own (line_events own pace taken)
-        (IsNode g.A.App m own l.fn.node)
-        (IsNode g.A.App m own l.node) (g.K.Sink.written l.fn.sink) (g.K.Sink.written l.sink);
+    at : HasTaken pace (bytes_of taken) (g.M.Medium.fed l.medium k) l.pacer;
+    wrote : (m : Meaning) (own : Addr) → AllSaid m g.A.App.served (g.M.Medium.way k) own (line_deeds (g.M.Medium.way k) own pace taken)
+        (IsHere g.A.App (g.M.Medium.did l.fn.medium k) m own l.fn.node)
+        (IsHere g.A.App (g.M.Medium.did l.medium k) m own l.node) (g.K.Sink.written l.fn.sink) (g.K.Sink.written l.sink);
     link_same : g.L.Link.faults l.link ≡ g.L.Link.faults l.fn.link;
     sink_same : g.K.Sink.faults l.sink ≡ g.K.Sink.faults l.fn.sink;
   };

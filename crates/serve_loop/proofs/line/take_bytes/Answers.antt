@@ -4,7 +4,7 @@ use Rattle.uip_edge.proofs.Told.{moved_on, on_err}
 use Rattle.serve_loop.specs.Turns.{HasTaken}
 use Rattle.serve_loop.proofs.FrontLaws.{all_in_front, behind_broke, behind_wrote}
 use Rattle.serve_loop.proofs.RunLaws.{wrote_none}
-use Rattle.serve_loop.proofs.line.Line.take.Goals as goal
+use Rattle.serve_loop.proofs.line.take_bytes.Goals as goal
 
 pub loop-rest-init : goal.loop-rest-init
 loop-rest-init g c = record {
@@ -12,15 +12,15 @@ loop-rest-init g c = record {
   pieces = refl;
   whole = c.requires.whole;
   same = refl;
-  taken = λ pace before h. rw append-nil h;
-  wrote = λ m own pace before h. wrote_none m g.A.App.served own _ _ _ (λ n p. p);
+  taken = λ k pace before h. rw append-nil h;
+  wrote = λ k pace before h m own. wrote_none m g.A.App.served (g.M.Medium.way k) own _ _ _ (λ n p. p);
   calm = refl;
 }
 
 pub returns-in_err-count-clause-err : goal.returns-in_err-count-clause-err
 returns-in_err-count-clause-err g c =
     let inv = c.loop-rest.invariant in
-    on_err _ (behind_broke g.A.App.served _ _ _ _ inv.front inv.taken _ _ _ _ _ _ inv.wrote c.args.bytes.now c.loop-rest.rest.now inv.pieces c.in_err-count.ensures.err)
+    on_err _ (behind_broke g.M.Medium.way g.A.App.served _ (λ k before. g.M.Medium.fed c.loop-rest.medium k before) _ _ inv.front inv.taken _ _ _ _ _ _ inv.wrote c.args.bytes.now c.loop-rest.rest.now inv.pieces c.in_err-count.ensures.err)
 
 pub loop-rest-preserved : goal.loop-rest-preserved
 loop-rest-preserved g c =
@@ -33,13 +33,13 @@ loop-rest-preserved g c =
       pieces = moved_on _ inv.front rest n inv.pieces;
       whole = told.whole;
       same = told.same ∙ inv.same;
-      taken = λ pace before h. rw (← append_assoc before inv.front (take n rest)) (told.taken pace (before ++ inv.front) (inv.taken pace before h));
-      wrote = behind_wrote g.A.App.served _ _ _ _ inv.front inv.taken _ _ _ _ _ _ inv.wrote (take n rest) told.ok;
+      taken = λ k pace before h. rw (← append_assoc before inv.front (take n rest)) (told.taken k pace (before ++ inv.front) (inv.taken k pace before h));
+      wrote = behind_wrote g.M.Medium.way g.A.App.served _ (λ k before. g.M.Medium.fed c.loop-rest.medium k before) _ _ inv.front inv.taken _ _ _ _ _ _ inv.wrote (take n rest) told.ok;
       calm = told.cause.same ∙ inv.calm;
     }
 
 pub returns-clause-taken : goal.returns-clause-taken
-returns-clause-taken g c = λ pace before h.
+returns-clause-taken g c = λ k pace before h.
     let inv = c.loop-rest.invariant in
     let none : length c.loop-rest.rest.now ≡ 0 = eqb-true _ _ (sym c.loop-rest-test.ensures) in
-    subst (λ (l : List ℕ). HasTaken pace (before ++ l) c.loop-rest.self.decoder c.loop-rest.self.pacer) (sym (all_in_front _ _ _ inv.pieces none)) (inv.taken pace before h)
+    subst (λ (l : List ℕ). HasTaken pace (before ++ l) (g.M.Medium.fed c.loop-rest.medium k) c.loop-rest.pacer) (sym (all_in_front _ _ _ inv.pieces none)) (inv.taken k pace before h)

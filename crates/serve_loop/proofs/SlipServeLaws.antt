@@ -1,0 +1,135 @@
+-- A serving of a serial line, told of the events of its node alone.
+use Rattle.std.proofs.Common.{◌≡◌, ℕ, ◌+◌, Bool, true, false, List, [], ◌∷◌, ◌++◌, Option, None, Some, if◌then◌else◌, length, map, refl, sym, ap, ◌∙◌, subst}
+use Rattle.std.proofs.lemmas.List.{map-append}
+use Rattle.uip_wire.specs.declared.addr.Addr.{Addr}
+use Rattle.app_events.specs.Part.{Meaning}
+use Rattle.app_events.specs.declared.app.App.{Ghosts}
+use Rattle.uip_edge.proofs.Told.{appends_by, prefix_by}
+use Rattle.uip_edge.specs.declared.item.Item.{Item}
+use Rattle.uip_edge.specs.declared.item.Item.TheVariants.{Byte, Quiet}
+use Rattle.uip_edge.specs.declared.serve_end.ServeEnd.{ServeEnd}
+use Rattle.uip_edge.specs.declared.serve_end.ServeEnd.TheVariants as ends
+use Rattle.uip_slip.specs.Frames.{Frame, Datagram, Overlong}
+use Rattle.uip_node.specs.declared.node.Node.{Node}
+use Rattle.uip_node.specs.Events.{Event, Reply, tick}
+use Rattle.uip_node.specs.Node.{AbstractNode, joined, run, step}
+use Rattle.uip_node.specs.StandsFor.{Stands}
+use Rattle.serve_loop.specs.LineDeeds.{beat_on, deed_by, deeds_behind, line_deeds, tick_on}
+use Rattle.serve_loop.specs.Outside.{Outside}
+use Rattle.serve_loop.specs.Pace.{is_beat}
+use Rattle.serve_loop.specs.DeedRuns.{AllSaid, Deed, FrontSaid, Happens, Station, after, after_deed, said, text_behind}
+use Rattle.serve_loop.specs.DeedServing.{IsAt, SaidBy, ServesOver}
+use Rattle.serve_loop.specs.LineEvents.{beat, completed, event_by, events_behind, line_events}
+use Rattle.serve_loop.specs.Running.{Broke, Wrote, text_of}
+use Rattle.serve_loop.specs.Serving.{Serves, WroteBy}
+use Rattle.serve_loop.specs.SlipWay.{NoAct, came_by, slip_way}
+
+-- each deed is an event of the node
+abbrev all_happen : List Event → List (Deed NoAct)
+all_happen events = map Happens events
+
+frame_deeds : (own : Addr) (told : List Frame) → map (deed_by own) (map came_by told) ≡ all_happen (map (event_by own) told)
+frame_deeds own [] = refl
+frame_deeds own (Datagram bytes ∷ told) = ap (λ l. deed_by own (came_by (Datagram bytes)) ∷ l) (frame_deeds own told)
+frame_deeds own (Overlong ∷ told) = ap (λ l. deed_by own (came_by Overlong) ∷ l) (frame_deeds own told)
+
+beat_deeds : (pace number : ℕ) → beat_on slip_way pace number ≡ all_happen (beat pace number)
+beat_deeds pace number = elim (is_beat pace number) as (λ v. (if v then tick_on slip_way else []) ≡ all_happen (if v then tick else [])) [
+  | true ↦ refl
+  | false ↦ refl
+]
+
+deeds_are : (own : Addr) (pace : ℕ) (before : List ℕ) (items : List Item) → deeds_behind slip_way own pace before items ≡ all_happen (events_behind own pace before items)
+deeds_are own pace before [] = refl
+deeds_are own pace before (Byte b ∷ items) =
+    let told = map (event_by own) (completed before b) in
+    let more = beat pace (length before + 1) in
+    let rest = events_behind own pace (before ++ b ∷ []) items in
+    ap (λ l. l ++ beat_on slip_way pace (length before + 1) ++ deeds_behind slip_way own pace (before ++ b ∷ []) items) (frame_deeds own (completed before b))
+    ∙ ap (λ l. all_happen told ++ l ++ deeds_behind slip_way own pace (before ++ b ∷ []) items) (beat_deeds pace (length before + 1))
+    ∙ ap (λ l. all_happen told ++ all_happen more ++ l) (deeds_are own pace (before ++ b ∷ []) items)
+    ∙ ap (λ l. l ++ all_happen rest) (sym (map-append Happens told more))
+    ∙ sym (map-append Happens (told ++ more) rest)
+deeds_are own pace before (Quiet ∷ items) =
+    ap (λ l. all_happen tick ++ l) (deeds_are own pace before items) ∙ sym (map-append Happens tick (events_behind own pace before items))
+
+-- a front of such deeds is a front of the events
+front_of : (events : List Event) (xs ys : List (Deed NoAct)) → all_happen events ≡ xs ++ ys → (es fs : List Event) × (events ≡ es ++ fs) × (xs ≡ all_happen es)
+front_of events [] ys e = ([], events, refl, refl)
+front_of [] (x ∷ xs) ys e = absurd (cc e)
+front_of (event ∷ events) (x ∷ xs) ys e =
+    let more = front_of events xs ys cc in
+    let same : x ≡ Happens event = cc in
+    (event ∷ more.0, more.1, ap (λ l. event ∷ l) more.2, ap (λ l. l ∷ xs) same ∙ ap (λ l. Happens event ∷ l) more.3)
+
+after_is : (m : Meaning) (served : ℕ → Bool) (events : List Event) (s : Station NoAct) → (after m served (all_happen events) s).node ≡ (run m served events s.node).node
+after_is m served [] s = refl
+after_is m served (e ∷ events) s = after_is m served events (after_deed m served s (Happens e))
+
+module _ (m : Meaning) (served : ℕ → Bool) (own : Addr) where
+  text_joined : (acts : List NoAct) (o : Option Reply) (rest : List Reply) → text_behind slip_way acts own o ++ text_of own rest ≡ text_of own (joined o rest)
+  text_joined acts None rest = refl
+  text_joined acts (Some reply) rest = refl
+
+  said_is : (events : List Event) (s : Station NoAct) → said m served slip_way own (all_happen events) s ≡ text_of own (run m served events s.node).sent
+  said_is [] s = refl
+  said_is (e ∷ events) s =
+      ap (λ l. text_behind slip_way s.acts own (step m served s.node e).sent ++ l) (said_is events (after_deed m served s (Happens e)))
+      ∙ text_joined s.acts (step m served s.node e).sent (run m served events (step m served s.node e).node).sent
+
+module _ {A S : Type 0} (g : Ghosts A S) (did did' : List NoAct → Type 0) (began : did []) where
+  abbrev At : Node A S → AbstractNode → Type 0
+  At node n = Stands g node n n.past
+
+  stands_on : (m : Meaning) (events : List Event) (xs : List (Deed NoAct)) (node : Node A S) (s : Station NoAct) → xs ≡ all_happen events
+      → IsAt g did' node (after m g.served xs s) → At node (run m g.served events s.node).node
+  stands_on m events xs node s e p =
+      subst (λ (n : AbstractNode). At node n) (ap (λ (l : List (Deed NoAct)). (after m g.served l s).node) e ∙ after_is m g.served events s) p.stands
+
+  slip_wrote : (m : Meaning) (own : Addr) (pace : ℕ) (items : List Item) (before after : Node A S) (a b : Option (List ℕ))
+      → AllSaid m g.served slip_way own (line_deeds slip_way own pace items) (IsAt g did before) (IsAt g did' after) a b
+      → Wrote m g.served own (line_events own pace items) (At before) (At after) a b
+  slip_wrote m own pace items before after a b w = record {
+    each = λ n p.
+        let e = deeds_are own pace [] items in
+        let s : Station NoAct = record { acts = []; node = n } in
+        let it = w.each s (record { stands = p; acted = began }) in (
+          stands_on m (line_events own pace items) _ after s e it.0,
+          appends_by a b _ _ (sym (ap (λ (l : List (Deed NoAct)). said m g.served slip_way own l s) e ∙ said_is m g.served own (line_events own pace items) s)) it.1,
+        );
+  }
+
+  slip_broke : (m : Meaning) (own : Addr) (pace : ℕ) (items : List Item) (before after : Node A S) (a b : Option (List ℕ))
+      → FrontSaid m g.served slip_way own (line_deeds slip_way own pace items) (IsAt g did before) (IsAt g did' after) a b
+      → Broke m g.served own (line_events own pace items) (At before) (At after) a b
+  slip_broke m own pace items before after a b w = record {
+    each = λ n p.
+        let s : Station NoAct = record { acts = []; node = n } in
+        let it = w.each s (record { stands = p; acted = began }) in
+        let front = front_of (line_events own pace items) it.done it.later (sym (deeds_are own pace [] items) ∙ it.front) in
+        record {
+          done = front.0;
+          later = front.1;
+          front = front.2;
+          after = stands_on m front.0 _ after s front.3 it.after;
+          written = prefix_by a b _ _ (sym (ap (λ (l : List (Deed NoAct)). said m g.served slip_way own l s) front.3 ∙ said_is m g.served own front.0 s)) it.written;
+        };
+  }
+
+  slip_wrote_by : (end : ServeEnd) (m : Meaning) (own : Addr) (pace : ℕ) (items : List Item) (before after : Node A S) (a b : Option (List ℕ))
+      → SaidBy end m g.served slip_way own (line_deeds slip_way own pace items) (IsAt g did before) (IsAt g did' after) a b
+      → WroteBy end m g.served own (line_events own pace items) (At before) (At after) a b
+  slip_wrote_by ends.End m own pace items before after a b w = slip_wrote m own pace items before after a b w
+  slip_wrote_by ends.Budget m own pace items before after a b w = slip_wrote m own pace items before after a b w
+  slip_wrote_by ends.LinkFault m own pace items before after a b w = slip_wrote m own pace items before after a b w
+  slip_wrote_by ends.WriteFault m own pace items before after a b w = slip_broke m own pace items before after a b w
+
+  pub slip_serves : (pace n : ℕ) (before after : Node A S) (old new : Outside) (end : ServeEnd)
+      → ServesOver g slip_way did did' pace n before after old new end
+      → Serves g pace n before after old new end
+  slip_serves pace n before after old new end v = record {
+    taken = v.taken;
+    consumed = v.consumed;
+    ends = v.ends;
+    wrote = slip_wrote_by end (g.meaning (g.kept before.shared)) before.addr pace v.taken before after _ _ v.wrote;
+  }
