@@ -1,27 +1,106 @@
 #!/usr/bin/env python3
-"""Brings a site up behind a serial line and lets a real TCP talk to it.
+"""Brings a site up behind a line and lets a real TCP talk to it.
 
-    python3 examples/browse.py [UIPD [SITE]] [-- COMMAND ARG..]
+    python3 examples/browse.py [UIPD [SITE]] [OPTION ..] [-- COMMAND ARG ..]
 
-In a network namespace of its own it makes a TUN interface (10.0.0.2, the other end is 10.0.0.1), starts
-`UIPD serve SITE 10.0.0.1 tty` on a pseudo terminal, and carries datagrams between the two as SLIP frames. A read of the terminal
-that finds nothing for half a second is a tick of the node's timer. With a COMMAND it runs that in the namespace and ends with its
-status; else it says how to open the pages and waits for Ctrl-C. It needs Linux, /dev/net/tun and `ip`, and no rights.
+In a network namespace of its own it makes a TUN interface (10.0.0.2, the other end is 10.0.0.1), starts `UIPD serve SITE 10.0.0.1`
+on a pseudo terminal, and carries datagrams between the two as SLIP frames. With a COMMAND it runs that in the namespace and ends with
+its status; else it says how to open the pages and waits for Ctrl-C. It needs Linux, /dev/net/tun and `ip`, and no rights.
+
+    --line DEVICE RATE   no server is started: the node is at the other end of a serial port, as /dev/ttyUSB0 115200
+    --ether              Ethernet frames over a TAP interface, with Linux's own ARP, in place of SLIP (`UIPD ether`)
+    --desk               the shell on port 23 beside the web server (`UIPD desk`)
+    --record DIR         writes the bytes of the line to DIR/to-node and DIR/from-node
+    --help               this text
+
+The line has a rate, as a real one has (20,000 bytes a second, or that of the port), and its silence is filled with bytes that mean
+nothing: so the server's `pace` is a clock of half seconds, however busy the line is.
 """
 import ctypes
 import fcntl
 import os
 import select
+import shutil
 import struct
 import subprocess
 import sys
 import termios
+import time
 import tty
 
 HERE = os.path.dirname(os.path.abspath(__file__))
 END, ESC, ESC_END, ESC_ESC = 0xC0, 0xDB, 0xDC, 0xDD
 CLONE_NEWUSER, CLONE_NEWNET = 0x10000000, 0x40000000
-TUNSETIFF, IFF_TUN, IFF_NO_PI = 0x400454CA, 1, 0x1000
+TUNSETIFF, IFF_TUN, IFF_TAP, IFF_NO_PI = 0x400454CA, 1, 2, 0x1000
+NODE_MAC = "02:00:00:00:00:01"
+LOCAL_RATE = 20000
+
+
+class Slip:
+    """Datagrams as SLIP frames (RFC 1055). An END between frames means nothing."""
+    filler = bytes([END])
+
+    def __init__(self):
+        self.rest = b""
+
+    def text_of(self, datagram):
+        text = datagram.replace(bytes([ESC]), bytes([ESC, ESC_ESC])).replace(bytes([END]), bytes([ESC, ESC_END]))
+        return bytes([END]) + text + bytes([END])
+
+    def feed(self, data):
+        """The datagrams that these bytes complete."""
+        *frames, self.rest = (self.rest + data).split(bytes([END]))
+        return [f.replace(bytes([ESC, ESC_END]), bytes([END])).replace(bytes([ESC, ESC_ESC]), bytes([ESC])) for f in frames if f]
+
+
+class Frames:
+    """Ethernet frames, each behind its length in two bytes. A frame of length 0 is dropped."""
+    filler = bytes([0, 0])
+
+    def __init__(self):
+        self.rest = b""
+
+    def text_of(self, frame):
+        return len(frame).to_bytes(2, "big") + frame
+
+    def feed(self, data):
+        self.rest += data
+        frames = []
+        while len(self.rest) >= 2 and len(self.rest) >= 2 + int.from_bytes(self.rest[:2], "big"):
+            end = 2 + int.from_bytes(self.rest[:2], "big")
+            frames.append(self.rest[2:end])
+            self.rest = self.rest[end:]
+        return [frame for frame in frames if frame]
+
+
+class Line:
+    """The bytes to the node, at a rate: what waits goes out as time passes, and the rest of the time is filled."""
+
+    def __init__(self, descriptor, form, rate, record):
+        self.descriptor, self.form, self.rate, self.record = descriptor, form, rate, record
+        self.queue, self.start, self.sent = b"", time.monotonic(), 0
+
+    def put(self, datagram):
+        self.queue += self.form.text_of(datagram)
+
+    def beat(self):
+        due = int((time.monotonic() - self.start) * self.rate) - self.sent
+        due = min(due - due % len(self.form.filler), self.rate // 4)
+        if due <= 0:
+            return
+        text = self.queue[:due]
+        if not self.queue[due:]:
+            text += self.form.filler * ((due - len(text)) // len(self.form.filler))
+        self.queue = self.queue[due:]
+        self.sent += len(text)
+        if self.record:
+            self.record.write(text)
+        while text:
+            text = text[os.write(self.descriptor, text[:1024]):]
+
+
+def fail(text):
+    sys.exit(f"browse.py: {text}")
 
 
 def enter_namespace():
@@ -30,7 +109,7 @@ def enter_namespace():
     user, group = os.getuid(), os.getgid()
     flags = CLONE_NEWNET if user == 0 else CLONE_NEWNET | CLONE_NEWUSER
     if libc.unshare(flags) != 0:
-        sys.exit(f"no network namespace: {os.strerror(ctypes.get_errno())}")
+        fail(f"no network namespace: {os.strerror(ctypes.get_errno())}")
     if user != 0:
         for name, text in (("setgroups", "deny"), ("uid_map", f"0 {user} 1"), ("gid_map", f"0 {group} 1")):
             with open(f"/proc/self/{name}", "w") as file:
@@ -38,74 +117,141 @@ def enter_namespace():
     return f"nsenter {'' if user == 0 else '--preserve-credentials -U '}-n -t {os.getpid()}"
 
 
-def make_tun():
-    tun = os.open("/dev/net/tun", os.O_RDWR)
-    fcntl.ioctl(tun, TUNSETIFF, struct.pack("16sH", b"uip0", IFF_TUN | IFF_NO_PI))
-    for words in ("link set lo up", "link set uip0 up mtu 1500", "addr add 10.0.0.2 peer 10.0.0.1 dev uip0"):
+def make_interface(ether):
+    """A TUN interface, or a TAP interface, as 10.0.0.2 beside 10.0.0.1."""
+    try:
+        descriptor = os.open("/dev/net/tun", os.O_RDWR)
+        fcntl.ioctl(descriptor, TUNSETIFF, struct.pack("16sH", b"uip0", (IFF_TAP if ether else IFF_TUN) | IFF_NO_PI))
+    except OSError as error:
+        fail(f"no interface by /dev/net/tun: {error.strerror}")
+    address = "addr add 10.0.0.2/24 dev uip0" if ether else "addr add 10.0.0.2 peer 10.0.0.1 dev uip0"
+    for words in ("link set lo up", "link set uip0 up mtu 1500", address):
         subprocess.run(["ip", *words.split()], check=True)
-    return tun
+    return descriptor
 
 
-def start_server(uipd, site):
+def start_server(words):
     """The server's standard input is a raw terminal whose reads give up after half a second; its output is a pipe."""
     line, end = os.openpty()
     tty.setraw(end)
     settings = termios.tcgetattr(end)
     settings[6][termios.VMIN], settings[6][termios.VTIME] = 0, 5
     termios.tcsetattr(end, termios.TCSANOW, settings)
-    server = subprocess.Popen([uipd, "serve", site, "10.0.0.1", "tty"], stdin=end, stdout=subprocess.PIPE)
+    server = subprocess.Popen(words, stdin=end, stdout=subprocess.PIPE)
     os.close(end)
-    return server, line
+    return server, line, server.stdout.fileno()
 
 
-def frame_of(datagram):
-    text = datagram.replace(bytes([ESC]), bytes([ESC, ESC_ESC])).replace(bytes([END]), bytes([ESC, ESC_END]))
-    return bytes([END]) + text + bytes([END])
+def open_port(device, rate):
+    """A serial port, raw, at a rate in bits a second."""
+    speed = getattr(termios, f"B{rate}", None)
+    if speed is None:
+        fail(f"no rate of a port: {rate}")
+    try:
+        port = os.open(device, os.O_RDWR | os.O_NOCTTY)
+        tty.setraw(port)
+        settings = termios.tcgetattr(port)
+    except (OSError, termios.error) as error:
+        fail(f"no serial port {device}: {error}")
+    settings[4] = settings[5] = speed
+    termios.tcsetattr(port, termios.TCSANOW, settings)
+    return port
 
 
-def datagrams_of(text):
-    """The whole frames in front, unescaped, and what is left behind them."""
-    *frames, rest = text.split(bytes([END]))
-    plain = [f.replace(bytes([ESC, ESC_END]), bytes([END])).replace(bytes([ESC, ESC_ESC]), bytes([ESC])) for f in frames if f]
-    return plain, rest
-
-
-def bridge(tun, line, output, is_done):
-    rest = b""
+def bridge(interface, line, output, record, is_done):
     while not is_done():
-        for ready in select.select([tun, output], [], [], 0.2)[0]:
-            if ready == tun:
-                text = frame_of(os.read(tun, 1500))
-                while text:
-                    text = text[os.write(line, text[:1024]):]
+        for ready in select.select([interface, output], [], [], 0.02)[0]:
+            if ready == interface:
+                line.put(os.read(interface, 2048))
             else:
                 data = os.read(output, 65536)
                 if not data:
-                    sys.exit("the server ended")
-                plain, rest = datagrams_of(rest + data)
-                for datagram in plain:
-                    os.write(tun, datagram)
+                    fail("the server ended")
+                if record:
+                    record.write(data)
+                for datagram in line.form.feed(data):
+                    try:
+                        os.write(interface, datagram)
+                    except OSError as error:
+                        print(f"browse.py: the interface refused what the node sent: {error.strerror}", file=sys.stderr)
+        line.beat()
+
+
+class Words:
+    """What the command line asks for."""
+
+    def __init__(self, words):
+        if "--help" in words or "-h" in words:
+            sys.exit(__doc__)
+        self.command = words[words.index("--") + 1:] if "--" in words else []
+        words = words[:words.index("--")] if "--" in words else words
+        self.ether = self.desk = False
+        self.line = self.folder = None
+        plain = []
+        while words:
+            word, words = words[0], words[1:]
+            if word in ("--ether", "--desk"):
+                setattr(self, word[2:], True)
+            elif word == "--record" and words:
+                self.folder, words = words[0], words[1:]
+            elif word == "--line" and len(words) > 1 and words[1].isdigit():
+                self.line, words = (words[0], int(words[1])), words[2:]
+            elif word.startswith("-") or len(plain) == 2:
+                fail(f"unknown word {word}; --help says which there are")
+            else:
+                plain.append(word)
+        self.uipd = plain[0] if plain else os.path.join(HERE, "../crates/uipd/out/uipd")
+        self.site = plain[1] if len(plain) > 1 else os.path.join(HERE, "site.img")
+
+    def check(self):
+        if not shutil.which("ip"):
+            fail("no command `ip` here: it is in the package iproute2")
+        if self.line is None and not os.access(self.uipd, os.X_OK):
+            fail(f"no program at {self.uipd}: `rt run` in crates/uipd builds it")
+        if self.line is None and not os.path.exists(self.site):
+            fail(f"no image at {self.site}: `sh examples/pack.sh` packs it")
+        if self.command and not shutil.which(self.command[0]):
+            fail(f"no command {self.command[0]} here")
+
+    def server_words(self, rate):
+        kind = "ether" if self.ether else "desk" if self.desk else "serve"
+        mac = [NODE_MAC] if self.ether else []
+        return [self.uipd, kind, self.site, "10.0.0.1", *mac, "pace", str(rate // 2), "tty"]
+
+
+def recording(folder, name):
+    if folder is None:
+        return None
+    os.makedirs(folder, exist_ok=True)
+    return open(os.path.join(folder, name), "wb")
 
 
 def main():
-    words = sys.argv[1:]
-    command = words[words.index("--") + 1:] if "--" in words else []
-    words = words[:words.index("--")] if "--" in words else words
-    uipd = words[0] if words else os.path.join(HERE, "../crates/uipd/out/uipd")
-    site = words[1] if len(words) > 1 else os.path.join(HERE, "site.img")
+    words = Words(sys.argv[1:])
+    words.check()
+    rate = words.line[1] // 10 if words.line else LOCAL_RATE
+    port = open_port(*words.line) if words.line else None
     entry = enter_namespace()
-    tun = make_tun()
-    server, line = start_server(uipd, site)
-    child = subprocess.Popen(command) if command else None
-    if not command:
+    interface = make_interface(words.ether)
+    server = None
+    if words.line:
+        to_node = output = port
+        print(f"On the other end: stty -F PORT {words.line[1]} raw -echo min 0 time 5; "
+              f"uipd serve SITE 10.0.0.1 pace {rate // 2} tty <PORT >PORT")
+    else:
+        server, to_node, output = start_server(words.server_words(rate))
+    line = Line(to_node, Frames() if words.ether else Slip(), rate, recording(words.folder, "to-node"))
+    child = subprocess.Popen(words.command) if words.command else None
+    if not child:
         print("The site is at http://10.0.0.1/ in a network of its own. From another terminal:")
         print(f"    {entry} curl http://10.0.0.1/")
         print(f"    {entry} chromium --user-data-dir=/tmp/lowunbisa http://10.0.0.1/", flush=True)
     try:
-        bridge(tun, line, server.stdout.fileno(), lambda: child is not None and child.poll() is not None)
+        bridge(interface, line, output, recording(words.folder, "from-node"), lambda: child is not None and child.poll() is not None)
     except KeyboardInterrupt:
         pass
-    server.kill()
+    if server:
+        server.kill()
     sys.exit(child.returncode if child else 0)
 
 

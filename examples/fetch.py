@@ -46,7 +46,11 @@ def pattern(folder, name):
 
 
 def main():
+    if "--help" in sys.argv or "-h" in sys.argv:
+        sys.exit(__doc__)
     folder = sys.argv[1] if len(sys.argv) > 1 else os.path.join(HERE, "site")
+    if not os.path.isdir(folder):
+        sys.exit(f"fetch.py: no folder {folder}")
     wrong = 0
     for name in sorted("/" + file for file in os.listdir(folder)):
         head, body = fetch(name)
@@ -59,4 +63,7 @@ def main():
     sys.exit(1 if wrong else 0)
 
 
-main()
+try:
+    main()
+except OSError as error:
+    sys.exit(f"fetch.py: no server answers at {SERVER[0]}, port {SERVER[1]}: {error.strerror or error}; run it through examples/browse.py")

@@ -49,6 +49,10 @@ def literal(image):
 
 
 def main():
+    if "--help" in sys.argv or "-h" in sys.argv:
+        sys.exit(__doc__)
+    if sys.argv[1:] not in ([], ["literal"]):
+        sys.exit(f"image.py: unknown word {sys.argv[1]}; --help says which there are")
     image = read("site.img")
     if sys.argv[1:] == ["literal"]:
         with open(COPY, "w") as f:
