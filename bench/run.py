@@ -128,7 +128,7 @@ def nanoseconds(program, line):
 
 def main():
     if "--help" in sys.argv or "-h" in sys.argv:
-        sys.exit(__doc__)
+        sys.exit(print(__doc__))
     program = os.path.abspath(sys.argv[1] if len(sys.argv) > 1 else os.path.join(HERE, "..", "crates", "uipd", "out", "uipd"))
     if not os.access(program, os.X_OK):
         sys.exit("no program at %s: run `rt run` in crates/uipd first, or name one" % program)

@@ -182,7 +182,7 @@ class Words:
 
     def __init__(self, words):
         if "--help" in words or "-h" in words:
-            sys.exit(__doc__)
+            sys.exit(print(__doc__))
         self.command = words[words.index("--") + 1:] if "--" in words else []
         words = words[:words.index("--")] if "--" in words else words
         self.ether = self.desk = False

@@ -47,7 +47,7 @@ def pattern(folder, name):
 
 def main():
     if "--help" in sys.argv or "-h" in sys.argv:
-        sys.exit(__doc__)
+        sys.exit(print(__doc__))
     folder = sys.argv[1] if len(sys.argv) > 1 else os.path.join(HERE, "site")
     if not os.path.isdir(folder):
         sys.exit(f"fetch.py: no folder {folder}")

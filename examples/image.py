@@ -50,7 +50,7 @@ def literal(image):
 
 def main():
     if "--help" in sys.argv or "-h" in sys.argv:
-        sys.exit(__doc__)
+        sys.exit(print(__doc__))
     if sys.argv[1:] not in ([], ["literal"]):
         sys.exit(f"image.py: unknown word {sys.argv[1]}; --help says which there are")
     image = read("site.img")
