@@ -3,7 +3,7 @@
 
     python3 docs/trusted.py            compares docs/SPECIFICATION.md with the sources, and says where they differ (status 1)
     python3 docs/trusted.py write      writes the lists of that page anew
-    python3 docs/trusted.py NAME ..    prints what a definition rests on, as link_theorem.specs.Headline.Tick
+    python3 docs/trusted.py NAME ..    prints what a definition rests on, as link_world.specs.Headline.Tick
 
 It follows the names of specs/ through their imports, from the clauses of `run_told` in crates/uipd/src/run.rt (of `run` where there is none).
 A definition belongs to the part of its file; a file that no part names is told as one that the page lacks.
