@@ -14,7 +14,7 @@ use Rattle.tcp_segment.specs.declared.segment.Segment.{Segment}
 use Rattle.link_client.specs.Client.{AbstractClient, ClientStep, client_takes, fin_sent, is_receiving, keeps, may_finish, waits_for_ack}
 use Rattle.link_client.specs.declared.client.Client.{Client}
 use Rattle.link_client.specs.declared.client_state.ClientState.{ClientState}
-use Rattle.link_client.specs.declared.client_state.ClientState.TheVariants.{Idle, Opening, Opened, Closing, Closed, Ended, Reset}
+use Rattle.link_client.specs.declared.client_state.ClientState.TheVariants.{Idle, Opening, Opened, Closing, Reset}
 use Rattle.link_client.specs.declared.setup.Setup.{Setup}
 
 -- a client of the code beside its request and the bytes that it took, as an abstract client
@@ -97,20 +97,11 @@ received_with false received text = received
 abbrev pub has_spoken : ClientState → Bool
 has_spoken Idle = false
 has_spoken Reset = false
-has_spoken Opening = true
-has_spoken Opened = true
-has_spoken Closing = true
-has_spoken Closed = true
-has_spoken Ended = true
+has_spoken _ = true
 
 abbrev pub is_opened : ClientState → Bool
 is_opened Opened = true
-is_opened Idle = false
-is_opened Opening = false
-is_opened Closing = false
-is_opened Closed = false
-is_opened Ended = false
-is_opened Reset = false
+is_opened _ = false
 
 -- it sends request bytes or its FIN next
 abbrev pub has_more_to_send : AbstractClient → Bool
@@ -123,7 +114,4 @@ abbrev pub can_abort : ClientState → Bool
 can_abort Opening = true
 can_abort Opened = true
 can_abort Closing = true
-can_abort Idle = false
-can_abort Closed = false
-can_abort Ended = false
-can_abort Reset = false
+can_abort _ = false

@@ -49,31 +49,20 @@ gives c s = record { client = c; sent = Some s }
 abbrev pub has_closed : ClientState → Bool
 has_closed Closed = true
 has_closed Ended = true
-has_closed Idle = false
-has_closed Opening = false
-has_closed Opened = false
-has_closed Closing = false
-has_closed Reset = false
+has_closed _ = false
 
 -- it takes text
 abbrev pub is_receiving : ClientState → Bool
 is_receiving Opened = true
 is_receiving Closing = true
-is_receiving Idle = false
-is_receiving Opening = false
-is_receiving Closed = false
-is_receiving Ended = false
-is_receiving Reset = false
+is_receiving _ = false
 
 -- it has nothing more to ask for
 abbrev pub may_finish : ClientState → Bool
 may_finish Closing = true
 may_finish Closed = true
 may_finish Ended = true
-may_finish Idle = false
-may_finish Opening = false
-may_finish Opened = false
-may_finish Reset = false
+may_finish _ = false
 
 abbrev pub fin_sent : FinAt → Bool
 fin_sent FinAt.NotSent = false

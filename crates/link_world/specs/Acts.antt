@@ -6,7 +6,7 @@ use Rattle.tcp_segment.specs.Segments.{PlainSegment}
 use Rattle.uip_node.specs.Edge.{event_of}
 use Rattle.link_client.specs.Client.{AbstractClient, ClientStep, client_takes, client_opens, client_again, client_closes, client_aborts, tells_window}
 use Rattle.link_client.specs.declared.client_state.ClientState.{ClientState}
-use Rattle.link_client.specs.declared.client_state.ClientState.TheVariants.{Idle, Opening, Opened, Closing, Closed, Ended, Reset}
+use Rattle.link_client.specs.declared.client_state.ClientState.TheVariants.{Idle}
 use Rattle.link_world.specs.World.{World, Side, Sent, numbered, posts, node_handles, client_stepped, gives}
 use Rattle.link_world.specs.World.Content.{OfPing}
 use Rattle.link_world.specs.declared.act.Act.{Act}
@@ -69,12 +69,7 @@ most_datagrams = 65535
 
 abbrev pub is_idle : ClientState → Bool
 is_idle Idle = true
-is_idle Opening = false
-is_idle Opened = false
-is_idle Closing = false
-is_idle Closed = false
-is_idle Ended = false
-is_idle Reset = false
+is_idle _ = false
 
 abbrev pub state_at : Option Side → ClientState
 state_at None = Idle

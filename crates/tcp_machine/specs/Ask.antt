@@ -3,7 +3,7 @@ use Rattle.std.specs.Prelude.{ℕ, min, Bool, true, false, List, if◌then◌els
 use Rattle.app_events.specs.Part.{Meaning}
 use Rattle.app_events.specs.declared.now.Now.{Now}
 use Rattle.app_events.specs.declared.state.State.{State}
-use Rattle.app_events.specs.declared.state.State.TheVariants.{Closed, SynRcvd, Established, CloseWait, FinWait1, FinWait2, Closing, TimeWait, LastAck}
+use Rattle.app_events.specs.declared.state.State.TheVariants.{Closed, CloseWait, FinWait1, LastAck}
 use Rattle.app_events.specs.declared.want.Want.{Want}
 use Rattle.app_events.specs.declared.want.Want.TheVariants.{Nothing, Send, Close, Abort}
 use Rattle.tcp_machine.specs.Connection.{Connection}
@@ -31,25 +31,11 @@ sends_fin state c = record c { state = state; len = 1; age = 0 }
 -- the state after an own FIN
 abbrev pub after_own_fin : State → State
 after_own_fin CloseWait = LastAck
-after_own_fin Closed = FinWait1
-after_own_fin SynRcvd = FinWait1
-after_own_fin Established = FinWait1
-after_own_fin FinWait1 = FinWait1
-after_own_fin FinWait2 = FinWait1
-after_own_fin Closing = FinWait1
-after_own_fin TimeWait = FinWait1
-after_own_fin LastAck = FinWait1
+after_own_fin _ = FinWait1
 
 abbrev pub peer_has_closed : State → Bool
 peer_has_closed CloseWait = true
-peer_has_closed Closed = false
-peer_has_closed SynRcvd = false
-peer_has_closed Established = false
-peer_has_closed FinWait1 = false
-peer_has_closed FinWait2 = false
-peer_has_closed Closing = false
-peer_has_closed TimeWait = false
-peer_has_closed LastAck = false
+peer_has_closed _ = false
 
 abbrev pub resets : Connection → List ℕ → Outcome
 resets c numbers = leaves (closes c) numbers Step.Reset

@@ -10,7 +10,7 @@ use Rattle.app_events.specs.Part.{Part}
 pub use Rattle.app_events.specs.States.{is_live}
 use Rattle.app_events.specs.declared.row.Row.{Row}
 use Rattle.app_events.specs.declared.state.State.{State}
-use Rattle.app_events.specs.declared.state.State.TheVariants.{Closed, SynRcvd, Established, CloseWait, FinWait1, FinWait2, Closing, TimeWait, LastAck}
+use Rattle.app_events.specs.declared.state.State.TheVariants.{Closed, FinWait2, TimeWait}
 
 -- The pair of sockets that a connection belongs to (RFC 793, section 1.5). The node's own address is the same for all.
 pub record Sockets : Type 0 where
@@ -67,13 +67,7 @@ serves sockets c = is_live c.state && same_sockets c.sockets sockets
 abbrev pub is_resting : State → Bool
 is_resting FinWait2 = true
 is_resting TimeWait = true
-is_resting Closed = false
-is_resting SynRcvd = false
-is_resting Established = false
-is_resting CloseWait = false
-is_resting FinWait1 = false
-is_resting Closing = false
-is_resting LastAck = false
+is_resting _ = false
 
 -- how often what is outstanding was sent again
 abbrev pub tries_of : Connection → ℕ

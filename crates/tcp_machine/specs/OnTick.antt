@@ -21,14 +21,7 @@ rest_time = REST_TIME
 -- how often what is outstanding is sent again
 abbrev pub limit_of : State → ℕ
 limit_of SynRcvd = SYN_ACK_LIMIT
-limit_of Closed = TEXT_LIMIT
-limit_of Established = TEXT_LIMIT
-limit_of CloseWait = TEXT_LIMIT
-limit_of FinWait1 = TEXT_LIMIT
-limit_of FinWait2 = TEXT_LIMIT
-limit_of Closing = TEXT_LIMIT
-limit_of TimeWait = TEXT_LIMIT
-limit_of LastAck = TEXT_LIMIT
+limit_of _ = TEXT_LIMIT
 
 -- what is outstanding, by the state
 abbrev pub outstanding : Bool → State → Step

@@ -5,7 +5,7 @@ use Rattle.rexmit_timer.specs.Ages.{IsAtAge, give_up_age}
 use Rattle.rexmit_timer.specs.declared.timer.Timer.{Timer}
 use Rattle.app_events.specs.declared.app.App.{Ghosts}
 use Rattle.app_events.specs.declared.state.State.{State}
-use Rattle.app_events.specs.declared.state.State.TheVariants.{Closed, SynRcvd, Established, CloseWait, FinWait1, FinWait2, Closing, TimeWait, LastAck}
+use Rattle.app_events.specs.declared.state.State.TheVariants.{Established, CloseWait}
 use Rattle.tcp_table.specs.declared.conn.Conn.{Conn}
 use Rattle.tcp_segment.specs.Segments.{PlainSegment}
 use Rattle.tcp_segment.specs.declared.segment.Segment.{Segment}
@@ -18,13 +18,7 @@ use Rattle.tcp_machine.specs.declared.step.Step.{Step}
 abbrev pub is_open : State → Bool
 is_open Established = true
 is_open CloseWait = true
-is_open Closed = false
-is_open SynRcvd = false
-is_open FinWait1 = false
-is_open FinWait2 = false
-is_open Closing = false
-is_open TimeWait = false
-is_open LastAck = false
+is_open _ = false
 
 -- the timer of what is outstanding is at its age, or counts a rest, or rests itself
 pub record TimerStands (timer : Timer) (a : Connection) : Type 0 where
