@@ -46,7 +46,7 @@ pub record IsMoment (moment : Moment) : Type 0 where
   pub now : IsNow moment.now
 
 -- q has heard, captured and had acknowledged what p has
-pub record IsLike (p q : Part) : Type 0 where
+pub record HasSaidAlike (p q : Part) : Type 0 where
   pub heard : q.heard ≡ p.heard
   pub captures : q.captures ≡ p.captures
   pub acked : q.acked ≡ p.acked
@@ -81,7 +81,7 @@ pub record IsPaged (m : Meaning) (pages : Pages) : Type 0 where
   pub acked_like : (numbers : List ℕ) (p : Part) (n : ℕ) → (m.acked numbers p n).part.heard ≡ p.heard
   pub acked_captures : (numbers : List ℕ) (p : Part) (n : ℕ) → (m.acked numbers p n).part.captures ≡ p.captures
   pub acked_moves : (numbers : List ℕ) (p : Part) (n : ℕ) → (m.acked numbers p n).part.acked ≡ p.acked + n
-  pub polled_like : (numbers : List ℕ) (p : Part) → IsLike p (m.polled numbers p).part
+  pub polled_like : (numbers : List ℕ) (p : Part) → HasSaidAlike p (m.polled numbers p).part
   pub wants : (numbers : List ℕ) (p : Part) → MayWant pages p (m.want numbers p)
   -- the numbers stay in 32 bits
   pub connected_numbers : (numbers : List ℕ) (port : ℕ) → All IsWord numbers → All IsWord (m.connected numbers port).numbers

@@ -8,7 +8,7 @@ use Rattle.site_image.specs.declared.part.Part.{Part}
 use Rattle.site_image.specs.declared.place.Place.{Place}
 use Rattle.site_image.specs.declared.version.Version.{Version}
 use Rattle.site_image.specs.Files.{File, has_name}
-use Rattle.site_image.specs.Parts.{text, after_text, kind_text, after_kind, content, after_content, name_fault, kind_fault, content_fault}
+use Rattle.site_image.specs.Parts.{text, after_text, kind_given, after_kind, content, after_content, name_fault, kind_fault, content_fault}
 use Rattle.site_image.specs.Faults.{twice, entry_fault}
 use Rattle.site_image.specs.Places.{IsPart}
 use Rattle.file_tree.specs.declared.file_id.FileId.{FileId}
@@ -63,7 +63,7 @@ place_by name kind body = record {
 pub entry-by-parts : (image : List ℕ) (version : Version) (earlier : List File) (order : List FileId) (at : ℕ) (name kind body : Part) (slot : ℕ) → IsOrder earlier order
     → name_fault (drop at image) ≡ None → IsPart image name (text (drop at image)) (after_text (drop at image))
     → IsSlot earlier order (slice_range image name.at (name.at + name.len)) slot
-    → kind_fault version (drop name.next image) ≡ None → IsPart image kind (kind_text version (drop name.next image)) (after_kind version (drop name.next image))
+    → kind_fault version (drop name.next image) ≡ None → IsPart image kind (kind_given version (drop name.next image)) (after_kind version (drop name.next image))
     → content_fault (drop kind.next image) ≡ None → IsPart image body (content (drop kind.next image)) (after_content (drop kind.next image))
     → IsEntry image version earlier order at (place_by name kind body) slot body.next
 entry-by-parts image version earlier order at name kind body slot is n name_is s k kind_is b body_is =
@@ -75,7 +75,7 @@ entry-by-parts image version earlier order at name kind body slot is n name_is s
       none = fault-content version earlier (drop at image) None (drop name.next image) (drop kind.next image) n fresh rest k last b;
       file_is = λ i. record {
         name = name_is.value_is i;
-        kind = (kind_is.value_is ∙ ap (kind_text version) rest) i;
+        kind = (kind_is.value_is ∙ ap (kind_given version) rest) i;
         content = (body_is.value_is ∙ ap content (last ∙ ap (after_kind version) rest)) i;
       };
       rest_is = body_is.rest_is ∙ ap after_content (last ∙ ap (after_kind version) rest);

@@ -7,7 +7,7 @@ use Rattle.site_image.specs.declared.place.Place.{Place}
 use Rattle.site_image.specs.Files.{File}
 use Rattle.site_image.specs.Places.{IsWithin, file_in, files_in}
 use Rattle.file_tree.specs.declared.file_id.FileId.{FileId}
-use Rattle.file_tree.specs.Index.{IsOrder, IsSlot, AreWithin, IsTable}
+use Rattle.file_tree.specs.Index.{IsOrder, IsSlot, AreWithin, IsIndex}
 use Rattle.file_tree.proofs.TableLemmas.{within-push, table-insert}
 
 part-grown : (image more : List ℕ) (at len : ℕ) → at + len ≤ length image → slice_range (image ++ more) at (at + len) ≡ slice_range image at (at + len)
@@ -37,7 +37,7 @@ files-grown image more (p ∷ places) within =
     ap (λ f. f ∷ files_in (image ++ more) places) (file-grown image more p (within 0 p refl))
     ∙ ap (λ fs. file_in image p ∷ fs) (files-grown image more places (λ k q s. within (k + 1) q (ap (λ j. slice_get (p ∷ places) j) (add-one k) ∙ s)))
 
-pub table-grown : (image more : List ℕ) (places : List Place) (order : List FileId) → IsTable image places order → IsTable (image ++ more) places order
+pub table-grown : (image more : List ℕ) (places : List Place) (order : List FileId) → IsIndex image places order → IsIndex (image ++ more) places order
 table-grown image more places order table = record {
   within = within-grown image more places table.within;
   order_is = subst (λ fs. IsOrder fs order) (sym (files-grown image more places table.within)) table.order_is;
@@ -56,11 +56,11 @@ file-push image grown more places place file is all within file_is =
 
 -- a further file at the end of the image
 pub table-push : (image grown : List ℕ) (more : List ℕ) (places : List Place) (order : List FileId) (place : Place) (file : File) (slot number : ℕ)
-    → grown ≡ image ++ more → IsTable image places order → IsSlot (files_in image places) order file.name slot → IsWithin grown place → file_in grown place ≡ file → length places ≡ number
-    → IsTable grown (places ++ place ∷ []) (insert order slot (record { 0 = number })) × (files_in grown (places ++ place ∷ []) ≡ files_in image places ++ file ∷ [])
+    → grown ≡ image ++ more → IsIndex image places order → IsSlot (files_in image places) order file.name slot → IsWithin grown place → file_in grown place ≡ file → length places ≡ number
+    → IsIndex grown (places ++ place ∷ []) (insert order slot (record { 0 = number })) × (files_in grown (places ++ place ∷ []) ≡ files_in image places ++ file ∷ [])
 table-push image grown more places order place file slot number is table s within file_is count =
     let kept : files_in grown places ≡ files_in image places = ap (λ x. files_in x places) is ∙ files-grown image more places table.within in
-    let old : IsTable grown places order = subst (λ x. IsTable x places order) (sym is) (table-grown image more places order table) in (
+    let old : IsIndex grown places order = subst (λ x. IsIndex x places order) (sym is) (table-grown image more places order table) in (
       table-insert grown places order place slot number old within
           (subst (λ fs. IsSlot fs order (file_in grown place).name slot) (sym kept) (subst (λ n. IsSlot (files_in image places) order n slot) (sym (ap (λ (f : File). f.name) file_is)) s)) count,
       map_push (file_in grown) places place ∙ ap (λ fs. fs ++ file_in grown place ∷ []) kept ∙ ap (λ f. files_in image places ++ f ∷ []) file_is,

@@ -13,7 +13,7 @@ use Rattle.site_image.specs.declared.TheConstants.{MOST_FILES}
 use Rattle.site_image.specs.declared.site_error.SiteError.{SiteError}
 use Rattle.site_image.specs.declared.site_error.SiteWhy.TheVariants.{TooLong, Cut, TooMany}
 use Rattle.site_image.specs.Files.{File}
-use Rattle.site_image.specs.Faults.{◌>>=◌, refuse, fault, version_of, count_of, head_of, read_image}
+use Rattle.site_image.specs.Faults.{◌>>=◌, refuse, fault, version_of, file_count, image_head, read_image}
 use Rattle.file_tree.proofs.ReadLemmas.{read-at-head}
 
 abbrev pub IsFrontIn : Option (List ℕ) → List ℕ → Type 0
@@ -95,9 +95,9 @@ loading-more limit start now next before faults raised name bytes buf rest more 
     }
 
 -- an image that is too long, however much of it is read
-long-head : (bytes : List ℕ) → LONGEST_IMAGE < length bytes → head_of bytes ≡ Err (fault TooLong 0)
-unfolding head_of
-long-head bytes lt = ap (λ t. refuse t TooLong >>= λ _. (version_of bytes >>= λ version. (refuse (ltb (length bytes) 10) Cut >>= λ _. (refuse (ltb MOST_FILES (count_of bytes)) TooMany >>= λ _. Ok (version, count_of bytes))))) (lt-ltb LONGEST_IMAGE (length bytes) lt)
+long-head : (bytes : List ℕ) → LONGEST_IMAGE < length bytes → image_head bytes ≡ Err (fault TooLong 0)
+unfolding image_head
+long-head bytes lt = ap (λ t. refuse t TooLong >>= λ _. (version_of bytes >>= λ version. (refuse (ltb (length bytes) 10) Cut >>= λ _. (refuse (ltb MOST_FILES (file_count bytes)) TooMany >>= λ _. Ok (version, file_count bytes))))) (lt-ltb LONGEST_IMAGE (length bytes) lt)
 
 pub read-front : (content : List ℕ) → read_image (take (LONGEST_IMAGE + 1) content) ≡ read_image content
 read-front content =

@@ -11,17 +11,17 @@ use Rattle.site_image.specs.Pages.{page_length, script_fault}
 use Rattle.site_image.specs.Faults.{unless, fault, scripts}
 use Rattle.site_image.specs.Places.{IsWithin, file_in, files_in}
 use Rattle.file_tree.specs.declared.file_id.FileId.{FileId}
-use Rattle.file_tree.specs.Index.{IsOrder, IsTable, AreMeasured}
+use Rattle.file_tree.specs.Index.{IsOrder, IsIndex, AreMeasured}
 
 -- the places up to an index hold their lengths, and the scripts up to there have no fault
 pub record Measuring (image : List ℕ) (start places : List Place) (order : List FileId) (index : ℕ) : Type 0 where
   pub same : files_in image places ≡ files_in image start
   pub count : length places ≡ length start
-  pub table : IsTable image places order
+  pub table : IsIndex image places order
   pub sound : scripts (files_in image start) 0 (files_in image start) ≡ scripts (files_in image start) index (drop index (files_in image start))
   pub measured : (k : ℕ) (place : Place) → k < index → slice_get places k ≡ Some place → place.greatest ≡ page_length (files_in image start) (file_in image place)
 
-pub measuring-starts : (image : List ℕ) (places : List Place) (order : List FileId) → IsTable image places order → Measuring image places places order 0
+pub measuring-starts : (image : List ℕ) (places : List Place) (order : List FileId) → IsIndex image places order → Measuring image places places order 0
 measuring-starts image places order table = record {
   same = refl;
   count = refl;

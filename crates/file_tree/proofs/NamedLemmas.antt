@@ -11,7 +11,7 @@ use Rattle.site_image.specs.Files.{File, has_name, file_named}
 use Rattle.site_image.specs.Pages.{size_of}
 use Rattle.site_image.specs.Places.{IsWithin, file_in, files_in}
 use Rattle.file_tree.specs.declared.file_id.FileId.{FileId}
-use Rattle.file_tree.specs.Index.{name_of, id_at, name_at, AreWithin, IsOrder, IsTable}
+use Rattle.file_tree.specs.Index.{name_of, id_at, name_at, AreWithin, IsOrder, IsIndex}
 use Rattle.file_tree.proofs.NameLemmas.{not-before-itself}
 
 -- no two files have one name
@@ -56,7 +56,7 @@ pub place-at : (image : List ℕ) (places : List Place) (id : ℕ) (d : Place) �
 place-at image places id d within lt = within id (get_or places id d) (slice_get-get_or places id d lt)
 
 -- the place with the id has the length of the file of the name
-pub named-length : (image : List ℕ) (places : List Place) (order : List FileId) (id : ℕ) (name : List ℕ) (d : Place) → IsTable image places order → id < length places
+pub named-length : (image : List ℕ) (places : List Place) (order : List FileId) (id : ℕ) (name : List ℕ) (d : Place) → IsIndex image places order → id < length places
     → name_of (files_in image places) id ≡ name → (get_or places id d).len ≡ size_of (file_named (files_in image places) name)
 named-length image places order id name d table lt e =
     let files = files_in image places in

@@ -14,7 +14,7 @@ use Rattle.site_image.specs.Grammar.{magic, entry, image}
 use Rattle.site_image.specs.Faults.{unless}
 use Rattle.site_image.specs.Places.{files_in}
 use Rattle.file_tree.specs.declared.file_id.FileId.{FileId}
-use Rattle.file_tree.specs.Index.{IsTable}
+use Rattle.file_tree.specs.Index.{IsIndex}
 use Rattle.file_tree.specs.Packing.{EntryContent, file_of, listed, listed_fault, named}
 use Rattle.file_tree.proofs.SizeLemmas.{entries-more, entries-le, image-size, listed-at}
 use Rattle.file_tree.proofs.TableLemmas.{table-empty}
@@ -23,7 +23,7 @@ use Rattle.file_tree.proofs.TableLemmas.{table-empty}
 pub record Packs (files : List File) (i : ℕ) (made : List ℕ) (places : List Place) (order : List FileId) : Type 0 where
   pub made_is : made ≡ (magic One ++ to_be_bytes w16 (length files)) ++ flat_map (entry One) (take i files)
   pub files_are : files_in made places ≡ take i files
-  pub table : IsTable made places order
+  pub table : IsIndex made places order
   pub names : named [] files ≡ named (take i files) (drop i files)
   pub count : length places ≡ i
 
@@ -32,7 +32,7 @@ pub packs-start : (files : List File) (made : List ℕ) (places : List Place) (o
 packs-start files made places order is none empty = record {
   made_is = is ∙ sym (append-nil (magic One ++ to_be_bytes w16 (length files)));
   files_are = ap (files_in made) none;
-  table = subst (λ os. IsTable made places os) (sym empty) (subst (λ ps. IsTable made ps []) (sym none) (table-empty made));
+  table = subst (λ os. IsIndex made places os) (sym empty) (subst (λ ps. IsIndex made ps []) (sym none) (table-empty made));
   names = refl;
   count = ap length none;
 }
@@ -83,7 +83,7 @@ names-at files i made places order d p lt =
 
 pub packs-more : (files : List File) (i : ℕ) (made grown : List ℕ) (places more : List Place) (order next : List FileId) (d : File) → Packs files i made places order → i < length files
     → unless (listed_fault (files_in made places) (get_or files i d).name) (length places + 1) fine ≡ fine
-    → grown ≡ made ++ entry One (get_or files i d) → files_in grown more ≡ files_in made places ++ get_or files i d ∷ [] → length more ≡ length places + 1 → IsTable grown more next
+    → grown ≡ made ++ entry One (get_or files i d) → files_in grown more ≡ files_in made places ++ get_or files i d ∷ [] → length more ≡ length places + 1 → IsIndex grown more next
     → Packs files (i + 1) grown more next
 packs-more files i made grown places more order next d p lt sound made_is files_is count table =
     let file = get_or files i d in
@@ -134,7 +134,7 @@ module _ (list : List EntryContent) (i : ℕ) (made : List ℕ) (places : List P
 
   pub more-at : (grown : List ℕ) (more : List Place) (next : List FileId)
       → unless (listed_fault (files_in made places) e.name) (length places + 1) fine ≡ fine
-      → grown ≡ made ++ entry One (file_of e.name e.content) → files_in grown more ≡ files_in made places ++ file_of e.name e.content ∷ [] → length more ≡ length places + 1 → IsTable grown more next
+      → grown ≡ made ++ entry One (file_of e.name e.content) → files_in grown more ≡ files_in made places ++ file_of e.name e.content ∷ [] → length more ≡ length places + 1 → IsIndex grown more next
       → Packs (listed list) (i + 1) grown more next
   more-at grown more next sound made_is files_is count table =
       packs-more (listed list) i made grown places more order next (file_of e.name e.content) p in_files

@@ -6,7 +6,7 @@ use Rattle.site_image.specs.declared.site_error.SiteError.{SiteError}
 use Rattle.site_image.specs.declared.site_error.SiteWhy.TheVariants.{Rest}
 use Rattle.site_image.specs.declared.version.Version.{Version}
 use Rattle.site_image.specs.Files.{File}
-use Rattle.site_image.specs.Faults.{◌>>=◌, refuse, fault, head_of, entries, scripts, read_image}
+use Rattle.site_image.specs.Faults.{◌>>=◌, refuse, fault, image_head, entries, scripts, read_image}
 use Rattle.file_tree.specs.declared.load_fault.LoadFault.{LoadFault}
 use Rattle.file_tree.specs.declared.load_fault.LoadFault.TheVariants.{Shelf, Bad, NoMemory}
 use Rattle.file_tree.specs.Answers.{Fails, Gives}
@@ -21,28 +21,28 @@ after_entries read = refuse (ltb 0 (length read.1)) Rest >>= λ _. after_rest re
 abbrev after_head : List ℕ → Version × ℕ → Result (List File) SiteError
 after_head bytes head = entries head.0 head.1 [] (drop 10 bytes) >>= after_entries
 
-pub read-at-head : (bytes : List ℕ) (e : SiteError) → head_of bytes ≡ Err e → read_image bytes ≡ Err e
+pub read-at-head : (bytes : List ℕ) (e : SiteError) → image_head bytes ≡ Err e → read_image bytes ≡ Err e
 unfolding read_image
 read-at-head bytes e h = ap (λ r. r >>= after_head bytes) h
 
-past-head : (bytes : List ℕ) (head : Version × ℕ) → head_of bytes ≡ Ok head → read_image bytes ≡ after_head bytes head
+past-head : (bytes : List ℕ) (head : Version × ℕ) → image_head bytes ≡ Ok head → read_image bytes ≡ after_head bytes head
 unfolding read_image
 past-head bytes head h = ap (λ r. r >>= after_head bytes) h
 
-pub read-at-entries : (bytes : List ℕ) (head : Version × ℕ) (e : SiteError) → head_of bytes ≡ Ok head → entries head.0 head.1 [] (drop 10 bytes) ≡ Err e → read_image bytes ≡ Err e
+pub read-at-entries : (bytes : List ℕ) (head : Version × ℕ) (e : SiteError) → image_head bytes ≡ Ok head → entries head.0 head.1 [] (drop 10 bytes) ≡ Err e → read_image bytes ≡ Err e
 read-at-entries bytes head e h r = past-head bytes head h ∙ ap (λ x. x >>= after_entries) r
 
-past-entries : (bytes : List ℕ) (head : Version × ℕ) (files : List File) (rest : List ℕ) → head_of bytes ≡ Ok head → entries head.0 head.1 [] (drop 10 bytes) ≡ Ok (files, rest)
+past-entries : (bytes : List ℕ) (head : Version × ℕ) (files : List File) (rest : List ℕ) → image_head bytes ≡ Ok head → entries head.0 head.1 [] (drop 10 bytes) ≡ Ok (files, rest)
     → read_image bytes ≡ after_entries (files, rest)
 past-entries bytes head files rest h r = past-head bytes head h ∙ ap (λ x. x >>= after_entries) r
 
-pub read-at-rest : (bytes : List ℕ) (head : Version × ℕ) (files : List File) (rest : List ℕ) → head_of bytes ≡ Ok head → entries head.0 head.1 [] (drop 10 bytes) ≡ Ok (files, rest)
+pub read-at-rest : (bytes : List ℕ) (head : Version × ℕ) (files : List File) (rest : List ℕ) → image_head bytes ≡ Ok head → entries head.0 head.1 [] (drop 10 bytes) ≡ Ok (files, rest)
     → 0 < length rest → read_image bytes ≡ Err (fault Rest 0)
 read-at-rest bytes head files rest h r some =
     past-entries bytes head files rest h r ∙ ap (λ t. refuse t Rest >>= λ _. after_rest (files, rest)) (lt-ltb 0 (length rest) some)
 
 -- with nothing left, the scripts decide
-pub read-at-end : (bytes : List ℕ) (head : Version × ℕ) (files : List File) (rest : List ℕ) (r : Result ⊤ SiteError) → head_of bytes ≡ Ok head → entries head.0 head.1 [] (drop 10 bytes) ≡ Ok (files, rest)
+pub read-at-end : (bytes : List ℕ) (head : Version × ℕ) (files : List File) (rest : List ℕ) (r : Result ⊤ SiteError) → image_head bytes ≡ Ok head → entries head.0 head.1 [] (drop 10 bytes) ≡ Ok (files, rest)
     → length rest ≤ 0 → r ≡ scripts files 0 files → read_image bytes ≡ (r >>= λ _. Ok files)
 read-at-end bytes head files rest r h e none s =
     past-entries bytes head files rest h e

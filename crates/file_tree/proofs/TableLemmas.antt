@@ -11,7 +11,7 @@ use Rattle.site_image.specs.Files.{File}
 use Rattle.site_image.specs.Faults.{unless, fault, entry_fault, entry_file, after_entry, entries}
 use Rattle.site_image.specs.Places.{IsWithin, file_in, files_in}
 use Rattle.file_tree.specs.declared.file_id.FileId.{FileId}
-use Rattle.file_tree.specs.Index.{IsOrder, IsSlot, AreWithin, IsTable}
+use Rattle.file_tree.specs.Index.{IsOrder, IsSlot, AreWithin, IsIndex}
 use Rattle.file_tree.specs.Reading.{IsEntry}
 use Rattle.file_tree.proofs.OrderLemmas.{order-empty, order-insert}
 
@@ -19,7 +19,7 @@ use Rattle.file_tree.proofs.OrderLemmas.{order-empty, order-insert}
 pub record Reading (image : List ℕ) (version : Version) (count number next : ℕ) (places : List Place) (order : List FileId) : Type 0 where
   pub same : entries version (count - number) (files_in image places) (drop next image) ≡ entries version count [] (drop 10 image)
   pub number_is : length places ≡ number
-  pub table : IsTable image places order
+  pub table : IsIndex image places order
   pub inside : next ≤ length image
 
 pub within-push : (image : List ℕ) (places : List Place) (place : Place) → AreWithin image places → IsWithin image place → AreWithin image (places ++ place ∷ [])
@@ -37,13 +37,13 @@ within-push image places place all one k p s =
           subst (IsWithin image) is one
     ]
 
-pub table-empty : (image : List ℕ) → IsTable image [] []
+pub table-empty : (image : List ℕ) → IsIndex image [] []
 table-empty image = record { within = λ k p s. absurd cc; order_is = order-empty }
 
 -- a further place, whose file goes to its rank
-pub table-insert : (image : List ℕ) (places : List Place) (order : List FileId) (place : Place) (slot number : ℕ) → IsTable image places order → IsWithin image place
+pub table-insert : (image : List ℕ) (places : List Place) (order : List FileId) (place : Place) (slot number : ℕ) → IsIndex image places order → IsWithin image place
     → IsSlot (files_in image places) order (file_in image place).name slot → length places ≡ number
-    → IsTable image (places ++ place ∷ []) (insert order slot (record { 0 = number }))
+    → IsIndex image (places ++ place ∷ []) (insert order slot (record { 0 = number }))
 table-insert image places order place slot number table one s is = record {
   within = within-push image places place table.within one;
   order_is =

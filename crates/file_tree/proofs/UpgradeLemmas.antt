@@ -22,7 +22,7 @@ use Rattle.file_tree.specs.declared.file_id.FileId.{FileId}
 use Rattle.file_tree.specs.declared.load_fault.LoadFault.{LoadFault}
 use Rattle.file_tree.specs.declared.load_fault.LoadFault.TheVariants.{Shelf, Bad, NoMemory}
 use Rattle.file_tree.specs.Answers.{Fails}
-use Rattle.file_tree.specs.Index.{IsOrder, IsTable, AreWithin, name_of, name_at, id_at, IsBefore}
+use Rattle.file_tree.specs.Index.{IsOrder, IsIndex, AreWithin, name_of, name_at, id_at, IsBefore}
 use Rattle.file_tree.specs.Site.{AreGood, AreApart}
 use Rattle.file_tree.specs.Upgrading.{KindContent, retyped, upgraded, second_image}
 use Rattle.file_tree.proofs.SizeLemmas.{entries-more, entries-le, image-size}
@@ -120,7 +120,7 @@ order-upgraded words files order is =
     }
 
 pub table-upgraded : (words : List KindContent) (olds : List File) (order : List FileId) (made : List ℕ) (places : List Place) → IsOrder olds order → AreWithin made places
-    → files_in made places ≡ upgraded words olds → IsTable made places order
+    → files_in made places ≡ upgraded words olds → IsIndex made places order
 table-upgraded words olds order made places is within files_are = record {
   within = within;
   order_is = subst (λ fs. IsOrder fs order) (sym files_are) (order-upgraded words olds order is);

@@ -44,7 +44,7 @@ abbrev pub AreWithin : List ℕ → List Place → Type 0
 AreWithin image places = (k : ℕ) (place : Place) → slice_get places k ≡ Some place → IsWithin image place
 
 -- places within an image, and the order of their files
-pub record IsTable (image : List ℕ) (places : List Place) (order : List FileId) : Type 0 where
+pub record IsIndex (image : List ℕ) (places : List Place) (order : List FileId) : Type 0 where
   pub within : AreWithin image places
   pub order_is : IsOrder (files_in image places) order
 

@@ -8,7 +8,7 @@ use Rattle.site_image.specs.Files.{File}
 use Rattle.site_image.specs.Faults.{read_image}
 use Rattle.site_image.specs.Places.{files_in}
 use Rattle.file_tree.specs.declared.file_id.FileId.{FileId}
-use Rattle.file_tree.specs.Index.{IsTable, AreMeasured}
+use Rattle.file_tree.specs.Index.{IsIndex, AreMeasured}
 
 -- the image, where its files lie, and their ids in the order of their names
 pub record SiteContent : Type 0 where
@@ -40,5 +40,5 @@ pub record IsLoaded (site : SiteContent) : Type 0 where
   pub apart : AreApart (files_of site)
   pub size : length site.image ≤ LONGEST_IMAGE
   pub few : length site.files ≤ MOST_FILES
-  pub table : IsTable site.image site.files site.order
+  pub table : IsIndex site.image site.files site.order
   pub measured : AreMeasured site.image site.files

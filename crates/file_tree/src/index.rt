@@ -1,7 +1,7 @@
 ghost use Rattle.std.specs.Prelude.{◌≡◌, ◌<◌, ◌≤◌, Some, length, is_some, option_and_then, option_map, slice_get, IfOk, IfErr, IfSome};
 ghost use Rattle.site_image.specs.Files.{file_named, has_name};
 ghost use Rattle.site_image.specs.Places.{files_in};
-ghost use Rattle.file_tree.specs.Index.{AreWithin, IsOrder, IsSlot, IsTable, name_of, name_at};
+ghost use Rattle.file_tree.specs.Index.{AreWithin, IsOrder, IsSlot, IsIndex, name_of, name_at};
 
 use crate::file_id::FileId;
 use site_image::Place;
@@ -50,7 +50,7 @@ pub(crate) fn find_id(
     order: &[FileId],
     name: &[u8],
 ) -> Option<FileId>
-    requires { IsTable image.now files.now order.now }
+    requires { IsIndex image.now files.now order.now }
     ensures found { IfSome result (λ id. option_map (λ file. file.name) (slice_get (files_in image.now files.now) id.0) ≡ Some name.now) }
     ensures there { is_some result ≡ has_name (files_in image.now files.now) name.now }
     ensures file { option_and_then (λ id. slice_get (files_in image.now files.now) id.0) result ≡ file_named (files_in image.now files.now) name.now }

@@ -7,7 +7,7 @@ ghost use Rattle.site_image.specs.Grammar.{entry as written, image, magic};
 ghost use Rattle.site_image.specs.Faults.{unless, read_image};
 ghost use Rattle.site_image.specs.Places.{files_in};
 ghost use Rattle.file_tree.specs.Answers.{Gives};
-ghost use Rattle.file_tree.specs.Index.{IsSlot, IsTable};
+ghost use Rattle.file_tree.specs.Index.{IsSlot, IsIndex};
 ghost use Rattle.file_tree.specs.Packing.{file_of, listed, listed_fault, named, packed};
 ghost use Rattle.file_tree.specs.declared.load_fault.LoadFault.TheVariants.{Bad};
 
@@ -32,7 +32,7 @@ pub(crate) struct Draft {
 
 /// The rank of a further name in the order, or what is wrong with the name.
 fn slot_of(image: &[u8], files: &[Place], order: &[FileId], name: &[u8]) -> Result<usize, SiteWhy>
-    requires { IsTable image.now files.now order.now }
+    requires { IsIndex image.now files.now order.now }
     ensures sound { IfOk result (λ _. listed_fault (files_in image.now files.now) name.now ≡ None) }
     ensures name { IfOk result (λ _. IsTrue (is_name name.now)) }
     ensures slot { IfOk result (IsSlot (files_in image.now files.now) order.now name.now) }
@@ -49,14 +49,14 @@ fn slot_of(image: &[u8], files: &[Place], order: &[FileId], name: &[u8]) -> Resu
 
 /// Appends a file of a list behind the earlier ones.
 fn push_named(draft: &mut Draft, name: &[u8], content: &[u8]) -> Result<(), LoadFault>
-    requires table { IsTable draft.old.image.items draft.old.files.items draft.old.order.items }
+    requires table { IsIndex draft.old.image.items draft.old.files.items draft.old.order.items }
     requires few { length draft.old.files.items < MOST_FILES }
     requires room { length draft.old.image.items + length (written One (file_of name.now content.now)) ≤ LONGEST_IMAGE }
     ensures fault { Gives (λ done. done) result (unless (listed_fault (files_in draft.old.image.items draft.old.files.items) name.now) (length draft.old.files.items + 1) (Ok tt)) }
     ensures image { OnOk result (draft.new.image.items ≡ draft.old.image.items ++ written One (file_of name.now content.now)) }
     ensures files { OnOk result (files_in draft.new.image.items draft.new.files.items ≡ files_in draft.old.image.items draft.old.files.items ++ file_of name.now content.now ∷ []) }
     ensures count { OnOk result (length draft.new.files.items ≡ length draft.old.files.items + 1) }
-    ensures table { OnOk result (IsTable draft.new.image.items draft.new.files.items draft.new.order.items) }
+    ensures table { OnOk result (IsIndex draft.new.image.items draft.new.files.items draft.new.order.items) }
 {
     let number = draft.files.len();
     let slot = match slot_of(&draft.image, &draft.files, &draft.order, name) {
@@ -71,14 +71,14 @@ fn push_named(draft: &mut Draft, name: &[u8], content: &[u8]) -> Result<(), Load
 
 /// The same of an entry.
 fn push_listed(draft: &mut Draft, entry: &Entry) -> Result<(), LoadFault>
-    requires table { IsTable draft.old.image.items draft.old.files.items draft.old.order.items }
+    requires table { IsIndex draft.old.image.items draft.old.files.items draft.old.order.items }
     requires few { length draft.old.files.items < MOST_FILES }
     requires room { length draft.old.image.items + length (written One (file_of entry.now.name entry.now.content)) ≤ LONGEST_IMAGE }
     ensures fault { Gives (λ done. done) result (unless (listed_fault (files_in draft.old.image.items draft.old.files.items) entry.now.name) (length draft.old.files.items + 1) (Ok tt)) }
     ensures image { OnOk result (draft.new.image.items ≡ draft.old.image.items ++ written One (file_of entry.now.name entry.now.content)) }
     ensures files { OnOk result (files_in draft.new.image.items draft.new.files.items ≡ files_in draft.old.image.items draft.old.files.items ++ file_of entry.now.name entry.now.content ∷ []) }
     ensures count { OnOk result (length draft.new.files.items ≡ length draft.old.files.items + 1) }
-    ensures table { OnOk result (IsTable draft.new.image.items draft.new.files.items draft.new.order.items) }
+    ensures table { OnOk result (IsIndex draft.new.image.items draft.new.files.items draft.new.order.items) }
 {
     push_named(draft, &entry.name, &entry.content)
 }
@@ -158,7 +158,7 @@ fn push_all(draft: &mut Draft, list: &[Entry]) -> Result<(), LoadFault>
     ensures names { Gives (λ done. done) result (named [] (listed list.now)) }
     ensures image { OnOk result (draft.new.image.items ≡ image One (listed list.now)) }
     ensures files { OnOk result (files_in draft.new.image.items draft.new.files.items ≡ listed list.now) }
-    ensures table { OnOk result (IsTable draft.new.image.items draft.new.files.items draft.new.order.items) }
+    ensures table { OnOk result (IsIndex draft.new.image.items draft.new.files.items draft.new.order.items) }
 {
     for entry in list {
         push_listed(draft, entry)?;

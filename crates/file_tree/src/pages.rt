@@ -6,7 +6,7 @@ ghost use Rattle.site_image.specs.Faults.{scripts};
 ghost use Rattle.site_image.specs.Files.{has_name, file_named, kind_of};
 ghost use Rattle.site_image.specs.Pages.{misses, piece_length, page_length, script_fault, size_of};
 ghost use Rattle.site_image.specs.Places.{IsWithin, file_in, files_in};
-ghost use Rattle.file_tree.specs.Index.{AreMeasured, IsTable};
+ghost use Rattle.file_tree.specs.Index.{AreMeasured, IsIndex};
 
 use crate::file_id::FileId;
 use crate::index::search;
@@ -23,7 +23,7 @@ fn piece_len(
     script: &[u8],
     piece: Piece,
 ) -> Option<usize>
-    requires table { IsTable image.now files.now order.now }
+    requires table { IsIndex image.now files.now order.now }
     requires image_fits { length image.now ≤ LONGEST_IMAGE }
     requires script_fits { length script.now ≤ LONGEST_IMAGE }
     requires within { LiesWithin (length script.now) piece }
@@ -40,7 +40,7 @@ fn piece_len(
 
 /// The length of the file of that name.
 fn included_len(image: &[u8], files: &[Place], order: &[FileId], name: &[u8]) -> Option<usize>
-    requires table { IsTable image.now files.now order.now }
+    requires table { IsIndex image.now files.now order.now }
     requires image_fits { length image.now ≤ LONGEST_IMAGE }
     ensures missing { MatchOption result (has_name (files_in image.now files.now) name.now ≡ false) (λ _. has_name (files_in image.now files.now) name.now ≡ true) }
     ensures len { IfSome result (λ n. n ≡ size_of (file_named (files_in image.now files.now) name.now)) }
@@ -54,7 +54,7 @@ fn included_len(image: &[u8], files: &[Place], order: &[FileId], name: &[u8]) ->
 
 /// The greatest length of what a script gives, and `None` where one of its includes names no file.
 fn script_len(image: &[u8], files: &[Place], order: &[FileId], script: &[u8]) -> Option<usize>
-    requires table { IsTable image.now files.now order.now }
+    requires table { IsIndex image.now files.now order.now }
     requires image_fits { length image.now ≤ LONGEST_IMAGE }
     requires script_fits { length script.now ≤ LONGEST_IMAGE }
     ensures missing { MatchOption result (list_any (λ found. misses (files_in image.now files.now) script.now found.piece) (pieces script.now) ≡ true)
@@ -85,7 +85,7 @@ pub(crate) fn page_kind<'a>(name: &[u8], kind: &'a [u8]) -> &'a [u8]
 
 /// The greatest length of a file's page, or what is wrong with the file as a script.
 fn page_len(image: &[u8], files: &[Place], order: &[FileId], place: Place) -> Result<u32, SiteWhy>
-    requires table { IsTable image.now files.now order.now }
+    requires table { IsIndex image.now files.now order.now }
     requires image_fits { length image.now ≤ LONGEST_IMAGE }
     requires within { IsWithin image.now place }
     ensures sound { IfOk result (λ _. script_fault (files_in image.now files.now) (file_in image.now place) ≡ None) }
@@ -119,12 +119,12 @@ pub(crate) fn bytes_at(image: &[u8], at: u32, len: u32) -> &[u8]
 
 /// Writes the greatest length of each file's page into its place, up to the first script with a fault.
 pub(crate) fn measure(image: &[u8], files: &mut [Place], order: &[FileId]) -> Result<(), SiteError>
-    requires table { IsTable image.now files.old order.now }
+    requires table { IsIndex image.now files.old order.now }
     requires image_fits { length image.now ≤ LONGEST_IMAGE }
     requires few { length files.old ≤ MOST_FILES }
     ensures scripts { result ≡ scripts (files_in image.now files.old) 0 (files_in image.now files.old) }
     ensures same { files_in image.now files.new ≡ files_in image.now files.old }
-    ensures table { IsTable image.now files.new order.now }
+    ensures table { IsIndex image.now files.new order.now }
     ensures measured { OnOk result (AreMeasured image.now files.new) }
 {
     for index in 0..files.len() {

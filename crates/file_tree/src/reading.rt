@@ -3,7 +3,7 @@ ghost use Rattle.site_image.specs.declared.TheConstants.{LONGEST_IMAGE, MOST_FIL
 ghost use Rattle.site_image.specs.Faults.{entry_fault, entries, read_image};
 ghost use Rattle.site_image.specs.Places.{files_in};
 ghost use Rattle.file_tree.specs.Answers.{Fails, Gives};
-ghost use Rattle.file_tree.specs.Index.{AreWithin, IsOrder, IsTable};
+ghost use Rattle.file_tree.specs.Index.{AreWithin, IsOrder, IsIndex};
 ghost use Rattle.file_tree.specs.Reading.{IsEntry};
 ghost use Rattle.file_tree.specs.Site.{IsLoaded};
 
@@ -75,7 +75,7 @@ pub(crate) fn read_entries(
     requires head { 10 ≤ length image.now }
     requires few { count ≤ MOST_FILES }
     ensures ok { IfOk result (λ table. entries version count [] (drop 10 image.now) ≡ Ok (files_in image.now table.files.items, drop table.next image.now)) }
-    ensures table { IfOk result (λ table. IsTable image.now table.files.items table.order.items) }
+    ensures table { IfOk result (λ table. IsIndex image.now table.files.items table.order.items) }
     ensures count_is { IfOk result (λ table. length table.files.items ≡ count) }
     ensures next { IfOk result (λ table. table.next ≤ length image.now) }
     ensures err { IfErr result (λ fault. Fails fault (entries version count [] (drop 10 image.now))) }

@@ -11,9 +11,9 @@ use Rattle.file_tree.specs.declared.file_id.FileId.{FileId}
 use Rattle.file_tree.specs.Site.{SiteContent, files_of}
 use Rattle.web_pages.specs.Requests.{Wanted, wanted}
 use Rattle.web_pages.specs.Requests.Wanted.{Name, NotYet, Refused}
-use Rattle.web_pages.specs.Pieces.{Say, reply_of}
+use Rattle.web_pages.specs.Pieces.{Say, reply_pieces}
 use Rattle.web_pages.specs.Pieces.Say.{Made}
-use Rattle.web_pages.specs.Pages.{hits_of, is_whole, page, page_for, reach_end, text_of, whole_for}
+use Rattle.web_pages.specs.Pages.{hits_of, is_page_whole, page, page_for, reach_end, page_text, whole_for}
 use Rattle.web_pages.specs.WebMeaning.{is_acknowledged, left_of, waits_for_capture, web_want}
 use Rattle.web_pages.specs.Growing.{made_end, made_first, stopped_end, stopped_text, text_grows}
 use Rattle.httpd.specs.declared.httpd.Httpd.{Httpd}
@@ -24,33 +24,33 @@ use Rattle.httpd.specs.declared.saying.Due.{Due}
 use Rattle.httpd.specs.Reply.{body_from, calls_in, left_from, reply_in}
 use Rattle.httpd.specs.Places.{Fits, IsInner}
 use Rattle.httpd.specs.Looking.{SeesCall}
-use Rattle.httpd.specs.Saying.{IsDue, IsNotDue, want_left}
+use Rattle.httpd.specs.Saying.{IsDueReply, IsNotDue, want_left}
 use Rattle.httpd.specs.HttpdStands.{HttpdStands, IsLeft, IsReplying, SaysNothing, StandsIn}
 use Rattle.httpd.proofs.Standing.{replying}
 
 -- what is left of the page of a reply
 abbrev left_text : Httpd → SiteContent → Option FileId → List ℕ
-left_text a site found = text_of (files_of site) (left_from (reply_in site found a.capture) a.thread) []
+left_text a site found = page_text (files_of site) (left_from (reply_in site found a.capture) a.thread) []
 
 abbrev left_end : Httpd → SiteContent → Option FileId → Bool
 left_end a site found = reach_end (left_from (reply_in site found a.capture) a.thread) []
 
 record IsSaid (files : List File) (p : Part) (text : List ℕ) (whole : Bool) : Type 0 where
   left : left_of files p ≡ length text
-  ends : is_whole files p.heard p.captures ≡ whole
+  ends : is_page_whole files p.heard p.captures ≡ whole
   within : p.acked ≤ length (page files p.heard p.captures)
 
 is_said : (a : Httpd) (site : SiteContent) (found : Option FileId) (p : Part) (name : List ℕ) → IsReplying a site name found p → IsSaid (files_of site) p (left_text a site found) (left_end a site found)
 is_said a site found p name is =
     let files = files_of site in
-    let text : page files p.heard p.captures ≡ text_of files (reply_of files name) p.captures = ap (λ w. page_for files w p.captures) is.wanted in
-    let end : is_whole files p.heard p.captures ≡ reach_end (reply_of files name) p.captures = ap (λ w. whole_for files w p.captures) is.wanted in
-    let rest : left_text a site found ≡ drop p.acked (text_of files (reply_of files name) p.captures) =
-    is.left.text [] ∙ ap (λ ks. drop p.acked (text_of files (reply_of files name) ks)) (append-nil p.captures) in
+    let text : page files p.heard p.captures ≡ page_text files (reply_pieces files name) p.captures = ap (λ w. page_for files w p.captures) is.wanted in
+    let end : is_page_whole files p.heard p.captures ≡ reach_end (reply_pieces files name) p.captures = ap (λ w. whole_for files w p.captures) is.wanted in
+    let rest : left_text a site found ≡ drop p.acked (page_text files (reply_pieces files name) p.captures) =
+    is.left.text [] ∙ ap (λ ks. drop p.acked (page_text files (reply_pieces files name) ks)) (append-nil p.captures) in
     let size = ap length text in
     record {
-      left = omega (arith, size, ap length rest, length-drop p.acked (text_of files (reply_of files name) p.captures));
-      ends = end ∙ ap (λ ks. reach_end (reply_of files name) ks) (sym (append-nil p.captures)) ∙ sym (is.left.whole []);
+      left = omega (arith, size, ap length rest, length-drop p.acked (page_text files (reply_pieces files name) p.captures));
+      ends = end ∙ ap (λ ks. reach_end (reply_pieces files name) ks) (sym (append-nil p.captures)) ∙ sym (is.left.whole []);
       within = omega (arith, size, is.left.within);
     }
 
@@ -69,7 +69,7 @@ acked_all files p text whole said =
 
 want_by : (files : List File) (p : Part) (text : List ℕ) (whole : Bool) → IsSaid files p text whole → (p.polls == 20) ≡ false → want_left text whole ≡ web_want files p
 want_by files p text whole said polls = sym (
-    ap (λ b. if b then Abort else (if is_whole files p.heard p.captures && is_acknowledged files p then Close else (if nat_lt 0 (left_of files p) then Send (min 1460 (left_of files p)) else Nothing))) polls
+    ap (λ b. if b then Abort else (if is_page_whole files p.heard p.captures && is_acknowledged files p then Close else (if nat_lt 0 (left_of files p) then Send (min 1460 (left_of files p)) else Nothing))) polls
     ∙ (λ i. if said.ends i && acked_all files p text whole said i then Close else (if nat_lt 0 (said.left i) then Send (min 1460 (said.left i)) else Nothing)))
 
 pub reply_wants : (a : Httpd) (site : SiteContent) (found : Option FileId) (p : Part) → a.stage ≡ stage.Reply found → (a.polls ≡ 20 → ⊥) → HttpdStands a site p
@@ -96,7 +96,7 @@ refused_wants files p e none polls = want_by files p [] true (nothing_said files
 
 pub gives_up : (files : List File) (p : Part) → p.polls ≡ 20 → Abort ≡ web_want files p
 gives_up files p e =
-    sym (ap (λ b. if b then Abort else (if is_whole files p.heard p.captures && is_acknowledged files p then Close else (if nat_lt 0 (left_of files p) then Send (min 1460 (left_of files p)) else Nothing))) (eq-eqb p.polls 20 e))
+    sym (ap (λ b. if b then Abort else (if is_page_whole files p.heard p.captures && is_acknowledged files p then Close else (if nat_lt 0 (left_of files p) then Send (min 1460 (left_of files p)) else Nothing))) (eq-eqb p.polls 20 e))
 
 -- ---- taking a capture
 
@@ -114,7 +114,7 @@ unless_whole false w h = refl
 unless_whole true w h = ap not (h refl)
 
 abbrev waits_named : List File → Part → Bool
-waits_named files p = not (is_whole files p.heard p.captures)
+waits_named files p = not (is_page_whole files p.heard p.captures)
 
 waits : (files : List File) (p : Part) (name : List ℕ) → wanted p.heard ≡ Name name → waits_for_capture files (wanted p.heard) p ≡ waits_named files p
 waits files p name e = ap (λ w. waits_for_capture files w p) e
@@ -127,7 +127,7 @@ not_due a site found p moment e due s =
     let said = is_said a site found p is.0 is.1 in
     let stays : (is_acknowledged (files_of site) p && waits_for_capture (files_of site) (wanted p.heard) p) ≡ false =
     ap (λ w. is_acknowledged (files_of site) p && w) (waits (files_of site) p is.0 is.1.wanted)
-    ∙ unless_whole (is_acknowledged (files_of site) p) (is_whole (files_of site) p.heard p.captures)
+    ∙ unless_whole (is_acknowledged (files_of site) p) (is_page_whole (files_of site) p.heard p.captures)
     (λ h. said.ends ∙ due (eqb-true (length (left_text a site found)) 0 (sym (acked_all (files_of site) p (left_text a site found) (left_end a site found) said) ∙ h))) in
     subst (λ q. HttpdStands a site q) (sym (prepared_by (files_of site) p moment false stays)) s
 
@@ -151,7 +151,7 @@ record Begun (site : SiteContent) (found : Option FileId) (old new : Capture) (p
   fits : Fits (reply_in site found new) next
   more : List Say
   pieces_are : pieces ≡ Made f argument ∷ more
-  says : (later : List Moment) → text_of (files_of site) (left_from (reply_in site found new) next) later ≡ Rattle.generators.specs.Text.capture_text new ++ text_of (files_of site) more later
+  says : (later : List Moment) → page_text (files_of site) (left_from (reply_in site found new) next) later ≡ Rattle.generators.specs.Text.capture_text new ++ page_text (files_of site) more later
   ends : (later : List Moment) → reach_end (left_from (reply_in site found new) next) later ≡ reach_end more later
   calls : calls_in (left_from (reply_in site found new) next) ≡ calls_in more
 
@@ -164,7 +164,7 @@ begun site found old new pieces f argument (Making next at) call =
       fits = (other_inner site found old new next call.2, omega (arith, call.1));
       more = body_from (reply_in site found old) next;
       pieces_are = call.0;
-      says = λ later. ap (λ xs. xs ++ text_of (files_of site) (body_from (reply_in site found old) next) later) front;
+      says = λ later. ap (λ xs. xs ++ page_text (files_of site) (body_from (reply_in site found old) next) later) front;
       ends = λ later. refl;
       calls = refl;
     }
@@ -174,21 +174,21 @@ begun site found old new pieces f argument (Body at) call = absurd call
 begun site found old new pieces f argument (Inside next file at) call = absurd call
 begun site found old new pieces f argument End call = absurd call
 
-due_left : (a : Httpd) (site : SiteContent) (found : Option FileId) (p : Part) (name : List ℕ) (due : Due) (capture : Capture) (moment : Moment) → IsDue (reply_in site found a.capture) a.thread due → IsReplying a site name found p
+due_left : (a : Httpd) (site : SiteContent) (found : Option FileId) (p : Part) (name : List ℕ) (due : Due) (capture : Capture) (moment : Moment) → IsDueReply (reply_in site found a.capture) a.thread due → IsReplying a site name found p
     → capture ≡ capture_of due.function (hits_of (files_of site) moment.numbers due.argument.now) moment.now → IsLeft (reply_in site found capture) due.next name (with_capture p moment)
 due_left a site found p name due capture moment is_due is made =
     let files = files_of site in
     let b = begun site found a.capture capture is_due.pieces due.function due.argument.now due.next is_due.call in
-    let reply = reply_of files name in
+    let reply = reply_pieces files name in
     record {
       text = λ later.
           b.says later
-          ∙ ap (λ c. Rattle.generators.specs.Text.capture_text c ++ text_of files b.more later) made
+          ∙ ap (λ c. Rattle.generators.specs.Text.capture_text c ++ page_text files b.more later) made
           ∙ sym (made_first files due.function due.argument.now b.more moment later is_due.takes)
-          ∙ ap (λ ps. text_of files ps (moment ∷ later)) (sym b.pieces_are)
+          ∙ ap (λ ps. page_text files ps (moment ∷ later)) (sym b.pieces_are)
           ∙ is_due.past.text (moment ∷ later)
           ∙ is.left.text (moment ∷ later)
-          ∙ ap (λ ks. drop p.acked (text_of files reply ks)) (sym (append_assoc p.captures (moment ∷ []) later));
+          ∙ ap (λ ks. drop p.acked (page_text files reply ks)) (sym (append_assoc p.captures (moment ∷ []) later));
       whole = λ later.
           b.ends later
           ∙ sym (made_end due.function due.argument.now b.more moment later is_due.takes)
@@ -207,21 +207,21 @@ due_left a site found p name due capture moment is_due is made =
       );
       within =
           let grows = text_grows files reply p.captures (moment ∷ []) in
-          omega (arith, is.left.within, ap length grows.joined, length-append (text_of files reply p.captures) grows.rest);
+          omega (arith, is.left.within, ap length grows.joined, length-append (page_text files reply p.captures) grows.rest);
     }
 
 -- nothing is left before the call, and the end is not reached
-due_waits : (a : Httpd) (site : SiteContent) (found : Option FileId) (p : Part) (name : List ℕ) (due : Due) → IsDue (reply_in site found a.capture) a.thread due → IsReplying a site name found p
+due_waits : (a : Httpd) (site : SiteContent) (found : Option FileId) (p : Part) (name : List ℕ) (due : Due) → IsDueReply (reply_in site found a.capture) a.thread due → IsReplying a site name found p
     → (is_acknowledged (files_of site) p && waits_for_capture (files_of site) (wanted p.heard) p) ≡ true
 due_waits a site found p name due is_due is =
     let files = files_of site in
     let said = is_said a site found p name is in
     let b = begun site found a.capture a.capture is_due.pieces due.function due.argument.now due.next is_due.call in
-    let none : length (left_text a site found) ≡ 0 = ap length (sym (is_due.past.text []) ∙ ap (λ ps. text_of files ps []) b.pieces_are ∙ stopped_text files due.function due.argument.now b.more is_due.takes) in
+    let none : length (left_text a site found) ≡ 0 = ap length (sym (is_due.past.text []) ∙ ap (λ ps. page_text files ps []) b.pieces_are ∙ stopped_text files due.function due.argument.now b.more is_due.takes) in
     let stops : left_end a site found ≡ false = sym (is_due.past.whole []) ∙ ap (λ ps. reach_end ps []) b.pieces_are ∙ stopped_end due.function due.argument.now b.more is_due.takes in
     (λ i. (acked_all files p (left_text a site found) (left_end a site found) said ∙ eq-eqb (length (left_text a site found)) 0 none) i && (waits files p name is.wanted ∙ ap not (said.ends ∙ stops)) i)
 
-pub due_stands : (a : Httpd) (site : SiteContent) (found : Option FileId) (p : Part) (due : Due) (capture : Capture) (moment : Moment) → a.stage ≡ stage.Reply found → IsDue (reply_in site found a.capture) a.thread due → HttpdStands a site p
+pub due_stands : (a : Httpd) (site : SiteContent) (found : Option FileId) (p : Part) (due : Due) (capture : Capture) (moment : Moment) → a.stage ≡ stage.Reply found → IsDueReply (reply_in site found a.capture) a.thread due → HttpdStands a site p
     → capture ≡ capture_of due.function (hits_of (files_of site) moment.numbers due.argument.now) moment.now → HttpdStands (record a { capture = capture; thread = due.next }) site (prepared (files_of site) p moment)
 due_stands a site found p due capture moment e is_due s made =
     let is = replying a site p found e s in

@@ -4,7 +4,7 @@ use Rattle.std.specs.Prelude.{nat_eq}
 use Rattle.std.specs.List.{list_any, starts_with}
 use Rattle.std.specs.Str.{bytes_eq}
 use Rattle.protosocket.specs.declared.stops.Stops.TheVariants.{Space, SpaceOrLine}
-use Rattle.protosocket.specs.Line.{Line, after, fresh, heard, is_stop, taken, word_of}
+use Rattle.protosocket.specs.Line.{Line, after, fresh, heard, is_stop, part_taken, word_of}
 use Rattle.web_pages.specs.Requests.{after_method, has_ended, method_of, name_in, target_of, wanted}
 use Rattle.web_pages.specs.Requests.Wanted.{Name, Refused}
 use Rattle.web_pages.specs.Deciding.{after_more, ended_more, word_more}
@@ -37,13 +37,13 @@ pub record Begins (request piece : List ℕ) (count : ℕ) : Type 0 where
   pub hears : HearsTarget (fresh SpaceOrLine) (request ++ front_of piece)
   pub joined : (request ++ front_of piece) ++ drop count piece ≡ request ++ piece
 
-taken_of : (line : Line) (piece : List ℕ) → line.done ≡ false → line.stops ≡ Space → list_any (is_stop Space) piece ≡ true → taken line piece ≡ length (word_of Space piece) + 1
+taken_of : (line : Line) (piece : List ℕ) → line.done ≡ false → line.stops ≡ Space → list_any (is_stop Space) piece ≡ true → part_taken line piece ≡ length (word_of Space piece) + 1
 taken_of line piece open_still stops stop = λ i. if open_still i then 0 else length (word_of (stops i) piece) + (if stop_at i then 1 else 0)
   where
     stop_at : list_any (is_stop line.stops) piece ≡ true
     stop_at = ap (λ s. list_any (is_stop s) piece) stops ∙ stop
 
-pub target_begins : (old line : Line) (request piece : List ℕ) (count : ℕ) → HearsMethod old request → line ≡ after old piece → count ≡ taken old piece → line.done ≡ true
+pub target_begins : (old line : Line) (request piece : List ℕ) (count : ℕ) → HearsMethod old request → line ≡ after old piece → count ≡ part_taken old piece → line.done ≡ true
     → (not line.query && bytes_eq line.name (codes "GET")) ≡ true → Begins request piece count
 target_begins old line request piece count is e size done get =
     let holds : line ≡ heard Space (request ++ piece) = method_holds old line request piece is e in

@@ -7,16 +7,16 @@ use Rattle.script_lang.specs.declared.piece.Found.{Found}
 use Rattle.script_lang.specs.declared.piece.Piece.TheVariants.{Text, Include, Call}
 use Rattle.script_lang.specs.Places.{is_byte, word, word_start, word_end}
 use Rattle.script_lang.specs.Functions.{function_named}
-use Rattle.script_lang.specs.Directives.{IsPlace, is_mark, is_open, line_end, before_cr, directive}
+use Rattle.script_lang.specs.Directives.{IsPlace, is_directive_mark, is_inside_directive, line_end, before_cr, directive}
 use Rattle.script_lang.specs.Pieces.{piece_at, pieces_from, run_end}
 use Rattle.script_lang.proofs.PieceLemmas.{found-goes, pieces_from-step, run-rest}
 use Rattle.script_lang.proofs.StartLemmas.{run-inside}
 use Rattle.site_image.specs.Files.{file_named}
-use Rattle.web_pages.specs.Pieces.{Say, bytes_of, says}
+use Rattle.web_pages.specs.Pieces.{Say, piece_bytes, says}
 use Rattle.web_pages.specs.Pieces.Say.{Plain, Made}
 use Rattle.httpd.specs.declared.span.Span.{Span}
 use Rattle.httpd.specs.declared.thread.Thread.TheVariants.{Body}
-use Rattle.httpd.specs.Reply.{Reply, body, body_from, is_scripted, left_from}
+use Rattle.httpd.specs.Reply.{FileReply, body, body_from, is_scripted, left_from}
 use Rattle.httpd.specs.Places.{Fits, IsBodyPlace, IsInner}
 use Rattle.httpd.specs.Looking.{IsSpan, Sees}
 use Rattle.httpd.proofs.Seeing.{sees_first}
@@ -27,31 +27,31 @@ pub record Reads (script : List ℕ) (at : ℕ) (found : Found) : Type 0 where
   pub after : at < found.next
   pub place : IsPlace script found.next
 
-place_by : (script : List ℕ) (at : ℕ) → at ≤ length script → (is_open script at ≡ true → at ≡ length script) → IsPlace script at
-place_by script at h between = (h, by (is_open script at) refl)
+place_by : (script : List ℕ) (at : ℕ) → at ≤ length script → (is_inside_directive script at ≡ true → at ≡ length script) → IsPlace script at
+place_by script at h between = (h, by (is_inside_directive script at) refl)
   where
-    by : (b : Bool) → is_open script at ≡ b → ◌⊎◌ (is_open script at ≡ false) (at ≡ length script)
+    by : (b : Bool) → is_inside_directive script at ≡ b → ◌⊎◌ (is_inside_directive script at ≡ false) (at ≡ length script)
     by true e = inr (between e)
     by false e = inl e
 
-pub is_place : (r : Reply) (at : ℕ) → is_scripted r.file ≡ true → IsBodyPlace r at → IsPlace (body r) at
+pub is_place : (r : FileReply) (at : ℕ) → is_scripted r.file ≡ true → IsBodyPlace r at → IsPlace (body r) at
 is_place r at script is = place_by (body r) at is.within (is.between script)
 
-between_by : (script : List ℕ) (at : ℕ) → ◌⊎◌ (is_open script at ≡ false) (at ≡ length script) → is_open script at ≡ true → at ≡ length script
+between_by : (script : List ℕ) (at : ℕ) → ◌⊎◌ (is_inside_directive script at ≡ false) (at ≡ length script) → is_inside_directive script at ≡ true → at ≡ length script
 between_by script at (inl closed) opened = absurd (true≢false (sym opened ∙ closed))
 between_by script at (inr end) opened = end
 
-pub body_place : (r : Reply) (at : ℕ) → IsPlace (body r) at → IsBodyPlace r at
+pub body_place : (r : FileReply) (at : ℕ) → IsPlace (body r) at → IsBodyPlace r at
 body_place r at is = record { within = is.0; between = λ script opened. between_by (body r) at is.1 opened }
 
-pub inner_place : (r : Reply) (at : ℕ) → is_scripted r.file ≡ true → IsPlace (body r) at → IsInner r at
+pub inner_place : (r : FileReply) (at : ℕ) → is_scripted r.file ≡ true → IsPlace (body r) at → IsInner r at
 inner_place r at script is = record { script = script; goes_on = body_place r at is }
 
-pub script_from : (r : Reply) (a : ℕ) → is_scripted r.file ≡ true → body_from r a ≡ map (λ found. says r.files (body r) found.piece) (pieces_from (body r) a)
+pub script_from : (r : FileReply) (a : ℕ) → is_scripted r.file ≡ true → body_from r a ≡ map (λ found. says r.files (body r) found.piece) (pieces_from (body r) a)
 script_from r a e = ap (λ b. if b then map (λ found. says r.files (body r) found.piece) (pieces_from (body r) a) else Plain (drop a (body r)) ∷ []) e
 
 -- the first piece and the further ones
-pub script_step : (r : Reply) (at : ℕ) (found : Found) → is_scripted r.file ≡ true → pieces_from (body r) at ≡ found ∷ pieces_from (body r) found.next
+pub script_step : (r : FileReply) (at : ℕ) (found : Found) → is_scripted r.file ≡ true → pieces_from (body r) at ≡ found ∷ pieces_from (body r) found.next
     → left_from r (Body at) ≡ says r.files (body r) found.piece ∷ body_from r found.next
 unfolding left_from
 script_step r at found script e =
@@ -59,7 +59,7 @@ script_step r at found script e =
     ∙ ap (λ ps. map (λ f. says r.files (body r) f.piece) ps) e
     ∙ ap (λ more. says r.files (body r) found.piece ∷ more) (sym (script_from r found.next script))
 
-pub script_end : (r : Reply) (at : ℕ) → is_scripted r.file ≡ true → pieces_from (body r) at ≡ [] → left_from r (Body at) ≡ []
+pub script_end : (r : FileReply) (at : ℕ) → is_scripted r.file ≡ true → pieces_from (body r) at ≡ [] → left_from r (Body at) ≡ []
 unfolding left_from
 script_end r at script e = script_from r at script ∙ ap (λ ps. map (λ f. says r.files (body r) f.piece) ps) e
 
@@ -100,7 +100,7 @@ run_by false script at from len next e =
     record { from_is = cc; len_is = cc; next_is = ap (λ (f : Found). f.next) e }
 
 run_of : (script : List ℕ) (at from len next : ℕ) → text_found from len next ≡ piece_at script at → IsRun script at from len next
-run_of script at from len next e = run_by (is_mark script at) script at from len next e
+run_of script at from len next e = run_by (is_directive_mark script at) script at from len next e
 
 -- a slice past its first n elements
 slice_past : (xs : List ℕ) (at end n : ℕ) → n ≤ end - at → slice_range xs (at + n) ((at + n) + (end - (at + n))) ≡ drop n (slice_range xs at end)
@@ -112,18 +112,18 @@ slice_past xs at end n h =
     ∙ sym (drop-take n (end - (at + n)) (drop at xs))
     ∙ ap (λ m. drop n (take m (drop at xs))) (sym parts)
 
-closed_at : (script : List ℕ) (at : ℕ) → at < length script → ◌⊎◌ (is_open script at ≡ false) (at ≡ length script) → is_open script at ≡ false
+closed_at : (script : List ℕ) (at : ℕ) → at < length script → ◌⊎◌ (is_inside_directive script at ≡ false) (at ≡ length script) → is_inside_directive script at ≡ false
 closed_at script at h (inl closed) = closed
 closed_at script at h (inr end) = absurd (omega (arith, h, end))
 
 -- in a text run
-pub run_seen : (r : Reply) (at from len next : ℕ) (s : Span) → is_scripted r.file ≡ true → IsBodyPlace r at → length (body r) ≤ 16777216 → Reads (body r) at (text_found from len next)
+pub run_seen : (r : FileReply) (at from len next : ℕ) (s : Span) → is_scripted r.file ≡ true → IsBodyPlace r at → length (body r) ≤ 16777216 → Reads (body r) at (text_found from len next)
     → IsSpan s (slice_range (body r) at (at + len)) → Sees r (left_from r (Body at)) (record { span = s; here = Body at; next = Body next })
 unfolding left_from Fits
 run_seen r at from len next s script is short read span =
     let before : at < length (body r) = omega (arith, read.after, read.place.0) in
     let place : IsPlace (body r) at = is_place r at script is in
-    let closed : is_open (body r) at ≡ false = closed_at (body r) at before place.1 in
+    let closed : is_inside_directive (body r) at ≡ false = closed_at (body r) at before place.1 in
     let run : IsRun (body r) at from len next = run_of (body r) at from len next (piece_read (body r) at (text_found from len next) place before read.pieces) in
     let more : List Say = body_from r next in
     let front : slice_range (body r) at (at + len) ≡ slice_range (body r) from (from + len) = ap (λ a. slice_range (body r) a (a + len)) (sym run.from_is) in
@@ -155,14 +155,14 @@ text_at script at from len next place read =
     (run_of script at from len next (piece_read script at (text_found from len next) place (omega (arith, read.after, read.place.0)) read.pieces)).from_is
 
 -- the first piece is an include, or a call
-pub include_step : (r : Reply) (at : ℕ) (script : List ℕ) (read : Found) (from len : ℕ) → script ≡ body r → is_scripted r.file ≡ true → Reads (body r) at read → read.piece ≡ Include from len
-    → Plain (bytes_of (file_named r.files (slice_range script from (from + len)))) ∷ body_from r read.next ≡ left_from r (Body at)
+pub include_step : (r : FileReply) (at : ℕ) (script : List ℕ) (read : Found) (from len : ℕ) → script ≡ body r → is_scripted r.file ≡ true → Reads (body r) at read → read.piece ≡ Include from len
+    → Plain (piece_bytes (file_named r.files (slice_range script from (from + len)))) ∷ body_from r read.next ≡ left_from r (Body at)
 include_step r at script read from len e scripted reads is =
-    ap (λ s. Plain (bytes_of (file_named r.files (slice_range s from (from + len)))) ∷ body_from r read.next) e
+    ap (λ s. Plain (piece_bytes (file_named r.files (slice_range s from (from + len)))) ∷ body_from r read.next) e
     ∙ ap (λ p. says r.files (body r) p ∷ body_from r read.next) (sym is)
     ∙ sym (script_step r at read scripted reads.pieces)
 
-pub call_step : (r : Reply) (at : ℕ) (script : List ℕ) (read : Found) (f : Function) (from len : ℕ) → script ≡ body r → is_scripted r.file ≡ true → Reads (body r) at read → read.piece ≡ Call f from len
+pub call_step : (r : FileReply) (at : ℕ) (script : List ℕ) (read : Found) (f : Function) (from len : ℕ) → script ≡ body r → is_scripted r.file ≡ true → Reads (body r) at read → read.piece ≡ Call f from len
     → Made f (slice_range script from (from + len)) ∷ body_from r read.next ≡ left_from r (Body at)
 call_step r at script read f from len e scripted reads is =
     ap (λ s. Made f (slice_range s from (from + len)) ∷ body_from r read.next) e

@@ -7,15 +7,15 @@ use Rattle.app_events.specs.Part.{Moment, Part, text_left, HasPart, CanSay}
 use Rattle.site_image.specs.Files.{File}
 use Rattle.file_tree.specs.declared.file_id.FileId.{FileId}
 use Rattle.file_tree.specs.Site.{SiteContent, files_of}
-use Rattle.web_pages.specs.Pieces.{reply_of}
-use Rattle.web_pages.specs.Pages.{text_of}
+use Rattle.web_pages.specs.Pieces.{reply_pieces}
+use Rattle.web_pages.specs.Pages.{page_text}
 use Rattle.web_pages.specs.WebMeaning.{web_meaning}
 use Rattle.httpd.specs.declared.httpd.Httpd.{Httpd}
 use Rattle.httpd.specs.declared.stage.Stage.{Stage}
 use Rattle.httpd.specs.declared.stage.Stage.TheVariants as stage
 use Rattle.httpd.specs.declared.thread.Thread.{Thread}
 use Rattle.httpd.specs.declared.thread.Thread.TheVariants.{Head, Kind, Body, Inside, Making, End}
-use Rattle.httpd.specs.Reply.{Reply, body, is_scripted, left_from, reply_in}
+use Rattle.httpd.specs.Reply.{FileReply, body, is_scripted, left_from, reply_in}
 use Rattle.httpd.specs.Places.{Fits, IsBodyPlace, IsFound, IsInner}
 use Rattle.httpd.specs.Looking.{IsPast}
 use Rattle.httpd.specs.HttpdStands.{HttpdStands, IsLeft, IsReplying, StandsIn}
@@ -26,7 +26,7 @@ means site = web_meaning (files_of site)
 
 -- ---- a place is told by numbers, so it can be taken out of a fact of which no witness is known
 
-body_place_told : (r : Reply) (at : ℕ) → ∥ IsBodyPlace r at ∥₁ → IsBodyPlace r at
+body_place_told : (r : FileReply) (at : ℕ) → ∥ IsBodyPlace r at ∥₁ → IsBodyPlace r at
 body_place_told r at h =
     let inside : at ≤ length (body r) = ∥∥₁_elim h le_prop (λ is. is.within) in
     record {
@@ -40,13 +40,13 @@ scripted_told : (b : Bool) → ∥ (b ≡ true) ∥₁ → b ≡ true
 scripted_told true h = refl
 scripted_told false h = absurd (let never : 1 ≤ 0 = ∥∥₁_elim h le_prop (λ e. absurd (true≢false (sym e))) in omega (arith, never))
 
-inner_told : (r : Reply) (next : ℕ) → ∥ IsInner r next ∥₁ → IsInner r next
+inner_told : (r : FileReply) (next : ℕ) → ∥ IsInner r next ∥₁ → IsInner r next
 inner_told r next h = record {
   script = scripted_told (is_scripted r.file) (∥∥₁_map h (λ is. is.script));
   goes_on = body_place_told r next (∥∥₁_map h (λ is. is.goes_on));
 }
 
-fits_told : (r : Reply) (t : Thread) → ∥ Fits r t ∥₁ → Fits r t
+fits_told : (r : FileReply) (t : Thread) → ∥ Fits r t ∥₁ → Fits r t
 unfolding Fits
 fits_told r (Head at) h = ∥∥₁_elim h le_prop (λ is. is)
 fits_told r (Kind at) h = ∥∥₁_elim h le_prop (λ is. is)
@@ -95,20 +95,20 @@ quiet_zero a site n never can =
 
 -- ---- acknowledging
 
-acked_left : (r : Reply) (t u : Thread) (name : List ℕ) (p : Part) (n : ℕ) → IsLeft r t name p → IsPast r.files n (left_from r t) (left_from r u) → n ≤ length (text_of r.files (left_from r t) [])
+acked_left : (r : FileReply) (t u : Thread) (name : List ℕ) (p : Part) (n : ℕ) → IsLeft r t name p → IsPast r.files n (left_from r t) (left_from r u) → n ≤ length (page_text r.files (left_from r t) [])
     → IsLeft r u name (record p { acked = p.acked + n; polls = 0 })
 acked_left r t u name p n is past enough = record {
-  text = λ later. past.text later ∙ ap (λ xs. drop n xs) (is.text later) ∙ drop-drop n p.acked (text_of r.files (reply_of r.files name) (p.captures ++ later));
+  text = λ later. past.text later ∙ ap (λ xs. drop n xs) (is.text later) ∙ drop-drop n p.acked (page_text r.files (reply_pieces r.files name) (p.captures ++ later));
   whole = λ later. past.whole later ∙ is.whole later;
   calls = ap (λ k. length p.captures + k) past.calls ∙ is.calls;
   within =
-      let here = ap length (is.text [] ∙ ap (λ ks. drop p.acked (text_of r.files (reply_of r.files name) ks)) (append-nil p.captures)) in
-      omega (arith, here, enough, is.within, length-drop p.acked (text_of r.files (reply_of r.files name) p.captures));
+      let here = ap length (is.text [] ∙ ap (λ ks. drop p.acked (page_text r.files (reply_pieces r.files name) ks)) (append-nil p.captures)) in
+      omega (arith, here, enough, is.within, length-drop p.acked (page_text r.files (reply_pieces r.files name) p.captures));
 }
 
 pub reply_acked : (a : Httpd) (site : SiteContent) (found : Option FileId) (p : Part) (n : ℕ) (u : Thread) → a.stage ≡ stage.Reply found → Fits (reply_in site found a.capture) u
     → IsPast (files_of site) n (left_from (reply_in site found a.capture) a.thread) (left_from (reply_in site found a.capture) u)
-    → n ≤ length (text_of (files_of site) (left_from (reply_in site found a.capture) a.thread) []) → HttpdStands a site p
+    → n ≤ length (page_text (files_of site) (left_from (reply_in site found a.capture) a.thread) []) → HttpdStands a site p
     → HttpdStands (record a { thread = u; polls = 0 }) site (record p { acked = p.acked + n; polls = 0 })
 reply_acked a site found p n u e fits past enough s =
     let is = replying a site p found e s in

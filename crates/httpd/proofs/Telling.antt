@@ -7,15 +7,15 @@ use Rattle.file_tree.specs.declared.file_id.FileId.{FileId}
 use Rattle.file_tree.specs.Site.{SiteContent, files_of}
 use Rattle.web_pages.specs.Requests.{Wanted, wanted}
 use Rattle.web_pages.specs.Requests.Wanted.{Name, NotYet, Refused}
-use Rattle.web_pages.specs.Pieces.{reply_of, reply_to}
-use Rattle.web_pages.specs.Pages.{reach_end, text_of}
+use Rattle.web_pages.specs.Pieces.{reply_pieces, reply_to}
+use Rattle.web_pages.specs.Pages.{reach_end, page_text}
 use Rattle.web_pages.specs.WebMeaning.{hits_by}
 use Rattle.web_pages.specs.Deciding.{more_by}
 use Rattle.httpd.specs.declared.httpd.Httpd.{Httpd}
 use Rattle.httpd.specs.declared.stage.Stage.{Stage}
 use Rattle.httpd.specs.declared.stage.Stage.TheVariants as stage
 use Rattle.httpd.specs.declared.thread.Thread.TheVariants.{Head}
-use Rattle.httpd.specs.Reply.{Reply, calls_in, found_file, left_from, reply_in}
+use Rattle.httpd.specs.Reply.{FileReply, calls_in, found_file, left_from, reply_in}
 use Rattle.httpd.specs.Places.{Fits, IsFound}
 use Rattle.httpd.specs.Hearing.{HearsMethod, HearsTarget, IsDecided}
 use Rattle.httpd.specs.HttpdStands.{HttpdStands, IsLeft, IsReplying, SaysNothing, StandsIn}
@@ -26,18 +26,18 @@ unfolding left_from
 reply_start files None capture = refl
 reply_start files (Some file) capture = refl
 
-front_left : (r : Reply) (name : List ℕ) (p : Part) → r.file ≡ file_named r.files name → SaysNothing p → IsLeft r (Head 0) name p
+front_left : (r : FileReply) (name : List ℕ) (p : Part) → r.file ≡ file_named r.files name → SaysNothing p → IsLeft r (Head 0) name p
 front_left r name p e none =
-    let pieces : left_from r (Head 0) ≡ reply_of r.files name = reply_start r.files r.file r.capture ∙ ap (reply_to r.files) e in
+    let pieces : left_from r (Head 0) ≡ reply_pieces r.files name = reply_start r.files r.file r.capture ∙ ap (reply_to r.files) e in
     record {
-      text = λ later. ap (λ ps. text_of r.files ps later) pieces
-          ∙ (λ i. drop (sym none.acked i) (text_of r.files (reply_of r.files name) (sym none.captures i ++ later)));
-      whole = λ later. ap (λ ps. reach_end ps later) pieces ∙ ap (λ ks. reach_end (reply_of r.files name) (ks ++ later)) (sym none.captures);
+      text = λ later. ap (λ ps. page_text r.files ps later) pieces
+          ∙ (λ i. drop (sym none.acked i) (page_text r.files (reply_pieces r.files name) (sym none.captures i ++ later)));
+      whole = λ later. ap (λ ps. reach_end ps later) pieces ∙ ap (λ ks. reach_end (reply_pieces r.files name) (ks ++ later)) (sym none.captures);
       calls = omega (arith, ap length none.captures, ap calls_in pieces);
-      within = subst (λ n. n ≤ length (text_of r.files (reply_of r.files name) p.captures)) (sym none.acked) (omega arith);
+      within = subst (λ n. n ≤ length (page_text r.files (reply_pieces r.files name) p.captures)) (sym none.acked) (omega arith);
     }
 
-front_fits : (r : Reply) → Fits r (Head 0)
+front_fits : (r : FileReply) → Fits r (Head 0)
 unfolding Fits
 front_fits r = omega arith
 

@@ -7,15 +7,15 @@ use Rattle.app_events.specs.declared.want.Want.TheVariants.{Nothing, Send, Close
 use Rattle.site_image.specs.Files.{File}
 use Rattle.web_pages.specs.Pieces.{Say}
 use Rattle.web_pages.specs.Pieces.Say.{Made}
-use Rattle.web_pages.specs.Pages.{reach_end, takes_capture, text_of}
+use Rattle.web_pages.specs.Pages.{reach_end, takes_capture, page_text}
 use Rattle.web_pages.specs.Growing.{stopped_text, stopped_end}
 use Rattle.httpd.specs.declared.span.Span.{Span}
 use Rattle.httpd.specs.declared.span.Span.TheVariants as span
 use Rattle.httpd.specs.declared.span.Look.{Look}
 use Rattle.httpd.specs.declared.thread.Thread.{Thread}
 use Rattle.httpd.specs.declared.thread.Thread.TheVariants.{Head, Kind, Body, Inside, Making, End}
-use Rattle.httpd.specs.Reply.{Reply, body_from, left_from}
-use Rattle.httpd.specs.Places.{Fits, moved, place_of}
+use Rattle.httpd.specs.Reply.{FileReply, body_from, left_from}
+use Rattle.httpd.specs.Places.{Fits, moved, thread_place}
 use Rattle.httpd.specs.Saying.{want_left}
 use Rattle.httpd.specs.Looking.{IsText, IsPast, Leads, Sees, SeesBy, SeesCall, SeesText, span_text}
 
@@ -26,7 +26,7 @@ past_none files a = record { text = λ later. refl; whole = λ later. refl; call
 
 pub past_more : (files : List File) (n m : ℕ) (a b c : List Say) → IsPast files n a b → IsPast files m b c → IsPast files (n + m) a c
 past_more files n m a b c p q = record {
-  text = λ later. q.text later ∙ ap (λ xs. drop m xs) (p.text later) ∙ drop-drop m n (text_of files a later);
+  text = λ later. q.text later ∙ ap (λ xs. drop m xs) (p.text later) ∙ drop-drop m n (page_text files a later);
   whole = λ later. q.whole later ∙ p.whole later;
   calls = q.calls ∙ p.calls;
 }
@@ -36,18 +36,18 @@ past_to files n m a b e p = subst (λ k. IsPast files k a b) e p
 
 past_leads : (files : List File) (a b : List Say) (front : List ℕ) (n : ℕ) → n ≡ length front → Leads files a front b → IsPast files n a b
 past_leads files a b front n e leads = record {
-  text = λ later. sym (ap (λ xs. drop n xs) (leads.text later) ∙ drop_at front (text_of files b later) n (sym e));
+  text = λ later. sym (ap (λ xs. drop n xs) (leads.text later) ∙ drop_at front (page_text files b later) n (sym e));
   whole = λ later. sym (leads.whole later);
   calls = sym leads.calls;
 }
 
 -- how much is left past a place
-pub left_past : (files : List File) (n : ℕ) (a b : List Say) → IsPast files n a b → length (text_of files b []) ≡ length (text_of files a []) - n
-left_past files n a b p = ap length (p.text []) ∙ length-drop n (text_of files a [])
+pub left_past : (files : List File) (n : ℕ) (a b : List Say) → IsPast files n a b → length (page_text files b []) ≡ length (page_text files a []) - n
+left_past files n a b p = ap length (p.text []) ∙ length-drop n (page_text files a [])
 
 -- ---- what is seen where text is left
 
-call_more : (r : Reply) (pieces : List Say) (call : Say) (t : Thread) → SeesCall r pieces call t → (more : List Say) × (pieces ≡ call ∷ more)
+call_more : (r : FileReply) (pieces : List Say) (call : Say) (t : Thread) → SeesCall r pieces call t → (more : List Say) × (pieces ≡ call ∷ more)
 call_more r pieces call (Making next at) s = (body_from r next, s.0)
 call_more r pieces call (Head at) s = absurd s
 call_more r pieces call (Kind at) s = absurd s
@@ -56,49 +56,49 @@ call_more r pieces call (Inside next file at) s = absurd s
 call_more r pieces call End s = absurd s
 
 -- before a call nothing is left, and the end is not reached
-pub call_stops : (r : Reply) (pieces : List Say) (look : Look) (f : Rattle.script_lang.specs.declared.function.Function.Function) (argument : List ℕ) → SeesCall r pieces (Made f argument) look.next → takes_capture f ≡ true
-    → (text_of r.files pieces [] ≡ []) × (reach_end pieces [] ≡ false)
+pub call_stops : (r : FileReply) (pieces : List Say) (look : Look) (f : Rattle.script_lang.specs.declared.function.Function.Function) (argument : List ℕ) → SeesCall r pieces (Made f argument) look.next → takes_capture f ≡ true
+    → (page_text r.files pieces [] ≡ []) × (reach_end pieces [] ≡ false)
 call_stops r pieces look f argument s takes =
     let m = call_more r pieces (Made f argument) look.next s in (
-      ap (λ p. text_of r.files p []) m.1 ∙ stopped_text r.files f argument m.0 takes,
+      ap (λ p. page_text r.files p []) m.1 ∙ stopped_text r.files f argument m.0 takes,
       ap (λ p. reach_end p []) m.1 ∙ stopped_end f argument m.0 takes,
     )
 
-some_by : (r : Reply) (pieces : List Say) (look : Look) (s : Span) → SeesBy r pieces look s → 0 < length (text_of r.files pieces []) → SeesText r pieces look
+some_by : (r : FileReply) (pieces : List Say) (look : Look) (s : Span) → SeesBy r pieces look s → 0 < length (page_text r.files pieces []) → SeesText r pieces look
 some_by r pieces look (span.Bytes world send) sees h = sees
 some_by r pieces look (span.Line kind at) sees h = sees
 some_by r pieces look (span.Made capture at end) sees h = sees
 some_by r pieces look (span.Call f argument) sees h =
-    let none : length (text_of r.files pieces []) ≡ 0 = ap length ((call_stops r pieces look f argument.now sees.0 sees.1).0) in
+    let none : length (page_text r.files pieces []) ≡ 0 = ap length ((call_stops r pieces look f argument.now sees.0 sees.1).0) in
     absurd (omega (arith, none, h))
 some_by r pieces look span.End sees h =
-    let none : length (text_of r.files pieces []) ≡ 0 = ap (λ p. length (text_of r.files p [])) sees in
+    let none : length (page_text r.files pieces []) ≡ 0 = ap (λ p. length (page_text r.files p [])) sees in
     absurd (omega (arith, none, h))
 
-pub some_seen : (r : Reply) (pieces : List Say) (look : Look) → Sees r pieces look → 0 < length (text_of r.files pieces []) → SeesText r pieces look
+pub some_seen : (r : FileReply) (pieces : List Say) (look : Look) → Sees r pieces look → 0 < length (page_text r.files pieces []) → SeesText r pieces look
 some_seen r pieces look sees h = some_by r pieces look look.span sees.sees h
 
 -- ---- a walk
 
 -- the thread is n bytes past the start
-pub record Walks (r : Reply) (start thread : Thread) (n : ℕ) : Type 0 where
+pub record Walks (r : FileReply) (start thread : Thread) (n : ℕ) : Type 0 where
   pub fits : Fits r thread
   pub past : IsPast r.files n (left_from r start) (left_from r thread)
 
-pub walks_none : (r : Reply) (start : Thread) → Fits r start → Walks r start start 0
+pub walks_none : (r : FileReply) (start : Thread) → Fits r start → Walks r start start 0
 walks_none r start fits = record { fits = fits; past = past_none r.files (left_from r start) }
 
-pub walks_to : (r : Reply) (start thread : Thread) (n m : ℕ) → n ≡ m → Walks r start thread n → Walks r start thread m
+pub walks_to : (r : FileReply) (start thread : Thread) (n m : ℕ) → n ≡ m → Walks r start thread n → Walks r start thread m
 walks_to r start thread n m e w = subst (λ k. Walks r start thread k) e w
 
-pub walks_on : (r : Reply) (start thread : Thread) (n len : ℕ) (look : Look) → Walks r start thread n → SeesText r (left_from r thread) look → len ≡ length (span_text look.span) → Walks r start look.next (n + len)
+pub walks_on : (r : FileReply) (start thread : Thread) (n len : ℕ) (look : Look) → Walks r start thread n → SeesText r (left_from r thread) look → len ≡ length (span_text look.span) → Walks r start look.next (n + len)
 walks_on r start thread n len look w sees e = record {
   fits = sees.next;
   past = past_more r.files n len (left_from r start) (left_from r thread) (left_from r look.next) w.past
       (past_leads r.files (left_from r thread) (left_from r look.next) (span_text look.span) len e sees.leads);
 }
 
-pub walks_in : (r : Reply) (start thread : Thread) (n m : ℕ) (look : Look) → Walks r start thread n → SeesText r (left_from r thread) look → m < length (span_text look.span) → Walks r start (moved look.here m) (n + m)
+pub walks_in : (r : FileReply) (start thread : Thread) (n m : ℕ) (look : Look) → Walks r start thread n → SeesText r (left_from r thread) look → m < length (span_text look.span) → Walks r start (moved look.here m) (n + m)
 walks_in r start thread n m look w sees h =
     let inside = sees.within m h in
     record {
@@ -107,29 +107,29 @@ walks_in r start thread n m look w sees h =
     }
 
 -- what is left of the text where the walk has come
-pub walks_left : (r : Reply) (start thread : Thread) (n : ℕ) → Walks r start thread n → length (text_of r.files (left_from r thread) []) ≡ length (text_of r.files (left_from r start) []) - n
+pub walks_left : (r : FileReply) (start thread : Thread) (n : ℕ) → Walks r start thread n → length (page_text r.files (left_from r thread) []) ≡ length (page_text r.files (left_from r start) []) - n
 walks_left r start thread n w = left_past r.files n (left_from r start) (left_from r thread) w.past
 
 -- ---- filling
 
 -- the front of a buffer is the front of the text, and the thread stands behind it unless the buffer is full
-pub record Fills (r : Reply) (start thread : Thread) (from : ℕ) (out : List ℕ) : Type 0 where
+pub record Fills (r : FileReply) (start thread : Thread) (from : ℕ) (out : List ℕ) : Type 0 where
   pub inside : from ≤ length out
-  pub filled : take from out ≡ take from (text_of r.files (left_from r start) [])
+  pub filled : take from out ≡ take from (page_text r.files (left_from r start) [])
   pub walks : from < length out → Walks r start thread from
 
-pub fills_none : (r : Reply) (start : Thread) (out : List ℕ) → Fits r start → Fills r start start 0 out
+pub fills_none : (r : FileReply) (start : Thread) (out : List ℕ) → Fits r start → Fills r start start 0 out
 fills_none r start out fits = record { inside = omega arith; filled = refl; walks = λ h. walks_none r start fits }
 
 take_parts : (xs : List ℕ) (n m : ℕ) → take (n + m) xs ≡ take n xs ++ take m (drop n xs)
 take_parts xs n m = Rattle.std.proofs.Math.Seq.take-add n m xs
 
 -- a buffer after one more piece of the text
-pub fills_on : (r : Reply) (start thread : Thread) (from len count : ℕ) (out : List ℕ) (look : Look) → Fits r start → length out ≤ length (text_of r.files (left_from r start) [])
+pub fills_on : (r : FileReply) (start thread : Thread) (from len count : ℕ) (out : List ℕ) (look : Look) → Fits r start → length out ≤ length (page_text r.files (left_from r start) [])
     → Fills r start thread from out → from < length out → Sees r (left_from r thread) look → len ≡ length (span_text look.span) → count ≡ min len (length out - from)
     → (new : List ℕ) → new ≡ take from out ++ take count (span_text look.span) ++ drop (from + count) out → Fills r start look.next (from + count) new
 fills_on r start thread from len count out look fits enough is lt sees size least new made =
-    let text : List ℕ = text_of r.files (left_from r start) [] in
+    let text : List ℕ = page_text r.files (left_from r start) [] in
     let walks : Walks r start thread from = is.walks lt in
     let left = walks_left r start thread from walks in
     let some : SeesText r (left_from r thread) look = some_seen r (left_from r thread) look sees (omega (arith, left, lt, enough)) in
@@ -147,7 +147,7 @@ fills_on r start thread from len count out look fits enough is lt sees size leas
       least,
       lt,
     ) in
-    let here : drop from text ≡ span_text look.span ++ text_of r.files (left_from r look.next) [] = sym (walks.past.text []) ∙ some.leads.text [] in
+    let here : drop from text ≡ span_text look.span ++ page_text r.files (left_from r look.next) [] = sym (walks.past.text []) ∙ some.leads.text [] in
     record {
       inside = omega (arith, long, least, lt);
       filled =
@@ -155,22 +155,22 @@ fills_on r start thread from len count out look fits enough is lt sees size leas
           ∙ Rattle.std.proofs.lemmas.List.take_at (take from out ++ take count (span_text look.span)) (drop (from + count) out) (from + count)
           (omega (arith, length-append (take from out) (take count (span_text look.span)), Rattle.std.proofs.Common.length-take from out, Rattle.std.proofs.Common.length-take count (span_text look.span), cut, least, lt))
           ∙ ap (λ xs. xs ++ take count (span_text look.span)) is.filled
-          ∙ ap (λ xs. take from text ++ xs) (sym (ap (λ xs. take count xs) here ∙ Rattle.std.proofs.lemmas.List.take-append-le count (span_text look.span) (text_of r.files (left_from r look.next) []) cut))
+          ∙ ap (λ xs. take from text ++ xs) (sym (ap (λ xs. take count xs) here ∙ Rattle.std.proofs.lemmas.List.take-append-le count (span_text look.span) (page_text r.files (left_from r look.next) []) cut))
           ∙ sym (take_parts text from count);
       walks = λ h. walks_to r start look.next (from + len) (from + count) (omega (arith, long, least, h)) on;
     }
 
 -- ---- acknowledging
 
-pub acked_on : (r : Reply) (start thread : Thread) (count left len : ℕ) (look : Look) → count ≤ length (text_of r.files (left_from r start) []) → Walks r start thread (count - left) → left ≤ count → 0 < left
+pub acked_on : (r : FileReply) (start thread : Thread) (count left len : ℕ) (look : Look) → count ≤ length (page_text r.files (left_from r start) []) → Walks r start thread (count - left) → left ≤ count → 0 < left
     → Sees r (left_from r thread) look → len ≡ length (span_text look.span) → len ≤ left → Walks r start look.next (count - (left - len))
 acked_on r start thread count left len look enough walks h pos sees size le =
     let here = walks_left r start thread (count - left) walks in
     let some : SeesText r (left_from r thread) look = some_seen r (left_from r thread) look sees (omega (arith, here, enough, h, pos)) in
     walks_to r start look.next ((count - left) + len) (count - (left - len)) (omega (arith, h, le)) (walks_on r start thread (count - left) len look walks some size)
 
-pub acked_in : (r : Reply) (start thread : Thread) (count left : ℕ) (look : Look) → count ≤ length (text_of r.files (left_from r start) []) → Walks r start thread (count - left) → left ≤ count → 0 < left
-    → Sees r (left_from r thread) look → left < length (span_text look.span) → Walks r start (moved look.here left) count × (place_of look.here + left < 2147483648)
+pub acked_in : (r : FileReply) (start thread : Thread) (count left : ℕ) (look : Look) → count ≤ length (page_text r.files (left_from r start) []) → Walks r start thread (count - left) → left ≤ count → 0 < left
+    → Sees r (left_from r thread) look → left < length (span_text look.span) → Walks r start (moved look.here left) count × (thread_place look.here + left < 2147483648)
 acked_in r start thread count left look enough walks h pos sees lt =
     let here = walks_left r start thread (count - left) walks in
     let some : SeesText r (left_from r thread) look = some_seen r (left_from r thread) look sees (omega (arith, here, enough, h, pos)) in (
@@ -179,7 +179,7 @@ acked_in r start thread count left look enough walks h pos sees lt =
     )
 
 -- where text is left, the next piece leaves fewer pieces
-pub fewer_left : (r : Reply) (start thread : Thread) (n : ℕ) (look : Look) → n < length (text_of r.files (left_from r start) []) → Walks r start thread n → Sees r (left_from r thread) look
+pub fewer_left : (r : FileReply) (start thread : Thread) (n : ℕ) (look : Look) → n < length (page_text r.files (left_from r start) []) → Walks r start thread n → Sees r (left_from r thread) look
     → length (left_from r look.next) < length (left_from r thread)
 fewer_left r start thread n look enough walks sees =
     let here = walks_left r start thread n walks in
@@ -211,17 +211,17 @@ wanted_by other false n h e = elim (cases_eq n 0) [
 ]
 
 -- where nothing is left past n bytes, they are all
-all_left : (r : Reply) (start thread : Thread) (n : ℕ) → Walks r start thread n → n ≤ length (text_of r.files (left_from r start) []) → text_of r.files (left_from r thread) [] ≡ []
-    → length (text_of r.files (left_from r start) []) ≡ n
+all_left : (r : FileReply) (start thread : Thread) (n : ℕ) → Walks r start thread n → n ≤ length (page_text r.files (left_from r start) []) → page_text r.files (left_from r thread) [] ≡ []
+    → length (page_text r.files (left_from r start) []) ≡ n
 all_left r start thread n walks h none = omega (arith, walks_left r start thread n walks, h, ap length none)
 
-pub want_at : (r : Reply) (start thread : Thread) (n : ℕ) (other : Want) (whole : Bool) → Walks r start thread n → n ≤ length (text_of r.files (left_from r start) []) → n < 1460
-    → text_of r.files (left_from r thread) [] ≡ [] → reach_end (left_from r thread) [] ≡ whole → other ≡ (if whole then Close else Nothing)
-    → sent_or other n ≡ want_left (text_of r.files (left_from r start) []) (reach_end (left_from r start) [])
+pub want_at : (r : FileReply) (start thread : Thread) (n : ℕ) (other : Want) (whole : Bool) → Walks r start thread n → n ≤ length (page_text r.files (left_from r start) []) → n < 1460
+    → page_text r.files (left_from r thread) [] ≡ [] → reach_end (left_from r thread) [] ≡ whole → other ≡ (if whole then Close else Nothing)
+    → sent_or other n ≡ want_left (page_text r.files (left_from r start) []) (reach_end (left_from r start) [])
 want_at r start thread n other whole walks h lt none end e =
     wanted_by other whole n lt e
     ∙ ap (λ m. if whole && (m == 0) then Close else (if nat_lt 0 m then Send (min 1460 m) else Nothing)) (sym (all_left r start thread n walks h none))
-    ∙ ap (λ w. want_left (text_of r.files (left_from r start) []) w) (sym (sym (walks.past.whole []) ∙ end))
+    ∙ ap (λ w. want_left (page_text r.files (left_from r start) []) w) (sym (sym (walks.past.whole []) ∙ end))
 
 -- ---- what a span is
 
@@ -232,29 +232,29 @@ text_unless (span.Made capture at last) call end = tt
 text_unless (span.Call f argument) call end = call f argument refl
 text_unless span.End call end = end refl
 
-plain_by : (r : Reply) (pieces : List Say) (look : Look) (s : Span) → IsText s → SeesBy r pieces look s → SeesText r pieces look
+plain_by : (r : FileReply) (pieces : List Say) (look : Look) (s : Span) → IsText s → SeesBy r pieces look s → SeesText r pieces look
 plain_by r pieces look (span.Bytes world send) t sees = sees
 plain_by r pieces look (span.Line kind at) t sees = sees
 plain_by r pieces look (span.Made capture at end) t sees = sees
 plain_by r pieces look (span.Call f argument) t sees = absurd t
 plain_by r pieces look span.End t sees = absurd t
 
-pub plain_seen : (r : Reply) (pieces : List Say) (look : Look) → IsText look.span → Sees r pieces look → SeesText r pieces look
+pub plain_seen : (r : FileReply) (pieces : List Say) (look : Look) → IsText look.span → Sees r pieces look → SeesText r pieces look
 plain_seen r pieces look t sees = plain_by r pieces look look.span t sees.sees
 
-pub call_seen : (r : Reply) (pieces : List Say) (look : Look) (f : Rattle.script_lang.specs.declared.function.Function.Function) (argument : Rattle.std.proofs.Common.Bor (List ℕ)) → look.span ≡ span.Call f argument → Sees r pieces look
+pub call_seen : (r : FileReply) (pieces : List Say) (look : Look) (f : Rattle.script_lang.specs.declared.function.Function.Function) (argument : Rattle.std.proofs.Common.Bor (List ℕ)) → look.span ≡ span.Call f argument → Sees r pieces look
     → SeesCall r pieces (Made f argument.now) look.next × (takes_capture f ≡ true)
 call_seen r pieces look f argument e sees = subst (λ s. SeesBy r pieces look s) e sees.sees
 
-pub end_reached : (r : Reply) (pieces : List Say) (look : Look) → look.span ≡ span.End → Sees r pieces look → pieces ≡ []
+pub end_reached : (r : FileReply) (pieces : List Say) (look : Look) → look.span ≡ span.End → Sees r pieces look → pieces ≡ []
 end_reached r pieces look e sees = subst (λ s. SeesBy r pieces look s) e sees.sees
 
 -- a walk goes on behind a piece that takes no capture
-pub ready_on : (r : Reply) (start thread : Thread) (n len : ℕ) (look : Look) → Walks r start thread n → n ≤ length (text_of r.files (left_from r start) []) → IsText look.span → Sees r (left_from r thread) look
-    → len ≡ length (span_text look.span) → Walks r start look.next (n + len) × (n + len ≤ length (text_of r.files (left_from r start) []))
+pub ready_on : (r : FileReply) (start thread : Thread) (n len : ℕ) (look : Look) → Walks r start thread n → n ≤ length (page_text r.files (left_from r start) []) → IsText look.span → Sees r (left_from r thread) look
+    → len ≡ length (span_text look.span) → Walks r start look.next (n + len) × (n + len ≤ length (page_text r.files (left_from r start) []))
 ready_on r start thread n len look walks h t sees size =
     let some : SeesText r (left_from r thread) look = plain_seen r (left_from r thread) look t sees in
     let here = walks_left r start thread n walks in
-    let more = length-append (span_text look.span) (text_of r.files (left_from r look.next) []) in
+    let more = length-append (span_text look.span) (page_text r.files (left_from r look.next) []) in
     let text = ap length (some.leads.text []) in
     (walks_on r start thread n len look walks some size, omega (arith, size, here, more, text, h))

@@ -10,7 +10,7 @@ use Rattle.std.proofs.lemmas.Slice.Eq.{bytes_eq-Decides}
 use Rattle.site_image.specs.Files.{File, has_name}
 use Rattle.protosocket.specs.declared.stops.Stops.{Stops}
 use Rattle.protosocket.specs.declared.stops.Stops.TheVariants.{Space}
-use Rattle.protosocket.specs.Line.{after, fresh, heard, is_mark, is_stop, word_of}
+use Rattle.protosocket.specs.Line.{after, fresh, heard, is_query_mark, is_stop, word_of}
 use Rattle.protosocket.specs.Hearing.{hears_joined, none_at_all, none_before, one_before}
 use Rattle.web_pages.specs.Requests.{after_method, has_ended, method_of, name_in}
 
@@ -43,13 +43,13 @@ cut_test xs ys n short = elim (cases_lt n (length xs)) [
 ]
 
 -- a word with a `?` in it is not `GET`
-pub get_heard : (word : List ℕ) → (not (list_any is_mark word) && bytes_eq (take 64 (before_first is_mark word)) (codes "GET")) ≡ bytes_eq word (codes "GET")
-get_heard word = by (list_any is_mark word) refl
+pub get_heard : (word : List ℕ) → (not (list_any is_query_mark word) && bytes_eq (take 64 (before_first is_query_mark word)) (codes "GET")) ≡ bytes_eq word (codes "GET")
+get_heard word = by (list_any is_query_mark word) refl
   where
-    by : (m : Bool) → list_any is_mark word ≡ m → (not m && bytes_eq (take 64 (before_first is_mark word)) (codes "GET")) ≡ bytes_eq word (codes "GET")
-    by true e = sym (not_same word (codes "GET") (λ same. true≢false (sym e ∙ ap (λ w. list_any is_mark w) same)))
+    by : (m : Bool) → list_any is_query_mark word ≡ m → (not m && bytes_eq (take 64 (before_first is_query_mark word)) (codes "GET")) ≡ bytes_eq word (codes "GET")
+    by true e = sym (not_same word (codes "GET") (λ same. true≢false (sym e ∙ ap (λ w. list_any is_query_mark w) same)))
     by false e =
-        ap (λ w. bytes_eq (take 64 w) (codes "GET")) (none_at_all is_mark word e)
+        ap (λ w. bytes_eq (take 64 w) (codes "GET")) (none_at_all is_query_mark word e)
         ∙ cut_test word (codes "GET") 64 (omega arith)
 
 -- ---- the front of a piece up to its first stop
@@ -116,28 +116,28 @@ first_later : (p : ℕ → Bool) (x : ℕ) (xs : List ℕ) → p x ≡ false →
 first_later p x xs e = Rattle.std.proofs.lemmas.List.Sums.take_while-cons (λ b. not (p b)) x xs ∙ ap (λ b. cond (not b) (x ∷ before_first p xs) []) e
 
 -- whether a word begins with `/` is told from the front of its name
-pub path_heard : (word : List ℕ) → starts_with nat_eq (take 64 (before_first is_mark word)) (codes "/") ≡ starts_with nat_eq word (codes "/")
+pub path_heard : (word : List ℕ) → starts_with nat_eq (take 64 (before_first is_query_mark word)) (codes "/") ≡ starts_with nat_eq word (codes "/")
 path_heard [] = refl
-path_heard (x ∷ xs) = by (is_mark x) refl
+path_heard (x ∷ xs) = by (is_query_mark x) refl
   where
-    by : (m : Bool) → is_mark x ≡ m → starts_with nat_eq (take 64 (before_first is_mark (x ∷ xs))) (codes "/") ≡ starts_with nat_eq (x ∷ xs) (codes "/")
+    by : (m : Bool) → is_query_mark x ≡ m → starts_with nat_eq (take 64 (before_first is_query_mark (x ∷ xs))) (codes "/") ≡ starts_with nat_eq (x ∷ xs) (codes "/")
     by true e =
         let mark : x ≡ 63 = Rattle.std.proofs.lemmas.Bool.eqb-true x 63 e in
-        ap (λ w. starts_with nat_eq (take 64 w) (codes "/")) (first_here is_mark x xs e)
+        ap (λ w. starts_with nat_eq (take 64 w) (codes "/")) (first_here is_query_mark x xs e)
         ∙ subst (λ y. false ≡ starts_with nat_eq (y ∷ xs) (codes "/")) (sym mark) refl
-    by false e = ap (λ w. starts_with nat_eq (take 64 w) (codes "/")) (first_later is_mark x xs e)
+    by false e = ap (λ w. starts_with nat_eq (take 64 w) (codes "/")) (first_later is_query_mark x xs e)
 
 -- the name of a target, from what the line holds of it
-pub name_heard : (word : List ℕ) → nat_lt 64 (length (before_first is_mark word)) ≡ false
-    → (if bytes_eq (take 64 (before_first is_mark word)) (codes "/") then codes "/index.html" else take 64 (before_first is_mark word)) ≡ name_in word
+pub name_heard : (word : List ℕ) → nat_lt 64 (length (before_first is_query_mark word)) ≡ false
+    → (if bytes_eq (take 64 (before_first is_query_mark word)) (codes "/") then codes "/index.html" else take 64 (before_first is_query_mark word)) ≡ name_in word
 name_heard word short =
-    let whole : take 64 (before_first is_mark word) ≡ before_first is_mark word = take_all 64 (before_first is_mark word) (ltb-false 64 (length (before_first is_mark word)) short) in
+    let whole : take 64 (before_first is_query_mark word) ≡ before_first is_query_mark word = take_all 64 (before_first is_query_mark word) (ltb-false 64 (length (before_first is_query_mark word)) short) in
     ap (λ n. if bytes_eq n (codes "/") then codes "/index.html" else n) whole
 
-long_name : (word : List ℕ) → nat_lt 64 (length (before_first is_mark word)) ≡ true → name_in word ≡ before_first is_mark word
+long_name : (word : List ℕ) → nat_lt 64 (length (before_first is_query_mark word)) ≡ true → name_in word ≡ before_first is_query_mark word
 long_name word long =
-    let more : 64 < length (before_first is_mark word) = ltb-true 64 (length (before_first is_mark word)) long in
-    ap (λ b. if b then codes "/index.html" else before_first is_mark word) (not_same (before_first is_mark word) (codes "/") (λ e. omega (arith, ap length e, more)))
+    let more : 64 < length (before_first is_query_mark word) = ltb-true 64 (length (before_first is_query_mark word)) long in
+    ap (λ b. if b then codes "/index.html" else before_first is_query_mark word) (not_same (before_first is_query_mark word) (codes "/") (λ e. omega (arith, ap length e, more)))
 
 -- no file has so long a name
 nobody : (files : List File) → ((k : ℕ) (file : File) → Rattle.std.specs.Prelude.slice_get files k ≡ Rattle.std.proofs.Common.Some file → length file.name ≤ 64) → (name : List ℕ) → 64 < length name → has_name files name ≡ false
@@ -146,7 +146,7 @@ nobody (file ∷ files) good name long =
     ap (λ b. b || has_name files name) (not_same file.name name (λ e. omega (arith, ap length e, long, good 0 file refl)))
     ∙ nobody files (λ k f s. good (suc k) f s) name long
 
-pub nobody_named : (files : List File) → ((k : ℕ) (file : File) → Rattle.std.specs.Prelude.slice_get files k ≡ Rattle.std.proofs.Common.Some file → length file.name ≤ 64) → (word : List ℕ) → nat_lt 64 (length (before_first is_mark word)) ≡ true
+pub nobody_named : (files : List File) → ((k : ℕ) (file : File) → Rattle.std.specs.Prelude.slice_get files k ≡ Rattle.std.proofs.Common.Some file → length file.name ≤ 64) → (word : List ℕ) → nat_lt 64 (length (before_first is_query_mark word)) ≡ true
     → has_name files (name_in word) ≡ false
 nobody_named files good word long =
-    ap (has_name files) (long_name word long) ∙ nobody files good (before_first is_mark word) (ltb-true 64 (length (before_first is_mark word)) long)
+    ap (has_name files) (long_name word long) ∙ nobody files good (before_first is_query_mark word) (ltb-true 64 (length (before_first is_query_mark word)) long)

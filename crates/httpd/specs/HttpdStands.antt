@@ -6,23 +6,23 @@ use Rattle.file_tree.specs.Site.{SiteContent, files_of}
 use Rattle.site_image.specs.Files.{file_named}
 use Rattle.web_pages.specs.Requests.{wanted}
 use Rattle.web_pages.specs.Requests.Wanted.{Refused, Name}
-use Rattle.web_pages.specs.Pieces.{reply_of}
-use Rattle.web_pages.specs.Pages.{reach_end, text_of}
+use Rattle.web_pages.specs.Pieces.{reply_pieces}
+use Rattle.web_pages.specs.Pages.{reach_end, page_text}
 use Rattle.httpd.specs.declared.stage.Stage.{Stage}
 use Rattle.httpd.specs.declared.stage.Stage.TheVariants as stage
 use Rattle.httpd.specs.declared.httpd.Httpd.{Httpd}
 use Rattle.httpd.specs.declared.thread.Thread.{Thread}
-use Rattle.httpd.specs.Reply.{Reply, calls_in, found_file, left_from, reply_in}
+use Rattle.httpd.specs.Reply.{FileReply, calls_in, found_file, left_from, reply_in}
 use Rattle.httpd.specs.Places.{IsFound, Fits}
 use Rattle.httpd.specs.Hearing.{HearsMethod, HearsTarget}
 
 -- Whatever captures are still to come: what the thread has left to say with them is the page of the name past the acknowledged
 -- offset, and it reaches the end where the page does. Of the calls of the reply, as many as there are captures are behind it.
-pub record IsLeft (reply : Reply) (thread : Thread) (name : List ℕ) (part : Part) : Type 0 where
-  pub text : (later : List Moment) → text_of reply.files (left_from reply thread) later ≡ drop part.acked (text_of reply.files (reply_of reply.files name) (part.captures ++ later))
-  pub whole : (later : List Moment) → reach_end (left_from reply thread) later ≡ reach_end (reply_of reply.files name) (part.captures ++ later)
-  pub calls : length part.captures + calls_in (left_from reply thread) ≡ calls_in (reply_of reply.files name)
-  pub within : part.acked ≤ length (text_of reply.files (reply_of reply.files name) part.captures)
+pub record IsLeft (reply : FileReply) (thread : Thread) (name : List ℕ) (part : Part) : Type 0 where
+  pub text : (later : List Moment) → page_text reply.files (left_from reply thread) later ≡ drop part.acked (page_text reply.files (reply_pieces reply.files name) (part.captures ++ later))
+  pub whole : (later : List Moment) → reach_end (left_from reply thread) later ≡ reach_end (reply_pieces reply.files name) (part.captures ++ later)
+  pub calls : length part.captures + calls_in (left_from reply thread) ≡ calls_in (reply_pieces reply.files name)
+  pub within : part.acked ≤ length (page_text reply.files (reply_pieces reply.files name) part.captures)
 
 -- a reply to a request for the name is being said
 pub record IsReplying (a : Httpd) (site : SiteContent) (name : List ℕ) (found : Option FileId) (part : Part) : Type 0 where

@@ -5,14 +5,14 @@ use Rattle.generators.specs.Text.{capture_text}
 use Rattle.site_image.specs.Files.{File}
 use Rattle.web_pages.specs.Pieces.{Say, kind_line}
 use Rattle.web_pages.specs.Pieces.Say.{Made}
-use Rattle.web_pages.specs.Pages.{text_of, reach_end, takes_capture}
+use Rattle.web_pages.specs.Pages.{page_text, reach_end, takes_capture}
 use Rattle.httpd.specs.declared.span.Span.{Span}
 use Rattle.httpd.specs.declared.span.Span.TheVariants as span
 use Rattle.httpd.specs.declared.span.Look.{Look}
 use Rattle.httpd.specs.declared.thread.Thread.{Thread}
 use Rattle.httpd.specs.declared.thread.Thread.TheVariants.{Head, Kind, Body, Inside, Making, End}
-use Rattle.httpd.specs.Reply.{Reply, body_from, calls_in, left_from}
-use Rattle.httpd.specs.Places.{Fits, IsInner, moved, place_of}
+use Rattle.httpd.specs.Reply.{FileReply, body_from, calls_in, left_from}
+use Rattle.httpd.specs.Places.{Fits, IsInner, moved, thread_place}
 
 -- what is left of the piece
 abbrev pub span_text : Span → List ℕ
@@ -32,31 +32,31 @@ SpanFits span.End = Unit {0}
 
 -- The pieces say the text first and then what the others say, whatever captures they have.
 pub record Leads (files : List File) (pieces : List Say) (front : List ℕ) (others : List Say) : Type 0 where
-  pub text : (later : List Moment) → text_of files pieces later ≡ front ++ text_of files others later
+  pub text : (later : List Moment) → page_text files pieces later ≡ front ++ page_text files others later
   pub whole : (later : List Moment) → reach_end pieces later ≡ reach_end others later
   pub calls : calls_in pieces ≡ calls_in others
 
 -- The others say what the pieces say past the first n bytes.
 pub record IsPast (files : List File) (n : ℕ) (pieces others : List Say) : Type 0 where
-  pub text : (later : List Moment) → text_of files others later ≡ drop n (text_of files pieces later)
+  pub text : (later : List Moment) → page_text files others later ≡ drop n (page_text files pieces later)
   pub whole : (later : List Moment) → reach_end others later ≡ reach_end pieces later
   pub calls : calls_in others ≡ calls_in pieces
 
 -- a place n bytes further in the same piece
-pub record IsInPiece (reply : Reply) (pieces : List Say) (here : Thread) (n : ℕ) : Type 0 where
+pub record IsInPiece (reply : FileReply) (pieces : List Say) (here : Thread) (n : ℕ) : Type 0 where
   pub fits : Fits reply (moved here n)
-  pub small : place_of here + n < 2147483648
+  pub small : thread_place here + n < 2147483648
   pub past : IsPast reply.files n pieces (left_from reply (moved here n))
 
 -- The first piece takes no capture.
-pub record SeesText (reply : Reply) (pieces : List Say) (look : Look) : Type 0 where
+pub record SeesText (reply : FileReply) (pieces : List Say) (look : Look) : Type 0 where
   pub leads : Leads reply.files pieces (span_text look.span) (left_from reply look.next)
   pub fewer : length (left_from reply look.next) < length pieces
   pub next : Fits reply look.next
   pub within : (n : ℕ) → n < length (span_text look.span) → IsInPiece reply pieces look.here n
 
 -- It is a call that takes a capture, behind which the script goes on at a place.
-abbrev pub SeesCall : Reply → List Say → Say → Thread → Type 0
+abbrev pub SeesCall : FileReply → List Say → Say → Thread → Type 0
 SeesCall reply pieces call (Making next at) = (pieces ≡ call ∷ body_from reply next) × (at ≡ 0) × IsInner reply next
 SeesCall reply pieces call (Head at) = ⊥
 SeesCall reply pieces call (Kind at) = ⊥
@@ -64,7 +64,7 @@ SeesCall reply pieces call (Body at) = ⊥
 SeesCall reply pieces call (Inside next file at) = ⊥
 SeesCall reply pieces call End = ⊥
 
-abbrev pub SeesBy : Reply → List Say → Look → Span → Type 0
+abbrev pub SeesBy : FileReply → List Say → Look → Span → Type 0
 SeesBy reply pieces look (span.Bytes world send) = SeesText reply pieces look
 SeesBy reply pieces look (span.Line kind at) = SeesText reply pieces look
 SeesBy reply pieces look (span.Made capture at end) = SeesText reply pieces look
@@ -72,7 +72,7 @@ SeesBy reply pieces look (span.Call function argument) = SeesCall reply pieces (
 SeesBy reply pieces look span.End = pieces ≡ []
 
 -- what is seen where the pieces are left
-pub record Sees (reply : Reply) (pieces : List Say) (look : Look) : Type 0 where
+pub record Sees (reply : FileReply) (pieces : List Say) (look : Look) : Type 0 where
   pub sees : SeesBy reply pieces look look.span
   pub fits : SpanFits look.span
 

@@ -1,11 +1,11 @@
 -- The places at which a thread can stand: each `at` is at most the length of its text.
 use Rattle.std.specs.Prelude.{◌≡◌, ◌≤◌, ◌<◌, ℕ, ◌+◌, true, List, length, Option, None, Some}
-use Rattle.script_lang.specs.Directives.{is_open}
+use Rattle.script_lang.specs.Directives.{is_inside_directive}
 use Rattle.site_image.specs.Files.{File}
 use Rattle.file_tree.specs.declared.file_id.FileId.{FileId}
 use Rattle.generators.specs.Text.{capture_text}
 use Rattle.web_pages.specs.Pieces.{kind_line}
-use Rattle.httpd.specs.Reply.{Reply, body, head_text, included, is_scripted, kind_text}
+use Rattle.httpd.specs.Reply.{FileReply, body, head_text, included, is_scripted, kind_text}
 use Rattle.httpd.specs.declared.thread.Thread.{Thread}
 use Rattle.httpd.specs.declared.thread.Thread.TheVariants.{Head, Kind, Body, Inside, Making, End}
 
@@ -15,16 +15,16 @@ IsFound files None = Unit {0}
 IsFound files (Some id) = id.0 < length files
 
 -- a place of the body; in a script it is at or inside a text run, at the start of a directive, or the end
-pub record IsBodyPlace (reply : Reply) (at : ℕ) : Type 0 where
+pub record IsBodyPlace (reply : FileReply) (at : ℕ) : Type 0 where
   pub within : at ≤ length (body reply)
-  pub between : is_scripted reply.file ≡ true → is_open (body reply) at ≡ true → at ≡ length (body reply)
+  pub between : is_scripted reply.file ≡ true → is_inside_directive (body reply) at ≡ true → at ≡ length (body reply)
 
 -- a place inside a piece of a script, which goes on at another
-pub record IsInner (reply : Reply) (next : ℕ) : Type 0 where
+pub record IsInner (reply : FileReply) (next : ℕ) : Type 0 where
   pub script : is_scripted reply.file ≡ true
   pub goes_on : IsBodyPlace reply next
 
-unfoldable pub Fits : Reply → Thread → Type 0
+unfoldable pub Fits : FileReply → Thread → Type 0
 Fits reply (Head at) = at ≤ length (head_text reply.file)
 Fits reply (Kind at) = at ≤ length (kind_line (kind_text reply.file))
 Fits reply (Body at) = IsBodyPlace reply at
@@ -41,10 +41,10 @@ moved (Inside next file at) n = Inside next file (at + n)
 moved (Making next at) n = Making next (at + n)
 moved End n = End
 
-abbrev pub place_of : Thread → ℕ
-place_of (Head at) = at
-place_of (Kind at) = at
-place_of (Body at) = at
-place_of (Inside next file at) = at
-place_of (Making next at) = at
-place_of End = 0
+abbrev pub thread_place : Thread → ℕ
+thread_place (Head at) = at
+thread_place (Kind at) = at
+thread_place (Body at) = at
+thread_place (Inside next file at) = at
+thread_place (Making next at) = at
+thread_place End = 0

@@ -8,14 +8,14 @@ use Rattle.file_tree.specs.declared.file_id.FileId.{FileId}
 use Rattle.file_tree.specs.Site.{SiteContent, files_of}
 use Rattle.generators.specs.declared.capture.Capture.{Capture}
 use Rattle.generators.specs.Text.{capture_text}
-use Rattle.web_pages.specs.Pieces.{Say, bytes_of, found_head, kind_line, missing_body, missing_head, says}
+use Rattle.web_pages.specs.Pieces.{Say, piece_bytes, found_head, kind_line, missing_body, missing_head, says}
 use Rattle.web_pages.specs.Pieces.Say.{Plain, Made}
 use Rattle.web_pages.specs.Pages.{takes_capture}
 use Rattle.httpd.specs.declared.thread.Thread.{Thread}
 use Rattle.httpd.specs.declared.thread.Thread.TheVariants.{Head, Kind, Body, Inside, Making, End}
 
 -- What a reply is said from: the files, the file that was found, and the record of the call that is being said.
-pub record Reply : Type 0 where
+pub record FileReply : Type 0 where
   pub files : List File
   pub file : Option File
   pub capture : Capture
@@ -24,7 +24,7 @@ pub record Reply : Type 0 where
 abbrev pub found_file : List File → Option FileId → Option File
 found_file files found = option_and_then (λ id. slice_get files id.0) found
 
-abbrev pub reply_in : SiteContent → Option FileId → Capture → Reply
+abbrev pub reply_in : SiteContent → Option FileId → Capture → FileReply
 reply_in site found capture = record { files = files_of site; file = found_file (files_of site) found; capture = capture }
 
 abbrev pub head_text : Option File → List ℕ
@@ -44,21 +44,21 @@ abbrev pub is_scripted : Option File → Bool
 is_scripted None = false
 is_scripted (Some file) = is_script file.name
 
-abbrev pub body : Reply → List ℕ
+abbrev pub body : FileReply → List ℕ
 body reply = body_bytes reply.files reply.file
 
 -- the pieces of the body from a place on
-abbrev pub body_from : Reply → ℕ → List Say
+abbrev pub body_from : FileReply → ℕ → List Say
 body_from reply at =
     if is_scripted reply.file then map (λ found. says reply.files (body reply) found.piece) (pieces_from (body reply) at)
     else Plain (drop at (body reply)) ∷ []
 
 -- the bytes of an included file
-abbrev pub included : Reply → FileId → List ℕ
-included reply file = bytes_of (slice_get reply.files file.0)
+abbrev pub included : FileReply → FileId → List ℕ
+included reply file = piece_bytes (slice_get reply.files file.0)
 
 -- what is left to be said
-unfoldable pub left_from : Reply → Thread → List Say
+unfoldable pub left_from : FileReply → Thread → List Say
 left_from reply (Head at) = Plain (drop at (head_text reply.file)) ∷ Plain (kind_line (kind_text reply.file)) ∷ body_from reply 0
 left_from reply (Kind at) = Plain (drop at (kind_line (kind_text reply.file))) ∷ body_from reply 0
 left_from reply (Body at) = body_from reply at

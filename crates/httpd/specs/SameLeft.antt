@@ -7,8 +7,8 @@ use Rattle.site_image.specs.Files.{File}
 use Rattle.file_tree.specs.Site.{SiteContent, files_of}
 use Rattle.web_pages.specs.Requests.{Wanted, wanted}
 use Rattle.web_pages.specs.Requests.Wanted.{NotYet, Refused}
-use Rattle.web_pages.specs.Pieces.{reply_of}
-use Rattle.web_pages.specs.Pages.{page_for, text_of}
+use Rattle.web_pages.specs.Pieces.{reply_pieces}
+use Rattle.web_pages.specs.Pages.{page_for, page_text}
 use Rattle.web_pages.specs.WebMeaning.{web_meaning}
 use Rattle.httpd.specs.declared.stage.Stage.{Stage}
 use Rattle.httpd.specs.declared.stage.Stage.TheVariants as stage
@@ -22,7 +22,7 @@ abbrev pub left_in : Httpd → SiteContent → Stage → List ℕ
 left_in a site stage.Method = []
 left_in a site stage.Target = []
 left_in a site stage.Refused = []
-left_in a site (stage.Reply found) = text_of (files_of site) (left_from (reply_in site found a.capture) a.thread) []
+left_in a site (stage.Reply found) = page_text (files_of site) (left_from (reply_in site found a.capture) a.thread) []
 
 drop_none : (n : ℕ) → drop {A = ℕ} n [] ≡ []
 drop_none n = drop-nil n
@@ -36,7 +36,7 @@ left_by a site part stage.Target (hears, nothing) = nothing_left (files_of site)
 left_by a site part stage.Refused (refused, nothing) = nothing_left (files_of site) part Refused refused refl
 left_by a site part (stage.Reply found) (name, is) =
     ap (λ w. drop part.acked (page_for (files_of site) w part.captures)) is.wanted
-    ∙ ap (λ ks. drop part.acked (text_of (files_of site) (reply_of (files_of site) name) ks)) (sym (append-nil part.captures))
+    ∙ ap (λ ks. drop part.acked (page_text (files_of site) (reply_pieces (files_of site) name) ks)) (sym (append-nil part.captures))
     ∙ sym (is.left.text [])
 
 -- the text that is left, told by the value alone

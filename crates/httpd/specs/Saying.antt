@@ -5,11 +5,11 @@ use Rattle.app_events.specs.declared.want.Want.TheVariants.{Nothing, Send, Close
 use Rattle.site_image.specs.Files.{File}
 use Rattle.web_pages.specs.Pieces.{Say}
 use Rattle.web_pages.specs.Pieces.Say.{Made}
-use Rattle.web_pages.specs.Pages.{reach_end, takes_capture, text_of}
+use Rattle.web_pages.specs.Pages.{reach_end, takes_capture, page_text}
 use Rattle.web_pages.specs.declared.TheConstants.{LARGEST_SEGMENT}
 use Rattle.httpd.specs.declared.saying.Due.{Due}
 use Rattle.httpd.specs.declared.thread.Thread.{Thread}
-use Rattle.httpd.specs.Reply.{Reply, left_from}
+use Rattle.httpd.specs.Reply.{FileReply, left_from}
 use Rattle.httpd.specs.Looking.{IsPast, SeesCall}
 
 -- by the text that is left and whether it reaches the end of the page
@@ -21,10 +21,10 @@ want_left text whole =
 
 -- text is left, or the end is reached
 abbrev pub IsNotDue : List File → List Say → Type 0
-IsNotDue files pieces = length (text_of files pieces []) ≡ 0 → reach_end pieces [] ≡ true
+IsNotDue files pieces = length (page_text files pieces []) ≡ 0 → reach_end pieces [] ≡ true
 
 -- what is left is what a call and the rest of the script behind it say
-pub record IsDue (reply : Reply) (thread : Thread) (due : Due) : Type 0 where
+pub record IsDueReply (reply : FileReply) (thread : Thread) (due : Due) : Type 0 where
   pub pieces : List Say
   pub past : IsPast reply.files 0 (left_from reply thread) pieces
   pub call : SeesCall reply pieces (Made due.function due.argument.now) due.next

@@ -6,7 +6,7 @@ ghost use Rattle.std.specs.List.{starts_with};
 ghost use Rattle.file_tree.specs.Site.{files_of};
 ghost use Rattle.site_image.specs.Files.{file_named};
 ghost use Rattle.protosocket.specs.declared.stops.Stops.TheVariants.{SpaceOrLine};
-ghost use Rattle.protosocket.specs.Line.{after, heard, taken, word_of};
+ghost use Rattle.protosocket.specs.Line.{after, heard, part_taken, word_of};
 ghost use Rattle.web_pages.specs.Pages.{place_of};
 ghost use Rattle.web_pages.specs.Requests.{name_in, wanted};
 ghost use Rattle.web_pages.specs.Requests.Wanted.{NotYet};
@@ -37,7 +37,7 @@ pub(crate) enum Heard {
 /// The word goes on with a piece, of which so many bytes are taken.
 fn feed(line: &mut LineIn, piece: &[u8]) -> usize
     ensures after { line.new ≡ after line.old piece.now }
-    ensures taken { result ≡ taken line.old piece.now }
+    ensures taken { result ≡ part_taken line.old piece.now }
     ensures within { result ≤ length piece.now }
 {
     line.feed(piece)

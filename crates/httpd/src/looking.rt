@@ -3,7 +3,7 @@
 ghost use Rattle.std.specs.Prelude.{◌≡◌, ◌≤◌, ◌∷◌, [], true, drop, length, slice_range};
 ghost use Rattle.file_tree.specs.Site.{files_of};
 ghost use Rattle.site_image.specs.Files.{file_named};
-ghost use Rattle.web_pages.specs.Pieces.{bytes_of};
+ghost use Rattle.web_pages.specs.Pieces.{piece_bytes};
 ghost use Rattle.web_pages.specs.Pieces.Say.{Plain, Made};
 ghost use Rattle.httpd.specs.Reply.{body_from, found_file, is_scripted, left_from, reply_in};
 ghost use Rattle.httpd.specs.Places.{Fits, IsBodyPlace, IsFound, IsInner};
@@ -153,7 +153,7 @@ fn look_include<'a>(
 ) -> Look<'a>
     requires found { IsFound (files_of site.now) found }
     requires inner { IsInner (reply_in site.now found capture.now) next }
-    ensures { Sees (reply_in site.now found capture.now) (Plain (bytes_of (file_named (files_of site.now) name.now)) ∷ body_from (reply_in site.now found capture.now) next) result }
+    ensures { Sees (reply_in site.now found capture.now) (Plain (piece_bytes (file_named (files_of site.now) name.now)) ∷ body_from (reply_in site.now found capture.now) next) result }
 {
     match site.find(name) {
         Some(file) => look_inside(site, found, capture, next, file, 0),

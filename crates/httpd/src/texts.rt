@@ -3,7 +3,7 @@
 ghost use Rattle.std.specs.Prelude.{◌≡◌, ◌≤◌, ◌<◌, length, option_map, slice_get, None, Some};
 ghost use Rattle.site_image.specs.Files.{kind_of};
 ghost use Rattle.file_tree.specs.Site.{files_of, IsLoaded};
-ghost use Rattle.web_pages.specs.Pieces.{bytes_of, kind_line};
+ghost use Rattle.web_pages.specs.Pieces.{piece_bytes, kind_line};
 ghost use Rattle.httpd.specs.Reply.{body_bytes, found_file, head_text, is_scripted, kind_text};
 ghost use Rattle.httpd.specs.Places.{IsFound};
 
@@ -45,7 +45,7 @@ fn kind_at(site: &Site, id: FileId) -> &[u8]
 /// The bytes of a file.
 pub(crate) fn bytes_at(site: &Site, id: FileId) -> &[u8]
     requires { id.0 < length (files_of site.now) }
-    ensures text { result.now ≡ bytes_of (slice_get (files_of site.now) id.0) }
+    ensures text { result.now ≡ piece_bytes (slice_get (files_of site.now) id.0) }
     ensures short { length result.now ≤ 16777216 }
 {
     see_loaded(site);

@@ -1,5 +1,5 @@
 ghost use Rattle.std.specs.Prelude.{◌≡◌, ◌+◌, ◌<◌, ◌^◌};
-ghost use Rattle.httpd.specs.Places.{moved, place_of};
+ghost use Rattle.httpd.specs.Places.{moved, thread_place};
 
 use file_tree::FileId;
 
@@ -22,7 +22,7 @@ pub enum Thread {
 
 /// The thread after so many more bytes of its piece.
 pub(crate) fn moved(thread: Thread, count: u32) -> Thread
-    requires { place_of thread + count < 2 ^ 32 }
+    requires { thread_place thread + count < 2 ^ 32 }
     ensures { result ≡ moved thread count }
 {
     match thread {

@@ -10,7 +10,7 @@ ghost use Rattle.generators.specs.Captures.{capture_of};
 ghost use Rattle.generators.specs.Text.{capture_text};
 ghost use Rattle.file_tree.specs.Site.{files_of};
 ghost use Rattle.web_pages.specs.Requests.{wanted};
-ghost use Rattle.web_pages.specs.Pieces.{bytes_of, kind_line, says};
+ghost use Rattle.web_pages.specs.Pieces.{piece_bytes, kind_line, says};
 ghost use Rattle.web_pages.specs.ZeroPages.{request_for, zero_moment, zero_page, zero_reply, zero_said};
 ghost use Rattle.httpd.specs.Hearing.{HearsTarget};
 ghost use Rattle.httpd.specs.Places.{IsFound};
@@ -140,7 +140,7 @@ fn write_piece<K: Sink>(
 /// Writes the bytes of the file of a name.
 fn write_included<K: Sink>(site: &Site, name: &[u8], sink: &mut K) -> Result<(), Failed>
     ensures { Writes (K.written sink.old) (K.written sink.new) (K.faults sink.old) (K.faults sink.new) result
-        (bytes_of (file_named (files_of site.now) name.now)) }
+        (piece_bytes (file_named (files_of site.now) name.now)) }
 {
     match site.find(name) {
         Some(file) => say(sink, bytes_at(site, file)),

@@ -4,7 +4,7 @@ use Rattle.uip_ipv4.specs.Head.{head_bytes, head_or_fate}
 use Rattle.uip_wire.specs.Checksum.{folded}
 use Rattle.tcp_segment.specs.Received.{segment_in}
 use Rattle.tcp_segment.specs.Segments.{datagram_bytes}
-use Rattle.link_client.specs.Calls.{datagram_of, hears}
+use Rattle.link_client.specs.Calls.{client_datagram, client_hears}
 use Rattle.link_client.specs.Client.{idle, syn_of}
 use Rattle.link_client.specs.declared.setup.Setup.{Setup}
 
@@ -19,7 +19,7 @@ setup = record {
   server_port = record { 0 = 80 };
 }
 
-syn_row : datagram_bytes (datagram_of setup (syn_of (idle setup []))) ≡
+syn_row : datagram_bytes (client_datagram setup (syn_of (idle setup []))) ≡
     0x45 ∷ 0 ∷ 0 ∷ 0x28 ∷ 0 ∷ 0 ∷ 0 ∷ 0 ∷ 0x40 ∷ 6 ∷ 0x66 ∷ 0xce ∷ 10 ∷ 0 ∷ 0 ∷ 2 ∷ 10 ∷ 0 ∷ 0 ∷ 1
     ∷ 4 ∷ 1 ∷ 0 ∷ 0x50 ∷ 0 ∷ 0 ∷ 3 ∷ 0xe8 ∷ 0 ∷ 0 ∷ 0 ∷ 0 ∷ 0x50 ∷ 2 ∷ 0xff ∷ 0xff ∷ 0x93 ∷ 0xa7 ∷ 0 ∷ 0 ∷ []
 unfolding datagram_bytes head_bytes folded
@@ -30,14 +30,14 @@ syn_ack =
     0x45 ∷ 0 ∷ 0 ∷ 0x2c ∷ 0 ∷ 1 ∷ 0 ∷ 0 ∷ 0x40 ∷ 6 ∷ 0x66 ∷ 0xc9 ∷ 10 ∷ 0 ∷ 0 ∷ 1 ∷ 10 ∷ 0 ∷ 0 ∷ 2
     ∷ 0 ∷ 0x50 ∷ 4 ∷ 1 ∷ 0 ∷ 0 ∷ 0 ∷ 0 ∷ 0 ∷ 0 ∷ 3 ∷ 0xe9 ∷ 0x60 ∷ 0x12 ∷ 5 ∷ 0xb4 ∷ 0x76 ∷ 0x26 ∷ 0 ∷ 0 ∷ 2 ∷ 4 ∷ 5 ∷ 0xb4 ∷ []
 
-syn_ack_row : hears setup syn_ack ≡ Some (record { seq = 0; ack = 1001; flags = 18; window = 1460; mss = Some 1460; text = [] })
+syn_ack_row : client_hears setup syn_ack ≡ Some (record { seq = 0; ack = 1001; flags = 18; window = 1460; mss = Some 1460; text = [] })
 unfolding head_or_fate segment_in folded
 syn_ack_row = refl
 
-other_port_row : hears (record setup { port = record { 0 = 1026 } }) syn_ack ≡ None
+other_port_row : client_hears (record setup { port = record { 0 = 1026 } }) syn_ack ≡ None
 unfolding head_or_fate segment_in folded
 other_port_row = refl
 
-other_server_row : hears (record setup { server = record { 0 = 10 ∷ 0 ∷ 0 ∷ 9 ∷ [] } }) syn_ack ≡ None
+other_server_row : client_hears (record setup { server = record { 0 = 10 ∷ 0 ∷ 0 ∷ 9 ∷ [] } }) syn_ack ≡ None
 unfolding head_or_fate segment_in folded
 other_server_row = refl

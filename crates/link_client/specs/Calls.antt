@@ -11,7 +11,7 @@ use Rattle.tcp_segment.specs.Received.{plain_of, segment_or_fate}
 use Rattle.tcp_segment.specs.Segments.{PlainSegment, Datagram, datagram_bytes}
 use Rattle.tcp_segment.specs.declared.fate.TcpFate.{TcpFate}
 use Rattle.tcp_segment.specs.declared.segment.Segment.{Segment}
-use Rattle.link_client.specs.Client.{AbstractClient, ClientStep, client_takes, fin_sent, is_receiving, keeps, may_finish, waits_for_ack}
+use Rattle.link_client.specs.Client.{AbstractClient, ClientStep, client_takes, fin_sent, is_receiving, keeps, may_finish, has_outstanding}
 use Rattle.link_client.specs.declared.client.Client.{Client}
 use Rattle.link_client.specs.declared.client_state.ClientState.{ClientState}
 use Rattle.link_client.specs.declared.client_state.ClientState.TheVariants.{Idle, Opening, Opened, Closing, Reset}
@@ -40,8 +40,8 @@ pub record IsClient (c : Client) (request : List ℕ) : Type 0 where
   pub short : length request ≤ 4096
 
 -- the datagram of a client's segment (RFC 791, RFC 793): identification 0
-abbrev pub datagram_of : Setup → PlainSegment → Datagram
-datagram_of setup s = record {
+abbrev pub client_datagram : Setup → PlainSegment → Datagram
+client_datagram setup s = record {
   source = setup.addr.0;
   target = setup.server.0;
   from = setup.port.0;
@@ -58,7 +58,7 @@ pub record StandsAtFront (bytes : List ℕ) (sent : Option ℕ) (area : List ℕ
 -- what is sent, if anything is, stands at the front of the area
 abbrev pub Sends : Setup → Option PlainSegment → Option ℕ → List ℕ → Type 0
 Sends setup None sent area = sent ≡ None
-Sends setup (Some s) sent area = StandsAtFront (datagram_bytes (datagram_of setup s)) sent area
+Sends setup (Some s) sent area = StandsAtFront (datagram_bytes (client_datagram setup s)) sent area
 
 -- a call did this step
 pub record Did (step : ClientStep) (after : AbstractClient) (answer : Option ℕ) (area : List ℕ) : Type 0 where
@@ -80,13 +80,13 @@ abbrev pub heard_by_head : Setup → List ℕ → Result IpHead IpFate → Optio
 heard_by_head setup bytes (Ok head) = heard_by_proto head.proto setup head bytes
 heard_by_head setup bytes (Err fate) = None
 
-abbrev pub hears : Setup → List ℕ → Option PlainSegment
-hears setup bytes = heard_by_head setup bytes (head_or_fate bytes setup.addr.0)
+abbrev pub client_hears : Setup → List ℕ → Option PlainSegment
+client_hears setup bytes = heard_by_head setup bytes (head_or_fate bytes setup.addr.0)
 
 -- the step on a datagram
-abbrev pub takes : AbstractClient → Option PlainSegment → ClientStep
-takes c None = keeps c
-takes c (Some s) = client_takes c s
+abbrev pub client_hands : AbstractClient → Option PlainSegment → ClientStep
+client_hands c None = keeps c
+client_hands c (Some s) = client_takes c s
 
 -- the bytes that it took before, and the text where it takes that too
 abbrev pub received_with : Bool → List ℕ → List ℕ → List ℕ
@@ -106,7 +106,7 @@ is_opened _ = false
 -- it sends request bytes or its FIN next
 abbrev pub has_more_to_send : AbstractClient → Bool
 has_more_to_send c =
-    not (waits_for_ack c)
+    not (has_outstanding c)
     && ((is_receiving c.state && nat_lt c.acked (length c.request)) || (may_finish c.state && not (fin_sent c.fin)))
 
 -- it can still be given up: the server's FIN is not yet taken

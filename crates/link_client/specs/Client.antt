@@ -42,8 +42,8 @@ pub record ClientStep : Type 0 where
 abbrev pub keeps : AbstractClient → ClientStep
 keeps c = record { client = c; sent = None }
 
-abbrev pub gives : AbstractClient → PlainSegment → ClientStep
-gives c s = record { client = c; sent = Some s }
+abbrev pub steps_with : AbstractClient → PlainSegment → ClientStep
+steps_with c s = record { client = c; sent = Some s }
 
 -- Its plain close: it took the server's FIN in sequence.
 abbrev pub has_closed : ClientState → Bool
@@ -78,30 +78,30 @@ abbrev pub one_if : Bool → ℕ
 one_if true = 1
 one_if false = 0
 
-abbrev pub first_of : AbstractClient → ℕ
-first_of c = c.setup.iss.0
+abbrev pub own_first : AbstractClient → ℕ
+own_first c = c.setup.iss.0
 
 -- the number after all that it sent
 abbrev pub next_own : AbstractClient → ℕ
-next_own c = wrap (first_of c + 1 + c.acked + c.out + one_if (fin_sent c.fin))
+next_own c = wrap (own_first c + 1 + c.acked + c.out + one_if (fin_sent c.fin))
 
 -- something of its own is outstanding
-abbrev pub waits_for_ack : AbstractClient → Bool
-waits_for_ack c = nat_lt 0 c.out || fin_out c.fin
+abbrev pub has_outstanding : AbstractClient → Bool
+has_outstanding c = nat_lt 0 c.out || fin_out c.fin
 
 -- The segments that it sends.
 abbrev pub offered : ℕ → Option ℕ
 offered mss = if mss == 0 then None else Some mss
 
 abbrev pub syn_of : AbstractClient → PlainSegment
-syn_of c = record { seq = first_of c; ack = 0; flags = SYN; window = c.window; mss = offered c.setup.mss; text = [] }
+syn_of c = record { seq = own_first c; ack = 0; flags = SYN; window = c.window; mss = offered c.setup.mss; text = [] }
 
 abbrev pub ack_of : AbstractClient → PlainSegment
 ack_of c = record { seq = next_own c; ack = c.expected; flags = ACK; window = c.window; mss = None; text = [] }
 
-abbrev pub request_of : AbstractClient → PlainSegment
-request_of c = record {
-  seq = wrap (first_of c + 1 + c.acked);
+abbrev pub own_request : AbstractClient → PlainSegment
+own_request c = record {
+  seq = wrap (own_first c + 1 + c.acked);
   ack = c.expected;
   flags = ACK + PSH;
   window = c.window;
@@ -109,20 +109,20 @@ request_of c = record {
   text = take c.out (drop c.acked c.request);
 }
 
-abbrev pub fin_of : AbstractClient → PlainSegment
-fin_of c = record { seq = wrap (first_of c + 1 + c.acked + c.out); ack = c.expected; flags = FIN + ACK; window = c.window; mss = None; text = [] }
+abbrev pub own_fin : AbstractClient → PlainSegment
+own_fin c = record { seq = wrap (own_first c + 1 + c.acked + c.out); ack = c.expected; flags = FIN + ACK; window = c.window; mss = None; text = [] }
 
-abbrev pub reset_of : AbstractClient → PlainSegment
-reset_of c = record { seq = next_own c; ack = c.expected; flags = RST + ACK; window = c.window; mss = None; text = [] }
+abbrev pub own_reset : AbstractClient → PlainSegment
+own_reset c = record { seq = next_own c; ack = c.expected; flags = RST + ACK; window = c.window; mss = None; text = [] }
 
 -- What it sends next: request bytes, its FIN, or a bare ACK where one is owed. One thing is outstanding at a time.
 unfoldable pub sends_next : Bool → AbstractClient → ClientStep
 sends_next owed c =
-    if not (waits_for_ack c) && (is_receiving c.state && nat_lt c.acked (length c.request)) then
-    (let d : AbstractClient = record c { out = min c.setup.seg (length c.request - c.acked) } in gives d (request_of d))
-    else if not (waits_for_ack c) && (may_finish c.state && not (fin_sent c.fin)) then
-    gives (record c { fin = FinAt.Out }) (fin_of c)
-    else if owed then gives c (ack_of c)
+    if not (has_outstanding c) && (is_receiving c.state && nat_lt c.acked (length c.request)) then
+    (let d : AbstractClient = record c { out = min c.setup.seg (length c.request - c.acked) } in steps_with d (own_request d))
+    else if not (has_outstanding c) && (may_finish c.state && not (fin_sent c.fin)) then
+    steps_with (record c { fin = FinAt.Out }) (own_fin c)
+    else if owed then steps_with c (ack_of c)
     else keeps c
 
 -- what was out of the FIN is acknowledged
@@ -134,7 +134,7 @@ fin_heard FinAt.Acked = FinAt.Acked
 -- what is outstanding is acknowledged where the number is its next own one
 abbrev pub hears_ack : AbstractClient → PlainSegment → AbstractClient
 hears_ack c s =
-    if has_ack s.flags && (waits_for_ack c && (s.ack == next_own c))
+    if has_ack s.flags && (has_outstanding c && (s.ack == next_own c))
     then record c { acked = c.acked + c.out; out = 0; fin = fin_heard c.fin }
     else c
 
@@ -168,7 +168,7 @@ opened_by c s = record c { state = Opened; expected = wrap (s.seq + 1) }
 
 -- a RST counts where it answers the SYN, and afterwards at the expected number
 abbrev pub is_reset_by : ClientState → AbstractClient → PlainSegment → Bool
-is_reset_by Opening c s = has_ack s.flags && (s.ack == wrap (first_of c + 1))
+is_reset_by Opening c s = has_ack s.flags && (s.ack == wrap (own_first c + 1))
 is_reset_by Opened c s = s.seq == c.expected
 is_reset_by Closing c s = s.seq == c.expected
 is_reset_by Idle c s = false
@@ -180,7 +180,7 @@ unfoldable pub takes_by : ClientState → AbstractClient → PlainSegment → Cl
 takes_by Idle c s = keeps c
 takes_by Reset c s = keeps c
 takes_by Opening c s =
-    if has_syn s.flags && (has_ack s.flags && (s.ack == wrap (first_of c + 1))) then sends_next true (opened_by c s)
+    if has_syn s.flags && (has_ack s.flags && (s.ack == wrap (own_first c + 1))) then sends_next true (opened_by c s)
     else keeps c
 takes_by Opened c s = takes_in_order (hears_ack c s) s
 takes_by Closing c s = takes_in_order (hears_ack c s) s
@@ -195,26 +195,26 @@ client_takes c s =
 
 -- Its own acts.
 unfoldable pub opens_by : ClientState → AbstractClient → ClientStep
-opens_by Idle c = let d : AbstractClient = record c { state = Opening } in gives d (syn_of d)
+opens_by Idle c = let d : AbstractClient = record c { state = Opening } in steps_with d (syn_of d)
 opens_by _ c = keeps c
 
 unfoldable pub again_by : ClientState → AbstractClient → ClientStep
 again_by Idle c = keeps c
 again_by Reset c = keeps c
-again_by Opening c = gives c (syn_of c)
+again_by Opening c = steps_with c (syn_of c)
 again_by _ c =
-    if nat_lt 0 c.out then gives c (request_of c)
-    else if fin_out c.fin then gives c (fin_of c)
-    else gives c (ack_of c)
+    if nat_lt 0 c.out then steps_with c (own_request c)
+    else if fin_out c.fin then steps_with c (own_fin c)
+    else steps_with c (ack_of c)
 
 unfoldable pub closes_by : ClientState → AbstractClient → ClientStep
 closes_by Opened c = sends_next false (record c { state = Closing })
 closes_by _ c = keeps c
 
 unfoldable pub aborts_by : ClientState → AbstractClient → ClientStep
-aborts_by Opening c = gives (record c { state = Reset }) (reset_of c)
-aborts_by Opened c = gives (record c { state = Reset }) (reset_of c)
-aborts_by Closing c = gives (record c { state = Reset }) (reset_of c)
+aborts_by Opening c = steps_with (record c { state = Reset }) (own_reset c)
+aborts_by Opened c = steps_with (record c { state = Reset }) (own_reset c)
+aborts_by Closing c = steps_with (record c { state = Reset }) (own_reset c)
 aborts_by _ c = keeps c
 
 abbrev pub client_opens : AbstractClient → ClientStep

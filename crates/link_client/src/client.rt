@@ -1,5 +1,5 @@
 ghost use Rattle.std.specs.Prelude.{◌≡◌, ◌+◌, ◌≤◌, ◌++◌, ◌&&◌, not, nat_lt, ℕ, [], List, Some, is_some, length, slice_range};
-ghost use Rattle.link_client.specs.Calls.{Did, IsClient, can_abort, has_spoken, hears, is_opened, standing, takes};
+ghost use Rattle.link_client.specs.Calls.{Did, IsClient, can_abort, has_spoken, client_hears, is_opened, standing, client_hands};
 ghost use Rattle.link_client.specs.Client.{client_aborts, client_again, client_closes, client_opens, idle, tells_window};
 
 use crate::client_state::ClientState;
@@ -68,7 +68,7 @@ impl Client {
         ensures room { length area.new ≡ length area.old }
         ensures inside { result.fresh_at + result.fresh_len ≤ length datagram.now }
         ensures none { result.fresh_len ≡ 0 → result.fresh_at ≡ 0 }
-        ensures step { (received : List ℕ) → Did (takes (standing self.old request.now received) (hears self.old.setup datagram.now)) (standing self.new request.now (received ++ slice_range datagram.now result.fresh_at (result.fresh_at + result.fresh_len))) result.sent area.new }
+        ensures step { (received : List ℕ) → Did (client_hands (standing self.old request.now received) (client_hears self.old.setup datagram.now)) (standing self.new request.now (received ++ slice_range datagram.now result.fresh_at (result.fresh_at + result.fresh_len))) result.sent area.new }
     {
         let Some(segment) = hear(&self.setup, datagram) else {
             return Took {

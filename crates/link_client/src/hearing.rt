@@ -3,7 +3,7 @@
 ghost use Rattle.std.specs.Prelude.{◌≡◌, ◌+◌, ◌≤◌, ◌==◌, ◌&&◌, IfSome, length, option_map};
 ghost use Rattle.tcp_segment.specs.Received.{plain_of};
 ghost use Rattle.std.specs.Prelude.{bytes_eq};
-ghost use Rattle.link_client.specs.Calls.{hears};
+ghost use Rattle.link_client.specs.Calls.{client_hears};
 
 use crate::setup::Setup;
 use tcp_segment::Segment;
@@ -19,7 +19,7 @@ fn is_of(setup: &Setup, source: Addr, segment: &Segment) -> bool
 
 /// The segment of its server that a client hears in a datagram, if it is one.
 pub(crate) fn hear(setup: &Setup, datagram: &[u8]) -> Option<Segment>
-    ensures heard { option_map (λ segment. plain_of segment datagram.now) result ≡ hears setup.now datagram.now }
+    ensures heard { option_map (λ segment. plain_of segment datagram.now) result ≡ client_hears setup.now datagram.now }
     ensures inside { IfSome result (λ segment. segment.text_at + segment.text_len ≤ length datagram.now) }
 {
     let Ok(head) = uip_ipv4::check(datagram, setup.addr) else {

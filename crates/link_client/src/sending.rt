@@ -3,7 +3,7 @@
 ghost use Rattle.std.specs.Prelude.{◌≡◌, ◌+◌, ◌≤◌, [], IsSome, Some, length, slice_range};
 ghost use Rattle.uip_wire.specs.Numbers.{wrap};
 ghost use Rattle.link_client.specs.Calls.{IsClient, Sends, standing};
-ghost use Rattle.link_client.specs.Client.{ack_of, again_by, fin_of, next_own, offered, request_of, reset_of, syn_of};
+ghost use Rattle.link_client.specs.Client.{ack_of, again_by, own_fin, next_own, offered, own_request, own_reset, syn_of};
 
 use crate::client::Client;
 use crate::client_state::ClientState;
@@ -124,7 +124,7 @@ impl Client {
     pub(crate) fn send_request(&self, request: &[u8], area: &mut [u8]) -> usize
         requires client { IsClient self.now request.now }
         requires room { LARGEST_DATAGRAM ≤ length area.old }
-        ensures sent { Sends self.now.setup (Some (request_of (standing self.now request.now []))) (Some result) area.new }
+        ensures sent { Sends self.now.setup (Some (own_request (standing self.now request.now []))) (Some result) area.new }
     {
         let heading = Heading {
             seq: self.first_unacked(),
@@ -159,7 +159,7 @@ impl Client {
     /// Its FIN.
     pub(crate) fn send_fin(&self, area: &mut [u8]) -> usize
         requires room { LARGEST_DATAGRAM ≤ length area.old }
-        ensures sent { Sends self.now.setup (Some (fin_of (standing self.now [] []))) (Some result) area.new }
+        ensures sent { Sends self.now.setup (Some (own_fin (standing self.now [] []))) (Some result) area.new }
     {
         self.send_bare(self.after_text(), FIN + ACK, area)
     }
@@ -167,7 +167,7 @@ impl Client {
     /// The RST by which it gives its connection up.
     pub(crate) fn send_reset(&self, area: &mut [u8]) -> usize
         requires room { LARGEST_DATAGRAM ≤ length area.old }
-        ensures sent { Sends self.now.setup (Some (reset_of (standing self.now [] []))) (Some result) area.new }
+        ensures sent { Sends self.now.setup (Some (own_reset (standing self.now [] []))) (Some result) area.new }
     {
         self.send_bare(self.next_own(), RST + ACK, area)
     }

@@ -5,7 +5,7 @@ ghost use Rattle.tcp_segment.specs.Received.{plain_of};
 ghost use Rattle.tcp_machine.specs.Segments.{has_place};
 ghost use Rattle.tcp_machine.specs.Stands.{plain};
 ghost use Rattle.link_client.specs.Calls.{Did, IsClient, has_more_to_send, received_with, standing};
-ghost use Rattle.link_client.specs.Client.{after_fin, client_takes, fin_heard, fin_sent, hears_ack, is_receiving, is_reset_by, may_finish, sends_next, takes_by, takes_in_order, takes_text, waits_for_ack};
+ghost use Rattle.link_client.specs.Client.{after_fin, client_takes, fin_heard, fin_sent, hears_ack, is_receiving, is_reset_by, may_finish, sends_next, takes_by, takes_in_order, takes_text, has_outstanding};
 
 use crate::client::Client;
 use crate::client_state::ClientState;
@@ -95,7 +95,7 @@ fn has_place(segment: &Segment, piece: &[u8]) -> bool
 impl Client {
     /// Something of its own is outstanding.
     fn waits_for_ack(&self) -> bool
-        ensures { result ≡ waits_for_ack (standing self.now [] []) }
+        ensures { result ≡ has_outstanding (standing self.now [] []) }
     {
         self.out > 0 || self.fin == FinAt::Out
     }
@@ -109,7 +109,7 @@ impl Client {
 
     /// Bytes of its request may be sent.
     fn has_text_to_send(&self, len: usize) -> bool
-        ensures { result ≡ (not (waits_for_ack (standing self.now [] [])) && (is_receiving self.now.state && nat_lt self.now.acked len)) }
+        ensures { result ≡ (not (has_outstanding (standing self.now [] [])) && (is_receiving self.now.state && nat_lt self.now.acked len)) }
     {
         !self.waits_for_ack() && self.is_receiving() && (self.acked as usize) < len
     }
@@ -126,7 +126,7 @@ impl Client {
 
     /// Its FIN may be sent.
     fn has_fin_to_send(&self) -> bool
-        ensures { result ≡ (not (waits_for_ack (standing self.now [] [])) && (may_finish self.now.state && not (fin_sent self.now.fin))) }
+        ensures { result ≡ (not (has_outstanding (standing self.now [] [])) && (may_finish self.now.state && not (fin_sent self.now.fin))) }
     {
         !self.waits_for_ack() && self.may_finish() && self.fin == FinAt::NotSent
     }

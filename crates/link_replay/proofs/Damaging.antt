@@ -5,7 +5,7 @@ use Rattle.uip_node.specs.Edge.{event_of}
 use Rattle.uip_node.specs.Events.{Reply}
 use Rattle.uip_node.specs.Node.{step}
 use Rattle.link_world.specs.Acts.{damages_at, fault_of, hands_over}
-use Rattle.link_world.specs.Bytes.{bytes_of, changed}
+use Rattle.link_world.specs.Bytes.{sent_bytes, changed}
 use Rattle.link_world.specs.World.{World, Sent, numbered}
 use Rattle.link_world.specs.declared.act.Act.{Act}
 use Rattle.link_world.specs.declared.who.Who.{Who}
@@ -25,7 +25,7 @@ module _ (m : Meaning) (served : ℕ → Bool) (w : World) where
 
   -- damage to a datagram that was sent is no act that the node answers
   pub damage_answers : (number at mask : ℕ) (e : Sent) → IsAt m served w → 1 ≤ mask → mask < 256 → fault_of w (Act.Damage number at mask) ≡ None → numbered w.sent number ≡ Some e →
-      AnswersTo w e.who (step m served w.node (event_of w.node.addr (changed (bytes_of w e) at mask))).sent
+      AnswersTo w e.who (step m served w.node (event_of w.node.addr (changed (sent_bytes w e) at mask))).sent
   damage_answers number at mask e h low high f g =
       let loss = act_harmless m served w (Act.Damage number at mask) (low, high) f (sound_at m served w h) in
-      loss_answers (changed (bytes_of w e) at mask) e.who (subst (λ (x : Option Sent). (damages_at m served w at mask x).sent ≡ w.sent) g loss.sent)
+      loss_answers (changed (sent_bytes w e) at mask) e.who (subst (λ (x : Option Sent). (damages_at m served w at mask x).sent ≡ w.sent) g loss.sent)

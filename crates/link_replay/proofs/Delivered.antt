@@ -9,8 +9,8 @@ use Rattle.uip_node.specs.Events.Event.{Arrived}
 use Rattle.uip_node.specs.Node.{AbstractNode, step}
 use Rattle.link_client.specs.Client.{AbstractClient, ClientStep, client_takes}
 use Rattle.link_world.specs.Acts.{client_handed, handed, hands_over}
-use Rattle.link_world.specs.Bytes.{hears}
-use Rattle.link_world.specs.World.{World, Side, Sent, Content, numbered, sockets_of, with_client, with_side, posts_of_client, marked, gives_node, gives_client, delivers, node_handles}
+use Rattle.link_world.specs.Bytes.{hears_datagram}
+use Rattle.link_world.specs.World.{World, Side, Sent, Content, numbered, client_sockets, with_client, with_side, posts_of_client, marked, gives_node, gives_client, delivers, node_handles}
 use Rattle.link_world.specs.World.Content.{OfSegment, OfPing, OfEcho}
 use Rattle.link_world.specs.declared.who.Who.{Who}
 use Rattle.link_world.specs.declared.who.Who.TheVariants.{FromClient, FromNode, Pinger}
@@ -57,7 +57,7 @@ module _ (m : Meaning) (served : ℕ → Bool) (w : World) (k : ℕ) (e : Sent) 
     pub same : hands_over m served (sees w (client_of who) k e (numbered w.sides (client_of who))) bytes who ≡ delivers m served w k e who content
     pub answers : AnswersTo (sees w (client_of who) k e (numbered w.sides (client_of who))) who (step m served w.node (event_of w.node.addr bytes)).sent
 
-  from_client : (number id : ℕ) (s : PlainSegment) (bytes : List ℕ) (side : Side) → numbered w.sides number ≡ Some side → event_of w.node.addr bytes ≡ Arrived (sockets_of side) s → Hands (FromClient number) (OfSegment id s) bytes
+  from_client : (number id : ℕ) (s : PlainSegment) (bytes : List ℕ) (side : Side) → numbered w.sides number ≡ Some side → event_of w.node.addr bytes ≡ Arrived (client_sockets side) s → Hands (FromClient number) (OfSegment id s) bytes
   from_client number id s bytes side g r =
       let v : World = with_side w number (marked side k e) in
       record {
@@ -66,10 +66,10 @@ module _ (m : Meaning) (served : ℕ → Bool) (w : World) (k : ℕ) (e : Sent) 
             ∙ sym (ap (λ (x : Option Side). gives_node m served w number k e s x) g);
         answers = subst (λ (x : Option Side). AnswersTo (sees w number k e x) (FromClient number) (step m served w.node (event_of w.node.addr bytes)).sent) (sym g)
             (subst (λ (x : Option Side). AreTo (pair_at_side x) (step m served w.node (event_of w.node.addr bytes)).sent) (sym (number_put w number side (marked side k e) g))
-            (subst (λ (event : Event). AreTo (Some (pair_at (sockets_of side))) (step m served w.node event).sent) (sym r) (arrived_to m served w.node (sockets_of side) s (Some (pair_at (sockets_of side))) refl)));
+            (subst (λ (event : Event). AreTo (Some (pair_at (client_sockets side))) (step m served w.node event).sent) (sym r) (arrived_to m served w.node (client_sockets side) s (Some (pair_at (client_sockets side))) refl)));
       }
 
-  from_node : (number id : ℕ) (s : PlainSegment) (bytes : List ℕ) (side : Side) → numbered w.sides number ≡ Some side → hears side.client.setup bytes ≡ Some s → Hands (FromNode number) (OfSegment id s) bytes
+  from_node : (number id : ℕ) (s : PlainSegment) (bytes : List ℕ) (side : Side) → numbered w.sides number ≡ Some side → hears_datagram side.client.setup bytes ≡ Some s → Hands (FromNode number) (OfSegment id s) bytes
   from_node number id s bytes side g r =
       let x : Side = marked side k e in
       let v : World = with_side w number x in

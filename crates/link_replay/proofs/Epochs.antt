@@ -5,7 +5,7 @@ use Rattle.std.proofs.lemmas.List.{drop_all, get_or-append-add, get_or-drop, get
 use Rattle.std.proofs.lemmas.Option.{slice_get-get_or}
 use Rattle.tcp_machine.specs.Connection.{Sockets, Connection, same_sockets}
 use Rattle.link_client.specs.Client.{AbstractClient}
-use Rattle.link_world.specs.World.{Side, addressed, buries, buries_in, sockets_of}
+use Rattle.link_world.specs.World.{Side, addressed, buries, buries_in, client_sockets}
 use Rattle.link_world.proofs.Tables.{get_set, here, there}
 use Rattle.link_replay.specs.Epochs.{IsAtLast, OnlyEpoch, buried, sockets_for}
 use Rattle.link_replay.specs.Matched.{Matched}
@@ -16,7 +16,7 @@ use Rattle.link_replay.specs.declared.socket_pair.SocketPair.{SocketPair}
 use Rattle.link_replay.proofs.Matching.{matched_cons, matched_head, matched_nil, matched_same, matched_tail}
 
 -- a client of the code has the sockets of the one over plain data
-has_same : (p : Sockets) (x : CodeSide) (s : Side) → SideStands x s → same_sockets p (sockets_for x.client.setup) ≡ same_sockets p (sockets_of s)
+has_same : (p : Sockets) (x : CodeSide) (s : Side) → SideStands x s → same_sockets p (sockets_for x.client.setup) ≡ same_sockets p (client_sockets s)
 has_same p x s h = ap (λ (c : AbstractClient). same_sockets p (sockets_for c.setup)) h.client
 
 -- its number is the first one's, or it is sought among the others
@@ -29,7 +29,7 @@ pub addressed_here : (number : ℕ) (p : SocketPair) (xs : List CodeSide) (x : C
 addressed_here number p [] x ss l at e h = absurd (omega (arith, l))
 addressed_here number p (y ∷ ys) x [] l at e h = absurd (omega (arith, h.same_length))
 addressed_here number p (y ∷ ys) x (s ∷ ss) l at e h =
-    let f : same_sockets (sockets_at p) (sockets_of s) ≡ true =
+    let f : same_sockets (sockets_at p) (client_sockets s) ≡ true =
     sym (has_same (sockets_at p) y s (matched_head SideStands y s ys ss h)) ∙ sym (ap (λ (z : CodeSide). same_sockets (sockets_at p) (sockets_for z.client.setup)) at) ∙ e in
     sym (ap (λ (b : Bool). if b then number else addressed (number + 1) (sockets_at p) ss) f)
 
@@ -39,7 +39,7 @@ pub addressed_later : (number : ℕ) (p : SocketPair) (xs : List CodeSide) (x : 
 addressed_later number p [] x found ss l at e later h = absurd (omega (arith, l))
 addressed_later number p (y ∷ ys) x found [] l at e later h = absurd (omega (arith, h.same_length))
 addressed_later number p (y ∷ ys) x found (s ∷ ss) l at e later h =
-    let f : same_sockets (sockets_at p) (sockets_of s) ≡ false =
+    let f : same_sockets (sockets_at p) (client_sockets s) ≡ false =
     sym (has_same (sockets_at p) y s (matched_head SideStands y s ys ss h)) ∙ sym (ap (λ (z : CodeSide). same_sockets (sockets_at p) (sockets_for z.client.setup)) at) ∙ e in
     later ss (subst (λ (l : List CodeSide). Matched SideStands l ss) (sym (take_rest (y ∷ ys) 1)) (matched_tail SideStands y s ys ss h)) ∙ sym (ap (λ (b : Bool). if b then number else addressed (number + 1) (sockets_at p) ss) f)
 
@@ -55,7 +55,7 @@ buried_by false g x s h = h
 -- a client that is one epoch on stands for one that is
 buried_stands : (g : Connection) (x : CodeSide) (s : Side) → SideStands x s → SideStands (buried (pair_at g.sockets) x) (buries_in g s)
 buried_stands g x s h =
-    let e : same_sockets g.sockets (sockets_for x.client.setup) ≡ same_sockets g.sockets (sockets_of s) = has_same g.sockets x s h in
+    let e : same_sockets g.sockets (sockets_for x.client.setup) ≡ same_sockets g.sockets (client_sockets s) = has_same g.sockets x s h in
     subst (λ (b : Bool). SideStands (buried (pair_at g.sockets) x) (if b then record s { past = s.past ++ record { first = g.first; captures = g.part.captures } ∷ [] } else s)) e
     (buried_by (same_sockets g.sockets (sockets_for x.client.setup)) g x s h)
 

@@ -11,7 +11,7 @@ use Rattle.uip_node.specs.Node.{AbstractNode, NodeStep, step, connection_in}
 use Rattle.uip_node.specs.StandsFor.{Stands}
 use Rattle.link_client.specs.Client.{AbstractClient, ClientStep, client_takes}
 use Rattle.link_world.specs.Acts.{client_acts, client_handed, handed}
-use Rattle.link_world.specs.Bytes.{hears}
+use Rattle.link_world.specs.Bytes.{hears_datagram}
 use Rattle.link_world.specs.World.{World, Side, with_client, with_side, posts_of_client, posts_reply, node_stepped, node_handles, buries}
 use Rattle.link_replay.specs.Noting.{owner, pair_at}
 use Rattle.link_replay.specs.Stands.{WorldStands, LinkStands, IsLink}
@@ -121,7 +121,7 @@ module _ {A S : Type 0} (g : Ghosts A S) where
   pub handed_done : (world : CodeWorld A S) (link : Link) (w : World) (number : ℕ) (bytes : List ℕ) (side : Option Side) → WorldStands g world w → LinkStands link (handed w number bytes side) → IsLink w.node.addr link
       → WorldStands g (record world { link = link }) (handed w number bytes side)
   handed_done world link w number bytes None s l i = linked world link w w s refl refl l i
-  handed_done world link w number bytes (Some side) s l i = client_handed_done world link w number side (hears side.client.setup bytes) s l i
+  handed_done world link w number bytes (Some side) s l i = client_handed_done world link w number side (hears_datagram side.client.setup bytes) s l i
 
 -- the periodic calls that are left of a tick
 slot_is : (slot : ℕ) → slot < 10 → get_or tick slot (Periodic 0) ≡ Periodic slot

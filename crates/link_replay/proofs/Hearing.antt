@@ -10,7 +10,7 @@ use Rattle.uip_node.specs.Events.{Event}
 use Rattle.uip_node.specs.Events.Event.{IpRefused, IcmpRefused, TcpRefused, EchoAsked, Arrived, Overlong, Periodic}
 use Rattle.link_client.specs.declared.setup.Setup.{Setup}
 use Rattle.link_client.specs.Client.{AbstractClient}
-use Rattle.link_world.specs.World.{World, Side, Content, numbered, sockets_of}
+use Rattle.link_world.specs.World.{World, Side, Content, numbered, client_sockets}
 use Rattle.link_world.specs.World.Content.{OfSegment, OfPing, OfEcho}
 use Rattle.link_world.specs.Bytes.{heard_by, server_of}
 use Rattle.link_world.specs.declared.who.Who.TheVariants.{FromClient, FromNode}
@@ -20,7 +20,7 @@ use Rattle.link_replay.specs.Stands.{SideStands}
 use Rattle.link_replay.specs.declared.side.Side.{Side as CodeSide}
 use Rattle.link_replay.specs.declared.kind.Kind.{Kind}
 use Rattle.link_replay.specs.declared.kind.Kind.TheVariants.{EchoReply}
-use Rattle.link_replay.specs.Report.{kind_of, segment_kind}
+use Rattle.link_replay.specs.Report.{kind_sent, segment_kind}
 use Rattle.link_replay.proofs.Listing.{partner}
 
 abbrev pub addr_of : Side → Addr
@@ -44,8 +44,8 @@ heard_arrived setup (Periodic place) s e = absurd cc
 pub client_kind : (w : World) (number : ℕ) (content : Content) (bytes : List ℕ) (kind : Kind)
     → ((sockets : Sockets) (s : PlainSegment) → event_of w.node.addr bytes ≡ Arrived sockets s → kind ≡ segment_kind s)
     → ((side : Side) → numbered w.sides number ≡ Some side → side.client.setup.server ≡ w.node.addr)
-    → IsRead w (FromClient number) content bytes → IsSentBy w.sides (FromClient number) content → kind ≡ kind_of content
-client_kind w number (OfSegment id s) bytes kind reads server read by = reads (sockets_of by.0) s (read by.0 by.1 (server by.0 by.1))
+    → IsRead w (FromClient number) content bytes → IsSentBy w.sides (FromClient number) content → kind ≡ kind_sent content
+client_kind w number (OfSegment id s) bytes kind reads server read by = reads (client_sockets by.0) s (read by.0 by.1 (server by.0 by.1))
 client_kind w number (OfPing datagram) bytes kind reads server read by = absurd by
 client_kind w number (OfEcho request) bytes kind reads server read by = absurd by
 
@@ -54,7 +54,7 @@ pub node_kind : (w : World) (number : ℕ) (content : Content) (bytes : List ℕ
     → Some own ≡ option_map addr_of (numbered w.sides number)
     → ((sockets : Sockets) (s : PlainSegment) → event_of own bytes ≡ Arrived sockets s → kind ≡ segment_kind s)
     → ((side : Side) → numbered w.sides number ≡ Some side → side.client.setup.server ≡ w.node.addr)
-    → IsRead w (FromNode number) content bytes → IsSentBy w.sides (FromNode number) content → kind ≡ kind_of content
+    → IsRead w (FromNode number) content bytes → IsSentBy w.sides (FromNode number) content → kind ≡ kind_sent content
 node_kind w number (OfSegment id s) bytes own kind found reads server read by =
     let side = by.0 in
     let here : Some own ≡ Some (addr_of side) = found ∙ ap (λ o. option_map addr_of o) by.1 in
@@ -68,7 +68,7 @@ node_kind w number (OfEcho request) bytes own kind found reads server read by =
 
 -- no client is there
 pub no_client_kind : (w : World) (number : ℕ) (content : Content) → None ≡ option_map addr_of (numbered w.sides number)
-    → IsSentBy w.sides (FromNode number) content → EchoReply ≡ kind_of content
+    → IsSentBy w.sides (FromNode number) content → EchoReply ≡ kind_sent content
 no_client_kind w number (OfSegment id s) found by =
     let here : None ≡ Some (addr_of by.0) = found ∙ ap (λ o. option_map addr_of o) by.1 in
     absurd cc

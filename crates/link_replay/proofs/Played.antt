@@ -24,9 +24,9 @@ use Rattle.link_world.specs.declared.step_fault.StepFault.TheVariants.{NoDatagra
 use Rattle.link_world.specs.Headline.{HasBytes, IsAct, OfLine}
 use Rattle.link_world.proofs.Fits.{all_nil}
 use Rattle.link_world.proofs.Lines.{line_acts}
-use Rattle.link_replay.specs.Opening.{opening, plan_from, server}
+use Rattle.link_replay.specs.Opening.{opening_for, plan_from, server}
 use Rattle.link_replay.specs.Playing.{LinesEnd, Plays, Reaches, Refuses, event_at, refusal_at}
-use Rattle.link_replay.specs.Reaching.{Ends, IsAt}
+use Rattle.link_replay.specs.Reaching.{ActsEnd, IsAt}
 use Rattle.link_replay.specs.Stands.{WorldStands}
 use Rattle.link_replay.specs.declared.world.World.{World as CodeWorld}
 use Rattle.link_replay.proofs.Opened.{is_plan, server_is_addr}
@@ -44,7 +44,7 @@ marked k (Err f) v h = absurd (cc)
 
 module _ (m : Meaning) (served : ℕ → Bool) where
   -- the opening world is reached by nothing
-  pub at_opening : (pages : Pages) (numbers : List ℕ) (plans : List Plan) → IsPaged m pages → HasBytes pages → All IsWord numbers → IsPlan (plan_from 1 plans) → IsAt m served (opening numbers plans)
+  pub at_opening : (pages : Pages) (numbers : List ℕ) (plans : List Plan) → IsPaged m pages → HasBytes pages → All IsWord numbers → IsPlan (plan_from 1 plans) → IsAt m served (opening_for numbers plans)
   at_opening pages numbers plans lawful bytes in_range plan = record {
     pages = pages;
     lawful = lawful;
@@ -75,7 +75,7 @@ module _ (m : Meaning) (served : ℕ → Bool) where
 
   -- one line further
   pub line_further : (Before Now : World → Type 0) (line : Line) (left : List Line) (place : ℕ) (end : Result World BadLine) (done : Unit {0}) → OfLine IsAct line.event
-      → ((w : World) → IsAt m served w → Before w → Ends Now (Ok done) (plays_line m served w line.event)) → AmidLines Before place (line ∷ left) end → AmidLines Now (place + 1) left end
+      → ((w : World) → IsAt m served w → Before w → ActsEnd Now (Ok done) (plays_line m served w line.event)) → AmidLines Before place (line ∷ left) end → AmidLines Now (place + 1) left end
   line_further Before Now line left place end done a f h =
       let s = f h.world h.at h.now in
       record {
@@ -103,7 +103,7 @@ module _ (m : Meaning) (served : ℕ → Bool) where
 
   -- a line is refused
   pub line_refused : {X : Type 0} (Now : X → World → Type 0) (Before After : World → Type 0) (lines : List Line) (line : Line) (left : List Line) (place : ℕ) (end : Result World BadLine) (fault : StepFault)
-      → slice_get lines place ≡ Some line → ((w : World) → IsAt m served w → Before w → Ends After (Err fault) (plays_line m served w line.event)) → AmidLines Before place (line ∷ left) end
+      → slice_get lines place ≡ Some line → ((w : World) → IsAt m served w → Before w → ActsEnd After (Err fault) (plays_line m served w line.event)) → AmidLines Before place (line ∷ left) end
       → LinesEnd m served Now lines (Err (refusal_at line.at fault)) end
   line_refused Now Before After lines line left place end NoDatagram there f h = refuses Before lines line left place end NoDatagram Why.NoDatagram there h (f h.world h.at h.now) refl
   line_refused Now Before After lines line left place end NoByte there f h = refuses Before lines line left place end NoByte Why.NoByte there h (f h.world h.at h.now) refl
@@ -127,7 +127,7 @@ module _ {A S : Type 0} (g : Ghosts A S) where
   -- the lines of a schedule, from the opening world of its clients on
   pub whole_schedule : (world : CodeWorld A S) (After : World → Type 0) (shared : S) (schedule : Schedule) (clients : List ClientPlan) (lines : List Line) (answer : Result (Unit {0}) ReadSchedule)
       → clients ≡ schedule.clients.items → lines ≡ schedule.lines.items → world.node.shared ≡ shared
-      → ((k : ℕ) (p : Planned) → slice_get (plan_from 1 (map plan_at clients)) k ≡ Some p → IsPlanned p) → WorldStands g world (opening (g.numbers shared) (map plan_at clients))
+      → ((k : ℕ) (p : Planned) → slice_get (plan_from 1 (map plan_at clients)) k ≡ Some p → IsPlanned p) → WorldStands g world (opening_for (g.numbers shared) (map plan_at clients))
       → ((w : World) → IsAt (g.meaning (g.kept world.node.shared)) g.served w → WorldStands g world w
       → LinesEnd (g.meaning (g.kept world.node.shared)) g.served (λ (done : Unit {0}). After) lines answer (plays (g.meaning (g.kept world.node.shared)) g.served (map event_at lines) w))
       → (pages : Pages) → IsPaged (g.meaning (g.kept shared)) pages → HasBytes pages → All IsWord (g.numbers shared)
@@ -135,12 +135,12 @@ module _ {A S : Type 0} (g : Ghosts A S) where
   whole_schedule world After shared schedule clients lines answer same_clients same_lines same_shared each stands ends pages lawful bytes words =
       let m = g.meaning (g.kept shared) in
       let plans = map plan_at schedule.clients.items in
-      let w = opening (g.numbers shared) plans in
+      let w = opening_for (g.numbers shared) plans in
       let planned : (k : ℕ) (p : Planned) → slice_get (plan_from 1 plans) k ≡ Some p → IsPlanned p
       = subst (λ (cs : List ClientPlan). (k : ℕ) (p : Planned) → slice_get (plan_from 1 (map plan_at cs)) k ≡ Some p → IsPlanned p) same_clients each in
       let at : IsAt m g.served w = at_opening m g.served pages (g.numbers shared) plans lawful bytes words (is_plan plans schedule.kept.apart planned) in
       let now : WorldStands g world w
-      = subst (λ (cs : List ClientPlan). WorldStands g world (opening (g.numbers shared) (map plan_at cs))) same_clients stands in
+      = subst (λ (cs : List ClientPlan). WorldStands g world (opening_for (g.numbers shared) (map plan_at cs))) same_clients stands in
       subst (λ (ls : List Line). LinesEnd m g.served (λ (done : Unit {0}). After) ls answer (plays m g.served (map event_at ls) w)) same_lines
       (subst (λ (s : S). IsAt (g.meaning (g.kept s)) g.served w → LinesEnd (g.meaning (g.kept s)) g.served (λ (done : Unit {0}). After) lines answer (plays (g.meaning (g.kept s)) g.served (map event_at lines) w)) same_shared
       (λ h. ends w h now) at)

@@ -12,7 +12,7 @@ use Rattle.link_world.specs.declared.step_fault.StepFault.{StepFault}
 use Rattle.link_world.specs.Headline.{IsAct, IsReached}
 use Rattle.link_world.proofs.Lines.{runs_mark, runs_joined}
 use Rattle.link_world.proofs.Fits.{all_nil, all_cons}
-use Rattle.link_replay.specs.Reaching.{IsAt, Steps}
+use Rattle.link_replay.specs.Reaching.{IsAt, ActSteps}
 
 module _ (m : Meaning) (served : ℕ → Bool) where
   -- acts in turn
@@ -77,7 +77,7 @@ module _ (m : Meaning) (served : ℕ → Bool) where
 
   -- one act further
   pub further : (Before Now : World → Type 0) (act : Act) (left : List Act) (end : Result World StepFault) (done : Unit {0}) → IsAct act →
-      ((w : World) → IsAt m served w → Before w → Steps Now w (Ok done) (acts m served w act)) → Amid Before (act ∷ left) end → Amid Now left end
+      ((w : World) → IsAt m served w → Before w → ActSteps Now w (Ok done) (acts m served w act)) → Amid Before (act ∷ left) end → Amid Now left end
   further Before Now act left end done a f h =
       let s = f h.world h.at h.now in
       record {

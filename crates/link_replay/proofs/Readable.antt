@@ -1,7 +1,7 @@
 -- What is known of the datagrams of a world of a replay.
 use Rattle.std.proofs.Common.{◌≡◌, ℕ, Bool, refl, subst, Some, slice_get, List}
 use Rattle.app_events.specs.Part.{Meaning}
-use Rattle.link_world.specs.Bytes.{bytes_by, bytes_of}
+use Rattle.link_world.specs.Bytes.{bytes_by, sent_bytes}
 use Rattle.link_world.specs.World.{World, Sent, Content}
 use Rattle.link_world.specs.World.Content.{OfSegment, OfPing, OfEcho}
 use Rattle.link_world.specs.declared.who.Who.{Who}
@@ -37,10 +37,10 @@ read_mark w k (FromNode n) (OfEcho request) bytes h = tt
 read_mark w k Pinger (OfEcho request) bytes h = tt
 
 module _ (m : Meaning) (served : ℕ → Bool) (w : World) (h : IsAt m served w) where
-  pub read_at : (n : ℕ) (e : Sent) → slice_get w.sent n ≡ Some e → IsRead w e.who e.content (bytes_of w e)
+  pub read_at : (n : ℕ) (e : Sent) → slice_get w.sent n ≡ Some e → IsRead w e.who e.content (sent_bytes w e)
   read_at n e g =
       let r = bytes_are_read m h.pages h.lawful h.bytes (record w { mark = 0 }) (reached_at m served w h) n e g in
-      subst (λ b. IsRead w e.who e.content b) (bytes_mark w 0 e.who e.content) (read_mark w 0 e.who e.content (bytes_of (record w { mark = 0 }) e) r.0)
+      subst (λ b. IsRead w e.who e.content b) (bytes_mark w 0 e.who e.content) (read_mark w 0 e.who e.content (sent_bytes (record w { mark = 0 }) e) r.0)
 
   pub sent_at : (n : ℕ) (e : Sent) → slice_get w.sent n ≡ Some e → IsSentBy w.sides e.who e.content
   sent_at n e g = sent_to_clients m h.pages h.lawful (record w { mark = 0 }) (reached_at m served w h) n e g

@@ -6,7 +6,7 @@ use Rattle.tcp_segment.specs.Segments.{PlainSegment, datagram_bytes}
 use Rattle.link_world.specs.History.{no_era}
 use Rattle.std.proofs.lemmas.List.{drop_all, take_all}
 use Rattle.link_world.proofs.Basics.{append_nothing}
-use Rattle.link_client.specs.Calls.{standing, Sends, datagram_of, takes, hears}
+use Rattle.link_client.specs.Calls.{standing, Sends, client_datagram, client_hands, client_hears}
 use Rattle.link_client.specs.Client.{AbstractClient, ClientStep}
 use Rattle.link_client.specs.declared.client_state.ClientState.{ClientState}
 use Rattle.link_client.specs.declared.client_state.ClientState.TheVariants.{Idle, Opening, Opened, Closing, Closed, Ended, Reset}
@@ -38,23 +38,23 @@ sends_none setup (Some x) area h = let e = h.answer in absurd (cc)
 pub record IsAtFront (setup : Setup) (s : Option PlainSegment) (len : ℕ) (area : List ℕ) : Type 0 where
   pub segment : PlainSegment
   pub is : s ≡ Some segment
-  pub bytes : take len area ≡ datagram_bytes (datagram_of setup segment)
+  pub bytes : take len area ≡ datagram_bytes (client_datagram setup segment)
   pub inside : len ≤ length area
 
 pub sends_some : (setup : Setup) (s : Option PlainSegment) (len : ℕ) (area : List ℕ) → Sends setup s (Some len) area → IsAtFront setup s len area
 sends_some setup None len area h = absurd (let e : Some len ≡ None = h in cc)
 sends_some setup (Some x) len area h =
-    let e : len ≡ length (datagram_bytes (datagram_of setup x)) = (let f = h.answer in cc) in
-    let l : length (take (length (datagram_bytes (datagram_of setup x))) area) ≡ length (datagram_bytes (datagram_of setup x)) = ap (λ (xs : List ℕ). length xs) h.front in
+    let e : len ≡ length (datagram_bytes (client_datagram setup x)) = (let f = h.answer in cc) in
+    let l : length (take (length (datagram_bytes (client_datagram setup x))) area) ≡ length (datagram_bytes (client_datagram setup x)) = ap (λ (xs : List ℕ). length xs) h.front in
     record {
       segment = x;
       is = refl;
       bytes = ap (λ n. take n area) e ∙ h.front;
-      inside = (let m = length-take (length (datagram_bytes (datagram_of setup x))) area in omega (arith, e, l, m));
+      inside = (let m = length-take (length (datagram_bytes (client_datagram setup x))) area in omega (arith, e, l, m));
     }
 
 -- the bytes of a client's segment in its world
-pub front_bytes : (w : World) (number : ℕ) (side : Side) (x : PlainSegment) → numbered w.sides number ≡ Some side → bytes_by w (FromClient number) (OfSegment 0 x) ≡ datagram_bytes (datagram_of side.client.setup x)
+pub front_bytes : (w : World) (number : ℕ) (side : Side) (x : PlainSegment) → numbered w.sides number ≡ Some side → bytes_by w (FromClient number) (OfSegment 0 x) ≡ datagram_bytes (client_datagram side.client.setup x)
 front_bytes w number side x h = ap (client_bytes 0 x) h
 
 -- no client has a number that is 0 or past the last
@@ -141,13 +141,13 @@ stays Reset = refl
 same_client : (s : Side) → with_client s s.client ≡ s
 same_client s = ap (λ b. record s { opened = (if b then Some (epoch s) else s.opened) }) (stays s.client.state)
 
-stepped_handed : (w : World) (n : ℕ) (s : Side) (o : Option PlainSegment) → slice_get w.sides n ≡ Some s → client_stepped w (suc n) s (takes s.client o) ≡ client_handed w (suc n) s o
+stepped_handed : (w : World) (n : ℕ) (s : Side) (o : Option PlainSegment) → slice_get w.sides n ≡ Some s → client_stepped w (suc n) s (client_hands s.client o) ≡ client_handed w (suc n) s o
 stepped_handed w n s None g = ap (λ (xs : List Side). record w { sides = xs }) (ap (set w.sides n) (same_client s) ∙ set_same w.sides n s g)
 stepped_handed w n s (Some x) g = refl
 
 -- what a client does with the bytes that it is handed
 pub heard_handed : (w : World) (number n : ℕ) (s : Side) (bytes : List ℕ) → number ≡ suc n → slice_get w.sides n ≡ Some s →
-    client_stepped w number s (takes s.client (hears s.client.setup bytes)) ≡ handed w number bytes (Some s)
+    client_stepped w number s (client_hands s.client (client_hears s.client.setup bytes)) ≡ handed w number bytes (Some s)
 heard_handed w number n s bytes is g =
-    subst (λ k. client_stepped w k s (takes s.client (hears s.client.setup bytes)) ≡ handed w k bytes (Some s)) (sym is)
-    (stepped_handed w n s (hears s.client.setup bytes) g ∙ ap (λ o. client_handed w (suc n) s o) (same_hearing s.client.setup bytes))
+    subst (λ k. client_stepped w k s (client_hands s.client (client_hears s.client.setup bytes)) ≡ handed w k bytes (Some s)) (sym is)
+    (stepped_handed w n s (client_hears s.client.setup bytes) g ∙ ap (λ o. client_handed w (suc n) s o) (same_hearing s.client.setup bytes))

@@ -7,15 +7,15 @@ use Rattle.link_replay.specs.Stands.{SideStands, SentStands}
 use Rattle.link_replay.specs.declared.sent.Sent.{Sent as CodeSent}
 use Rattle.link_replay.specs.declared.side.Side.{Side as CodeSide}
 use Rattle.link_replay.specs.declared.kind.Kind.{Kind}
-use Rattle.link_replay.specs.Report.{client_line, counts_line, datagram_line, kind_of, line_of_datagram, lines_of_client, text_line, word_if}
+use Rattle.link_replay.specs.Report.{client_line, counts_line, datagram_line, kind_sent, line_of_datagram, lines_of_client, text_line, word_if}
 
-pub datagram_stands : (w : World) (number : ℕ) (sent : CodeSent) (e : Sent) (kind : Kind) → SentStands w sent e → kind ≡ kind_of e.content
+pub datagram_stands : (w : World) (number : ℕ) (sent : CodeSent) (e : Sent) (kind : Kind) → SentStands w sent e → kind ≡ kind_sent e.content
     → datagram_line number sent.tick sent.who kind sent.again ≡ line_of_datagram number e
 datagram_stands w number sent e kind st same =
     ap (λ (t : ℕ). datagram_line number t sent.who kind sent.again) st.tick
     ∙ ap (λ (who : Who). datagram_line number e.tick who kind sent.again) st.who
     ∙ ap (λ (k : Kind). datagram_line number e.tick e.who k sent.again) same
-    ∙ ap (λ (again : Bool). datagram_line number e.tick e.who (kind_of e.content) again) st.again
+    ∙ ap (λ (again : Bool). datagram_line number e.tick e.who (kind_sent e.content) again) st.again
 
 pub client_stands : (show : Bool) (number : ℕ) (side : CodeSide) (s : Side) → SideStands side s
     → client_line show number side.client.state (length side.received.items) side.first_stale ++ word_if show (text_line side.received.items)

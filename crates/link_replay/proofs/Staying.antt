@@ -7,7 +7,7 @@ use Rattle.tcp_machine.specs.Segments.{is_plain_syn}
 use Rattle.uip_node.specs.Events.{Event}
 use Rattle.uip_node.specs.Events.Event.{IpRefused, IcmpRefused, TcpRefused, EchoAsked, Arrived, Overlong, Periodic}
 use Rattle.uip_node.specs.Node.{AbstractNode, NodeStep, step, happened, opens, opens_in, from_stranger, arrives_at, slot_for_syn}
-use Rattle.link_world.specs.World.{Side, buries, buries_in, sockets_of}
+use Rattle.link_world.specs.World.{Side, buries, buries_in, client_sockets}
 use Rattle.link_world.proofs.Basics.{choose}
 use Rattle.link_replay.proofs.Places.{Sames, SamePlaces, same_places}
 
@@ -43,7 +43,7 @@ module _ (m : Meaning) (served : ℕ → Bool) (n : AbstractNode) where
   step_addr (Periodic slot) = refl
 
 one_buried : (g : Connection) (side : Side) → side.client.setup ≡ (buries_in g side).client.setup
-one_buried g side = choose (λ (x : Side). side.client.setup ≡ x.client.setup) (same_sockets g.sockets (sockets_of side)) _ _ (λ e. refl) (λ e. refl)
+one_buried g side = choose (λ (x : Side). side.client.setup ≡ x.client.setup) (same_sockets g.sockets (client_sockets side)) _ _ (λ e. refl) (λ e. refl)
 
 all_buried : (g : Connection) (sides : List Side) (i : ℕ) → Sames (slice_get sides i) (slice_get (map (buries_in g) sides) i)
 all_buried g [] i = tt

@@ -33,8 +33,8 @@ plan_from number [] = []
 plan_from number (plan ∷ plans) = planned number plan ∷ plan_from (number + 1) plans
 
 -- every client idle, and no datagram sent
-abbrev pub opening : List ℕ → List Plan → World
-opening numbers plans = opening_world server numbers (plan_from 1 plans)
+abbrev pub opening_for : List ℕ → List Plan → World
+opening_for numbers plans = opening_world server numbers (plan_from 1 plans)
 
 -- a client of the code before its first act
 pub record IsFresh (number : ℕ) (plan : Plan) (side : CodeSide) : Type 0 where

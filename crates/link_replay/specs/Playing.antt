@@ -1,7 +1,7 @@
 -- What the lines of a schedule do, and which of them is refused.
 use Rattle.std.specs.Prelude.{◌≡◌, ℕ, Bool, List, map, Result, Ok, Err, Some, slice_get, ⊤}
 use Rattle.app_events.specs.Part.{Meaning}
-use Rattle.link_schedule.specs.Reading.{Content}
+use Rattle.link_schedule.specs.Reading.{SchedulePlan}
 use Rattle.link_schedule.specs.declared.line.Line.{Line}
 use Rattle.link_schedule.specs.declared.read_schedule.ReadSchedule.{ReadSchedule}
 use Rattle.link_schedule.specs.declared.read_schedule.ReadSchedule.TheVariants.{Bad, NoMemory as NoRoom}
@@ -11,7 +11,7 @@ use Rattle.link_world.specs.Schedule.{BadLine, plays}
 use Rattle.link_schedule.specs.declared.event.Event.{Event}
 use Rattle.link_world.specs.declared.step_fault.StepFault.{StepFault}
 use Rattle.link_world.specs.declared.step_fault.StepFault.TheVariants.{NoDatagram, NoByte, AlreadyOpen, NotOpen, Full, NoMemory}
-use Rattle.link_replay.specs.Opening.{opening}
+use Rattle.link_replay.specs.Opening.{opening_for}
 use Rattle.link_replay.specs.Reaching.{IsAt}
 
 -- a line's refusal, with its number
@@ -51,6 +51,6 @@ LinesEnd m served Now lines (Err (Bad number why)) meant = Refuses lines meant n
 LinesEnd m served Now lines (Err NoRoom) meant = ⊤
 
 -- a schedule, from the opening world of its clients on
-abbrev pub Plays : {X : Type 0} → Meaning → (ℕ → Bool) → List ℕ → Content → (X → World → Type 0) → Result X ReadSchedule → Type 0
+abbrev pub Plays : {X : Type 0} → Meaning → (ℕ → Bool) → List ℕ → SchedulePlan → (X → World → Type 0) → Result X ReadSchedule → Type 0
 Plays m served numbers content Now result =
-    LinesEnd m served Now content.lines result (plays m served (map event_at content.lines) (opening numbers content.clients))
+    LinesEnd m served Now content.lines result (plays m served (map event_at content.lines) (opening_for numbers content.clients))

@@ -38,21 +38,21 @@ IsNamed Full = ⊤
 
 -- the world of the code stands for the one that is meant, or for the one before where the act is refused; of a world that memory was
 -- wanting for nothing is said
-abbrev pub Steps : (World → Type 0) → World → Result (Unit {0}) StepFault → Result World StepFault → Type 0
-Steps Now before (Ok done) meant = (w : World) × (meant ≡ Ok w) × Now w
-Steps Now before (Err NoMemory) meant = ⊤
-Steps Now before (Err NoDatagram) meant = (meant ≡ Err NoDatagram) × Now before
-Steps Now before (Err NoByte) meant = (meant ≡ Err NoByte) × Now before
-Steps Now before (Err AlreadyOpen) meant = (meant ≡ Err AlreadyOpen) × Now before
-Steps Now before (Err NotOpen) meant = (meant ≡ Err NotOpen) × Now before
-Steps Now before (Err Full) meant = (meant ≡ Err Full) × Now before
+abbrev pub ActSteps : (World → Type 0) → World → Result (Unit {0}) StepFault → Result World StepFault → Type 0
+ActSteps Now before (Ok done) meant = (w : World) × (meant ≡ Ok w) × Now w
+ActSteps Now before (Err NoMemory) meant = ⊤
+ActSteps Now before (Err NoDatagram) meant = (meant ≡ Err NoDatagram) × Now before
+ActSteps Now before (Err NoByte) meant = (meant ≡ Err NoByte) × Now before
+ActSteps Now before (Err AlreadyOpen) meant = (meant ≡ Err AlreadyOpen) × Now before
+ActSteps Now before (Err NotOpen) meant = (meant ≡ Err NotOpen) × Now before
+ActSteps Now before (Err Full) meant = (meant ≡ Err Full) × Now before
 
 -- acts in turn: the world of the code stands for the one that is reached, or one of them is refused
-abbrev pub Ends : (World → Type 0) → Result (Unit {0}) StepFault → Result World StepFault → Type 0
-Ends Now (Ok done) meant = (w : World) × (meant ≡ Ok w) × Now w
-Ends Now (Err NoMemory) meant = ⊤
-Ends Now (Err NoDatagram) meant = meant ≡ Err NoDatagram
-Ends Now (Err NoByte) meant = meant ≡ Err NoByte
-Ends Now (Err AlreadyOpen) meant = meant ≡ Err AlreadyOpen
-Ends Now (Err NotOpen) meant = meant ≡ Err NotOpen
-Ends Now (Err Full) meant = meant ≡ Err Full
+abbrev pub ActsEnd : (World → Type 0) → Result (Unit {0}) StepFault → Result World StepFault → Type 0
+ActsEnd Now (Ok done) meant = (w : World) × (meant ≡ Ok w) × Now w
+ActsEnd Now (Err NoMemory) meant = ⊤
+ActsEnd Now (Err NoDatagram) meant = meant ≡ Err NoDatagram
+ActsEnd Now (Err NoByte) meant = meant ≡ Err NoByte
+ActsEnd Now (Err AlreadyOpen) meant = meant ≡ Err AlreadyOpen
+ActsEnd Now (Err NotOpen) meant = meant ≡ Err NotOpen
+ActsEnd Now (Err Full) meant = meant ≡ Err Full

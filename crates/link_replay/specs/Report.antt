@@ -31,10 +31,10 @@ abbrev pub segment_kind : PlainSegment → Kind
 segment_kind s = Segment s.flags s.seq (length s.text)
 
 -- what is told of a datagram's content
-abbrev pub kind_of : Content → Kind
-kind_of (OfSegment id s) = segment_kind s
-kind_of (OfPing datagram) = EchoRequest
-kind_of (OfEcho request) = EchoReply
+abbrev pub kind_sent : Content → Kind
+kind_sent (OfSegment id s) = segment_kind s
+kind_sent (OfPing datagram) = EchoRequest
+kind_sent (OfEcho request) = EchoReply
 
 -- flags, sequence number and length
 abbrev pub kind_words : Kind → List ℕ
@@ -48,7 +48,7 @@ datagram_line number tick who kind again =
 
 -- number, ticks at sending, who, what, and whether it was sent again
 abbrev pub line_of_datagram : ℕ → Sent → List ℕ
-line_of_datagram number e = datagram_line number e.tick e.who (kind_of e.content) e.again
+line_of_datagram number e = datagram_line number e.tick e.who (kind_sent e.content) e.again
 
 abbrev pub state_word : ClientState → List ℕ
 state_word Idle = codes "idle"

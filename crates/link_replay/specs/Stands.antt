@@ -6,7 +6,7 @@ use Rattle.app_events.specs.declared.app.App.{Ghosts}
 use Rattle.uip_node.specs.StandsFor.{Stands, IsWhole}
 use Rattle.link_client.specs.Calls.{standing, IsClient}
 use Rattle.link_world.specs.World.{World, Side, Sent, epoch}
-use Rattle.link_world.specs.Bytes.{bytes_of}
+use Rattle.link_world.specs.Bytes.{sent_bytes}
 use Rattle.link_replay.specs.Matched.{Matched}
 use Rattle.link_replay.specs.declared.sent.Sent.{Sent as CodeSent}
 use Rattle.link_replay.specs.declared.side.Side.{Side as CodeSide}
@@ -25,7 +25,7 @@ pub record SentStands (w : World) (sent : CodeSent) (e : Sent) : Type 0 where
   pub tick : sent.tick ≡ e.tick
   pub epoch : sent.epoch ≡ e.epoch
   pub again : sent.again ≡ e.again
-  pub bytes : sent.bytes.items ≡ bytes_of w e
+  pub bytes : sent.bytes.items ≡ sent_bytes w e
 
 -- clients and datagrams for those of a world
 pub record LinkStands (link : Link) (w : World) : Type 0 where

@@ -3,7 +3,7 @@ use Rattle.std.specs.Prelude.{◌≡◌, ℕ, Option, Some, None, ⊤}
 use Rattle.uip_node.specs.Events.{Reply}
 use Rattle.uip_node.specs.Events.Reply.{Echo, Tcp}
 use Rattle.link_replay.specs.declared.socket_pair.SocketPair.{SocketPair}
-use Rattle.link_world.specs.World.{World, Side, Sent, marked, numbered, sockets_of, with_side}
+use Rattle.link_world.specs.World.{World, Side, Sent, marked, numbered, client_sockets, with_side}
 use Rattle.link_world.specs.declared.who.Who.{Who}
 use Rattle.link_world.specs.declared.who.Who.TheVariants.{FromClient, FromNode, Pinger}
 use Rattle.link_replay.specs.Noting.{pair_at}
@@ -26,7 +26,7 @@ client_of Pinger = 0
 -- the sockets of the server's connection with a client
 abbrev pub pair_at_side : Option Side → Option SocketPair
 pair_at_side None = None
-pair_at_side (Some side) = Some (pair_at (sockets_of side))
+pair_at_side (Some side) = Some (pair_at (client_sockets side))
 
 -- what the node answers to bytes of this sender goes back to it
 abbrev pub AnswersTo : World → Who → Option Reply → Type 0

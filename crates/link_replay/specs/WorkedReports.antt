@@ -50,8 +50,8 @@ quiet event = record { event = event; answer = Silent }
 abbrev pub node : AbstractNode
 node = record (opening (host 1) []) { past = map quiet tick ++ (record { event = EchoAsked []; answer = EchoReplied } ∷ quiet Overlong ∷ map quiet tick) }
 
-abbrev pub says : ℕ → ℕ → ℕ → List ℕ → Content
-says seq ack flags text = OfSegment 1 (record { seq = seq; ack = ack; flags = flags; window = 1460; mss = None; text = text })
+abbrev pub is_told : ℕ → ℕ → ℕ → List ℕ → Content
+is_told seq ack flags text = OfSegment 1 (record { seq = seq; ack = ack; flags = flags; window = 1460; mss = None; text = text })
 
 abbrev pub sent : Who → ℕ → Bool → Content → Sent
 sent who ticks again content = record { who = who; tick = ticks; epoch = 0; again = again; content = content }
@@ -61,11 +61,11 @@ abbrev pub world : World
 world = record {
   node = node;
   sides = served ∷ waiting ∷ [];
-  sent = sent (FromClient 1) 0 false (says 1000 0 SYN [])
-      ∷ sent (FromNode 1) 0 false (says 4294967295 1001 (SYN + ACK) [])
+  sent = sent (FromClient 1) 0 false (is_told 1000 0 SYN [])
+      ∷ sent (FromNode 1) 0 false (is_told 4294967295 1001 (SYN + ACK) [])
       ∷ sent Pinger 1 false (OfPing [])
       ∷ sent (FromNode 0) 1 false (OfEcho [])
-      ∷ sent (FromNode 1) 2 true (says 0 1001 (ACK + PSH) (codes "k~"))
+      ∷ sent (FromNode 1) 2 true (is_told 0 1001 (ACK + PSH) (codes "k~"))
       ∷ [];
   mark = 0;
 }

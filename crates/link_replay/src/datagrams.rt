@@ -4,7 +4,7 @@ ghost use Rattle.std.specs.Prelude.{◌≡◌, ℕ, Bool};
 ghost use Rattle.app_events.specs.Part.{Meaning};
 ghost use Rattle.uip_edge.specs.Causes.{HasCause};
 ghost use Rattle.link_world.specs.World.{Sent as PlainSent, World as PlainWorld};
-ghost use Rattle.link_world.specs.Bytes.{bytes_of};
+ghost use Rattle.link_world.specs.Bytes.{sent_bytes};
 ghost use Rattle.link_world.specs.Reading.{IsRead, IsSentBy};
 ghost use Rattle.link_replay.specs.Reaching.{IsAt};
 ghost use Rattle.link_replay.specs.Stands.{IsLink, LinkStands, SentStands};
@@ -57,7 +57,7 @@ fn write_datagram<K: Sink>(
     sink: &mut K,
 ) -> Result<(), Failed>
     ensures wrote { (w : PlainWorld) (e : PlainSent) → addr ≡ w.node.addr → LinkStands link.now w → IsLink w.node.addr link.now → SentStands w sent.now e
-        → IsRead w e.who e.content (bytes_of w e) → IsSentBy w.sides e.who e.content
+        → IsRead w e.who e.content (sent_bytes w e) → IsSentBy w.sides e.who e.content
         → Wrote (K.written sink.old) (K.written sink.new) result (line_of_datagram number e) }
     ensures cause { HasCause (K.faults sink.old) (K.faults sink.new) result }
 {

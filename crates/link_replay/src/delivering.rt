@@ -7,7 +7,7 @@ ghost use Rattle.uip_node.specs.Events.Event.{Periodic};
 ghost use Rattle.uip_node.specs.Node.{step};
 ghost use Rattle.link_world.specs.Acts.{client_acts, damages_at, does, fault_of, handles_all, hands_over};
 ghost use Rattle.link_world.specs.Bytes.{changed, ping_from};
-ghost use Rattle.link_world.specs.World.{World as PlainWorld, gives, node_handles, numbered, posts};
+ghost use Rattle.link_world.specs.World.{World as PlainWorld, hands_to, node_handles, numbered, posts};
 ghost use Rattle.link_world.specs.World.Content.{OfPing};
 ghost use Rattle.link_world.specs.declared.who.Who.TheVariants.{Pinger};
 ghost use Rattle.link_replay.specs.Owning.{own_step};
@@ -144,7 +144,7 @@ impl<A: App> World<A> {
         ensures same { A.kept self.new.node.shared ≡ A.kept self.old.node.shared }
         ensures mark { self.new.mark ≡ self.old.mark }
         ensures given { OnOk result ((w : PlainWorld) → IsAt (A.meaning (A.kept self.old.node.shared)) A.served w → WorldStands A.App self.old w
-            → WorldStands A.App self.new (gives (A.meaning (A.kept self.old.node.shared)) A.served w number (numbered w.sent number))) }
+            → WorldStands A.App self.new (hands_to (A.meaning (A.kept self.old.node.shared)) A.served w number (numbered w.sent number))) }
     {
         let place = number as usize;
         if place == 0 || place > self.link.sent.len() {

@@ -8,11 +8,11 @@ ghost use Rattle.tcp_segment.specs.Segments.{PlainSegment};
 ghost use Rattle.uip_node.specs.Edge.{by_segment, event_of};
 ghost use Rattle.uip_node.specs.Events.Event.{Arrived};
 ghost use Rattle.link_world.specs.World.{Sent as PlainSent, Side as PlainSide, World as PlainWorld, numbered};
-ghost use Rattle.link_world.specs.Bytes.{bytes_of};
+ghost use Rattle.link_world.specs.Bytes.{sent_bytes};
 ghost use Rattle.link_world.specs.Reading.{IsRead, IsSentBy};
 ghost use Rattle.link_replay.specs.Matched.{Matched};
 ghost use Rattle.link_replay.specs.Stands.{IsLink, LinkStands, SentStands, SideStands};
-ghost use Rattle.link_replay.specs.Report.{kind_of as kind_meant, segment_kind};
+ghost use Rattle.link_replay.specs.Report.{kind_sent as kind_meant, segment_kind};
 
 use crate::kind::Kind;
 use crate::link::Link;
@@ -27,7 +27,7 @@ use uip_wire::Addr;
 /// an echo reply.
 pub(crate) fn kind_of(addr: Addr, link: &Link, sent: &Sent) -> Kind
     ensures { (w : PlainWorld) (e : PlainSent) → addr ≡ w.node.addr → LinkStands link.now w → IsLink w.node.addr link.now → SentStands w sent.now e
-        → IsRead w e.who e.content (bytes_of w e) → IsSentBy w.sides e.who e.content → result ≡ kind_meant e.content }
+        → IsRead w e.who e.content (sent_bytes w e) → IsSentBy w.sides e.who e.content → result ≡ kind_meant e.content }
 {
     match sent.who {
         Who::Pinger => Kind::EchoRequest,

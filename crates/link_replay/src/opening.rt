@@ -6,7 +6,7 @@ ghost use Rattle.app_events.specs.Pages.{IsAddr};
 ghost use Rattle.link_schedule.specs.Kept.{client_in_range};
 ghost use Rattle.link_schedule.specs.Stands.{plan_at};
 ghost use Rattle.link_world.specs.History.{IsPlanned, Planned};
-ghost use Rattle.link_replay.specs.Opening.{AreFresh, IsFresh, opening, plan_from, planned};
+ghost use Rattle.link_replay.specs.Opening.{AreFresh, IsFresh, opening_for, plan_from, planned};
 ghost use Rattle.link_replay.specs.Stands.{IsKept, WorldStands};
 
 use crate::link::Link;
@@ -99,7 +99,7 @@ impl<A: App> World<A> {
         requires few { length clients.now ≤ 64 }
         requires ranges { list_all client_in_range (map plan_at clients.now) ≡ true }
         ensures kept { IfOk result (λ world. IsKept A.App world) }
-        ensures stands { IfOk result (λ world. WorldStands A.App world (opening (A.numbers shared) (map plan_at clients.now))) }
+        ensures stands { IfOk result (λ world. WorldStands A.App world (opening_for (A.numbers shared) (map plan_at clients.now))) }
         ensures shared { IfOk result (λ world. world.node.shared ≡ shared) }
         ensures planned { IfOk result (λ world. (k : ℕ) (p : Planned) → slice_get (plan_from 1 (map plan_at clients.now)) k ≡ Some p → IsPlanned p) }
     {

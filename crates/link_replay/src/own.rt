@@ -1,7 +1,7 @@
 //! What a client does, and what it hears.
 
 ghost use Rattle.std.specs.Prelude.{◌≡◌, ◌≤◌, OnOk, IfSome, IfOk, ℕ, List, length, Some};
-ghost use Rattle.link_client.specs.Calls.{IsClient, Sends, hears, takes};
+ghost use Rattle.link_client.specs.Calls.{IsClient, Sends, client_hears, client_hands};
 ghost use Rattle.link_client.specs.Client.{tells_window};
 ghost use Rattle.link_world.specs.World.{Side as PlainSide, with_client};
 ghost use Rattle.link_replay.specs.Owning.{Stepped, own_step};
@@ -66,7 +66,7 @@ impl Side {
         ensures client { IsClient self.new.client self.new.request.items }
         ensures setup { self.new.client.setup ≡ self.old.client.setup }
         ensures room { length area.new ≡ length area.old }
-        ensures step { IfOk result (λ sent. (s : PlainSide) → SideStands self.old s → Stepped (takes s.client (hears s.client.setup datagram.now)) s self.new sent area.new) }
+        ensures step { IfOk result (λ sent. (s : PlainSide) → SideStands self.old s → Stepped (client_hands s.client (client_hears s.client.setup datagram.now)) s self.new sent area.new) }
     {
         let took = self.client.take(self.request.as_slice(), datagram, area);
         let fresh = &datagram[took.fresh_at..took.fresh_at + took.fresh_len];

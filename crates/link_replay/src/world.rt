@@ -8,7 +8,7 @@ ghost use Rattle.link_world.specs.Acts.{acts as acted, runs};
 ghost use Rattle.link_world.specs.Schedule.{plays_line};
 ghost use Rattle.link_world.specs.World.{World as PlainWorld};
 ghost use Rattle.link_world.specs.Headline.{IsAct, OfLine};
-ghost use Rattle.link_replay.specs.Reaching.{Ends, IsAt, Steps};
+ghost use Rattle.link_replay.specs.Reaching.{ActsEnd, IsAt, ActSteps};
 ghost use Rattle.link_replay.specs.Stands.{IsKept, WorldStands};
 
 use crate::acts::{acts_of, mark_after};
@@ -41,7 +41,7 @@ impl<A: App> World<A> {
         ensures spent { self.old.spent ≡ true → result ≡ Err StepFault.NoMemory }
         ensures spends { result ≡ Err StepFault.NoMemory → self.new.spent ≡ true }
         ensures step { (w : PlainWorld) → IsAt (A.meaning (A.kept self.old.node.shared)) A.served w → WorldStands A.App self.old w
-            → Steps (WorldStands A.App self.new) w result (acted (A.meaning (A.kept self.old.node.shared)) A.served w act.now) }
+            → ActSteps (WorldStands A.App self.new) w result (acted (A.meaning (A.kept self.old.node.shared)) A.served w act.now) }
     {
         if self.spent {
             return Err(StepFault::NoMemory);
@@ -65,7 +65,7 @@ impl<A: App> World<A> {
         ensures mark { self.new.mark ≡ self.old.mark }
         ensures spends { result ≡ Err StepFault.NoMemory → self.new.spent ≡ true }
         ensures run { (w : PlainWorld) → IsAt (A.meaning (A.kept self.old.node.shared)) A.served w → WorldStands A.App self.old w
-            → Ends (WorldStands A.App self.new) result (runs (A.meaning (A.kept self.old.node.shared)) A.served acts.now w) }
+            → ActsEnd (WorldStands A.App self.new) result (runs (A.meaning (A.kept self.old.node.shared)) A.served acts.now w) }
     {
         for act in acts.iter() {
             self.step(act)?;
@@ -84,7 +84,7 @@ impl<A: App> World<A> {
         ensures spent { self.old.spent ≡ true → result ≡ Err StepFault.NoMemory }
         ensures spends { result ≡ Err StepFault.NoMemory → self.new.spent ≡ true }
         ensures line { (w : PlainWorld) → IsAt (A.meaning (A.kept self.old.node.shared)) A.served w → WorldStands A.App self.old w
-            → Ends (WorldStands A.App self.new) result (plays_line (A.meaning (A.kept self.old.node.shared)) A.served w event.now) }
+            → ActsEnd (WorldStands A.App self.new) result (plays_line (A.meaning (A.kept self.old.node.shared)) A.served w event.now) }
     {
         if self.spent {
             return Err(StepFault::NoMemory);

@@ -7,7 +7,7 @@ use Rattle.link_schedule.specs.declared.client_plan.ClientPlan.{ClientPlan}
 use Rattle.link_schedule.specs.declared.line.Line.{Line}
 use Rattle.link_schedule.specs.declared.why.Why.TheVariants.{Clients, Ports}
 use Rattle.link_schedule.specs.Clients.{Plan}
-use Rattle.link_schedule.specs.Reading.{meets, with_client}
+use Rattle.link_schedule.specs.Reading.{meets, with_plan}
 use Rattle.link_schedule.specs.Stands.{content_of, plan_at}
 
 pub list_any_map : {X Y : Type 0} (f : X → Y) (p : Y → Bool) (xs : List X) → list_any p (map f xs) ≡ list_any (λ x. p (f x)) xs
@@ -32,22 +32,22 @@ not_le a b h =
     [ true ↦ λ q. (let le = leb-true a b q in absurd (omega (arith, le, h))) | false ↦ λ q. refl ] refl
 
 pub too_many : (clients : List ClientPlan) (lines : List Line) (plan : Plan) → 64 ≤ length clients
-    → with_client (content_of clients lines) plan ≡ Err Clients
-unfolding with_client
+    → with_plan (content_of clients lines) plan ≡ Err Clients
+unfolding with_plan
 too_many clients lines plan e = chosen (leb 64 (length (map plan_at clients))) _ _ (ap (leb 64) (length-map clients plan_at) ∙ le-leb 64 (length clients) e)
 
 pub taken : (clients : List ClientPlan) (lines : List Line) (plan : Plan) → length clients < 64
     → list_any (λ earlier. meets (plan_at earlier) plan) clients ≡ true
-    → with_client (content_of clients lines) plan ≡ Err Ports
-unfolding with_client
+    → with_plan (content_of clients lines) plan ≡ Err Ports
+unfolding with_plan
 taken clients lines plan e t =
     other (leb 64 (length (map plan_at clients))) _ _ (ap (leb 64) (length-map clients plan_at) ∙ not_le 64 (length clients) e)
     ∙ chosen (list_any (λ earlier. meets earlier plan) (map plan_at clients)) _ _ (list_any_map plan_at (λ earlier. meets earlier plan) clients ∙ t)
 
 pub added : (clients : List ClientPlan) (lines : List Line) (plan : ClientPlan) → length clients < 64
     → list_any (λ earlier. meets (plan_at earlier) (plan_at plan)) clients ≡ false
-    → with_client (content_of clients lines) (plan_at plan) ≡ Ok (content_of (clients ++ plan ∷ []) lines)
-unfolding with_client
+    → with_plan (content_of clients lines) (plan_at plan) ≡ Ok (content_of (clients ++ plan ∷ []) lines)
+unfolding with_plan
 added clients lines plan e t =
     other (leb 64 (length (map plan_at clients))) _ _ (ap (leb 64) (length-map clients plan_at) ∙ not_le 64 (length clients) e)
     ∙ other (list_any (λ earlier. meets earlier (plan_at plan)) (map plan_at clients)) _ _ (list_any_map plan_at (λ earlier. meets earlier (plan_at plan)) clients ∙ t)

@@ -15,9 +15,9 @@ use Rattle.link_schedule.specs.declared.sides.ClientSide.{ClientSide}
 use Rattle.link_schedule.specs.declared.why.Why.{Why}
 use Rattle.link_schedule.specs.declared.why.Why.TheVariants.{Form, Clients, Ports}
 use Rattle.link_schedule.specs.Numbers.{◌>>=◌, address, within}
-use Rattle.link_schedule.specs.Events.{event_of}
+use Rattle.link_schedule.specs.Events.{event_of_words}
 use Rattle.link_schedule.specs.Clients.{got, is_target, Plan, plan_of, plan_with, raw, request_of, side_of, is_seen}
-use Rattle.link_schedule.specs.Reading.{BadText, Content, goes_on, is_passed_over, meets, nothing_yet, read_client, read_line, read_lines, read_words, with_client, with_event, with_line}
+use Rattle.link_schedule.specs.Reading.{BadText, SchedulePlan, reads_on, is_passed_over, meets, nothing_yet, read_client, read_line, read_lines, read_words, with_plan, with_event, with_line}
 use Rattle.link_schedule.specs.Kept.{are_apart, client_in_range, event_in_range, is_between, Keeps}
 use Rattle.link_schedule.proofs.Kept.{anything, behind, either, event_fine, tested, within_range}
 
@@ -141,8 +141,8 @@ unless : {A : Type 0} (P : A → Type 0) (b : Bool) (why : Why) (y : Result A Wh
 unless P true why y p = tt
 unless P false why y p = p refl
 
-kept_client : (above : Content) (plan : Plan) → Keeps above → PlanFine plan → IfOk (with_client above plan) Keeps
-unfolding with_client
+kept_client : (above : SchedulePlan) (plan : Plan) → Keeps above → PlanFine plan → IfOk (with_plan above plan) Keeps
+unfolding with_plan
 kept_client above plan keeps fine =
     unless Keeps (leb 64 (length above.clients)) Clients
     (cond (list_any (λ earlier. meets earlier plan) above.clients) (Err Ports)
@@ -163,9 +163,9 @@ kept_client above plan keeps fine =
           wider_lines (length above.clients) (length (above.clients ++ plan ∷ [])) (omega (arith, size)) above.lines keeps.lines_in_range;
     }))
 
-kept_event : (number : ℕ) (above : Content) (words : List (List ℕ)) → Keeps above → IfOk (with_event number above words) Keeps
+kept_event : (number : ℕ) (above : SchedulePlan) (words : List (List ℕ)) → Keeps above → IfOk (with_event number above words) Keeps
 kept_event number above words keeps =
-    behind (λ event. event_in_range (length above.clients) event ≡ true) Keeps (event_of (length above.clients) words)
+    behind (λ event. event_in_range (length above.clients) event ≡ true) Keeps (event_of_words (length above.clients) words)
     (λ event. Ok (with_line above number event)) (event_fine (length above.clients) words)
     (λ event fine. record {
       few = keeps.few;
@@ -178,24 +178,24 @@ kept_event number above words keeps =
           (and_from (event_in_range (length above.clients) event) true fine refl);
     })
 
-kept_words : (number : ℕ) (above : Content) (words : List (List ℕ)) → Keeps above → IfOk (read_words number above words) Keeps
+kept_words : (number : ℕ) (above : SchedulePlan) (words : List (List ℕ)) → Keeps above → IfOk (read_words number above words) Keeps
 kept_words number above [] keeps = tt
 kept_words number above (verb ∷ words) keeps =
     either Keeps (bytes_eq verb (codes "client")) (read_client words above) (with_event number above (verb ∷ words))
-    (behind PlanFine Keeps (plan_of words) (with_client above) (plan_fine words) (λ plan fine. kept_client above plan keeps fine))
+    (behind PlanFine Keeps (plan_of words) (with_plan above) (plan_fine words) (λ plan fine. kept_client above plan keeps fine))
     (kept_event number above (verb ∷ words) keeps)
 
-kept_line : (number : ℕ) (above : Content) (line : List ℕ) → Keeps above → IfOk (read_line number above line) Keeps
+kept_line : (number : ℕ) (above : SchedulePlan) (line : List ℕ) → Keeps above → IfOk (read_line number above line) Keeps
 kept_line number above line keeps =
     either Keeps (is_passed_over line) (Ok above) (read_words number above (slice_split (λ c. eqb c 32) line)) keeps
     (kept_words number above (slice_split (λ c. eqb c 32) line) keeps)
 
-goes_kept : (number : ℕ) (next : Content → Result Content BadText) (r : Result Content Why) → IfOk r Keeps
-    → ((content : Content) → Keeps content → IfOk (next content) Keeps) → IfOk (goes_on number next r) Keeps
+goes_kept : (number : ℕ) (next : SchedulePlan → Result SchedulePlan BadText) (r : Result SchedulePlan Why) → IfOk r Keeps
+    → ((content : SchedulePlan) → Keeps content → IfOk (next content) Keeps) → IfOk (reads_on number next r) Keeps
 goes_kept number next (Ok content) keeps f = f content keeps
 goes_kept number next (Err why) keeps f = tt
 
-kept_lines : (number : ℕ) (above : Content) (lines : List (List ℕ)) → Keeps above → IfOk (read_lines number above lines) Keeps
+kept_lines : (number : ℕ) (above : SchedulePlan) (lines : List (List ℕ)) → Keeps above → IfOk (read_lines number above lines) Keeps
 kept_lines number above [] keeps = keeps
 kept_lines number above (line ∷ lines) keeps =
     goes_kept number (λ content. read_lines (number + 1) content lines) (read_line number above line) (kept_line number above line keeps)
@@ -205,6 +205,6 @@ kept_at_first : Keeps nothing_yet
 kept_at_first = record { few = omega arith; apart = refl; clients_in_range = refl; lines_in_range = refl }
 
 -- what a text's lines spell keeps it
-pub kept_where_read : (content : Content) (lines : List (List ℕ)) → read_lines 1 nothing_yet lines ≡ Ok content → Keeps content
+pub kept_where_read : (content : SchedulePlan) (lines : List (List ℕ)) → read_lines 1 nothing_yet lines ≡ Ok content → Keeps content
 kept_where_read content lines e =
-    let P : Result Content BadText → Type 0 = λ r. IfOk r Keeps in subst P e (kept_lines 1 nothing_yet lines kept_at_first)
+    let P : Result SchedulePlan BadText → Type 0 = λ r. IfOk r Keeps in subst P e (kept_lines 1 nothing_yet lines kept_at_first)

@@ -7,7 +7,7 @@ use Rattle.link_schedule.specs.declared.event.Event.TheVariants.{Opens, Again, C
 use Rattle.link_schedule.specs.declared.why.Why.{Why}
 use Rattle.link_schedule.specs.declared.why.Why.TheVariants.{Form, NoClient}
 use Rattle.link_schedule.specs.Numbers.{◌>>=◌, address, is_number, named, number_written, within}
-use Rattle.link_schedule.specs.Events.{bare, bare_forms, by_verb, event_of, forms_with_one, with_one, with_two, with_three, window, damage}
+use Rattle.link_schedule.specs.Events.{bare, bare_forms, by_verb, event_of_words, forms_with_one, with_one, with_two, with_three, window, damage}
 use Rattle.link_schedule.specs.Kept.{event_in_range, is_between}
 
 -- either answer of a choice
@@ -109,7 +109,7 @@ with_three_fine clients verb one two three =
     (λ i v. behind (λ x. is_between 1 255 x ≡ true) (Fine clients) (within 1 255 three) (λ x. Ok (Damage k i x)) (within_range 1 255 three) (λ x e. e))))
     tt
 
-pub event_fine : (clients : ℕ) (words : List (List ℕ)) → IfOk (event_of clients words) (λ event. event_in_range clients event ≡ true)
+pub event_fine : (clients : ℕ) (words : List (List ℕ)) → IfOk (event_of_words clients words) (λ event. event_in_range clients event ≡ true)
 event_fine clients [] = tt
 event_fine clients (verb ∷ []) = bare_fine clients verb
 event_fine clients (verb ∷ one ∷ []) = with_one_fine clients verb one

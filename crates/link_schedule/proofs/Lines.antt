@@ -3,21 +3,21 @@ use Rattle.std.proofs.Common.{◌≡◌, ℕ, ◌+◌, ◌<◌, ◌≤◌, Bool,
 use Rattle.std.specs.List.{onto_first, slice_split}
 use Rattle.std.proofs.lemmas.List.{drop_more}
 use Rattle.link_schedule.specs.declared.why.Why.{Why}
-use Rattle.link_schedule.specs.Reading.{Content, goes_on, read_line, read_lines}
+use Rattle.link_schedule.specs.Reading.{SchedulePlan, reads_on, read_line, read_lines}
 
-pub next_line : {A : Type 0} (f : A → List ℕ) (lines : List A) (i : ℕ) (d : A) (above after : Content) → i < length lines
+pub next_line : {A : Type 0} (f : A → List ℕ) (lines : List A) (i : ℕ) (d : A) (above after : SchedulePlan) → i < length lines
     → read_line (i + 1) above (f (get_or lines i d)) ≡ Ok after
     → read_lines (i + 1) above (map f (drop i lines)) ≡ read_lines (i + 1 + 1) after (map f (drop (i + 1) lines))
 next_line f lines i d above after within e =
     ap (λ ls. read_lines (i + 1) above (map f ls)) (drop_more lines i d within)
-    ∙ ap (goes_on (i + 1) (λ content. read_lines (i + 1 + 1) content (map f (drop (i + 1) lines)))) e
+    ∙ ap (reads_on (i + 1) (λ content. read_lines (i + 1 + 1) content (map f (drop (i + 1) lines)))) e
 
-pub bad_line : {A : Type 0} (f : A → List ℕ) (lines : List A) (i : ℕ) (d : A) (above : Content) (why : Why) → i < length lines
+pub bad_line : {A : Type 0} (f : A → List ℕ) (lines : List A) (i : ℕ) (d : A) (above : SchedulePlan) (why : Why) → i < length lines
     → read_line (i + 1) above (f (get_or lines i d)) ≡ Err why
     → read_lines (i + 1) above (map f (drop i lines)) ≡ Err (record { line = i + 1; why = why })
 bad_line f lines i d above why within e =
     ap (λ ls. read_lines (i + 1) above (map f ls)) (drop_more lines i d within)
-    ∙ ap (goes_on (i + 1) (λ content. read_lines (i + 1 + 1) content (map f (drop (i + 1) lines)))) e
+    ∙ ap (reads_on (i + 1) (λ content. read_lines (i + 1 + 1) content (map f (drop (i + 1) lines)))) e
 
 length_onto : {X : Type 0} (x : X) (parts : List (List X)) (n : ℕ) → length parts ≤ n → 0 < n → length (onto_first x parts) ≤ n
 length_onto x [] n h more = omega arith

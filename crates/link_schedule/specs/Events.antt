@@ -59,9 +59,9 @@ abbrev pub with_three : List ℕ → List ℕ → List ℕ → List ℕ → Resu
 with_three verb one two three = if bytes_eq verb (codes "damage") then damage one two three else Err Form
 
 -- the words of a line, where so many clients stand above it
-abbrev pub event_of : ℕ → List (List ℕ) → Result Event Why
-event_of clients (verb ∷ []) = bare verb
-event_of clients (verb ∷ one ∷ []) = with_one clients verb one
-event_of clients (verb ∷ one ∷ two ∷ []) = with_two clients verb one two
-event_of clients (verb ∷ one ∷ two ∷ three ∷ []) = with_three verb one two three
-event_of clients words = Err Form
+abbrev pub event_of_words : ℕ → List (List ℕ) → Result Event Why
+event_of_words clients (verb ∷ []) = bare verb
+event_of_words clients (verb ∷ one ∷ []) = with_one clients verb one
+event_of_words clients (verb ∷ one ∷ two ∷ []) = with_two clients verb one two
+event_of_words clients (verb ∷ one ∷ two ∷ three ∷ []) = with_three verb one two three
+event_of_words clients words = Err Form

@@ -4,7 +4,7 @@ use Rattle.std.specs.List.{list_all, list_any}
 use Rattle.link_schedule.specs.declared.event.Event.{Event}
 use Rattle.link_schedule.specs.declared.event.Event.TheVariants.{Opens, Again, Closes, Aborts, Window, Ping, Give, Damage, Tick, Round, Twice, Reverse, Half, Lose}
 use Rattle.link_schedule.specs.Clients.{Plan}
-use Rattle.link_schedule.specs.Reading.{Content, meets}
+use Rattle.link_schedule.specs.Reading.{SchedulePlan, meets}
 
 -- a number from a lowest to a highest
 abbrev pub is_between : ℕ → ℕ → ℕ → Bool
@@ -37,7 +37,7 @@ abbrev pub are_apart : List Plan → Bool
 are_apart [] = true
 are_apart (plan ∷ plans) = not (list_any (λ later. meets plan later) plans) && are_apart plans
 
-pub record Keeps (content : Content) : Type 0 where
+pub record Keeps (content : SchedulePlan) : Type 0 where
   pub few : length content.clients ≤ 64
   pub apart : are_apart content.clients ≡ true
   pub clients_in_range : list_all client_in_range content.clients ≡ true

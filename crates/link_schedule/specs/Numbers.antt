@@ -45,10 +45,10 @@ named clients word =
     then (if nat_le 1 (number_written word) && nat_le (number_written word) clients then Ok (number_written word) else Err NoClient)
     else Err Form
 
-abbrev pub addressed : Option (List ℕ) → Result Addr Why
-addressed (Some quad) = Ok (record { 0 = quad })
-addressed None = Err Form
+abbrev pub address_word : Option (List ℕ) → Result Addr Why
+address_word (Some quad) = Ok (record { 0 = quad })
+address_word None = Err Form
 
 -- an address as a dotted quad
 abbrev pub address : List ℕ → Result Addr Why
-address word = addressed (quad_of word)
+address word = address_word (quad_of word)

@@ -7,11 +7,11 @@ use Rattle.link_schedule.specs.declared.line.Line.{Line}
 use Rattle.link_schedule.specs.declared.why.Why.{Why}
 use Rattle.link_schedule.specs.declared.why.Why.TheVariants.{Long, Form, Clients, Ports}
 use Rattle.link_schedule.specs.Numbers.{◌>>=◌}
-use Rattle.link_schedule.specs.Events.{event_of}
+use Rattle.link_schedule.specs.Events.{event_of_words}
 use Rattle.link_schedule.specs.Clients.{Plan, plan_of}
 
 -- what a schedule says: its clients, and the lines that are no clients', with their numbers
-pub record Content : Type 0 where
+pub record SchedulePlan : Type 0 where
   pub clients : List Plan
   pub lines : List Line
 
@@ -25,25 +25,25 @@ abbrev pub meets : Plan → Plan → Bool
 meets p q = bytes_eq p.side.addr.0 q.side.addr.0 && p.side.port.0 == q.side.port.0
 
 -- one more client behind those of the lines above: the 65th is too many, and no two stand at one address and port
-unfoldable pub with_client : Content → Plan → Result Content Why
-with_client above plan =
+unfoldable pub with_plan : SchedulePlan → Plan → Result SchedulePlan Why
+with_plan above plan =
     if nat_le 64 (length above.clients) then Err Clients
     else if list_any (λ earlier. meets earlier plan) above.clients then Err Ports
     else Ok (record { clients = above.clients ++ plan ∷ []; lines = above.lines })
 
 -- one more line that says what happens
-abbrev pub with_line : Content → ℕ → Event → Content
+abbrev pub with_line : SchedulePlan → ℕ → Event → SchedulePlan
 with_line above number event = record { clients = above.clients; lines = above.lines ++ record { at = number; event = event } ∷ [] }
 
-abbrev pub with_event : ℕ → Content → List (List ℕ) → Result Content Why
-with_event number above words = event_of (length above.clients) words >>= λ event. Ok (with_line above number event)
+abbrev pub with_event : ℕ → SchedulePlan → List (List ℕ) → Result SchedulePlan Why
+with_event number above words = event_of_words (length above.clients) words >>= λ event. Ok (with_line above number event)
 
 -- the words behind `client`
-abbrev pub read_client : List (List ℕ) → Content → Result Content Why
-read_client words above = plan_of words >>= with_client above
+abbrev pub read_client : List (List ℕ) → SchedulePlan → Result SchedulePlan Why
+read_client words above = plan_of words >>= with_plan above
 
 -- the words of a line under the lines above it: `client` and what makes one, or what happens
-abbrev pub read_words : ℕ → Content → List (List ℕ) → Result Content Why
+abbrev pub read_words : ℕ → SchedulePlan → List (List ℕ) → Result SchedulePlan Why
 read_words number above [] = Err Form
 read_words number above (verb ∷ words) =
     if bytes_eq verb (codes "client") then read_client words above else with_event number above (verb ∷ words)
@@ -54,23 +54,23 @@ is_passed_over [] = true
 is_passed_over (c ∷ line) = c == 35
 
 -- one line under the lines above it
-abbrev pub read_line : ℕ → Content → List ℕ → Result Content Why
+abbrev pub read_line : ℕ → SchedulePlan → List ℕ → Result SchedulePlan Why
 read_line number above line = if is_passed_over line then Ok above else read_words number above (slice_split (λ c. c == 32) line)
 
-abbrev pub goes_on : ℕ → (Content → Result Content BadText) → Result Content Why → Result Content BadText
-goes_on number next (Ok content) = next content
-goes_on number next (Err why) = Err (record { line = number; why = why })
+abbrev pub reads_on : ℕ → (SchedulePlan → Result SchedulePlan BadText) → Result SchedulePlan Why → Result SchedulePlan BadText
+reads_on number next (Ok content) = next content
+reads_on number next (Err why) = Err (record { line = number; why = why })
 
 -- the lines from a number on, under the lines above them
-abbrev pub read_lines : ℕ → Content → List (List ℕ) → Result Content BadText
+abbrev pub read_lines : ℕ → SchedulePlan → List (List ℕ) → Result SchedulePlan BadText
 read_lines number above [] = Ok above
-read_lines number above (line ∷ lines) = goes_on number (λ content. read_lines (number + 1) content lines) (read_line number above line)
+read_lines number above (line ∷ lines) = reads_on number (λ content. read_lines (number + 1) content lines) (read_line number above line)
 
-abbrev pub nothing_yet : Content
+abbrev pub nothing_yet : SchedulePlan
 nothing_yet = record { clients = []; lines = [] }
 
 -- a whole text: its lines are parted by LF, so that one more LF at the end adds only an empty line
-unfoldable pub read_text : List ℕ → Result Content BadText
+unfoldable pub read_text : List ℕ → Result SchedulePlan BadText
 read_text text =
     if nat_le (length text) 4194304 then read_lines 1 nothing_yet (slice_split (λ c. c == 10) text)
     else Err (record { line = 0; why = Long })

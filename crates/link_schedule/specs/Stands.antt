@@ -9,7 +9,7 @@ use Rattle.link_schedule.specs.declared.refusal.Refusal.TheVariants.{Faulty, NoM
 use Rattle.link_schedule.specs.declared.read_schedule.ReadSchedule.{ReadSchedule}
 use Rattle.link_schedule.specs.declared.read_schedule.ReadSchedule.TheVariants.{Bad, NoMemory as NoRoom}
 use Rattle.link_schedule.specs.Clients.{Plan}
-use Rattle.link_schedule.specs.Reading.{Content}
+use Rattle.link_schedule.specs.Reading.{SchedulePlan}
 
 abbrev pub request_at : Vec ℕ → List ℕ
 request_at request = request.items
@@ -20,28 +20,28 @@ plan_at plan = record {
   request = plan.request.items;
 }
 
-abbrev pub content_of : List ClientPlan → List Line → Content
+abbrev pub content_of : List ClientPlan → List Line → SchedulePlan
 content_of clients lines = record { clients = map plan_at clients; lines = lines }
 
 -- an answer is the meaning, or memory was wanting
-abbrev pub Gives : {A B : Type 0} → (A → B) → Result A Refusal → Result B Why → Type 0
-Gives at (Ok x) meant = meant ≡ Ok (at x)
-Gives at (Err (Faulty why)) meant = meant ≡ Err why
-Gives at (Err NoMemory) meant = Unit {0}
+abbrev pub GivesAs : {A B : Type 0} → (A → B) → Result A Refusal → Result B Why → Type 0
+GivesAs at (Ok x) meant = meant ≡ Ok (at x)
+GivesAs at (Err (Faulty why)) meant = meant ≡ Err why
+GivesAs at (Err NoMemory) meant = Unit {0}
 
 -- a line was read into what stands after it, or refused, or memory was wanting
-abbrev pub LineGives : Result (Unit {0}) Refusal → Content → Result Content Why → Type 0
+abbrev pub LineGives : Result (Unit {0}) Refusal → SchedulePlan → Result SchedulePlan Why → Type 0
 LineGives (Ok done) after meant = meant ≡ Ok after
 LineGives (Err (Faulty why)) after meant = meant ≡ Err why
 LineGives (Err NoMemory) after meant = Unit {0}
 
 -- the same of a client's line, whatever the other lines have said
-abbrev pub ClientGives : Result (Unit {0}) Refusal → List ClientPlan → (Content → Result Content Why) → List ClientPlan → Type 0
+abbrev pub ClientGives : Result (Unit {0}) Refusal → List ClientPlan → (SchedulePlan → Result SchedulePlan Why) → List ClientPlan → Type 0
 ClientGives result after meant before =
     (lines : List Line) → LineGives result (content_of after lines) (meant (content_of before lines))
 
 -- the same of another line, under so many clients
-abbrev pub EventGives : Result (Unit {0}) Refusal → ℕ → List Line → (Content → Result Content Why) → List Line → Type 0
+abbrev pub EventGives : Result (Unit {0}) Refusal → ℕ → List Line → (SchedulePlan → Result SchedulePlan Why) → List Line → Type 0
 EventGives result count after meant before =
     (clients : List ClientPlan) → length clients ≡ count → LineGives result (content_of clients after) (meant (content_of clients before))
 

@@ -7,7 +7,7 @@ use Rattle.link_schedule.specs.declared.line.Line.{Line}
 use Rattle.link_schedule.specs.declared.why.Why.{Why}
 use Rattle.link_schedule.specs.declared.why.Why.TheVariants.{Form, Clients, Ports, NoClient}
 use Rattle.link_schedule.specs.Clients.{Plan}
-use Rattle.link_schedule.specs.Reading.{Content, BadText, read_text}
+use Rattle.link_schedule.specs.Reading.{SchedulePlan, BadText, read_text}
 
 -- a client at 10.0.0.2 and a port, that takes segments of 536 bytes and tells no size of its own
 abbrev pub plan : ℕ → List ℕ → Plan
@@ -19,10 +19,10 @@ plan port request = record {
 abbrev pub said : ℕ → Event → Line
 said number event = record { at = number; event = event }
 
-abbrev pub schedule : List Plan → List Line → Result Content BadText
+abbrev pub schedule : List Plan → List Line → Result SchedulePlan BadText
 schedule clients lines = Ok (record { clients = clients; lines = lines })
 
-abbrev pub bad : Why → ℕ → Result Content BadText
+abbrev pub bad : Why → ℕ → Result SchedulePlan BadText
 bad why line = Err (record { line = line; why = why })
 
 abbrev pub front_page : Plan

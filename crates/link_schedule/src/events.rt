@@ -1,6 +1,6 @@
 ghost use Rattle.std.specs.Prelude.{◌≡◌, ◌<◌, map};
 ghost use Rattle.std.specs.Str.{bytes_eq};
-ghost use Rattle.link_schedule.specs.Events.{bare as bare_meant, damage as damage_meant, event_of as event_meant};
+ghost use Rattle.link_schedule.specs.Events.{bare as bare_meant, damage as damage_meant, event_of_words as event_meant};
 ghost use Rattle.link_schedule.specs.Events.{window as window_meant, with_one as one_meant, with_three as three_meant, with_two as two_meant};
 
 use crate::event::Event;

@@ -3,7 +3,7 @@ ghost use Rattle.std.specs.List.{list_all};
 ghost use Rattle.hex.specs.Hex.{decode_of};
 ghost use Rattle.link_schedule.specs.Clients.{got as got_meant, is_seen as seen_meant, is_target as target_meant, plan_of as plan_meant, plan_with as parts_meant};
 ghost use Rattle.link_schedule.specs.Clients.{raw as raw_meant, request_of as request_meant};
-ghost use Rattle.link_schedule.specs.Stands.{Gives, plan_at, request_at};
+ghost use Rattle.link_schedule.specs.Stands.{GivesAs, plan_at, request_at};
 
 use crate::client_plan::ClientPlan;
 use crate::events::is_word;
@@ -15,7 +15,7 @@ use std::alloc::Global;
 
 /// The client that the words behind `client` make.
 pub fn plan_of(alloc: Global, words: &[&[u8]]) -> Result<ClientPlan, Refusal>
-    ensures { Gives plan_at result (plan_meant (map (λ word. word.now) words.now)) }
+    ensures { GivesAs plan_at result (plan_meant (map (λ word. word.now) words.now)) }
 {
     match words {
         [addr, port, mss, seg, how, what] => plan_with(alloc, addr, port, mss, seg, how, what),
@@ -32,7 +32,7 @@ fn plan_with(
     how: &[u8],
     what: &[u8],
 ) -> Result<ClientPlan, Refusal>
-    ensures { Gives plan_at result (parts_meant addr.now port.now mss.now seg.now how.now what.now) }
+    ensures { GivesAs plan_at result (parts_meant addr.now port.now mss.now seg.now how.now what.now) }
 {
     match side_of(addr, port, mss, seg) {
         Ok(side) => match request_of(alloc, how, what) {
@@ -51,7 +51,7 @@ fn plan_with(
 
 /// The bytes that a client asks with.
 fn request_of(alloc: Global, how: &[u8], what: &[u8]) -> Result<Vec<u8>, Refusal>
-    ensures { Gives request_at result (request_meant how.now what.now) }
+    ensures { GivesAs request_at result (request_meant how.now what.now) }
 {
     if is_word(how, "get") {
         return got(alloc, what);
@@ -64,7 +64,7 @@ fn request_of(alloc: Global, how: &[u8], what: &[u8]) -> Result<Vec<u8>, Refusal
 
 /// The request for a target.
 fn got(alloc: Global, target: &[u8]) -> Result<Vec<u8>, Refusal>
-    ensures { Gives request_at result (got_meant target.now) }
+    ensures { GivesAs request_at result (got_meant target.now) }
 {
     if !is_target(target) {
         return Err(Refusal::Faulty(Why::Form));
@@ -97,7 +97,7 @@ fn all_seen(word: &[u8]) -> bool
 
 /// The request in hexadecimal digits.
 fn raw(alloc: Global, digits: &[u8]) -> Result<Vec<u8>, Refusal>
-    ensures { Gives request_at result (raw_meant (decode_of digits.now)) }
+    ensures { GivesAs request_at result (raw_meant (decode_of digits.now)) }
 {
     match hex::decode(alloc, digits) {
         Ok(request) => {

@@ -21,13 +21,13 @@ pub struct Schedule {
 const MOST_BYTES: usize = 4194304;
 
 impl Schedule {
-    ghost use Rattle.link_schedule.specs.Answer.{Reads};
+    ghost use Rattle.link_schedule.specs.Answer.{ReadsSchedule};
     ghost use Rattle.link_schedule.specs.Reading.{read_text};
 
     /// The schedule that a text spells, or its first bad line. Nothing of the text is run.
     #[tactic(auto, unfolding(crate::specs::Reading::read_text))]
     pub fn read(alloc: Global, text: &[u8]) -> Result<Schedule, ReadSchedule>
-        ensures { Reads result (read_text text.now) }
+        ensures { ReadsSchedule result (read_text text.now) }
     {
         if text.len() > MOST_BYTES {
             return Err(ReadSchedule::Bad {

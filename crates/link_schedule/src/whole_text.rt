@@ -1,5 +1,5 @@
 ghost use Rattle.std.specs.Prelude.{◌≡◌, ◌≤◌, length, map};
-ghost use Rattle.link_schedule.specs.Answer.{Reads};
+ghost use Rattle.link_schedule.specs.Answer.{ReadsSchedule};
 ghost use Rattle.link_schedule.specs.Reading.{nothing_yet, read_lines as lines_meant};
 ghost use Rattle.link_schedule.specs.Stands.{told};
 
@@ -12,7 +12,7 @@ use std::alloc::Global;
 /// The lines in turn, up to the first bad one.
 pub fn read_lines(alloc: Global, lines: &[&[u8]]) -> Result<Schedule, ReadSchedule>
     requires { length lines.now ≤ 4194305 }
-    ensures { Reads result (lines_meant 1 nothing_yet (map (λ line. line.now) lines.now)) }
+    ensures { ReadsSchedule result (lines_meant 1 nothing_yet (map (λ line. line.now) lines.now)) }
 {
     let mut clients = Vec::new(alloc);
     let mut said = Vec::new(alloc);

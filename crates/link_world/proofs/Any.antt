@@ -19,7 +19,7 @@ use Rattle.uip_node.specs.Counters.{initial_number, ticks_of}
 use Rattle.uip_node.specs.Node.{AbstractNode, NodeStep, reply_of, gone_by, moment, happened, slot_for_syn, is_waiting, longest_wait, or_else, opens_in, opens, refuses, from_stranger, arrives_at, step, passes}
 use Rattle.link_client.specs.declared.setup.Setup.{Setup}
 use Rattle.link_client.specs.Client.{AbstractClient, ClientStep, client_takes, client_opens, client_again, client_closes, client_aborts, tells_window}
-use Rattle.link_world.specs.World.{World, Side, Sent, Content, numbered, sockets_of, buries, buries_in, addressed, epoch_at, epoch_of, posts, posts_reply, node_stepped, node_handles, with_client, with_side, posts_of_client, client_stepped, marked, gives_node, gives_client, delivers, gives, is_clean}
+use Rattle.link_world.specs.World.{World, Side, Sent, Content, numbered, client_sockets, buries, buries_in, addressed, epoch_at, epoch_of, posts, posts_reply, node_stepped, node_handles, with_client, with_side, posts_of_client, client_stepped, marked, gives_node, gives_client, delivers, hands_to, is_clean}
 use Rattle.link_world.specs.World.Content.{OfSegment, OfPing, OfEcho}
 use Rattle.link_world.specs.Acts.{client_acts, handles_all, does}
 use Rattle.link_world.specs.declared.act.Act.{Act}
@@ -95,13 +95,13 @@ module _ (m : Meaning) (G : ℕ → Side → Connection → List Sent → Type 0
   pub record Framed (w : World) : Type 0 where
     pub apart : Apart w.sides
     pub single : Single w.node.connections
-    pub each : (k : ℕ) (side : Side) → slice_get w.sides k ≡ Some side → G k side (serving (sockets_of side) w.node.connections) w.sent
+    pub each : (k : ℕ) (side : Side) → slice_get w.sides k ≡ Some side → G k side (serving (client_sockets side) w.node.connections) w.sent
 
   -- what an event of the peer `peer` does to the side k: it hears something where it is the peer and something is said
   record EffectOn (w : World) (peer : Sockets) (r : Reacted) (k : ℕ) (side : Side) : Type 0 where
-    quiet : r.said ≡ None → G k (buried r.gone side) (serving (sockets_of side) r.table) w.sent
-    aside : (sockets_of side ≡ peer → ⊥) → G k (buried r.gone side) (serving (sockets_of side) r.table) w.sent
-    says : (x : Speech) → r.said ≡ Some x → sockets_of side ≡ peer → (tick id : ℕ) → G k (buried r.gone side) (serving (sockets_of side) r.table) (w.sent ++ entry (to k) (buried r.gone side) tick id x ∷ [])
+    quiet : r.said ≡ None → G k (buried r.gone side) (serving (client_sockets side) r.table) w.sent
+    aside : (client_sockets side ≡ peer → ⊥) → G k (buried r.gone side) (serving (client_sockets side) r.table) w.sent
+    says : (x : Speech) → r.said ≡ Some x → client_sockets side ≡ peer → (tick id : ℕ) → G k (buried r.gone side) (serving (client_sockets side) r.table) (w.sent ++ entry (to k) (buried r.gone side) tick id x ∷ [])
 
   record Effect (w : World) (peer : Sockets) (r : Reacted) : Type 0 where
     single : Single r.table
@@ -115,7 +115,7 @@ module _ (m : Meaning) (G : ℕ → Side → Connection → List Sent → Type 0
   posts_aside w who again content g t f = record {
     apart = g.apart;
     single = g.single;
-    each = λ k side x. other k side (serving (sockets_of side) w.node.connections) w.sent (posted w who again content) (g.each k side x) (t k) (f k);
+    each = λ k side x. other k side (serving (client_sockets side) w.node.connections) w.sent (posted w who again content) (g.each k side x) (t k) (f k);
   }
 
   not_zero_number : (k : ℕ) → FromNode 0 ≡ to k → ⊥
@@ -129,10 +129,10 @@ module _ (m : Meaning) (G : ℕ → Side → Connection → List Sent → Type 0
       let sides : List Side = buries r.gone w.sides in
       let v : World = record w { node = r.node; sides = sides } in
       let set_apart : Apart sides = λ j k a b y z p. (let ma = get_buried r.gone w.sides j a y in let mb = get_buried r.gone w.sides k b z in
-      g.apart j k ma.from mb.from ma.get mb.get (sym (buried_sockets r.gone ma.from) ∙ ap (λ o. sockets_of o) ma.is ∙ p ∙ sym (ap (λ o. sockets_of o) mb.is) ∙ buried_sockets r.gone mb.from)) in
-      let at : (sent : List Sent) (k : ℕ) (side from : Side) → buried r.gone from ≡ side → G k (buried r.gone from) (serving (sockets_of from) table) sent → G k side (serving (sockets_of side) table) sent =
-      λ sent k side from is h. (let q : sockets_of from ≡ sockets_of side = sym (buried_sockets r.gone from) ∙ ap (λ o. sockets_of o) is in
-      subst (λ z. G k z (serving (sockets_of side) table) sent) is (subst (λ z. G k (buried r.gone from) (serving z table) sent) q h)) in
+      g.apart j k ma.from mb.from ma.get mb.get (sym (buried_sockets r.gone ma.from) ∙ ap (λ o. client_sockets o) ma.is ∙ p ∙ sym (ap (λ o. client_sockets o) mb.is) ∙ buried_sockets r.gone mb.from)) in
+      let at : (sent : List Sent) (k : ℕ) (side from : Side) → buried r.gone from ≡ side → G k (buried r.gone from) (serving (client_sockets from) table) sent → G k side (serving (client_sockets side) table) sent =
+      λ sent k side from is h. (let q : client_sockets from ≡ client_sockets side = sym (buried_sockets r.gone from) ∙ ap (λ o. client_sockets o) is in
+      subst (λ z. G k z (serving (client_sockets side) table) sent) is (subst (λ z. G k (buried r.gone from) (serving z table) sent) q h)) in
       elim re.sends [
         | sends_none q n ↦ subst (λ s. Framed (posts_reply v s)) (sym q) (record { apart = set_apart; single = e.single; each = λ k side y. (let b = get_buried r.gone w.sides k side y in at w.sent k side b.from b.is ((e.each k b.from b.get).quiet n)) })
         | sends_echo request q n ↦ subst (λ s. Framed (posts_reply v s)) (sym q)
@@ -142,21 +142,21 @@ module _ (m : Meaning) (G : ℕ → Side → Connection → List Sent → Type 0
           apart = set_apart;
           single = e.single;
           each = λ k side y. (let bu = get_buried r.gone w.sides k side y in
-              let same : sockets_of bu.from ≡ sockets_of side = sym (buried_sockets r.gone bu.from) ∙ ap (λ o. sockets_of o) bu.is in
-              both_ways (same_sockets peer (sockets_of side))
-              (λ b. let p : peer ≡ sockets_of side = same_is peer (sockets_of side) b in
+              let same : client_sockets bu.from ≡ client_sockets side = sym (buried_sockets r.gone bu.from) ∙ ap (λ o. client_sockets o) bu.is in
+              both_ways (same_sockets peer (client_sockets side))
+              (λ b. let p : peer ≡ client_sockets side = same_is peer (client_sockets side) b in
               let t : addressed 1 peer sides ≡ suc k = addressed_finds peer k side sides set_apart y p in
               let stamp : epoch_of (FromNode (addressed 1 peer sides)) sides ≡ length side.past = ap (λ n. epoch_at (numbered sides n)) t ∙ ap epoch_at y in
-              let h : G k side (serving (sockets_of side) table) (w.sent ++ entry (to k) side (ticks_of r.node.past) id speech ∷ []) =
-              subst (λ u. G k side (serving (sockets_of side) table) (w.sent ++ entry (to k) u (ticks_of r.node.past) id speech ∷ [])) bu.is
+              let h : G k side (serving (client_sockets side) table) (w.sent ++ entry (to k) side (ticks_of r.node.past) id speech ∷ []) =
+              subst (λ u. G k side (serving (client_sockets side) table) (w.sent ++ entry (to k) u (ticks_of r.node.past) id speech ∷ [])) bu.is
               (at (w.sent ++ entry (to k) (buried r.gone bu.from) (ticks_of r.node.past) id speech ∷ []) k side bu.from bu.is ((e.each k bu.from bu.get).says speech said (same ∙ sym p) (ticks_of r.node.past) id)) in
-              subst (λ n. G k side (serving (sockets_of side) table) (w.sent ++ record { who = FromNode (addressed 1 peer sides); tick = ticks_of r.node.past; epoch = n; again = speech.again; content = OfSegment id speech.segment } ∷ [])) (sym stamp)
-              (subst (λ n. G k side (serving (sockets_of side) table) (w.sent ++ record { who = FromNode n; tick = ticks_of r.node.past; epoch = length side.past; again = speech.again; content = OfSegment id speech.segment } ∷ [])) (sym t) h))
-              (λ b. let n : peer ≡ sockets_of side → ⊥ = apart peer (sockets_of side) b in
-              other k side (serving (sockets_of side) table) w.sent (posted v (FromNode (addressed 1 peer sides)) speech.again (OfSegment id speech.segment))
+              subst (λ n. G k side (serving (client_sockets side) table) (w.sent ++ record { who = FromNode (addressed 1 peer sides); tick = ticks_of r.node.past; epoch = n; again = speech.again; content = OfSegment id speech.segment } ∷ [])) (sym stamp)
+              (subst (λ n. G k side (serving (client_sockets side) table) (w.sent ++ record { who = FromNode n; tick = ticks_of r.node.past; epoch = length side.past; again = speech.again; content = OfSegment id speech.segment } ∷ [])) (sym t) h))
+              (λ b. let n : peer ≡ client_sockets side → ⊥ = apart peer (client_sockets side) b in
+              other k side (serving (client_sockets side) table) w.sent (posted v (FromNode (addressed 1 peer sides)) speech.again (OfSegment id speech.segment))
               (at w.sent k side bu.from bu.is ((e.each k bu.from bu.get).aside (λ z. n (sym z ∙ same))))
               (λ z. (let y' : addressed 1 peer sides ≡ suc k = cc in let a = addressed_is 1 peer k sides y' in
-              let it : a.side ≡ side = (let i : a.index ≡ k = omega (arith, a.is) in let u : Some a.side ≡ Some side = sym a.get ∙ ap (slice_get sides) i ∙ y in cc) in n (a.same ∙ ap (λ o. sockets_of o) it)))
+              let it : a.side ≡ side = (let i : a.index ≡ k = omega (arith, a.is) in let u : Some a.side ≡ Some side = sym a.get ∙ ap (slice_get sides) i ∙ y in cc) in n (a.same ∙ ap (λ o. client_sockets o) it)))
               (λ z. absurd (cc))));
         })
       ]
@@ -172,7 +172,7 @@ module _ (m : Meaning) (G : ℕ → Side → Connection → List Sent → Type 0
   said_by o = speech_of (segment_of m o.connection o.step) (is_again o.step)
 
   module _ (w : World) (i : ℕ) (old : Connection) (o : Outcome) (g : Framed w) (at : slice_get w.node.connections i ≡ Some old) (live : is_live old.state ≡ true) (peer : o.connection.sockets ≡ old.sockets)
-      (steps : (k : ℕ) (side : Side) → slice_get w.sides k ≡ Some side → sockets_of side ≡ old.sockets → G k side old w.sent → Steps w o k side) where
+      (steps : (k : ℕ) (side : Side) → slice_get w.sides k ≡ Some side → client_sockets side ≡ old.sockets → G k side old w.sent → Steps w o k side) where
     abbrev table : List Connection
     table = w.node.connections
 
@@ -181,15 +181,15 @@ module _ (m : Meaning) (G : ℕ → Side → Connection → List Sent → Type 0
         let q : serves p old ≡ true = serves_yes p old live (sym peer ∙ same_is o.connection.sockets p (and_true (is_live o.connection.state) (same_sockets o.connection.sockets p) s).1) in
         g.single p j i y old h at u q
 
-    before_step : (k : ℕ) (side : Side) → slice_get w.sides k ≡ Some side → sockets_of side ≡ old.sockets → G k side old w.sent
-    before_step k side x q = subst (λ z. G k side z w.sent) (serving_is table (sockets_of side) i old g.single at (serves_yes (sockets_of side) old live (sym q))) (g.each k side x)
+    before_step : (k : ℕ) (side : Side) → slice_get w.sides k ≡ Some side → client_sockets side ≡ old.sockets → G k side old w.sent
+    before_step k side x q = subst (λ z. G k side z w.sent) (serving_is table (client_sockets side) i old g.single at (serves_yes (client_sockets side) old live (sym q))) (g.each k side x)
 
     effect_goes_on : is_live o.connection.state ≡ true → Effect w old.sockets (record { table = set table i o.connection; gone = None; said = said_by o })
     effect_goes_on l = record {
       single = single_set table g.single i old at o.connection owns_step;
-      each = λ k side x. both_ways (same_sockets (sockets_of side) old.sockets)
-          (λ e. let q : sockets_of side ≡ old.sockets = same_is (sockets_of side) old.sockets e in
-          let after : serving (sockets_of side) (set table i o.connection) ≡ o.connection = serving_new table g.single i old at o.connection owns_step (sockets_of side) (serves_yes (sockets_of side) o.connection l (peer ∙ sym q)) in
+      each = λ k side x. both_ways (same_sockets (client_sockets side) old.sockets)
+          (λ e. let q : client_sockets side ≡ old.sockets = same_is (client_sockets side) old.sockets e in
+          let after : serving (client_sockets side) (set table i o.connection) ≡ o.connection = serving_new table g.single i old at o.connection owns_step (client_sockets side) (serves_yes (client_sockets side) o.connection l (peer ∙ sym q)) in
           let st : Steps w o k side = steps k side x q (before_step k side x q) in
           record {
             quiet = λ n. subst (λ z. G k side z w.sent) (sym after) (st.quiet (speech_none (segment_of m o.connection o.step) (is_again o.step) n) l);
@@ -197,34 +197,34 @@ module _ (m : Meaning) (G : ℕ → Side → Connection → List Sent → Type 0
             says = λ s y z tick id. subst (λ c'. G k side c' (w.sent ++ entry (to k) side tick id s ∷ [])) (sym after)
                 (speech_is (λ s'. G k side o.connection (w.sent ++ entry (to k) side tick id s' ∷ [])) (segment_of m o.connection o.step) (is_again o.step) (λ s' e'. st.says s' e' l tick id) s y);
           })
-          (λ e. let n : same_sockets old.sockets (sockets_of side) ≡ false = flip (sockets_of side) old.sockets e in
-          let after : serving (sockets_of side) (set table i o.connection) ≡ serving (sockets_of side) table =
-          serving_other table g.single i old at o.connection owns_step (sockets_of side) (serves_not (sockets_of side) old n) (serves_not (sockets_of side) o.connection (ap (λ z. same_sockets z (sockets_of side)) peer ∙ n)) in
-          let kept : G k side (serving (sockets_of side) (set table i o.connection)) w.sent = subst (λ z. G k side z w.sent) (sym after) (g.each k side x) in
-          record { quiet = λ z. kept; aside = λ z. kept; says = λ s y z. absurd (apart (sockets_of side) old.sockets e z) });
+          (λ e. let n : same_sockets old.sockets (client_sockets side) ≡ false = flip (client_sockets side) old.sockets e in
+          let after : serving (client_sockets side) (set table i o.connection) ≡ serving (client_sockets side) table =
+          serving_other table g.single i old at o.connection owns_step (client_sockets side) (serves_not (client_sockets side) old n) (serves_not (client_sockets side) o.connection (ap (λ z. same_sockets z (client_sockets side)) peer ∙ n)) in
+          let kept : G k side (serving (client_sockets side) (set table i o.connection)) w.sent = subst (λ z. G k side z w.sent) (sym after) (g.each k side x) in
+          record { quiet = λ z. kept; aside = λ z. kept; says = λ s y z. absurd (apart (client_sockets side) old.sockets e z) });
     }
 
     effect_ends : is_live o.connection.state ≡ false → Effect w old.sockets (record { table = set table i o.connection; gone = Some o.connection; said = said_by o })
     effect_ends l = record {
       single = single_set table g.single i old at o.connection owns_step;
-      each = λ k side x. both_ways (same_sockets (sockets_of side) old.sockets)
-          (λ e. let q : sockets_of side ≡ old.sockets = same_is (sockets_of side) old.sockets e in
-          let after : serving (sockets_of side) (set table i o.connection) ≡ closed = serving_gone table g.single i old at o.connection owns_step (sockets_of side) (serves_yes (sockets_of side) old live (sym q)) (serves_dead (sockets_of side) o.connection l) in
+      each = λ k side x. both_ways (same_sockets (client_sockets side) old.sockets)
+          (λ e. let q : client_sockets side ≡ old.sockets = same_is (client_sockets side) old.sockets e in
+          let after : serving (client_sockets side) (set table i o.connection) ≡ closed = serving_gone table g.single i old at o.connection owns_step (client_sockets side) (serves_yes (client_sockets side) old live (sym q)) (serves_dead (client_sockets side) o.connection l) in
           let st : Steps w o k side = steps k side x q (before_step k side x q) in
           let now : buries_in o.connection side ≡ older side o.connection = buried_here o.connection side (peer ∙ sym q) in
           record {
-            quiet = λ n. subst (λ z. G k z (serving (sockets_of side) (set table i o.connection)) w.sent) (sym now) (subst (λ z. G k (older side o.connection) z w.sent) (sym after) (st.quiet_last (speech_none (segment_of m o.connection o.step) (is_again o.step) n) l));
+            quiet = λ n. subst (λ z. G k z (serving (client_sockets side) (set table i o.connection)) w.sent) (sym now) (subst (λ z. G k (older side o.connection) z w.sent) (sym after) (st.quiet_last (speech_none (segment_of m o.connection o.step) (is_again o.step) n) l));
             aside = λ n. absurd (n q);
-            says = λ s y z tick id. subst (λ u. G k u (serving (sockets_of side) (set table i o.connection)) (w.sent ++ entry (to k) u tick id s ∷ [])) (sym now)
+            says = λ s y z tick id. subst (λ u. G k u (serving (client_sockets side) (set table i o.connection)) (w.sent ++ entry (to k) u tick id s ∷ [])) (sym now)
                 (subst (λ c'. G k (older side o.connection) c' (w.sent ++ entry (to k) (older side o.connection) tick id s ∷ [])) (sym after)
                 (speech_is (λ s'. G k (older side o.connection) closed (w.sent ++ entry (to k) (older side o.connection) tick id s' ∷ [])) (segment_of m o.connection o.step) (is_again o.step) (λ s' e'. st.says_last s' e' l tick id) s y));
           })
-          (λ e. let n : same_sockets old.sockets (sockets_of side) ≡ false = flip (sockets_of side) old.sockets e in
-          let after : serving (sockets_of side) (set table i o.connection) ≡ serving (sockets_of side) table =
-          serving_other table g.single i old at o.connection owns_step (sockets_of side) (serves_not (sockets_of side) old n) (serves_dead (sockets_of side) o.connection l) in
-          let now : buries_in o.connection side ≡ side = buried_elsewhere o.connection side (ap (λ z. same_sockets z (sockets_of side)) peer ∙ n) in
-          let kept : G k (buries_in o.connection side) (serving (sockets_of side) (set table i o.connection)) w.sent = subst (λ z. G k z (serving (sockets_of side) (set table i o.connection)) w.sent) (sym now) (subst (λ z. G k side z w.sent) (sym after) (g.each k side x)) in
-          record { quiet = λ z. kept; aside = λ z. kept; says = λ s y z. absurd (apart (sockets_of side) old.sockets e z) });
+          (λ e. let n : same_sockets old.sockets (client_sockets side) ≡ false = flip (client_sockets side) old.sockets e in
+          let after : serving (client_sockets side) (set table i o.connection) ≡ serving (client_sockets side) table =
+          serving_other table g.single i old at o.connection owns_step (client_sockets side) (serves_not (client_sockets side) old n) (serves_dead (client_sockets side) o.connection l) in
+          let now : buries_in o.connection side ≡ side = buried_elsewhere o.connection side (ap (λ z. same_sockets z (client_sockets side)) peer ∙ n) in
+          let kept : G k (buries_in o.connection side) (serving (client_sockets side) (set table i o.connection)) w.sent = subst (λ z. G k z (serving (client_sockets side) (set table i o.connection)) w.sent) (sym now) (subst (λ z. G k side z w.sent) (sym after) (g.each k side x)) in
+          record { quiet = λ z. kept; aside = λ z. kept; says = λ s y z. absurd (apart (client_sockets side) old.sockets e z) });
     }
 
     effect_step : Effect w old.sockets (record { table = set table i o.connection; gone = gone_by old o.connection; said = said_by o })
@@ -241,14 +241,14 @@ module _ (m : Meaning) (G : ℕ → Side → Connection → List Sent → Type 0
     each = λ k side x. record {
       quiet = λ z. g.each k side x;
       aside = λ z. g.each k side x;
-      says = λ y e z tick id. reset k side (serving (sockets_of side) w.node.connections) w.sent (entry (to k) side tick id y) (g.each k side x) refl (r y e).0 (r y e).1 (r y e).2 (r y e).3 (r y e).4 refl;
+      says = λ y e z tick id. reset k side (serving (client_sockets side) w.node.connections) w.sent (entry (to k) side tick id y) (g.each k side x) refl (r y e).0 (r y e).1 (r y e).2 (r y e).3 (r y e).4 refl;
     };
   }
 
   -- a SYN takes a free slot
   module _ (w : World) (i : ℕ) (old new : Connection) (s : Speech) (g : Framed w) (at : slice_get w.node.connections i ≡ Some old) (live : is_live new.state ≡ true)
       (free : Free new.sockets w.node.connections)
-      (births : (k : ℕ) (side : Side) → slice_get w.sides k ≡ Some side → sockets_of side ≡ new.sockets → G k side closed w.sent → (tick id : ℕ) → G k side new (w.sent ++ entry (to k) side tick id s ∷ [])) where
+      (births : (k : ℕ) (side : Side) → slice_get w.sides k ≡ Some side → client_sockets side ≡ new.sockets → G k side closed w.sent → (tick id : ℕ) → G k side new (w.sent ++ entry (to k) side tick id s ∷ [])) where
     abbrev conns : List Connection
     conns = w.node.connections
 
@@ -256,98 +256,98 @@ module _ (m : Meaning) (G : ℕ → Side → Connection → List Sent → Type 0
     owns_born p u j y h v = absurd (let q : new.sockets ≡ p = same_is new.sockets p (and_true (is_live new.state) (same_sockets new.sockets p) u).1 in
         let z : serves p y ≡ false = ap (λ n. serves n y) (sym q) ∙ free j y h in cc)
 
-    born_here : (k : ℕ) (side : Side) → slice_get w.sides k ≡ Some side → sockets_of side ≡ new.sockets → (tick id : ℕ) → G k side (serving (sockets_of side) (set conns i new)) (w.sent ++ entry (to k) side tick id s ∷ [])
+    born_here : (k : ℕ) (side : Side) → slice_get w.sides k ≡ Some side → client_sockets side ≡ new.sockets → (tick id : ℕ) → G k side (serving (client_sockets side) (set conns i new)) (w.sent ++ entry (to k) side tick id s ∷ [])
     born_here k side x q tick id =
-        let before : serving (sockets_of side) conns ≡ closed = serving_free conns (sockets_of side) (subst (λ n. Free n conns) (sym q) free) in
-        let after : serving (sockets_of side) (set conns i new) ≡ new = serving_new conns g.single i old at new owns_born (sockets_of side) (serves_yes (sockets_of side) new live (sym q)) in
+        let before : serving (client_sockets side) conns ≡ closed = serving_free conns (client_sockets side) (subst (λ n. Free n conns) (sym q) free) in
+        let after : serving (client_sockets side) (set conns i new) ≡ new = serving_new conns g.single i old at new owns_born (client_sockets side) (serves_yes (client_sockets side) new live (sym q)) in
         subst (λ z. G k side z (w.sent ++ entry (to k) side tick id s ∷ [])) (sym after) (births k side x q (subst (λ z. G k side z w.sent) before (g.each k side x)) tick id)
 
-    born_elsewhere : (left : Option Connection) (k : ℕ) (side : Side) → slice_get w.sides k ≡ Some side → same_sockets (sockets_of side) new.sockets ≡ false → serves (sockets_of side) old ≡ false → buried left side ≡ side →
+    born_elsewhere : (left : Option Connection) (k : ℕ) (side : Side) → slice_get w.sides k ≡ Some side → same_sockets (client_sockets side) new.sockets ≡ false → serves (client_sockets side) old ≡ false → buried left side ≡ side →
         EffectOn w new.sockets (record { table = set conns i new; gone = left; said = Some s }) k side
     born_elsewhere left k side x e f now =
-        let after : serving (sockets_of side) (set conns i new) ≡ serving (sockets_of side) conns = serving_other conns g.single i old at new owns_born (sockets_of side) f (serves_not (sockets_of side) new (flip (sockets_of side) new.sockets e)) in
-        let kept : G k (buried left side) (serving (sockets_of side) (set conns i new)) w.sent = subst (λ z. G k z (serving (sockets_of side) (set conns i new)) w.sent) (sym now) (subst (λ z. G k side z w.sent) (sym after) (g.each k side x)) in
-        record { quiet = λ z. kept; aside = λ z. kept; says = λ y h z. absurd (apart (sockets_of side) new.sockets e z) }
+        let after : serving (client_sockets side) (set conns i new) ≡ serving (client_sockets side) conns = serving_other conns g.single i old at new owns_born (client_sockets side) f (serves_not (client_sockets side) new (flip (client_sockets side) new.sockets e)) in
+        let kept : G k (buried left side) (serving (client_sockets side) (set conns i new)) w.sent = subst (λ z. G k z (serving (client_sockets side) (set conns i new)) w.sent) (sym now) (subst (λ z. G k side z w.sent) (sym after) (g.each k side x)) in
+        record { quiet = λ z. kept; aside = λ z. kept; says = λ y h z. absurd (apart (client_sockets side) new.sockets e z) }
 
-    born_same : (left : Option Connection) (k : ℕ) (side : Side) → slice_get w.sides k ≡ Some side → sockets_of side ≡ new.sockets → buried left side ≡ side →
+    born_same : (left : Option Connection) (k : ℕ) (side : Side) → slice_get w.sides k ≡ Some side → client_sockets side ≡ new.sockets → buried left side ≡ side →
         EffectOn w new.sockets (record { table = set conns i new; gone = left; said = Some s }) k side
     born_same left k side x q now =
         record {
           quiet = λ z. absurd (cc);
           aside = λ n. absurd (n q);
-          says = λ y h z tick id. subst (λ u. G k u (serving (sockets_of side) (set conns i new)) (w.sent ++ entry (to k) u tick id y ∷ [])) (sym now)
-              (only_some (λ t. G k side (serving (sockets_of side) (set conns i new)) (w.sent ++ entry (to k) side tick id t ∷ [])) s y h (born_here k side x q tick id));
+          says = λ y h z tick id. subst (λ u. G k u (serving (client_sockets side) (set conns i new)) (w.sent ++ entry (to k) u tick id y ∷ [])) (sym now)
+              (only_some (λ t. G k side (serving (client_sockets side) (set conns i new)) (w.sent ++ entry (to k) side tick id t ∷ [])) s y h (born_here k side x q tick id));
         }
 
-    born_evicts : (k : ℕ) (side : Side) → slice_get w.sides k ≡ Some side → same_sockets (sockets_of side) new.sockets ≡ false → is_live old.state ≡ true → sockets_of side ≡ old.sockets →
+    born_evicts : (k : ℕ) (side : Side) → slice_get w.sides k ≡ Some side → same_sockets (client_sockets side) new.sockets ≡ false → is_live old.state ≡ true → client_sockets side ≡ old.sockets →
         EffectOn w new.sockets (record { table = set conns i new; gone = Some old; said = Some s }) k side
     born_evicts k side x e l q =
-        let before : serving (sockets_of side) conns ≡ old = serving_is conns (sockets_of side) i old g.single at (serves_yes (sockets_of side) old l (sym q)) in
-        let after : serving (sockets_of side) (set conns i new) ≡ closed = serving_gone conns g.single i old at new owns_born (sockets_of side) (serves_yes (sockets_of side) old l (sym q)) (serves_not (sockets_of side) new (flip (sockets_of side) new.sockets e)) in
+        let before : serving (client_sockets side) conns ≡ old = serving_is conns (client_sockets side) i old g.single at (serves_yes (client_sockets side) old l (sym q)) in
+        let after : serving (client_sockets side) (set conns i new) ≡ closed = serving_gone conns g.single i old at new owns_born (client_sockets side) (serves_yes (client_sockets side) old l (sym q)) (serves_not (client_sockets side) new (flip (client_sockets side) new.sockets e)) in
         let now : buries_in old side ≡ older side old = buried_here old side (sym q) in
-        let kept : G k (buries_in old side) (serving (sockets_of side) (set conns i new)) w.sent = subst (λ z. G k z (serving (sockets_of side) (set conns i new)) w.sent) (sym now)
+        let kept : G k (buries_in old side) (serving (client_sockets side) (set conns i new)) w.sent = subst (λ z. G k z (serving (client_sockets side) (set conns i new)) w.sent) (sym now)
         (subst (λ z. G k (older side old) z w.sent) (sym after) (evict k side old w.sent l (subst (λ z. G k side z w.sent) before (g.each k side x)))) in
-        record { quiet = λ z. kept; aside = λ z. kept; says = λ y h z. absurd (apart (sockets_of side) new.sockets e z) }
+        record { quiet = λ z. kept; aside = λ z. kept; says = λ y h z. absurd (apart (client_sockets side) new.sockets e z) }
 
     effect_born : Effect w new.sockets (record { table = set conns i new; gone = (if is_live old.state then Some old else None); said = Some s })
     effect_born =
         both_ways (is_live old.state)
         (λ l. subst (λ x. Effect w new.sockets (record { table = set conns i new; gone = x; said = Some s })) (sym (ap (λ b. if b then Some old else None) l)) (record {
           single = single_set conns g.single i old at new owns_born;
-          each = λ k side x. both_ways (same_sockets (sockets_of side) new.sockets)
-              (λ e. let q : sockets_of side ≡ new.sockets = same_is (sockets_of side) new.sockets e in
-              born_same (Some old) k side x q (buried_elsewhere old side (not_peer (sockets_of side) old l (subst (λ n. serves n old ≡ false) (sym q) (free i old at)))))
-              (λ e. both_ways (same_sockets (sockets_of side) old.sockets)
-              (λ f. born_evicts k side x e l (same_is (sockets_of side) old.sockets f))
-              (λ f. born_elsewhere (Some old) k side x e (serves_not (sockets_of side) old (flip (sockets_of side) old.sockets f)) (buried_elsewhere old side (flip (sockets_of side) old.sockets f))));
+          each = λ k side x. both_ways (same_sockets (client_sockets side) new.sockets)
+              (λ e. let q : client_sockets side ≡ new.sockets = same_is (client_sockets side) new.sockets e in
+              born_same (Some old) k side x q (buried_elsewhere old side (not_peer (client_sockets side) old l (subst (λ n. serves n old ≡ false) (sym q) (free i old at)))))
+              (λ e. both_ways (same_sockets (client_sockets side) old.sockets)
+              (λ f. born_evicts k side x e l (same_is (client_sockets side) old.sockets f))
+              (λ f. born_elsewhere (Some old) k side x e (serves_not (client_sockets side) old (flip (client_sockets side) old.sockets f)) (buried_elsewhere old side (flip (client_sockets side) old.sockets f))));
         }))
         (λ l. subst (λ x. Effect w new.sockets (record { table = set conns i new; gone = x; said = Some s })) (sym (ap (λ b. if b then Some old else None) l)) (record {
           single = single_set conns g.single i old at new owns_born;
-          each = λ k side x. both_ways (same_sockets (sockets_of side) new.sockets)
-              (λ e. born_same None k side x (same_is (sockets_of side) new.sockets e) refl)
-              (λ e. born_elsewhere None k side x e (serves_dead (sockets_of side) old l) refl);
+          each = λ k side x. both_ways (same_sockets (client_sockets side) new.sockets)
+              (λ e. born_same None k side x (same_is (client_sockets side) new.sockets e) refl)
+              (λ e. born_elsewhere None k side x e (serves_dead (client_sockets side) old l) refl);
         }))
 
   -- the side n is put anew, and maybe a datagram is sent
-  put_with : (w : World) (n : ℕ) (side new : Side) (sent : List Sent) → Framed w → slice_get w.sides n ≡ Some side → sockets_of new ≡ sockets_of side → G n new (serving (sockets_of side) w.node.connections) sent →
-      ((k : ℕ) (x : Side) → (k ≡ n → ⊥) → G k x (serving (sockets_of x) w.node.connections) w.sent → G k x (serving (sockets_of x) w.node.connections) sent) → Framed (record (with_side w (suc n) new) { sent = sent })
+  put_with : (w : World) (n : ℕ) (side new : Side) (sent : List Sent) → Framed w → slice_get w.sides n ≡ Some side → client_sockets new ≡ client_sockets side → G n new (serving (client_sockets side) w.node.connections) sent →
+      ((k : ℕ) (x : Side) → (k ≡ n → ⊥) → G k x (serving (client_sockets x) w.node.connections) w.sent → G k x (serving (client_sockets x) w.node.connections) sent) → Framed (record (with_side w (suc n) new) { sent = sent })
   put_with w n side new sent g at q h others = record {
     apart = put_apart w.sides n side new at q g.apart;
     single = g.single;
     each = λ k x y. elim (get_set w.sides n new k x y) [
-      | here e f ↦ subst (λ z. G z x (serving (sockets_of x) w.node.connections) sent) (sym e)
-          (subst (λ (o : Side). G n o (serving (sockets_of o) w.node.connections) sent) f (subst (λ z. G n new (serving z w.node.connections) sent) (sym q) h))
+      | here e f ↦ subst (λ z. G z x (serving (client_sockets x) w.node.connections) sent) (sym e)
+          (subst (λ (o : Side). G n o (serving (client_sockets o) w.node.connections) sent) f (subst (λ z. G n new (serving z w.node.connections) sent) (sym q) h))
       | there p z ↦ others k x p (g.each k x z)
     ];
   }
 
-  put_framed : (w : World) (n : ℕ) (side new : Side) → Framed w → slice_get w.sides n ≡ Some side → sockets_of new ≡ sockets_of side → G n new (serving (sockets_of side) w.node.connections) w.sent → Framed (with_side w (suc n) new)
+  put_framed : (w : World) (n : ℕ) (side new : Side) → Framed w → slice_get w.sides n ≡ Some side → client_sockets new ≡ client_sockets side → G n new (serving (client_sockets side) w.node.connections) w.sent → Framed (with_side w (suc n) new)
   put_framed w n side new g at q h = put_with w n side new w.sent g at q h (λ k x p z. z)
 
   marked_framed : (w : World) (n : ℕ) (side : Side) (number : ℕ) (e : Sent) → Framed w → slice_get w.sides n ≡ Some side → Framed (with_side w (suc n) (marked side number e))
-  marked_framed w n side number e g at = put_framed w n side (marked side number e) g at refl (mark n side (serving (sockets_of side) w.node.connections) w.sent number e (g.each n side at))
+  marked_framed w n side number e g at = put_framed w n side (marked side number e) g at refl (mark n side (serving (client_sockets side) w.node.connections) w.sent number e (g.each n side at))
 
   -- what a step of the client has to keep
   pub record Takes (w : World) (k : ℕ) (base : Side) (c : Connection) (took : ClientStep) : Type 0 where
     pub quiet : took.sent ≡ None → G k (with_client base took.client) c w.sent
     pub says : (s : PlainSegment) → took.sent ≡ Some s → (tick : ℕ) → G k (with_client base took.client) c (w.sent ++ entry (from k) (with_client base took.client) tick 0 (speech false s) ∷ [])
 
-  sent_framed : (w : World) (n : ℕ) (side new : Side) (sent : Option PlainSegment) → Framed w → slice_get w.sides n ≡ Some side → sockets_of new ≡ sockets_of side → (sent ≡ None → G n new (serving (sockets_of side) w.node.connections) w.sent) →
+  sent_framed : (w : World) (n : ℕ) (side new : Side) (sent : Option PlainSegment) → Framed w → slice_get w.sides n ≡ Some side → client_sockets new ≡ client_sockets side → (sent ≡ None → G n new (serving (client_sockets side) w.node.connections) w.sent) →
       ((s : PlainSegment) → sent ≡ Some s → Framed (posts (with_side w (suc n) new) (FromClient (suc n)) false (OfSegment 0 s))) → Framed (posts_of_client (with_side w (suc n) new) (suc n) sent)
   sent_framed w n side new None g at q h f = put_framed w n side new g at q (h refl)
   sent_framed w n side new (Some s) g at q h f = f s refl
 
-  client_framed : (w : World) (n : ℕ) (side base : Side) (took : ClientStep) → Framed w → slice_get w.sides n ≡ Some side → sockets_of base ≡ sockets_of side → took.client.setup ≡ base.client.setup →
-      Takes w n base (serving (sockets_of side) w.node.connections) took → Framed (client_stepped w (suc n) base took)
+  client_framed : (w : World) (n : ℕ) (side base : Side) (took : ClientStep) → Framed w → slice_get w.sides n ≡ Some side → client_sockets base ≡ client_sockets side → took.client.setup ≡ base.client.setup →
+      Takes w n base (serving (client_sockets side) w.node.connections) took → Framed (client_stepped w (suc n) base took)
   client_framed w n side base took g at q setup t =
       let new : Side = with_client base took.client in
-      let keeps : sockets_of new ≡ sockets_of side = ap (λ (z : Setup). let x : Sockets = record { peer = z.addr; peer_port = z.port; own_port = z.server_port } in x) setup ∙ q in
+      let keeps : client_sockets new ≡ client_sockets side = ap (λ (z : Setup). let x : Sockets = record { peer = z.addr; peer_port = z.port; own_port = z.server_port } in x) setup ∙ q in
       let stamp : epoch_of (FromClient (suc n)) (set w.sides n new) ≡ length base.past = ap epoch_at (get_set_same w.sides n side new at) in
       sent_framed w n side new took.sent g at keeps t.quiet
       (λ s e. let it : List Sent = w.sent ++ entry (FromClient (suc n)) new (ticks_of w.node.past) 0 (speech false s) ∷ [] in
       subst (λ l. Framed (record (with_side w (suc n) new) { sent = w.sent ++ record { who = FromClient (suc n); tick = ticks_of w.node.past; epoch = l; again = false; content = OfSegment 0 s } ∷ [] })) (sym stamp)
       (put_with w n side new it g at keeps (t.says s e (ticks_of w.node.past))
-      (λ k x p z. other k x (serving (sockets_of x) w.node.connections) w.sent (entry (FromClient (suc n)) new (ticks_of w.node.past) 0 (speech false s)) z (λ u. absurd (cc)) (λ u. p (let r : suc n ≡ suc k = cc in omega (arith, r))))))
+      (λ k x p z. other k x (serving (client_sockets x) w.node.connections) w.sent (entry (FromClient (suc n)) new (ticks_of w.node.past) 0 (speech false s)) z (λ u. absurd (cc)) (λ u. p (let r : suc n ≡ suc k = cc in omega (arith, r))))))
 
   abbrev pub Own : (AbstractClient → ClientStep) → Type 0
   Own act = (w : World) (k : ℕ) (side : Side) (c : Connection) → ((o : ℕ) → All IsMoment (era side.past c o).captures) → G k side c w.sent → Takes w k side c (act side.client)
@@ -372,22 +372,22 @@ module _ (m : Meaning) (G : ℕ → Side → Connection → List Sent → Type 0
     module _ (w : World) (n j : ℕ) (side : Side) (e : Sent) (g : Framed w) (fw : FitWorld w) (seat : slice_get w.sides n ≡ Some side) (sent : slice_get w.sent j ≡ Some e) (who : e.who ≡ from n)
         (fresh : is_clean side ≡ true → e.epoch ≡ length side.past) where
       abbrev peer : Sockets
-      peer = sockets_of side
+      peer = client_sockets side
 
       abbrev arrival : Event
-      arrival = Arrived (sockets_of side) (seg e)
+      arrival = Arrived (client_sockets side) (seg e)
 
       record IsHere (k : ℕ) (x : Side) : Type 0 where
         number : n ≡ k
         side_is : side ≡ x
 
-      is_here : (k : ℕ) (x : Side) → slice_get w.sides k ≡ Some x → sockets_of x ≡ sockets_of side → IsHere k x
+      is_here : (k : ℕ) (x : Side) → slice_get w.sides k ≡ Some x → client_sockets x ≡ client_sockets side → IsHere k x
       is_here k x y q = let i : k ≡ n = g.apart k n x side y seat q in record { number = sym i; side_is = (let z : Some side ≡ Some x = sym seat ∙ ap (slice_get w.sides) (sym i) ∙ y in cc) }
 
       fresh_at : (k : ℕ) (x : Side) → side ≡ x → is_clean x ≡ true → e.epoch ≡ length x.past
       fresh_at k x q c = fresh (ap (λ (o : Side). is_clean o) q ∙ c) ∙ ap (λ (o : Side). length o.past) q
 
-      arrives_there : (i : ℕ) (c : Connection) → slice_get w.node.connections i ≡ Some c → is_live c.state ≡ true → c.sockets ≡ sockets_of side →
+      arrives_there : (i : ℕ) (c : Connection) → slice_get w.node.connections i ≡ Some c → is_live c.state ≡ true → c.sockets ≡ client_sockets side →
           Framed (node_stepped w (happened m w.node arrival i c (asked m (moment w.node arrival i) (on_segment m c w.node.numbers (seg e)))))
       arrives_there i c at live q =
           let o : Outcome = asked m (moment w.node arrival i) (on_segment m c w.node.numbers (seg e)) in
@@ -398,18 +398,18 @@ module _ (m : Meaning) (G : ℕ → Side → Connection → List Sent → Type 0
           segment w c w.node.numbers (moment w.node arrival i) k j x e live (fw.node.conns i c at) fw.node.numbers (node_moment m pages lawful w.node arrival i fw.node) sent (who ∙ ap (λ z. from z) r.number) (fresh_at k x r.side_is) h))
 
       opens_reacts : (slot : ℕ) (old : Connection) → slice_index_or w.node.connections slot closed ≡ old →
-          Reaction (opens_in m w.node (sockets_of side) (seg e) slot) (sockets_of side)
-          (record { table = set w.node.connections slot (accepted (initial_number w.node.past) (sockets_of side) (seg e)); gone = (if is_live old.state then Some old else None); said = Some (speech false (syn_ack (accepted (initial_number w.node.past) (sockets_of side) (seg e)))) })
+          Reaction (opens_in m w.node (client_sockets side) (seg e) slot) (client_sockets side)
+          (record { table = set w.node.connections slot (accepted (initial_number w.node.past) (client_sockets side) (seg e)); gone = (if is_live old.state then Some old else None); said = Some (speech false (syn_ack (accepted (initial_number w.node.past) (client_sockets side) (seg e)))) })
       unfolding opens_in happened
-      opens_reacts slot old q = record { table = refl; gone = ap (λ (x : Connection). if is_live x.state then Some x else None) q; sends = sends_tcp _ (speech false (syn_ack (accepted (initial_number w.node.past) (sockets_of side) (seg e)))) refl refl }
+      opens_reacts slot old q = record { table = refl; gone = ap (λ (x : Connection). if is_live x.state then Some x else None) q; sends = sends_tcp _ (speech false (syn_ack (accepted (initial_number w.node.past) (client_sockets side) (seg e)))) refl refl }
 
-      opens_there : (slot : ℕ) (old : Connection) → slice_get w.node.connections slot ≡ Some old → Free (sockets_of side) w.node.connections → is_plain_syn (seg e) ≡ true → Framed (node_stepped w (opens_in m w.node (sockets_of side) (seg e) slot))
+      opens_there : (slot : ℕ) (old : Connection) → slice_get w.node.connections slot ≡ Some old → Free (client_sockets side) w.node.connections → is_plain_syn (seg e) ≡ true → Framed (node_stepped w (opens_in m w.node (client_sockets side) (seg e) slot))
       opens_there slot old at free plain =
           let first : ℕ = initial_number w.node.past in
-          let new : Connection = accepted first (sockets_of side) (seg e) in
-          node_framed w (sockets_of side) (opens_in m w.node (sockets_of side) (seg e) slot) _ g (opens_reacts slot old (index_of w.node.connections slot closed old at))
+          let new : Connection = accepted first (client_sockets side) (seg e) in
+          node_framed w (client_sockets side) (opens_in m w.node (client_sockets side) (seg e) slot) _ g (opens_reacts slot old (index_of w.node.connections slot closed old at))
           (effect_born w slot old new (speech false (syn_ack new)) g at refl free
-          (λ k x y q c. let r = is_here k x y q in birth w first (sockets_of side) k j x e sent (who ∙ ap (λ z. from z) r.number) (fresh_at k x r.side_is) plain (accepted_fits m pages lawful first (sockets_of side) (seg e) (fw.sides n side seat).addr (fw.sides n side seat).port) c))
+          (λ k x y q c. let r = is_here k x y q in birth w first (client_sockets side) k j x e sent (who ∙ ap (λ z. from z) r.number) (fresh_at k x r.side_is) plain (accepted_fits m pages lawful first (client_sockets side) (seg e) (fw.sides n side seat).addr (fw.sides n side seat).port) c))
 
       passes_framed : (answer : Rattle.uip_node.specs.Events.Answer) → Framed (node_stepped w (passes w.node arrival answer))
       passes_framed answer = node_framed w peer (passes w.node arrival answer) (record { table = w.node.connections; gone = None; said = None }) g record { table = refl; gone = refl; sends = sends_none refl refl } (effect_none w peer None g (λ x y. absurd (cc)))
@@ -424,29 +424,29 @@ module _ (m : Meaning) (G : ℕ → Side → Connection → List Sent → Type 0
           (λ i h. position_in (λ (c : Connection). not (is_live c.state)) w.node.connections i h)
           (λ i h. position_in (λ (c : Connection). is_waiting c && eqb c.age (longest_wait w.node.connections)) w.node.connections i h) x
 
-      slot_framed : (slot : Option ℕ) → slot_for_syn w.node.connections ≡ slot → Free (sockets_of side) w.node.connections → is_plain_syn (seg e) ≡ true → Framed (node_stepped w (opens m w.node (sockets_of side) (seg e) slot))
+      slot_framed : (slot : Option ℕ) → slot_for_syn w.node.connections ≡ slot → Free (client_sockets side) w.node.connections → is_plain_syn (seg e) ≡ true → Framed (node_stepped w (opens m w.node (client_sockets side) (seg e) slot))
       slot_framed None q f plain = passes_framed NoSlot
       slot_framed (Some slot) q f plain = let i = slot_in slot q in opens_there slot i.item i.get f plain
 
-      stranger_framed : Free (sockets_of side) w.node.connections → Framed (node_stepped w (from_stranger m served w.node (sockets_of side) (seg e)))
+      stranger_framed : Free (client_sockets side) w.node.connections → Framed (node_stepped w (from_stranger m served w.node (client_sockets side) (seg e)))
       unfolding from_stranger
       stranger_framed f =
-          choose (λ r. Framed (node_stepped w r)) (is_plain_syn (seg e) && served (sockets_of side).own_port.0) _ _
+          choose (λ r. Framed (node_stepped w r)) (is_plain_syn (seg e) && served (client_sockets side).own_port.0) _ _
           (λ a. slot_framed (slot_for_syn w.node.connections) refl f (and_true _ _ a).0)
           (λ a. choose (λ r. Framed (node_stepped w r)) (has_rst (seg e).flags) _ _ (λ b. passes_framed Silent)
-          (λ b. node_framed w peer (refuses w.node (sockets_of side) (seg e)) (record { table = w.node.connections; gone = None; said = Some (speech false (reset_to_none (seg e))) }) g
+          (λ b. node_framed w peer (refuses w.node (client_sockets side) (seg e)) (record { table = w.node.connections; gone = None; said = Some (speech false (reset_to_none (seg e))) }) g
           record { table = refl; gone = refl; sends = sends_tcp _ (speech false (reset_to_none (seg e))) refl refl }
           (effect_none w peer (Some (speech false (reset_to_none (seg e)))) g (λ x y. only_some (λ z. (has_syn z.segment.flags ≡ false) × (has_fin z.segment.flags ≡ false) × (z.segment.text ≡ []) × (has_rst z.segment.flags ≡ true) × (z.again ≡ false)) (speech false (reset_to_none (seg e))) x y (refl, refl, refl, refl, refl)))))
 
       arrives_framed : Framed (node_handles m served w arrival)
       arrives_framed =
-          elim (find_is (sockets_of side) w.node.connections) [
-            | finds i f at u ↦ (let c : Connection = serving (sockets_of side) w.node.connections in
-                let a = and_true (is_live c.state) (same_sockets c.sockets (sockets_of side)) u in
-                subst (λ x. Framed (node_stepped w (arrives_at m served w.node (sockets_of side) (seg e) x))) (sym (f ∙ ap Some (omega arith)))
+          elim (find_is (client_sockets side) w.node.connections) [
+            | finds i f at u ↦ (let c : Connection = serving (client_sockets side) w.node.connections in
+                let a = and_true (is_live c.state) (same_sockets c.sockets (client_sockets side)) u in
+                subst (λ x. Framed (node_stepped w (arrives_at m served w.node (client_sockets side) (seg e) x))) (sym (f ∙ ap Some (omega arith)))
                 (subst (λ x. Framed (node_stepped w (happened m w.node arrival i x (asked m (moment w.node arrival i) (on_segment m x w.node.numbers (seg e)))))) (sym (index_of w.node.connections i closed c at))
-                (arrives_there i c at a.0 (same_is c.sockets (sockets_of side) a.1))))
-            | finds_none f free ↦ subst (λ x. Framed (node_stepped w (arrives_at m served w.node (sockets_of side) (seg e) x))) (sym f) (stranger_framed free)
+                (arrives_there i c at a.0 (same_is c.sockets (client_sockets side) a.1))))
+            | finds_none f free ↦ subst (λ x. Framed (node_stepped w (arrives_at m served w.node (client_sockets side) (seg e) x))) (sym f) (stranger_framed free)
           ]
 
     to_node : (w : World) (n k j : ℕ) (e : Sent) (s : PlainSegment) (side : Option Side) → Framed w → FitWorld w → slice_get w.sides n ≡ side → slice_get w.sent j ≡ Some e → e.who ≡ from n → seg e ≡ s → Framed (gives_node m served w (suc n) k e s side)
@@ -454,17 +454,17 @@ module _ (m : Meaning) (G : ℕ → Side → Connection → List Sent → Type 0
     to_node w n k j e s (Some side) g fw at sent who q =
         let v : World = with_side w (suc n) (marked side k e) in
         let vg : Framed v = marked_framed w n side k e g at in
-        subst (λ x. Framed (node_handles m served v (Arrived (sockets_of side) x))) q
+        subst (λ x. Framed (node_handles m served v (Arrived (client_sockets side) x))) q
         (arrives_framed v n j (marked side k e) e vg (put_fits w n side (marked side k e) at refl refl fw) (get_set_same w.sides n side (marked side k e) at) sent who (λ c. (clean_before side k e c).1))
 
-    eras_fit : (w : World) (n : ℕ) (side : Side) → FitWorld w → slice_get w.sides n ≡ Some side → (o : ℕ) → All IsMoment (era side.past (serving (sockets_of side) w.node.connections) o).captures
-    eras_fit w n side f at o = era_fits side.past (serving (sockets_of side) w.node.connections) (f.sides n side at).eras (serving_fits (sockets_of side) w.node.connections f.node.conns) o
+    eras_fit : (w : World) (n : ℕ) (side : Side) → FitWorld w → slice_get w.sides n ≡ Some side → (o : ℕ) → All IsMoment (era side.past (serving (client_sockets side) w.node.connections) o).captures
+    eras_fit w n side f at o = era_fits side.past (serving (client_sockets side) w.node.connections) (f.sides n side at).eras (serving_fits (client_sockets side) w.node.connections f.node.conns) o
 
     to_client : (w : World) (n k j : ℕ) (e : Sent) (s : PlainSegment) (side : Option Side) → Framed w → FitWorld w → slice_get w.sides n ≡ side → slice_get w.sent j ≡ Some e → e.who ≡ to n → seg e ≡ s → Framed (gives_client w (suc n) k e s side)
     to_client w n k j e s None g fw at sent who q = g
     to_client w n k j e s (Some side) g fw at sent who q =
         subst (λ x. Framed (client_stepped w (suc n) (marked side k e) (client_takes side.client x))) q
-        (client_framed w n side (marked side k e) (client_takes side.client (seg e)) g at refl (takes_setup side.client (seg e)) (took w n j side (serving (sockets_of side) w.node.connections) k e (eras_fit w n side fw at) sent who (g.each n side at)))
+        (client_framed w n side (marked side k e) (client_takes side.client (seg e)) g at refl (takes_setup side.client (seg e)) (took w n j side (serving (client_sockets side) w.node.connections) k e (eras_fit w n side fw at) sent who (g.each n side at)))
 
     echo_framed : (w : World) (datagram : List ℕ) → Framed w → Framed (node_handles m served w (EchoAsked datagram))
     echo_framed w datagram g = node_framed w closed.sockets (step m served w.node (EchoAsked datagram)) (record { table = w.node.connections; gone = None; said = None }) g record { table = refl; gone = refl; sends = sends_echo datagram refl refl } (effect_none w closed.sockets None g (λ x y. absurd (cc)))
@@ -482,17 +482,17 @@ module _ (m : Meaning) (G : ℕ → Side → Connection → List Sent → Type 0
     delivers_framed w k j e Pinger (OfSegment id s) g fw sent q r = g
     delivers_framed w k j e Pinger (OfEcho request) g fw sent q r = g
 
-    gives_framed : (w : World) (k j : ℕ) (e : Option Sent) → Framed w → FitWorld w → slice_get w.sent j ≡ e → Framed (gives m served w k e)
+    gives_framed : (w : World) (k j : ℕ) (e : Option Sent) → Framed w → FitWorld w → slice_get w.sent j ≡ e → Framed (hands_to m served w k e)
     gives_framed w k j None g fw sent = g
     gives_framed w k j (Some e) g fw sent = delivers_framed w k j e e.who e.content g fw sent refl refl
 
-    number_framed : (w : World) (k : ℕ) → Framed w → FitWorld w → Framed (gives m served w k (numbered w.sent k))
+    number_framed : (w : World) (k : ℕ) → Framed w → FitWorld w → Framed (hands_to m served w k (numbered w.sent k))
     number_framed w zero g fw = g
     number_framed w (suc j) g fw = gives_framed w (suc j) j (slice_get w.sent j) g fw refl
 
     own_framed : (w : World) (n : ℕ) (act : AbstractClient → ClientStep) (side : Option Side) → Own act → ((c : AbstractClient) → SameSetup c (act c)) → Framed w → FitWorld w → slice_get w.sides n ≡ side → Framed (client_acts w (suc n) act side)
     own_framed w n act None own s g fw at = g
-    own_framed w n act (Some side) own s g fw at = client_framed w n side side (act side.client) g at refl (s side.client) (own w n side (serving (sockets_of side) w.node.connections) (eras_fit w n side fw at) (g.each n side at))
+    own_framed w n act (Some side) own s g fw at = client_framed w n side side (act side.client) g at refl (s side.client) (own w n side (serving (client_sockets side) w.node.connections) (eras_fit w n side fw at) (g.each n side at))
 
     act_framed : (w : World) (number : ℕ) (act : AbstractClient → ClientStep) → Own act → ((c : AbstractClient) → SameSetup c (act c)) → Framed w → FitWorld w → Framed (client_acts w number act (numbered w.sides number))
     act_framed w zero act own s g fw = g
@@ -530,8 +530,8 @@ module _ (m : Meaning) (G : ℕ → Side → Connection → List Sent → Type 0
       apart = subst (λ x. Apart x) (sym l.sides) g.apart;
       single = subst (λ x. Single x) (sym l.connections) g.single;
       each = λ k side x. (let y : slice_get w.sides k ≡ Some side = ap (λ (s : List Side). slice_get s k) (sym l.sides) ∙ x in
-          subst (λ t. G k side (serving (sockets_of side) t) v.sent) (sym l.connections)
-          (subst (λ s. G k side (serving (sockets_of side) w.node.connections) s) (sym l.sent) (g.each k side y)));
+          subst (λ t. G k side (serving (client_sockets side) t) v.sent) (sym l.connections)
+          (subst (λ s. G k side (serving (client_sockets side) w.node.connections) s) (sym l.sent) (g.each k side y)));
     }
 
     pub does_framed : (w : World) (act : Act) → Harmless m served w act → Framed w → FitWorld w → Framed (does m served w act)

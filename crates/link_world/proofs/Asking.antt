@@ -17,7 +17,7 @@ use Rattle.tcp_machine.specs.Ask.{Outcome, peer_has_closed, idles, does_as_wante
 use Rattle.tcp_machine.specs.OnSegment.{is_out_of_order, is_acked, has_text, in_established, peer_closes, goes_on, fin_acked, fin_waits, in_fin_wait_2, by_state, on_segment}
 use Rattle.tcp_machine.specs.OnTick.{limit_of, by_beat, rests_on, rest_time, ticks_established, tick_by, on_tick}
 use Rattle.tcp_machine.specs.declared.step.Step.{Step}
-use Rattle.link_client.specs.Client.{AbstractClient, ClientStep, sends_next, waits_for_ack, is_receiving, may_finish, fin_sent, fin_out, fin_heard, request_of, ack_of, syn_of, fin_of, reset_of, keeps, gives, hears_ack, takes_in_order, takes_text, takes_by, client_takes, is_reset_by, opened_by, opens_by, again_by, closes_by, aborts_by, one_if, next_own, first_of, tells_window}
+use Rattle.link_client.specs.Client.{AbstractClient, ClientStep, sends_next, has_outstanding, is_receiving, may_finish, fin_sent, fin_out, fin_heard, own_request, ack_of, syn_of, own_fin, own_reset, keeps, steps_with, hears_ack, takes_in_order, takes_text, takes_by, client_takes, is_reset_by, opened_by, opens_by, again_by, closes_by, aborts_by, one_if, next_own, own_first, tells_window}
 use Rattle.link_client.specs.declared.client_state.ClientState.{ClientState}
 use Rattle.link_client.specs.declared.client_state.ClientState.TheVariants as Is
 use Rattle.link_client.specs.declared.fin_at.FinAt.{FinAt}
@@ -30,13 +30,13 @@ used c = c.acked + c.out + one_if (fin_sent c.fin)
 
 -- request bytes and FIN of a segment end where the client has used its numbers
 abbrev pub EndsIn : AbstractClient → PlainSegment → Type 0
-EndsIn c s = has_rst s.flags ≡ false → has_syn s.flags ≡ false → has_place s ≡ true → (at : ℕ) → at < 4294967296 → s.seq ≡ wrap (first_of c + 1 + at) → at + length s.text + one_if (has_fin s.flags) ≤ used c
+EndsIn c s = has_rst s.flags ≡ false → has_syn s.flags ≡ false → has_place s ≡ true → (at : ℕ) → at < 4294967296 → s.seq ≡ wrap (own_first c + 1 + at) → at + length s.text + one_if (has_fin s.flags) ≤ used c
 
 -- a step of the client's own
 pub record Asks (c : AbstractClient) (t : ClientStep) : Type 0 where
   pub more : used c ≤ used t.client
   pub acked : t.client.acked ≡ c.acked
-  pub first : first_of t.client ≡ first_of c
+  pub first : own_first t.client ≡ own_first c
   pub early : is_early t.client.state ≡ true → used t.client ≡ used c
   pub ends : Steady t.client → (x : PlainSegment) → t.sent ≡ Some x → EndsIn t.client x
 
@@ -44,28 +44,28 @@ pub record Asks (c : AbstractClient) (t : ClientStep) : Type 0 where
 pub record AsksOn (c : AbstractClient) (s : PlainSegment) (t : ClientStep) : Type 0 where
   pub more : used c ≤ used t.client
   pub acked : (t.client.acked ≡ c.acked) ⊎ ((has_rst s.flags ≡ false) × (has_ack s.flags ≡ true) × (s.ack ≡ next_own c) × (t.client.acked ≡ c.acked + c.out))
-  pub first : first_of t.client ≡ first_of c
+  pub first : own_first t.client ≡ own_first c
   pub early : is_early t.client.state ≡ true → used t.client ≡ used c
   pub ends : Steady t.client → (x : PlainSegment) → t.sent ≡ Some x → EndsIn t.client x
 
 -- what each segment of a client has
-request_ends : (c : AbstractClient) → Steady c → EndsIn c (request_of c)
+request_ends : (c : AbstractClient) → Steady c → EndsIn c (own_request c)
 request_ends c st nr ns p at low e =
     let fits = st.out_fits in
     let short = st.short in
-    let here : at ≡ c.acked = same_place (first_of c + 1) at c.acked low (omega (arith, fits, short)) (sym e) in
+    let here : at ≡ c.acked = same_place (own_first c + 1) at c.acked low (omega (arith, fits, short)) (sym e) in
     let size = length-take c.out (drop c.acked c.request) in
     omega (arith, here, size)
 
-fin_ends : (c : AbstractClient) → fin_sent c.fin ≡ true → Steady c → EndsIn c (fin_of c)
+fin_ends : (c : AbstractClient) → fin_sent c.fin ≡ true → Steady c → EndsIn c (own_fin c)
 fin_ends c f st nr ns p at low e =
     let fits = st.out_fits in
     let short = st.short in
-    let here : at ≡ c.acked + c.out = same_place (first_of c + 1) at (c.acked + c.out) low (omega (arith, fits, short)) (sym e ∙ ap wrap (let z : first_of c + 1 + c.acked + c.out ≡ first_of c + 1 + (c.acked + c.out) = omega arith in z)) in
+    let here : at ≡ c.acked + c.out = same_place (own_first c + 1) at (c.acked + c.out) low (omega (arith, fits, short)) (sym e ∙ ap wrap (let z : own_first c + 1 + c.acked + c.out ≡ own_first c + 1 + (c.acked + c.out) = omega arith in z)) in
     omega (arith, here, ap one_if f)
 
-nothing_waits : (c : AbstractClient) → not (waits_for_ack c) ≡ true → c.out ≡ 0
-nothing_waits c e = none (ltb 0 c.out) (fin_out c.fin) refl (not-true (waits_for_ack c) e)
+nothing_waits : (c : AbstractClient) → not (has_outstanding c) ≡ true → c.out ≡ 0
+nothing_waits c e = none (ltb 0 c.out) (fin_out c.fin) refl (not-true (has_outstanding c) e)
   where
     none : (a b : Bool) → ltb 0 c.out ≡ a → a || b ≡ false → c.out ≡ 0
     none true b q e = absurd (cc)
@@ -92,8 +92,8 @@ finishing_late Is.Reset r e = absurd (cc)
 asks_next : (owed : Bool) (c : AbstractClient) → Asks c (sends_next owed c)
 unfolding sends_next
 asks_next owed c =
-    choose (λ x. Asks c x) (not (waits_for_ack c) && (is_receiving c.state && ltb c.acked (length c.request))) _ _
-    (λ e. (let both = and_true (not (waits_for_ack c)) (is_receiving c.state && ltb c.acked (length c.request)) e in
+    choose (λ x. Asks c x) (not (has_outstanding c) && (is_receiving c.state && ltb c.acked (length c.request))) _ _
+    (λ e. (let both = and_true (not (has_outstanding c)) (is_receiving c.state && ltb c.acked (length c.request)) e in
     let none = nothing_waits c both.0 in
     let d : AbstractClient = record c { out = min c.setup.seg (length c.request - c.acked) } in
     record {
@@ -101,10 +101,10 @@ asks_next owed c =
       acked = refl;
       first = refl;
       early = λ y. absurd (receiving_late c.state (and_true (is_receiving c.state) (ltb c.acked (length c.request)) both.1).0 y);
-      ends = λ st x p. only_some (λ (y : PlainSegment). EndsIn d y) (request_of d) x p (request_ends d st);
+      ends = λ st x p. only_some (λ (y : PlainSegment). EndsIn d y) (own_request d) x p (request_ends d st);
     }))
-    (λ e. choose (λ x. Asks c x) (not (waits_for_ack c) && (may_finish c.state && not (fin_sent c.fin))) _ _
-    (λ f. (let both = and_true (not (waits_for_ack c)) (may_finish c.state && not (fin_sent c.fin)) f in
+    (λ e. choose (λ x. Asks c x) (not (has_outstanding c) && (may_finish c.state && not (fin_sent c.fin))) _ _
+    (λ f. (let both = and_true (not (has_outstanding c)) (may_finish c.state && not (fin_sent c.fin)) f in
     let more = and_true (may_finish c.state) (not (fin_sent c.fin)) both.1 in
     let unsent : fin_sent c.fin ≡ false = not-true (fin_sent c.fin) more.1 in
     let d : AbstractClient = record c { fin = FinAt.Out } in
@@ -113,14 +113,14 @@ asks_next owed c =
       acked = refl;
       first = refl;
       early = λ y. absurd (finishing_late c.state more.0 y);
-      ends = λ st x p. only_some (λ (y : PlainSegment). EndsIn d y) (fin_of c) x p (fin_ends d refl st);
+      ends = λ st x p. only_some (λ (y : PlainSegment). EndsIn d y) (own_fin c) x p (fin_ends d refl st);
     }))
     (λ f. choose (λ x. Asks c x) owed _ _
     (λ g. record { more = omega arith; acked = refl; first = refl; early = λ y. refl; ends = λ st x p. only_some (λ (y : PlainSegment). EndsIn c y) (ack_of c) x p (λ nr ns z. absurd (cc)) })
     (λ g. record { more = omega arith; acked = refl; first = refl; early = λ y. refl; ends = λ st x p. absurd (cc) })))
 
 -- from a client that has used the same
-as_asked : (c d : AbstractClient) (s : PlainSegment) (t : ClientStep) → used d ≡ used c → first_of d ≡ first_of c →
+as_asked : (c d : AbstractClient) (s : PlainSegment) (t : ClientStep) → used d ≡ used c → own_first d ≡ own_first c →
     (d.acked ≡ c.acked) ⊎ ((has_rst s.flags ≡ false) × (has_ack s.flags ≡ true) × (s.ack ≡ next_own c) × (d.acked ≡ c.acked + c.out)) → Asks d t → AsksOn c s t
 as_asked c d s t u f a g = record {
   more = omega (arith, u, g.more);
@@ -130,7 +130,7 @@ as_asked c d s t u f a g = record {
   ends = g.ends;
 }
 
-keeps_asked : (c d : AbstractClient) (s : PlainSegment) → used d ≡ used c → first_of d ≡ first_of c → d.acked ≡ c.acked → AsksOn c s (keeps d)
+keeps_asked : (c d : AbstractClient) (s : PlainSegment) → used d ≡ used c → own_first d ≡ own_first c → d.acked ≡ c.acked → AsksOn c s (keeps d)
 keeps_asked c d s u f a = record { more = omega (arith, u); acked = inl a; first = f; early = λ y. u; ends = λ st x p. absurd (cc) }
 
 fin_stays : (f : FinAt) → fin_sent (fin_heard f) ≡ fin_sent f
@@ -140,14 +140,14 @@ fin_stays FinAt.Acked = refl
 
 record HasHeard (c : AbstractClient) (s : PlainSegment) (d : AbstractClient) : Type 0 where
   used_is : used d ≡ used c
-  first : first_of d ≡ first_of c
+  first : own_first d ≡ own_first c
   acked : (d.acked ≡ c.acked) ⊎ ((has_ack s.flags ≡ true) × (s.ack ≡ next_own c) × (d.acked ≡ c.acked + c.out))
 
 has_heard : (c : AbstractClient) (s : PlainSegment) → HasHeard c s (hears_ack c s)
 has_heard c s =
-    choose (λ d. HasHeard c s d) (has_ack s.flags && (waits_for_ack c && eqb s.ack (next_own c))) _ _
-    (λ e. (let a = and_true (has_ack s.flags) (waits_for_ack c && eqb s.ack (next_own c)) e in
-    let b = and_true (waits_for_ack c) (eqb s.ack (next_own c)) a.1 in
+    choose (λ d. HasHeard c s d) (has_ack s.flags && (has_outstanding c && eqb s.ack (next_own c))) _ _
+    (λ e. (let a = and_true (has_ack s.flags) (has_outstanding c && eqb s.ack (next_own c)) e in
+    let b = and_true (has_outstanding c) (eqb s.ack (next_own c)) a.1 in
     record { used_is = omega (arith, ap one_if (fin_stays c.fin)); first = refl; acked = inr (a.0, eqb-eq s.ack (next_own c) b.1, refl) }))
     (λ e. record { used_is = refl; first = refl; acked = inl refl })
 
@@ -169,7 +169,7 @@ unfolding takes_by
 takes_asks Is.Idle c s nr = keeps_asked c c s refl refl refl
 takes_asks Is.Reset c s nr = keeps_asked c c s refl refl refl
 takes_asks Is.Opening c s nr =
-    choose (λ x. AsksOn c s x) (has_syn s.flags && (has_ack s.flags && eqb s.ack (wrap (first_of c + 1)))) _ _
+    choose (λ x. AsksOn c s x) (has_syn s.flags && (has_ack s.flags && eqb s.ack (wrap (own_first c + 1)))) _ _
     (λ e. as_asked c (opened_by c s) s (sends_next true (opened_by c s)) refl refl (inl refl) (asks_next true (opened_by c s)))
     (λ e. keeps_asked c c s refl refl refl)
 takes_asks Is.Opened c s nr = in_order_asks c s nr
@@ -187,10 +187,10 @@ client_asks c s =
     (λ r. takes_asks c.state c s r)
 
 -- its own acts
-quiet_asks : (c d : AbstractClient) → used d ≡ used c → d.acked ≡ c.acked → first_of d ≡ first_of c → Asks c (keeps d)
+quiet_asks : (c d : AbstractClient) → used d ≡ used c → d.acked ≡ c.acked → own_first d ≡ own_first c → Asks c (keeps d)
 quiet_asks c d u a f = record { more = omega (arith, u); acked = a; first = f; early = λ y. u; ends = λ st x p. absurd (cc) }
 
-says_asks : (c d : AbstractClient) (s : PlainSegment) → used d ≡ used c → d.acked ≡ c.acked → first_of d ≡ first_of c → (Steady d → EndsIn d s) → Asks c (gives d s)
+says_asks : (c d : AbstractClient) (s : PlainSegment) → used d ≡ used c → d.acked ≡ c.acked → own_first d ≡ own_first c → (Steady d → EndsIn d s) → Asks c (steps_with d s)
 says_asks c d s u a f e = record { more = omega (arith, u); acked = a; first = f; early = λ y. u; ends = λ st x p. only_some (λ (y : PlainSegment). EndsIn d y) s x p (e st) }
 
 pub opens_asks : (st : ClientState) (c : AbstractClient) → Asks c (opens_by st c)
@@ -211,8 +211,8 @@ out_is_sent FinAt.Acked e = refl
 data_asks : (c : AbstractClient) → Asks c (again_by Is.Opened c)
 unfolding again_by
 data_asks c =
-    choose (λ x. Asks c x) (ltb 0 c.out) _ _ (λ e. says_asks c c (request_of c) refl refl refl (request_ends c))
-    (λ e. choose (λ x. Asks c x) (fin_out c.fin) _ _ (λ f. says_asks c c (fin_of c) refl refl refl (fin_ends c (out_is_sent c.fin f)))
+    choose (λ x. Asks c x) (ltb 0 c.out) _ _ (λ e. says_asks c c (own_request c) refl refl refl (request_ends c))
+    (λ e. choose (λ x. Asks c x) (fin_out c.fin) _ _ (λ f. says_asks c c (own_fin c) refl refl refl (fin_ends c (out_is_sent c.fin f)))
     (λ f. says_asks c c (ack_of c) refl refl refl (λ st nr ns z. absurd (cc))))
 
 pub again_asks : (st : ClientState) (c : AbstractClient) → Asks c (again_by st c)
@@ -237,9 +237,9 @@ closes_asks Is.Reset c = quiet_asks c c refl refl refl
 
 pub aborts_asks : (st : ClientState) (c : AbstractClient) → Asks c (aborts_by st c)
 unfolding aborts_by
-aborts_asks Is.Opening c = says_asks c (record c { state = Is.Reset }) (reset_of c) refl refl refl (λ st nr. absurd (cc))
-aborts_asks Is.Opened c = says_asks c (record c { state = Is.Reset }) (reset_of c) refl refl refl (λ st nr. absurd (cc))
-aborts_asks Is.Closing c = says_asks c (record c { state = Is.Reset }) (reset_of c) refl refl refl (λ st nr. absurd (cc))
+aborts_asks Is.Opening c = says_asks c (record c { state = Is.Reset }) (own_reset c) refl refl refl (λ st nr. absurd (cc))
+aborts_asks Is.Opened c = says_asks c (record c { state = Is.Reset }) (own_reset c) refl refl refl (λ st nr. absurd (cc))
+aborts_asks Is.Closing c = says_asks c (record c { state = Is.Reset }) (own_reset c) refl refl refl (λ st nr. absurd (cc))
 aborts_asks Is.Idle c = quiet_asks c c refl refl refl
 aborts_asks Is.Closed c = quiet_asks c c refl refl refl
 aborts_asks Is.Ended c = quiet_asks c c refl refl refl

@@ -7,7 +7,7 @@ use Rattle.app_events.specs.Part.{Moment, Meaning}
 use Rattle.app_events.specs.Pages.{Pages, IsPaged, IsMoment}
 use Rattle.tcp_machine.specs.Connection.{Connection, is_live}
 use Rattle.tcp_machine.specs.Segments.{has_place}
-use Rattle.link_client.specs.Client.{AbstractClient, ClientStep, sends_next, waits_for_ack, is_receiving, may_finish, has_closed, request_of, ack_of, syn_of, fin_of, reset_of, keeps, gives, hears_ack, fin_heard, fin_sent, fin_out, takes_in_order, takes_text, takes_by, client_takes, is_reset_by, opened_by, opens_by, again_by, closes_by, aborts_by, after_fin, one_if, next_own, first_of}
+use Rattle.link_client.specs.Client.{AbstractClient, ClientStep, sends_next, has_outstanding, is_receiving, may_finish, has_closed, own_request, ack_of, syn_of, own_fin, own_reset, keeps, steps_with, hears_ack, fin_heard, fin_sent, fin_out, takes_in_order, takes_text, takes_by, client_takes, is_reset_by, opened_by, opens_by, again_by, closes_by, aborts_by, after_fin, one_if, next_own, own_first}
 use Rattle.link_client.specs.declared.client_state.ClientState.{ClientState}
 use Rattle.link_client.specs.declared.client_state.ClientState.TheVariants as Is
 use Rattle.link_client.specs.declared.fin_at.FinAt.{FinAt}
@@ -32,19 +32,19 @@ record SendsGood (c : AbstractClient) (took : ClientStep) : Type 0 where
   fits : acked + out ≤ length c.request
   said : (opened : Option ℕ) (s : PlainSegment) → is_some opened ≡ true → took.sent ≡ Some s → IsData took.client opened s
 
-request_data : (d : AbstractClient) (opened : Option ℕ) → is_some opened ≡ true → d.acked + d.out ≤ length d.request → IsData d opened (request_of d)
+request_data : (d : AbstractClient) (opened : Option ℕ) → is_some opened ≡ true → d.acked + d.out ≤ length d.request → IsData d opened (own_request d)
 request_data d opened i h = record { no_syn = refl; opened_is = i; at = d.acked; part = cut_part d.request d.acked d.out h; seq = λ x. refl }
 
 ack_data : (d c : AbstractClient) (opened : Option ℕ) → is_some opened ≡ true → IsData d opened (ack_of c)
 ack_data d c opened i = record { no_syn = refl; opened_is = i; at = 0; part = record { fits = omega arith; same = refl }; seq = λ x. absurd (omega arith) }
 
-fin_data : (d c : AbstractClient) (opened : Option ℕ) → is_some opened ≡ true → IsData d opened (fin_of c)
+fin_data : (d c : AbstractClient) (opened : Option ℕ) → is_some opened ≡ true → IsData d opened (own_fin c)
 fin_data d c opened i = record { no_syn = refl; opened_is = i; at = 0; part = record { fits = omega arith; same = refl }; seq = λ x. absurd (omega arith) }
 
 sends_next_good : (owed : Bool) (c : AbstractClient) → c.acked + c.out ≤ length c.request → SendsGood c (sends_next owed c)
 unfolding sends_next
 sends_next_good owed c fits =
-    choose (λ x. SendsGood c x) (not (waits_for_ack c) && (is_receiving c.state && ltb c.acked (length c.request))) _ _
+    choose (λ x. SendsGood c x) (not (has_outstanding c) && (is_receiving c.state && ltb c.acked (length c.request))) _ _
     (λ e. let d : AbstractClient = record c { out = min c.setup.seg (length c.request - c.acked) } in
     let room : d.acked + d.out ≤ length c.request = omega (arith, fits) in
     record {
@@ -53,9 +53,9 @@ sends_next_good owed c fits =
       fin = c.fin;
       client = refl;
       fits = room;
-      said = λ opened s i p. only_some (λ x. IsData d opened x) (request_of d) s p (request_data d opened i room);
+      said = λ opened s i p. only_some (λ x. IsData d opened x) (own_request d) s p (request_data d opened i room);
     })
-    (λ e. choose (λ x. SendsGood c x) (not (waits_for_ack c) && (may_finish c.state && not (fin_sent c.fin))) _ _
+    (λ e. choose (λ x. SendsGood c x) (not (has_outstanding c) && (may_finish c.state && not (fin_sent c.fin))) _ _
     (λ f. let d : AbstractClient = record c { fin = FinAt.Out } in
     record {
       acked = c.acked;
@@ -63,7 +63,7 @@ sends_next_good owed c fits =
       fin = FinAt.Out;
       client = refl;
       fits = fits;
-      said = λ opened s i p. only_some (λ x. IsData d opened x) (fin_of c) s p (fin_data d c opened i);
+      said = λ opened s i p. only_some (λ x. IsData d opened x) (own_fin c) s p (fin_data d c opened i);
     })
     (λ f. choose (λ x. SendsGood c x) owed _ _
     (λ g. record {
@@ -101,7 +101,7 @@ module _ (m : Meaning) (pages : Pages) (lawful : IsPaged m pages) (past : List E
   -- a step that goes on with c and then sends what comes next
   goes_on : (client c : AbstractClient) (o : ℕ) (owed : Bool) (opened : Option ℕ) →
       Some o ≡ (if becomes_opened client.state c.state then Some (length past) else opened) →
-      c.request ≡ client.request → first_of c ≡ first_of client → Steady c → HasOpened pages c past conn o →
+      c.request ≡ client.request → own_first c ≡ own_first client → Steady c → HasOpened pages c past conn o →
       TookGood pages client past conn opened (Some o) (sends_next owed c)
   goes_on client c o owed opened n r f steady h =
       let g : SendsGood c (sends_next owed c) = sends_next_good owed c steady.out_fits in
@@ -110,7 +110,7 @@ module _ (m : Meaning) (pages : Pages) (lawful : IsPaged m pages) (past : List E
       record {
         next_is = n ∙ ap (λ (x : AbstractClient). if becomes_opened client.state x.state then Some (length past) else opened) (sym e);
         request = ap (λ (x : AbstractClient). x.request) e ∙ r;
-        setup = ap (λ (x : AbstractClient). first_of x) e ∙ f;
+        setup = ap (λ (x : AbstractClient). own_first x) e ∙ f;
         steady = subst Steady (sym e) record { short = steady.short; low = steady.low; out_fits = g.fits };
         opened_good = subst (λ x. HasOpened pages x past conn o) (sym e) (recounts c o g.acked g.out g.fin h);
         said = λ s p. said_data (g.said (Some o) s refl p);
@@ -126,7 +126,7 @@ module _ (m : Meaning) (pages : Pages) (lawful : IsPaged m pages) (past : List E
 
   hears_ack_is : (c : AbstractClient) (s : PlainSegment) → c.acked + c.out ≤ length c.request → Hearing c (hears_ack c s)
   hears_ack_is c s h =
-      choose (λ x. Hearing c x) (has_ack s.flags && (waits_for_ack c && eqb s.ack (next_own c))) _ _
+      choose (λ x. Hearing c x) (has_ack s.flags && (has_outstanding c && eqb s.ack (next_own c))) _ _
       (λ e. record { acked = c.acked + c.out; out = 0; fin = fin_heard c.fin; is = refl; fits = omega arith })
       (λ e. record { acked = c.acked; out = c.out; fin = c.fin; is = refl; fits = h })
 
@@ -223,7 +223,7 @@ module _ (m : Meaning) (pages : Pages) (lawful : IsPaged m pages) (past : List E
   placed c P o s h nr ns pl i e (node_fin r p n) = fin_taken c o s h i e n.is_fin n
 
   in_order_good : (client c : AbstractClient) (P : Type 0) (o : ℕ) (s : PlainSegment) → is_unasked client.state ≡ false →
-      c.request ≡ client.request → first_of c ≡ first_of client →
+      c.request ≡ client.request → own_first c ≡ own_first client →
       Steady c → HasOpened pages c past conn o → has_rst s.flags ≡ false →
       NodeSaid pages c P (era past conn o).first (era past conn o).captures s → TookGood pages client past conn (Some o) (Some o) (takes_in_order c s)
   unfolding takes_in_order
@@ -252,7 +252,7 @@ module _ (m : Meaning) (pages : Pages) (lawful : IsPaged m pages) (past : List E
       (node_later m pages lawful client c P P (era past conn o).first (era past conn o).first (era past conn o).captures (era past conn o).captures [] s refl (λ x. x) refl (sym (append_nothing (era past conn o).captures)) said))
 
   -- a step that sends what is told, or nothing
-  stands : (client d : AbstractClient) (opened : Option ℕ) → becomes_opened client.state d.state ≡ false → d.request ≡ client.request → first_of d ≡ first_of client → Steady d → OpenedGood pages d past conn opened →
+  stands : (client d : AbstractClient) (opened : Option ℕ) → becomes_opened client.state d.state ≡ false → d.request ≡ client.request → own_first d ≡ own_first client → Steady d → OpenedGood pages d past conn opened →
       TookGood pages client past conn opened opened (keeps d)
   stands client d opened b r f steady h = record {
     next_is = ap (λ x. if x then Some (length past) else opened) (sym b);
@@ -263,8 +263,8 @@ module _ (m : Meaning) (pages : Pages) (lawful : IsPaged m pages) (past : List E
     said = λ s p. absurd (cc);
   }
 
-  speaks : (client d : AbstractClient) (opened : Option ℕ) (s : PlainSegment) → becomes_opened client.state d.state ≡ false → d.request ≡ client.request → first_of d ≡ first_of client → Steady d → OpenedGood pages d past conn opened →
-      ClientSaid d opened (length past) s → TookGood pages client past conn opened opened (gives d s)
+  speaks : (client d : AbstractClient) (opened : Option ℕ) (s : PlainSegment) → becomes_opened client.state d.state ≡ false → d.request ≡ client.request → own_first d ≡ own_first client → Steady d → OpenedGood pages d past conn opened →
+      ClientSaid d opened (length past) s → TookGood pages client past conn opened opened (steps_with d s)
   speaks client d opened s b r f steady h said = record {
     next_is = ap (λ x. if x then Some (length past) else opened) (sym b);
     request = r;
@@ -349,7 +349,7 @@ module _ (m : Meaning) (pages : Pages) (lawful : IsPaged m pages) (past : List E
   by_good Is.Idle client P opened s st steady h nr lv said = record { next = opened; good = stays client opened steady h }
   by_good Is.Reset client P opened s st steady h nr lv said = record { next = opened; good = stays client opened steady h }
   by_good Is.Opening client P None s st steady h nr lv said =
-      choose (λ x. Took_it client None x) (has_syn s.flags && (has_ack s.flags && eqb s.ack (wrap (first_of client + 1)))) _ _
+      choose (λ x. Took_it client None x) (has_syn s.flags && (has_ack s.flags && eqb s.ack (wrap (own_first client + 1)))) _ _
       (λ e. record { next = Some (length past); good = opens_good client P s st steady h lv nr (and_true _ _ e).0 said })
       (λ e. record { next = None; good = stays client None steady h })
   by_good Is.Opening client P (Some o) s st steady h nr lv said = absurd (is_asked client Is.Opening o st refl h)
@@ -379,7 +379,7 @@ module _ (m : Meaning) (pages : Pages) (lawful : IsPaged m pages) (past : List E
       (subst (λ n. NodeSaid pages client (opened ≡ Some e.epoch) (era past conn n).first (era past conn n).captures (seg e)) fresh g.said))
 
   -- its own acts
-  says_syn : (client d : AbstractClient) → first_of d ≡ first_of client → ClientSaid client None (length past) (syn_of d)
+  says_syn : (client d : AbstractClient) → own_first d ≡ own_first client → ClientSaid client None (length past) (syn_of d)
   says_syn client d f = said_syn record { syn = refl; no_ack = refl; no_text = refl; seq = f; before = λ o x. absurd (cc) }
 
   pub opens_by_good : (st : ClientState) (client : AbstractClient) (opened : Option ℕ) → client.state ≡ st → Steady client → OpenedGood pages client past conn opened → Took_it client opened (opens_by st client)
@@ -400,16 +400,16 @@ module _ (m : Meaning) (pages : Pages) (lawful : IsPaged m pages) (past : List E
   opens_by_good Is.Ended client opened st steady h = record { next = opened; good = stays client opened steady h }
   opens_by_good Is.Reset client opened st steady h = record { next = opened; good = stays client opened steady h }
 
-  speaks_again : (client : AbstractClient) (o : ℕ) (s : PlainSegment) → Steady client → HasOpened pages client past conn o → IsData client (Some o) s → Took_it client (Some o) (gives client s)
+  speaks_again : (client : AbstractClient) (o : ℕ) (s : PlainSegment) → Steady client → HasOpened pages client past conn o → IsData client (Some o) s → Took_it client (Some o) (steps_with client s)
   speaks_again client o s steady h d = record { next = Some o; good = speaks client client (Some o) s (same_becomes client.state) refl refl steady h (said_data d) }
 
   repeats_data : (client : AbstractClient) (o : ℕ) → Steady client → HasOpened pages client past conn o →
-      Took_it client (Some o) (if ltb 0 client.out then gives client (request_of client) else if fin_out client.fin then gives client (fin_of client) else gives client (ack_of client))
+      Took_it client (Some o) (if ltb 0 client.out then steps_with client (own_request client) else if fin_out client.fin then steps_with client (own_fin client) else steps_with client (ack_of client))
   repeats_data client o steady h =
       choose (λ x. Took_it client (Some o) x) (ltb 0 client.out) _ _
-      (λ e. speaks_again client o (request_of client) steady h (request_data client (Some o) refl steady.out_fits))
+      (λ e. speaks_again client o (own_request client) steady h (request_data client (Some o) refl steady.out_fits))
       (λ e. choose (λ x. Took_it client (Some o) x) (fin_out client.fin) _ _
-      (λ f. speaks_again client o (fin_of client) steady h (fin_data client client (Some o) refl))
+      (λ f. speaks_again client o (own_fin client) steady h (fin_data client client (Some o) refl))
       (λ f. speaks_again client o (ack_of client) steady h (ack_data client client (Some o) refl)))
 
   pub again_by_good : (st : ClientState) (client : AbstractClient) (opened : Option ℕ) → client.state ≡ st → Steady client → OpenedGood pages client past conn opened → Took_it client opened (again_by st client)
@@ -452,11 +452,11 @@ module _ (m : Meaning) (pages : Pages) (lawful : IsPaged m pages) (past : List E
   closes_by_good Is.Ended client opened st steady h = record { next = opened; good = stays client opened steady h }
   closes_by_good Is.Reset client opened st steady h = record { next = opened; good = stays client opened steady h }
 
-  goes_reset : (client : AbstractClient) (opened : Option ℕ) → Steady client → OpenedGood pages client past conn opened → Took_it client opened (gives (record client { state = Is.Reset }) (reset_of client))
+  goes_reset : (client : AbstractClient) (opened : Option ℕ) → Steady client → OpenedGood pages client past conn opened → Took_it client opened (steps_with (record client { state = Is.Reset }) (own_reset client))
   goes_reset client opened steady h =
       record {
         next = opened;
-        good = speaks client (record client { state = Is.Reset }) opened (reset_of client) (reset_becomes client.state) refl refl
+        good = speaks client (record client { state = Is.Reset }) opened (own_reset client) (reset_becomes client.state) refl refl
             record { short = steady.short; low = steady.low; out_fits = steady.out_fits } (reset_opened client opened h) (said_reset refl);
       }
 

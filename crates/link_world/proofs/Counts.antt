@@ -3,7 +3,7 @@ use Rattle.std.proofs.Common.{◌≡◌, ℕ, ◌+◌, Bool, true, false, not, �
 use Rattle.uip_wire.specs.Numbers.{wrap}
 use Rattle.tcp_segment.specs.Segments.{PlainSegment, has_syn, has_fin, has_rst, has_ack}
 use Rattle.tcp_machine.specs.Segments.{has_place}
-use Rattle.link_client.specs.Client.{AbstractClient, ClientStep, has_closed, sends_next, waits_for_ack, is_receiving, may_finish, fin_sent, fin_out, request_of, ack_of, syn_of, fin_of, reset_of, keeps, gives, hears_ack, takes_in_order, takes_text, takes_by, client_takes, is_reset_by, opened_by, opens_by, again_by, closes_by, aborts_by, after_fin, one_if, next_own, first_of}
+use Rattle.link_client.specs.Client.{AbstractClient, ClientStep, has_closed, sends_next, has_outstanding, is_receiving, may_finish, fin_sent, fin_out, own_request, ack_of, syn_of, own_fin, own_reset, keeps, steps_with, hears_ack, takes_in_order, takes_text, takes_by, client_takes, is_reset_by, opened_by, opens_by, again_by, closes_by, aborts_by, after_fin, one_if, next_own, own_first}
 use Rattle.link_client.specs.declared.client_state.ClientState.{ClientState}
 use Rattle.link_client.specs.declared.client_state.ClientState.TheVariants as Is
 use Rattle.link_world.specs.World.{becomes_opened}
@@ -25,10 +25,10 @@ record Sends (c : AbstractClient) (t : ClientStep) : Type 0 where
 sends_counts : (owed : Bool) (c : AbstractClient) → Sends c (sends_next owed c)
 unfolding sends_next
 sends_counts owed c =
-    choose (λ x. Sends c x) (not (waits_for_ack c) && (is_receiving c.state && ltb c.acked (length c.request))) _ _
+    choose (λ x. Sends c x) (not (has_outstanding c) && (is_receiving c.state && ltb c.acked (length c.request))) _ _
     (λ e. record { received = refl; expected = refl; state = refl; acks = λ x p n a. only_some (λ (y : PlainSegment). y.ack ≡ c.expected) _ x p refl })
-    (λ e. choose (λ x. Sends c x) (not (waits_for_ack c) && (may_finish c.state && not (fin_sent c.fin))) _ _
-    (λ f. record { received = refl; expected = refl; state = refl; acks = λ x p n a. only_some (λ (y : PlainSegment). y.ack ≡ c.expected) (fin_of c) x p refl })
+    (λ e. choose (λ x. Sends c x) (not (has_outstanding c) && (may_finish c.state && not (fin_sent c.fin))) _ _
+    (λ f. record { received = refl; expected = refl; state = refl; acks = λ x p n a. only_some (λ (y : PlainSegment). y.ack ≡ c.expected) (own_fin c) x p refl })
     (λ f. choose (λ x. Sends c x) owed _ _
     (λ g. record { received = refl; expected = refl; state = refl; acks = λ x p n a. only_some (λ (y : PlainSegment). y.ack ≡ c.expected) (ack_of c) x p refl })
     (λ g. record { received = refl; expected = refl; state = refl; acks = λ x p n a. absurd (cc) })))
@@ -92,7 +92,7 @@ record Same (c d : AbstractClient) : Type 0 where
   state : d.state ≡ c.state
 
 hears_same : (c : AbstractClient) (s : PlainSegment) → Same c (hears_ack c s)
-hears_same c s = choose (λ x. Same c x) (has_ack s.flags && (waits_for_ack c && eqb s.ack (next_own c))) _ _ (λ e. record { received = refl; expected = refl; state = refl }) (λ e. record { received = refl; expected = refl; state = refl })
+hears_same c s = choose (λ x. Same c x) (has_ack s.flags && (has_outstanding c && eqb s.ack (next_own c))) _ _ (λ e. record { received = refl; expected = refl; state = refl }) (λ e. record { received = refl; expected = refl; state = refl })
 
 in_order_counted : (client : AbstractClient) (s : PlainSegment) → has_rst s.flags ≡ false → Counted client s (takes_in_order (hears_ack client s) s)
 unfolding takes_in_order
@@ -114,8 +114,8 @@ unfolding takes_by
 takes_counted Is.Idle client s st nr = keeps_counted client client s refl refl refl (same_becomes client.state)
 takes_counted Is.Reset client s st nr = keeps_counted client client s refl refl refl (same_becomes client.state)
 takes_counted Is.Opening client s st nr =
-    choose (λ x. Counted client s x) (has_syn s.flags && (has_ack s.flags && eqb s.ack (wrap (first_of client + 1)))) _ _
-    (λ e. on_counted true client (opened_by client s) s (took_open st nr (and_true (has_syn s.flags) (has_ack s.flags && eqb s.ack (wrap (first_of client + 1))) e).0 refl refl refl))
+    choose (λ x. Counted client s x) (has_syn s.flags && (has_ack s.flags && eqb s.ack (wrap (own_first client + 1)))) _ _
+    (λ e. on_counted true client (opened_by client s) s (took_open st nr (and_true (has_syn s.flags) (has_ack s.flags && eqb s.ack (wrap (own_first client + 1))) e).0 refl refl refl))
     (λ e. keeps_counted client client s refl refl refl (same_becomes client.state))
 takes_counted Is.Opened client s st nr = in_order_counted client s nr
 takes_counted Is.Closing client s st nr = in_order_counted client s nr
@@ -148,7 +148,7 @@ pub record Idles (client : AbstractClient) (t : ClientStep) : Type 0 where
   pub same : becomes_opened client.state t.client.state ≡ false
   pub acks : Acks t
 
-idles_with : (client : AbstractClient) (s : PlainSegment) → s.ack ≡ client.expected → Idles client (gives client s)
+idles_with : (client : AbstractClient) (s : PlainSegment) → s.ack ≡ client.expected → Idles client (steps_with client s)
 idles_with client s e = record { received = refl; expected = refl; done = refl; same = same_becomes client.state; acks = λ x p n a. only_some (λ (y : PlainSegment). y.ack ≡ client.expected) s x p e }
 
 pub idles_quiet : (client d : AbstractClient) → d.received ≡ client.received → d.expected ≡ client.expected → has_closed d.state ≡ has_closed client.state → becomes_opened client.state d.state ≡ false → Idles client (keeps d)
@@ -157,11 +157,11 @@ idles_quiet client d r e k b = record { received = r; expected = e; done = k; sa
 stays_quiet : (client : AbstractClient) → Idles client (keeps client)
 stays_quiet client = idles_quiet client client refl refl refl (same_becomes client.state)
 
-syn_idles : (client d : AbstractClient) → d.received ≡ client.received → d.expected ≡ client.expected → has_closed d.state ≡ has_closed client.state → becomes_opened client.state d.state ≡ false → Idles client (gives d (syn_of d))
+syn_idles : (client d : AbstractClient) → d.received ≡ client.received → d.expected ≡ client.expected → has_closed d.state ≡ has_closed client.state → becomes_opened client.state d.state ≡ false → Idles client (steps_with d (syn_of d))
 syn_idles client d r e k b = record { received = r; expected = e; done = k; same = b; acks = λ x p n a. absurd (only_some (λ (y : PlainSegment). has_ack y.flags ≡ true → ⊥) (syn_of d) x p (λ z. absurd (cc)) a) }
 
-reset_idles : (client : AbstractClient) → false ≡ has_closed client.state → Idles client (gives (record client { state = Is.Reset }) (reset_of client))
-reset_idles client k = record { received = refl; expected = refl; done = k; same = reset_becomes client.state; acks = λ x p n a. absurd (only_some (λ (y : PlainSegment). has_rst y.flags ≡ false → ⊥) (reset_of client) x p (λ z. absurd (cc)) n) }
+reset_idles : (client : AbstractClient) → false ≡ has_closed client.state → Idles client (steps_with (record client { state = Is.Reset }) (own_reset client))
+reset_idles client k = record { received = refl; expected = refl; done = k; same = reset_becomes client.state; acks = λ x p n a. absurd (only_some (λ (y : PlainSegment). has_rst y.flags ≡ false → ⊥) (own_reset client) x p (λ z. absurd (cc)) n) }
 
 pub opens_idles : (st : ClientState) (client : AbstractClient) → client.state ≡ st → Idles client (opens_by st client)
 unfolding opens_by
@@ -176,8 +176,8 @@ opens_idles Is.Reset client e = stays_quiet client
 data_idles : (client : AbstractClient) → Idles client (again_by Is.Opened client)
 unfolding again_by
 data_idles client =
-    choose (λ x. Idles client x) (ltb 0 client.out) _ _ (λ e. idles_with client (request_of client) refl)
-    (λ e. choose (λ x. Idles client x) (fin_out client.fin) _ _ (λ f. idles_with client (fin_of client) refl) (λ f. idles_with client (ack_of client) refl))
+    choose (λ x. Idles client x) (ltb 0 client.out) _ _ (λ e. idles_with client (own_request client) refl)
+    (λ e. choose (λ x. Idles client x) (fin_out client.fin) _ _ (λ f. idles_with client (own_fin client) refl) (λ f. idles_with client (ack_of client) refl))
 
 pub again_idles : (st : ClientState) (client : AbstractClient) → Idles client (again_by st client)
 unfolding again_by

@@ -26,7 +26,7 @@ use Rattle.tcp_segment.specs.declared.fate.TcpFate.TheVariants as TcpFate
 use Rattle.app_events.specs.Pages.{IsByte}
 use Rattle.uip_node.specs.Edge.{event_of, by_head, by_proto, by_echo, by_segment}
 use Rattle.link_world.specs.Bytes.{changed}
-use Rattle.link_world.specs.Headline.{PassesBy, IsWhole, is_refused}
+use Rattle.link_world.specs.Headline.{PassesBy, IsWholeDatagram, is_refused}
 use Rattle.link_world.proofs.Basics.{both_ways, choose, append_nothing}
 
 -- a list around one of its bytes
@@ -238,7 +238,7 @@ byte_in [] back one h = h zero one (omega arith)
 byte_in (x ∷ front) back one h = byte_in front back one (λ k d l. h (suc k) d (omega (arith, l)))
 
 -- One changed byte: the datagram is refused at every address.
-pub damage_refused : (bytes : List ℕ) (at mask : ℕ) (own : Addr) → IsWhole bytes → at < length bytes → 1 ≤ mask → mask < 256 → is_refused (event_of own (changed bytes at mask)) ≡ true
+pub damage_refused : (bytes : List ℕ) (at mask : ℕ) (own : Addr) → IsWholeDatagram bytes → at < length bytes → 1 ≤ mask → mask < 256 → is_refused (event_of own (changed bytes at mask)) ≡ true
 damage_refused bytes at mask own w l m1 m2 =
     let r = around bytes at (bit_xor (slice_index bytes at) mask) l in
     let other : ℕ = bit_xor (slice_index bytes at) mask in

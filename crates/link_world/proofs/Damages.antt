@@ -5,15 +5,15 @@ use Rattle.tcp_segment.specs.Segments.{PlainSegment}
 use Rattle.app_events.specs.Part.{Meaning}
 use Rattle.app_events.specs.Pages.{IsAddr}
 use Rattle.uip_node.specs.Edge.{datagram_to}
-use Rattle.link_world.specs.World.{World, Side, Sent, Content, sockets_of}
+use Rattle.link_world.specs.World.{World, Side, Sent, Content, client_sockets}
 use Rattle.link_world.specs.World.Content.{OfSegment}
-use Rattle.link_world.specs.Bytes.{server_of, client_bytes, node_bytes, bytes_by, bytes_of, changed}
+use Rattle.link_world.specs.Bytes.{server_of, client_bytes, node_bytes, bytes_by, sent_bytes, changed}
 use Rattle.link_world.specs.Acts.{does, hands_over, damages_at, no_byte, or_full, fault_of}
 use Rattle.link_world.specs.declared.act.Act.{Act}
 use Rattle.link_world.specs.declared.step_fault.StepFault.TheVariants.{NoByte}
 use Rattle.link_world.specs.declared.who.Who.{Who}
 use Rattle.link_world.specs.declared.who.Who.TheVariants.{FromClient, FromNode, Pinger}
-use Rattle.link_world.specs.Headline.{IsAct, IsLoss, IsWhole}
+use Rattle.link_world.specs.Headline.{IsAct, IsLoss, IsWholeDatagram}
 use Rattle.link_world.proofs.Basics.{ltb-lt}
 use Rattle.link_world.proofs.Harmless.{Harmless}
 use Rattle.link_world.proofs.Loss.{same_world, loses}
@@ -24,25 +24,25 @@ use Rattle.link_world.proofs.Whole.{datagram_whole, ping_whole}
 
 -- what a datagram's bytes are: whole, none at all, or meant for nobody
 data Bytes (w : World) (who : Who) (content : Content) : Type 0 where
-  wholly : IsWhole (bytes_by w who content) → Bytes w who content
+  wholly : IsWholeDatagram (bytes_by w who content) → Bytes w who content
   nothing : bytes_by w who content ≡ [] → Bytes w who content
   nobody : who ≡ FromNode 0 → Bytes w who content
 
-client_whole : (id : ℕ) (s : PlainSegment) (side : Option Side) → id < 65536 → IsSoundSegment s → ((x : Side) → side ≡ Some x → IsSoundClient x.client) → IsWhole (client_bytes id s side) ⊎ (client_bytes id s side ≡ [])
+client_whole : (id : ℕ) (s : PlainSegment) (side : Option Side) → id < 65536 → IsSoundSegment s → ((x : Side) → side ≡ Some x → IsSoundClient x.client) → IsWholeDatagram (client_bytes id s side) ⊎ (client_bytes id s side ≡ [])
 client_whole id s None l g h = inr refl
 client_whole id s (Some side) l g h =
     let c : IsSoundClient side.client = h side refl in
     inl (datagram_whole (datagram_to side.client.setup.addr (server_of side.client.setup) id s)
     record { source = c.addr.four; target = c.server.four; source_bytes = c.addr.all_bytes; target_bytes = c.server.all_bytes; from = c.port; to = c.server_port; id = l } g)
 
-node_whole : (addr : Addr) (id : ℕ) (s : PlainSegment) (side : Option Side) → IsAddr addr → id < 65536 → IsSoundSegment s → ((x : Side) → side ≡ Some x → IsSoundClient x.client) → IsWhole (node_bytes addr id s side) ⊎ (node_bytes addr id s side ≡ [])
+node_whole : (addr : Addr) (id : ℕ) (s : PlainSegment) (side : Option Side) → IsAddr addr → id < 65536 → IsSoundSegment s → ((x : Side) → side ≡ Some x → IsSoundClient x.client) → IsWholeDatagram (node_bytes addr id s side) ⊎ (node_bytes addr id s side ≡ [])
 node_whole addr id s None a l g h = inr refl
 node_whole addr id s (Some side) a l g h =
     let c : IsSoundClient side.client = h side refl in
-    inl (datagram_whole (datagram_to addr (sockets_of side) id s)
+    inl (datagram_whole (datagram_to addr (client_sockets side) id s)
     record { source = a.four; target = c.addr.four; source_bytes = a.all_bytes; target_bytes = c.addr.all_bytes; from = c.server_port; to = c.port; id = l } g)
 
-told : (w : World) (who : Who) (content : Content) → IsWhole (bytes_by w who content) ⊎ (bytes_by w who content ≡ []) → Bytes w who content
+told : (w : World) (who : Who) (content : Content) → IsWholeDatagram (bytes_by w who content) ⊎ (bytes_by w who content ≡ []) → Bytes w who content
 told w who content h = elim h [ inl x ↦ wholly x | inr x ↦ nothing x ]
 
 segment_bytes_are : (w : World) (who : Who) (id : ℕ) (s : PlainSegment) → id < 65536 → IsSoundSegment s → SoundWorld w → Bytes w who (OfSegment id s)
@@ -68,17 +68,17 @@ not_in_nothing : (at : ℕ) (bytes : List ℕ) → bytes ≡ [] → at < length 
 not_in_nothing at bytes e h = let z : length bytes ≡ 0 = ap (λ (x : List ℕ). length x) e in omega (arith, z, h)
 
 module _ (m : Meaning) (served : ℕ → Bool) where
-  handed_over : (w : World) (e : Sent) (at mask : ℕ) → at < length (bytes_of w e) → 1 ≤ mask → mask < 256 → Bytes w e.who e.content → IsLoss w (hands_over m served w (changed (bytes_of w e) at mask) e.who)
+  handed_over : (w : World) (e : Sent) (at mask : ℕ) → at < length (sent_bytes w e) → 1 ≤ mask → mask < 256 → Bytes w e.who e.content → IsLoss w (hands_over m served w (changed (sent_bytes w e) at mask) e.who)
   handed_over w e at mask l a b h = elim h [
-    | wholly x ↦ loses m served w e.who (bytes_of w e) at mask x l a b
-    | nothing x ↦ absurd (not_in_nothing at (bytes_of w e) x l)
-    | nobody x ↦ subst (λ who. IsLoss w (hands_over m served w (changed (bytes_of w e) at mask) who)) (sym x) (same_world w)
+    | wholly x ↦ loses m served w e.who (sent_bytes w e) at mask x l a b
+    | nothing x ↦ absurd (not_in_nothing at (sent_bytes w e) x l)
+    | nobody x ↦ subst (λ who. IsLoss w (hands_over m served w (changed (sent_bytes w e) at mask) who)) (sym x) (same_world w)
   ]
 
   damaged : (w : World) (act : Act) (j at mask : ℕ) (e : Option Sent) → slice_get w.sent j ≡ e → or_full w act (no_byte w at e) ≡ None → 1 ≤ mask → mask < 256 → SoundWorld w → IsLoss w (damages_at m served w at mask e)
   damaged w act j at mask None x f a b h = same_world w
   damaged w act j at mask (Some e) x f a b h =
-      handed_over w e at mask (ltb-lt at (length (bytes_of w e)) (byte_there w act (ltb at (length (bytes_of w e))) f)) a b (bytes_are w e.who e.content h (h.sent j e x))
+      handed_over w e at mask (ltb-lt at (length (sent_bytes w e)) (byte_there w act (ltb at (length (sent_bytes w e))) f)) a b (bytes_are w e.who e.content h (h.sent j e x))
 
   damage_harmless : (w : World) (k at mask : ℕ) → fault_of w (Act.Damage k at mask) ≡ None → 1 ≤ mask → mask < 256 → SoundWorld w → IsLoss w (does m served w (Act.Damage k at mask))
   damage_harmless w zero at mask f a b h = same_world w

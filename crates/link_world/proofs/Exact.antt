@@ -486,4 +486,4 @@ module _ (m : Meaning) (pages : Pages) (lawful : IsPaged m pages) where
 
 pub one_segment : OneSegment
 one_segment m pages lawful w r k side x clean o e =
-    in_step m pages lawful w k side (serving (Rattle.link_world.specs.World.sockets_of side) w.node.connections) side.opened (((all_exact m pages lawful w r).each k side x).exact clean) o e
+    in_step m pages lawful w k side (serving (Rattle.link_world.specs.World.client_sockets side) w.node.connections) side.opened (((all_exact m pages lawful w r).each k side x).exact clean) o e

@@ -10,7 +10,7 @@ use Rattle.uip_node.specs.Events.Answer.{EchoReplied}
 use Rattle.uip_node.specs.Events.Reply.{Echo}
 use Rattle.uip_node.specs.Node.{remembers}
 use Rattle.link_client.specs.Client.{AbstractClient, ClientStep, client_takes, client_opens, client_again, client_closes, client_aborts, tells_window}
-use Rattle.link_world.specs.World.{World, Side, Sent, Content, numbered, sockets_of, with_side, marked, gives_node, gives_client, delivers, gives, node_handles}
+use Rattle.link_world.specs.World.{World, Side, Sent, Content, numbered, client_sockets, with_side, marked, gives_node, gives_client, delivers, hands_to, node_handles}
 use Rattle.link_world.specs.World.Content.{OfSegment, OfPing, OfEcho}
 use Rattle.link_world.specs.Acts.{client_acts, handles_all, does}
 use Rattle.link_world.specs.declared.act.Act.{Act}
@@ -35,7 +35,7 @@ module _ (m : Meaning) (pages : Pages) (lawful : IsPaged m pages) (served : ℕ 
   gives_node_fit : (w : World) (n k : ℕ) (e : Sent) (s : PlainSegment) (side : Option Side) → slice_get w.sides n ≡ side → FitWorld w → FitWorld (gives_node m served w (suc n) k e s side)
   gives_node_fit w n k e s None at f = f
   gives_node_fit w n k e s (Some side) at f =
-      arrival_fits m pages lawful served (with_side w (suc n) (marked side k e)) (sockets_of side) s (f.sides n side at).addr (f.sides n side at).port (put_fits w n side (marked side k e) at refl refl f)
+      arrival_fits m pages lawful served (with_side w (suc n) (marked side k e)) (client_sockets side) s (f.sides n side at).addr (f.sides n side at).port (put_fits w n side (marked side k e) at refl refl f)
 
   gives_client_fit : (w : World) (n k : ℕ) (e : Sent) (s : PlainSegment) (side : Option Side) → slice_get w.sides n ≡ side → FitWorld w → FitWorld (gives_client w (suc n) k e s side)
   gives_client_fit w n k e s None at f = f
@@ -54,7 +54,7 @@ module _ (m : Meaning) (pages : Pages) (lawful : IsPaged m pages) (served : ℕ 
   delivers_fit w k e Pinger (OfSegment id s) f = f
   delivers_fit w k e Pinger (OfEcho request) f = f
 
-  pub gives_fit : (w : World) (k : ℕ) (e : Option Sent) → FitWorld w → FitWorld (gives m served w k e)
+  pub gives_fit : (w : World) (k : ℕ) (e : Option Sent) → FitWorld w → FitWorld (hands_to m served w k e)
   gives_fit w k None f = f
   gives_fit w k (Some e) f = delivers_fit w k e e.who e.content f
 

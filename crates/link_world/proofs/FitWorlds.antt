@@ -16,7 +16,7 @@ use Rattle.uip_node.specs.Events.Reply.{Echo, Tcp}
 use Rattle.uip_node.specs.Counters.{initial_number}
 use Rattle.uip_node.specs.Node.{AbstractNode, NodeStep, moment, happened, connection_in, slot_for_syn, opens_in, opens, from_stranger, arrives_at, step}
 use Rattle.link_client.specs.Client.{ClientStep}
-use Rattle.link_world.specs.World.{World, Side, Era, Content, sockets_of, buries, buries_in, addressed, posts, posts_reply, node_stepped, node_handles, with_client, with_side, posts_of_client, client_stepped}
+use Rattle.link_world.specs.World.{World, Side, Era, Content, client_sockets, buries, buries_in, addressed, posts, posts_reply, node_stepped, node_handles, with_client, with_side, posts_of_client, client_stepped}
 use Rattle.link_world.specs.declared.who.Who.{Who}
 use Rattle.link_world.specs.declared.who.Who.TheVariants.{FromNode}
 use Rattle.link_world.specs.History.{no_era, era, serving}
@@ -84,7 +84,7 @@ buries_fit (Some g) sides f h k side x =
     let m = get_map (buries_in g) sides k side x in
     let s : FitSide m.from = h k m.from m.get in
     subst (λ (o : Side). FitSide o) m.is
-    (choose (λ (o : Side). FitSide o) (same_sockets g.sockets (sockets_of m.from)) _ _
+    (choose (λ (o : Side). FitSide o) (same_sockets g.sockets (client_sockets m.from)) _ _
     (λ e. record { eras = past_push m.from.past (record { first = g.first; captures = g.part.captures }) s.eras (f g refl).captures; addr = s.addr; port = s.port })
     (λ e. s))
 

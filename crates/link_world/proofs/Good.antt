@@ -10,7 +10,7 @@ use Rattle.app_events.specs.declared.state.State.TheVariants.{Closed, SynRcvd, E
 use Rattle.tcp_machine.specs.Connection.{Connection, is_live}
 use Rattle.tcp_machine.specs.Segments.{segment_of}
 use Rattle.tcp_machine.specs.Ask.{Outcome}
-use Rattle.link_client.specs.Client.{AbstractClient, ClientStep, is_receiving, has_closed, first_of}
+use Rattle.link_client.specs.Client.{AbstractClient, ClientStep, is_receiving, has_closed, own_first}
 use Rattle.link_client.specs.declared.client_state.ClientState.{ClientState}
 use Rattle.link_client.specs.declared.client_state.ClientState.TheVariants as Is
 use Rattle.link_world.specs.World.{Sent, Content, Era, becomes_opened}
@@ -90,7 +90,7 @@ StateGood pages opened client c TimeWait = is_some opened ≡ true
 StateGood pages opened client c LastAck = AtFin pages opened client c
 
 pub record ConnGood (pages : Pages) (opened : Option ℕ) (client : AbstractClient) (c : Connection) : Type 0 where
-  pub peer_first : c.peer_first ≡ first_of client
+  pub peer_first : c.peer_first ≡ own_first client
   pub state : StateGood pages opened client c c.state
 
 -- What a client has said.
@@ -98,7 +98,7 @@ pub record IsSyn (client : AbstractClient) (opened : Option ℕ) (at_epoch : ℕ
   pub syn : has_syn s.flags ≡ true
   pub no_ack : has_ack s.flags ≡ false
   pub no_text : s.text ≡ []
-  pub seq : s.seq ≡ first_of client
+  pub seq : s.seq ≡ own_first client
   pub before : (o : ℕ) → opened ≡ Some o → at_epoch ≤ o
 
 pub record IsData (client : AbstractClient) (opened : Option ℕ) (s : PlainSegment) : Type 0 where
@@ -106,7 +106,7 @@ pub record IsData (client : AbstractClient) (opened : Option ℕ) (s : PlainSegm
   pub opened_is : is_some opened ≡ true
   pub at : ℕ
   pub part : IsPart client.request s.text at
-  pub seq : 0 < length s.text → s.seq ≡ wrap (first_of client + 1 + at)
+  pub seq : 0 < length s.text → s.seq ≡ wrap (own_first client + 1 + at)
 
 pub data ClientSaid (client : AbstractClient) (opened : Option ℕ) (at_epoch : ℕ) (s : PlainSegment) : Type 0 where
   said_reset : has_rst s.flags ≡ true → ClientSaid client opened at_epoch s
@@ -210,7 +210,7 @@ OpenedGood pages client past c (Some o) = HasOpened pages client past c o
 
 pub record Steady (client : AbstractClient) : Type 0 where
   pub short : length client.request ≤ 4096
-  pub low : first_of client < 4294967296
+  pub low : own_first client < 4294967296
   pub out_fits : client.acked + client.out ≤ length client.request
 
 -- what is known of one clean client
@@ -225,7 +225,7 @@ pub record Good (pages : Pages) (number : ℕ) (client : AbstractClient) (opened
 pub record TookGood (pages : Pages) (client : AbstractClient) (past : List Era) (c : Connection) (opened next : Option ℕ) (took : ClientStep) : Type 0 where
   pub next_is : next ≡ (if becomes_opened client.state took.client.state then Some (length past) else opened)
   pub request : took.client.request ≡ client.request
-  pub setup : first_of took.client ≡ first_of client
+  pub setup : own_first took.client ≡ own_first client
   pub steady : Steady took.client
   pub opened_good : OpenedGood pages took.client past c next
   pub said : (s : PlainSegment) → took.sent ≡ Some s → ClientSaid took.client next (length past) s

@@ -13,8 +13,8 @@ use Rattle.tcp_segment.specs.declared.fate.TcpFate.{TcpFate}
 use Rattle.tcp_segment.specs.declared.segment.Segment.{Segment}
 use Rattle.uip_node.specs.Edge.{by_echo, by_head, by_proto, by_segment}
 use Rattle.link_client.specs.declared.setup.Setup.{Setup}
-use Rattle.link_client.specs.Calls.{heard_in, heard_by_proto, heard_by_head, hears}
-use Rattle.link_world.specs.Bytes.{heard_by, hears as world_hears}
+use Rattle.link_client.specs.Calls.{heard_in, heard_by_proto, heard_by_head, client_hears}
+use Rattle.link_world.specs.Bytes.{heard_by, hears_datagram as world_hears}
 
 of_segment : (setup : Setup) (head : IpHead) (bytes : List ℕ) (r : Result Segment TcpFate) → heard_in setup head bytes r ≡ heard_by setup (by_segment head bytes r)
 of_segment setup head bytes (Ok s) = refl
@@ -33,5 +33,5 @@ of_head setup bytes (Ok head) = of_proto head.proto setup head bytes
 of_head setup bytes (Err fate) = refl
 
 -- what the client's code hears is what the world says that it hears
-pub same_hearing : (setup : Setup) (bytes : List ℕ) → hears setup bytes ≡ world_hears setup bytes
+pub same_hearing : (setup : Setup) (bytes : List ℕ) → client_hears setup bytes ≡ world_hears setup bytes
 same_hearing setup bytes = of_head setup bytes (head_or_fate bytes setup.addr.0)

@@ -21,7 +21,7 @@ use Rattle.link_world.specs.Schedule.{plays_line, goes_on_with, plays_from, play
 use Rattle.link_world.specs.History.{Planned, IsPlanned, IsPlan, opening_world}
 use Rattle.link_schedule.specs.declared.event.Event.{Event}
 use Rattle.link_schedule.specs.declared.event.Event.TheVariants.{Opens, Round}
-use Rattle.link_world.specs.Headline.{IsAct, IsPlainAct, OfLine, IsPlayed, IsServed}
+use Rattle.link_world.specs.Headline.{IsAct, IsPlainAct, OfLine, IsSchedulePlayed, IsServed}
 use Rattle.link_world.specs.Honest.{AnswersIn, IsServedWhole, HonestLink}
 use Rattle.link_world.proofs.Basics.{wrap_wrap}
 use Rattle.link_world.proofs.Fits.{FitConn, all_nil, all_cons}
@@ -64,7 +64,7 @@ module _ (m : Meaning) (pages : Pages) (lawful : IsPaged m pages) (served : ℕ 
       let w : World = e.world in
       let side : Side = only_side e.client e.opened in
       let there : slice_get w.sides 0 ≡ Some side = ap (λ (l : List Side). slice_get l 0) e.sides in
-      let played : IsPlayed m pages w = record {
+      let played : IsSchedulePlayed m pages w = record {
         served = served;
         addr = addr;
         is_addr = a;

@@ -5,7 +5,7 @@ use Rattle.uip_wire.specs.Numbers.{wrap}
 use Rattle.tcp_segment.specs.declared.flags.TheConstants.{FIN, SYN, PSH, ACK}
 use Rattle.tcp_segment.specs.Segments.{PlainSegment, has_fin, has_rst, has_ack}
 use Rattle.tcp_machine.specs.Segments.{has_place}
-use Rattle.link_client.specs.Client.{AbstractClient, ClientStep, sends_next, hears_ack, takes_text, takes_in_order, takes_by, client_takes, request_of, ack_of, fin_of, next_own, waits_for_ack, keeps, opened_by}
+use Rattle.link_client.specs.Client.{AbstractClient, ClientStep, sends_next, hears_ack, takes_text, takes_in_order, takes_by, client_takes, own_request, ack_of, own_fin, next_own, has_outstanding, keeps, opened_by}
 use Rattle.link_client.specs.Client as client
 use Rattle.link_client.specs.declared.client_state.ClientState.{ClientState}
 use Rattle.link_client.specs.declared.client_state.ClientState.TheVariants.{Opening, Opened, Closed}
@@ -54,10 +54,10 @@ module _ (setup : Setup) (request : List ℕ) where
   open_with received a out x = client_at Opened received a out FinAt.NotSent x
 
   abbrev part_step : List ℕ → ℕ → ℕ → ClientStep
-  part_step received a x = client.gives (open_with received a (next_out a) x) (request_of (open_with received a (next_out a) x))
+  part_step received a x = client.steps_with (open_with received a (next_out a) x) (own_request (open_with received a (next_out a) x))
 
   abbrev owed_step : Bool → List ℕ → ℕ → ℕ → ClientStep
-  owed_step owed received a x = if owed then client.gives (open_with received a 0 x) (ack_of (open_with received a 0 x)) else keeps (open_with received a 0 x)
+  owed_step owed received a x = if owed then client.steps_with (open_with received a 0 x) (ack_of (open_with received a 0 x)) else keeps (open_with received a 0 x)
 
   by_rest : (owed : Bool) (received : List ℕ) (a x : ℕ) → sends_next owed (open_with received a 0 x) ≡ (if ltb a (length request) then part_step received a x else owed_step owed received a x)
   unfolding sends_next
@@ -65,7 +65,7 @@ module _ (setup : Setup) (request : List ℕ) where
 
   pub sends_part : (owed : Bool) (received : List ℕ) (a x : ℕ) → a < length request → SendsNext (sends_next owed (open_with received a 0 x)) received a x
   sends_part owed received a x h = record {
-    segment = request_of (open_with received a (next_out a) x);
+    segment = own_request (open_with received a (next_out a) x);
     is = by_rest owed received a x ∙ ap (λ b. if b then part_step received a x else owed_step owed received a x) (lt-ltb a (length request) h);
     brings = record { no_rst = refl; no_fin = refl; is_ack = refl; window = refl; ack = refl; text = refl; seq = λ p. refl };
   }
@@ -75,7 +75,7 @@ module _ (setup : Setup) (request : List ℕ) where
     segment = ack_of (open_with received a 0 x);
     is = by_rest true received a x
         ∙ ap (λ b. if b then part_step received a x else owed_step true received a x) (le-ltb a (length request) h)
-        ∙ ap (λ n. client.gives (open_with received a n x) (ack_of (open_with received a 0 x))) (sym (next_none a h));
+        ∙ ap (λ n. client.steps_with (open_with received a n x) (ack_of (open_with received a 0 x))) (sym (next_none a h));
     brings = record { no_rst = refl; no_fin = refl; is_ack = refl; window = refl; ack = refl; text = sym (ap (λ n. take n (drop a request)) (next_none a h)); seq = λ p. absurd (cc) };
   }
 
@@ -104,7 +104,7 @@ module _ (setup : Setup) (request : List ℕ) where
   hears_all received a o x s h e =
       let c : AbstractClient = open_with received a o x in
       let after : AbstractClient = open_with received (a + o) 0 x in
-      let all : Bool = has_ack s.flags && (waits_for_ack c && eqb s.ack (next_own c)) in
+      let all : Bool = has_ack s.flags && (has_outstanding c && eqb s.ack (next_own c)) in
       elim (zero_or_more o) [
         | inl z ↦ choose (λ (d : AbstractClient). d ≡ after) all after c (λ y. refl)
             (λ n. ap (λ k. open_with received a k x) z ∙ ap (λ k. open_with received k 0 x) (let y : a ≡ a + o = omega (arith, z) in y))
@@ -139,7 +139,7 @@ module _ (setup : Setup) (request : List ℕ) where
 
   pub takes_the_fin : (received : List ℕ) (a o x seq ack : ℕ) → ack ≡ wrap (setup.iss.0 + 1 + (a + o)) → seq ≡ x →
       client_takes (open_with received a o x) (node_says (FIN + ACK) seq ack [])
-      ≡ client.gives (closed_with (received ++ []) (a + o) (wrap (x + 0 + 1))) (fin_of (closed_with (received ++ []) (a + o) (wrap (x + 0 + 1))))
+      ≡ client.steps_with (closed_with (received ++ []) (a + o) (wrap (x + 0 + 1))) (own_fin (closed_with (received ++ []) (a + o) (wrap (x + 0 + 1))))
   unfolding client_takes takes_by takes_in_order sends_next
   takes_the_fin received a o x seq ack e f =
       let s : PlainSegment = node_says (FIN + ACK) seq ack [] in
@@ -157,6 +157,6 @@ module _ (setup : Setup) (request : List ℕ) where
   unfolding client_takes takes_by takes_in_order sends_next
   rests_at_ack received a x seq ack =
       let c : AbstractClient = closed_with received a x in
-      choose (λ (d : AbstractClient). Rests (sends_next false d)) (has_ack ACK && (waits_for_ack c && eqb ack (next_own c))) (client_at Closed received (a + 0) 0 FinAt.Acked x) c
+      choose (λ (d : AbstractClient). Rests (sends_next false d)) (has_ack ACK && (has_outstanding c && eqb ack (next_own c))) (client_at Closed received (a + 0) 0 FinAt.Acked x) c
       (λ y. record { client = client_at Closed received (a + 0) 0 FinAt.Acked x; is = refl; closed = refl })
       (λ n. record { client = c; is = refl; closed = refl })

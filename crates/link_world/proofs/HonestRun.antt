@@ -15,10 +15,10 @@ use Rattle.uip_node.specs.Events.{Past}
 use Rattle.uip_node.specs.Events.Reply.{Tcp}
 use Rattle.uip_node.specs.Counters.{ticks_of}
 use Rattle.uip_node.specs.Node.{AbstractNode, arrives}
-use Rattle.link_client.specs.Client.{AbstractClient, fin_of, client_takes}
+use Rattle.link_client.specs.Client.{AbstractClient, own_fin, client_takes}
 use Rattle.link_client.specs.declared.client_state.ClientState.TheVariants as Is
 use Rattle.link_client.specs.declared.setup.Setup.{Setup}
-use Rattle.link_world.specs.World.{World, Sent, sockets_of, becomes_opened}
+use Rattle.link_world.specs.World.{World, Sent, client_sockets, becomes_opened}
 use Rattle.link_world.specs.Schedule.{plays_line, goes_on_with, plays_from, BadLine}
 use Rattle.link_schedule.specs.declared.event.Event.TheVariants.{Round}
 use Rattle.link_world.specs.declared.who.Who.TheVariants.{FromClient, FromNode}
@@ -60,7 +60,7 @@ module _ (m : Meaning) (served : ℕ → Bool) where
 
   -- a round in which the node answers, in which the client answers, and in which it is silent
   pub node_round : (n place : ℕ) (node next : AbstractNode) (c : AbstractClient) (opened : Option ℕ) (before : List Sent) (tick id number : ℕ) (s t : PlainSegment) → suc (length before) + 1 ≤ 65535 →
-      arrives m served node (sockets_of (only_side c opened)) s ≡ record { node = next; sent = Some (Tcp (sockets_of (only_side c opened)) number false t); gone = None } →
+      arrives m served node (client_sockets (only_side c opened)) s ≡ record { node = next; sent = Some (Tcp (client_sockets (only_side c opened)) number false t); gone = None } →
       Ended (plays_from m served (place + 1) (replicate n Round) (under_way next (only_side c opened) (before ++ by_client tick id s ∷ []) (by_node (ticks_of next.past) number t))) →
       Ended (plays_from m served place (replicate (suc n) Round) (under_way node (only_side c opened) before (by_client tick id s)))
   node_round n place node next c opened before tick id number s t room e h =
@@ -128,7 +128,7 @@ module _ (m : Meaning) (pages : Pages) (lawful : IsPaged m pages) (served : ℕ 
       let asking : AbstractClient = open_with setup request received a o x in
       let s : PlainSegment = node_says setup request (FIN + ACK) (wrap (first + acked)) (wrap (setup.iss.0 + 1 + (a + o))) [] in
       let c : AbstractClient = closed_with setup request (received ++ []) (a + o) (wrap (x + 0 + 1)) in
-      let t : PlainSegment = fin_of c in
+      let t : PlainSegment = own_fin c in
       let one : List Sent = before ++ by_node tick id s ∷ [] in
       let long : length one ≡ suc (length before) = one_longer before (by_node tick id s) in
       let own : t.seq ≡ wrap (setup.iss.0 + 1 + (a + o)) = ap wrap (let z : setup.iss.0 + 1 + (a + o) + 0 ≡ setup.iss.0 + 1 + (a + o) = omega arith in z) in

@@ -5,7 +5,7 @@ use Rattle.tcp_segment.specs.Segments.{PlainSegment}
 use Rattle.app_events.specs.Part.{Moment, Meaning}
 use Rattle.app_events.specs.Laws.{IsPrefixOf}
 use Rattle.app_events.specs.Pages.{Pages, IsPaged}
-use Rattle.link_client.specs.Client.{AbstractClient, first_of}
+use Rattle.link_client.specs.Client.{AbstractClient, own_first}
 use Rattle.link_world.proofs.Basics.{IsPart, prefix_part, append_nothing}
 use Rattle.link_world.proofs.Good.{is_some, IsAll, NodeSaid, ClientSaid}
 use Rattle.link_world.proofs.Good.ClientSaid.{said_reset, said_syn, said_data}
@@ -66,7 +66,7 @@ module _ (m : Meaning) (pages : Pages) (lawful : IsPaged m pages) where
     seq = n.seq ∙ ap (λ x. wrap (x + 1 + n.at)) (sym ef);
   }
 
-pub client_later : (c d : AbstractClient) (opened next : Option ℕ) (at_epoch : ℕ) (s : PlainSegment) → d.request ≡ c.request → first_of d ≡ first_of c →
+pub client_later : (c d : AbstractClient) (opened next : Option ℕ) (at_epoch : ℕ) (s : PlainSegment) → d.request ≡ c.request → own_first d ≡ own_first c →
     (is_some opened ≡ true → is_some next ≡ true) → ((o : ℕ) → next ≡ Some o → (opened ≡ Some o) ⊎ (at_epoch ≤ o)) →
     ClientSaid c opened at_epoch s → ClientSaid d next at_epoch s
 client_later c d opened next at_epoch s er ef eo en (said_reset r) = said_reset r

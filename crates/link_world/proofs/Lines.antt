@@ -10,9 +10,9 @@ use Rattle.uip_node.specs.Events.Reply.{Echo, Tcp}
 use Rattle.uip_node.specs.Edge.{event_of}
 use Rattle.uip_node.specs.Node.{NodeStep, step}
 use Rattle.link_client.specs.Client.{AbstractClient, ClientStep, client_takes, client_opens, client_again, client_closes, client_aborts, tells_window}
-use Rattle.link_world.specs.World.{World, Side, Sent, Content, numbered, buries, posts_reply, node_handles, with_client, with_side, posts_of_client, client_stepped, marked, sockets_of, gives_node, gives_client, delivers, gives}
+use Rattle.link_world.specs.World.{World, Side, Sent, Content, numbered, buries, posts_reply, node_handles, with_client, with_side, posts_of_client, client_stepped, marked, client_sockets, gives_node, gives_client, delivers, hands_to}
 use Rattle.link_world.specs.World.Content.{OfSegment, OfPing, OfEcho}
-use Rattle.link_world.specs.Bytes.{bytes_by, bytes_of, changed, hears}
+use Rattle.link_world.specs.Bytes.{bytes_by, sent_bytes, changed, hears_datagram}
 use Rattle.link_world.specs.Acts.{client_acts, handles_all, client_handed, handed, hands_over, damages_at, does, no_byte, named_fault, or_full, fault_of, done_or, acts, and_then, runs}
 use Rattle.link_world.specs.Schedule.{past_mark, acts_of, mark_after, with_mark, goes_on_with, plays_from}
 use Rattle.link_world.specs.declared.act.Act.{Act}
@@ -53,7 +53,7 @@ module _ (m : Meaning) (served : ℕ → Bool) (x : ℕ) where
 
   to_node_mark : (w : World) (n k : ℕ) (e : Sent) (s : PlainSegment) (side : Option Side) → gives_node m served (at_mark x w) n k e s side ≡ at_mark x (gives_node m served w n k e s side)
   to_node_mark w n k e s None = refl
-  to_node_mark w n k e s (Some side) = handles_mark (with_side w n (marked side k e)) (Arrived (sockets_of side) s)
+  to_node_mark w n k e s (Some side) = handles_mark (with_side w n (marked side k e)) (Arrived (client_sockets side) s)
 
   to_client_mark : (w : World) (n k : ℕ) (e : Sent) (s : PlainSegment) (side : Option Side) → gives_client (at_mark x w) n k e s side ≡ at_mark x (gives_client w n k e s side)
   to_client_mark w n k e s None = refl
@@ -70,7 +70,7 @@ module _ (m : Meaning) (served : ℕ → Bool) (x : ℕ) where
   delivers_mark w k e Pinger (OfSegment id s) = refl
   delivers_mark w k e Pinger (OfEcho request) = refl
 
-  gives_mark : (w : World) (k : ℕ) (e : Option Sent) → gives m served (at_mark x w) k e ≡ at_mark x (gives m served w k e)
+  gives_mark : (w : World) (k : ℕ) (e : Option Sent) → hands_to m served (at_mark x w) k e ≡ at_mark x (hands_to m served w k e)
   gives_mark w k None = refl
   gives_mark w k (Some e) = delivers_mark w k e e.who e.content
 
@@ -91,7 +91,7 @@ module _ (m : Meaning) (served : ℕ → Bool) (x : ℕ) where
 
   handed_mark : (w : World) (n : ℕ) (bytes : List ℕ) (side : Option Side) → handed (at_mark x w) n bytes side ≡ at_mark x (handed w n bytes side)
   handed_mark w n bytes None = refl
-  handed_mark w n bytes (Some side) = heard_mark w n side (hears side.client.setup bytes)
+  handed_mark w n bytes (Some side) = heard_mark w n side (hears_datagram side.client.setup bytes)
 
   over_mark : (w : World) (bytes : List ℕ) (who : Who) → hands_over m served (at_mark x w) bytes who ≡ at_mark x (hands_over m served w bytes who)
   over_mark w bytes (FromClient n) = handles_mark w (event_of w.node.addr bytes)
@@ -101,7 +101,7 @@ module _ (m : Meaning) (served : ℕ → Bool) (x : ℕ) where
   damages_mark : (w : World) (at mask : ℕ) (e : Option Sent) → damages_at m served (at_mark x w) at mask e ≡ at_mark x (damages_at m served w at mask e)
   damages_mark w at mask None = refl
   damages_mark w at mask (Some e) =
-      ap (λ (b : List ℕ). hands_over m served (at_mark x w) (changed b at mask) e.who) (bytes_mark w e.who e.content) ∙ over_mark w (changed (bytes_of w e) at mask) e.who
+      ap (λ (b : List ℕ). hands_over m served (at_mark x w) (changed b at mask) e.who) (bytes_mark w e.who e.content) ∙ over_mark w (changed (sent_bytes w e) at mask) e.who
 
   does_mark : (w : World) (act : Act) → does m served (at_mark x w) act ≡ at_mark x (does m served w act)
   does_mark w (Act.Opens n) = client_mark w n client_opens (numbered w.sides n)

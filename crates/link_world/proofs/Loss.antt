@@ -13,11 +13,11 @@ use Rattle.uip_node.specs.Events.Event.{IpRefused, IcmpRefused, TcpRefused, Echo
 use Rattle.uip_node.specs.Edge.{event_of}
 use Rattle.link_client.specs.declared.setup.Setup.{Setup}
 use Rattle.link_world.specs.World.{World, Side, numbered, node_handles}
-use Rattle.link_world.specs.Bytes.{bytes_of, changed, heard_by}
+use Rattle.link_world.specs.Bytes.{sent_bytes, changed, heard_by}
 use Rattle.link_world.specs.Acts.{damages_at, hands_over, handed, client_handed}
 use Rattle.link_world.specs.declared.who.Who.{Who}
 use Rattle.link_world.specs.declared.who.Who.TheVariants.{FromClient, FromNode, Pinger}
-use Rattle.link_world.specs.Headline.{is_refused, raised_by, rise, IsLoss, OneRefusal, CountsBy, IsWhole, DamageIsLoss}
+use Rattle.link_world.specs.Headline.{is_refused, raised_by, rise, IsLoss, OneRefusal, CountsBy, IsWholeDatagram, DamageIsLoss}
 use Rattle.link_world.proofs.Basics.{wrap_wrap}
 use Rattle.link_world.proofs.Damage.{damage_refused}
 
@@ -46,7 +46,7 @@ client_loses : (w : World) (number : ℕ) (bytes : List ℕ) (side : Option Side
 client_loses w number bytes None h = same_world w
 client_loses w number bytes (Some side) h = subst (λ x. IsLoss w (client_handed w number side x)) (sym (nothing_heard side.client.setup (event_of side.client.setup.addr bytes) (h side.client.setup))) (same_world w)
 
-pub loses : (m : Meaning) (served : ℕ → Bool) (w : World) (who : Who) (bytes : List ℕ) (at mask : ℕ) → IsWhole bytes → at < length bytes → 1 ≤ mask → mask < 256 → IsLoss w (hands_over m served w (changed bytes at mask) who)
+pub loses : (m : Meaning) (served : ℕ → Bool) (w : World) (who : Who) (bytes : List ℕ) (at mask : ℕ) → IsWholeDatagram bytes → at < length bytes → 1 ≤ mask → mask < 256 → IsLoss w (hands_over m served w (changed bytes at mask) who)
 loses m served w (FromClient n) bytes at mask h l a b = node_loses m served w (event_of w.node.addr (changed bytes at mask)) (damage_refused bytes at mask w.node.addr h l a b)
 loses m served w Pinger bytes at mask h l a b = node_loses m served w (event_of w.node.addr (changed bytes at mask)) (damage_refused bytes at mask w.node.addr h l a b)
 loses m served w (FromNode n) bytes at mask h l a b = client_loses w n (changed bytes at mask) (numbered w.sides n) (λ setup. damage_refused bytes at mask setup.addr h l a b)
@@ -111,13 +111,13 @@ client_past : (w : World) (number : ℕ) (bytes : List ℕ) (side : Option Side)
 client_past w number bytes None h = refl
 client_past w number bytes (Some side) h = subst (λ x. (client_handed w number side x).node.past ≡ w.node.past) (sym (nothing_heard side.client.setup (event_of side.client.setup.addr bytes) (h side.client.setup))) refl
 
-counts : (m : Meaning) (served : ℕ → Bool) (w : World) (who : Who) (bytes : List ℕ) (at mask : ℕ) → IsWhole bytes → at < length bytes → 1 ≤ mask → mask < 256 → CountsBy who w (hands_over m served w (changed bytes at mask) who)
+counts : (m : Meaning) (served : ℕ → Bool) (w : World) (who : Who) (bytes : List ℕ) (at mask : ℕ) → IsWholeDatagram bytes → at < length bytes → 1 ≤ mask → mask < 256 → CountsBy who w (hands_over m served w (changed bytes at mask) who)
 counts m served w (FromClient n) bytes at mask h l a b = one_refusal m served w (event_of w.node.addr (changed bytes at mask)) (damage_refused bytes at mask w.node.addr h l a b)
 counts m served w Pinger bytes at mask h l a b = one_refusal m served w (event_of w.node.addr (changed bytes at mask)) (damage_refused bytes at mask w.node.addr h l a b)
 counts m served w (FromNode n) bytes at mask h l a b = client_past w n (changed bytes at mask) (numbered w.sides n) (λ setup. damage_refused bytes at mask setup.addr h l a b)
 
 pub damage_is_loss : DamageIsLoss
 damage_is_loss m served w k at mask e sent h l a b = (
-  subst (λ x. IsLoss w (damages_at m served w at mask x)) (sym sent) (loses m served w e.who (bytes_of w e) at mask h l a b),
-  subst (λ x. CountsBy e.who w (damages_at m served w at mask x)) (sym sent) (counts m served w e.who (bytes_of w e) at mask h l a b),
+  subst (λ x. IsLoss w (damages_at m served w at mask x)) (sym sent) (loses m served w e.who (sent_bytes w e) at mask h l a b),
+  subst (λ x. CountsBy e.who w (damages_at m served w at mask x)) (sym sent) (counts m served w e.who (sent_bytes w e) at mask h l a b),
 )

@@ -17,7 +17,7 @@ use Rattle.tcp_machine.specs.OnSegment.{accepted, on_segment}
 use Rattle.tcp_machine.specs.OnTick.{on_tick}
 use Rattle.link_client.specs.Client.{AbstractClient, ClientStep, has_closed, client_takes, client_opens, client_again, client_closes, client_aborts, tells_window}
 use Rattle.link_client.specs.declared.client_state.ClientState.{ClientState}
-use Rattle.link_world.specs.World.{World, Side, Sent, Era, sockets_of, with_client, marked, is_clean}
+use Rattle.link_world.specs.World.{World, Side, Sent, Era, client_sockets, with_client, marked, is_clean}
 use Rattle.link_world.specs.History.{era, era_of, serving, captures_in, captures_of, page_of, Planned, IsPlanned, IsPlan, fresh_side, opening_world}
 use Rattle.link_world.specs.Headline.{IsReached, IsServed, PrefixAndWhole}
 use Rattle.link_world.proofs.Basics.{both_ways, append_nothing, part_prefix}
@@ -42,7 +42,7 @@ pub opening_apart : (plan : List Planned) → IsPlan plan → Rattle.link_world.
 opening_apart plan is j k a b x y e =
     let p = get_map fresh_side plan j a x in
     let q = get_map fresh_side plan k b y in
-    is.apart j k p.from q.from p.get q.get (ap (λ (o : Side). sockets_of o) p.is ∙ e ∙ ap (λ (o : Side). sockets_of o) (sym q.is))
+    is.apart j k p.from q.from p.get q.get (ap (λ (o : Side). client_sockets o) p.is ∙ e ∙ ap (λ (o : Side). client_sockets o) (sym q.is))
 
 module _ (m : Meaning) (pages : Pages) (lawful : IsPaged m pages) where
   opened_here : (client : AbstractClient) (past : List Era) (c : Connection) (opened : Option ℕ) → is_live c.state ≡ true → OpenedGood pages client past c opened → is_some opened ≡ true → opened ≡ Some (length past)
@@ -185,8 +185,8 @@ module _ (m : Meaning) (pages : Pages) (lawful : IsPaged m pages) where
     apart = opening_apart plan is;
     single = λ p i j x y a b u v. absurd (let z = none_serves 10 p i x a in cc);
     each = λ k side x. (let p = get_map fresh_side plan k side x in
-        let e : serving (sockets_of side) (replicate 10 closed) ≡ closed = serving_free (replicate 10 closed) (sockets_of side) (none_serves 10 (sockets_of side)) in
-        subst (λ (o : Side). G k o (serving (sockets_of side) (replicate 10 closed)) []) p.is (fresh_good k p.from (serving (sockets_of side) (replicate 10 closed)) (ap (λ (z : Connection). is_live z.state) e) (is.each k p.from p.get)));
+        let e : serving (client_sockets side) (replicate 10 closed) ≡ closed = serving_free (replicate 10 closed) (client_sockets side) (none_serves 10 (client_sockets side)) in
+        subst (λ (o : Side). G k o (serving (client_sockets side) (replicate 10 closed)) []) p.is (fresh_good k p.from (serving (client_sockets side) (replicate 10 closed)) (ap (λ (z : Connection). is_live z.state) e) (is.each k p.from p.get)));
   }
 
   pub all_good : (w : World) → IsReached m pages w → Framed m G other reset evict mark w
@@ -203,14 +203,14 @@ module _ (m : Meaning) (pages : Pages) (lawful : IsPaged m pages) where
   not_early Rattle.link_client.specs.declared.client_state.ClientState.TheVariants.Closed h e = cc
   not_early Rattle.link_client.specs.declared.client_state.ClientState.TheVariants.Ended h e = cc
 
-  served_by : (w : World) (side : Side) (o : Option ℕ) → side.opened ≡ o → OpenedGood pages side.client side.past (serving (sockets_of side) w.node.connections) o → IsServed pages w side
+  served_by : (w : World) (side : Side) (o : Option ℕ) → side.opened ≡ o → OpenedGood pages side.client side.past (serving (client_sockets side) w.node.connections) o → IsServed pages w side
   served_by w side None q h = record {
     prefix = (let p : IsPrefixOf [] (page_of pages w side) = record { rest = page_of pages w side; joined = refl } in subst (λ x. IsPrefixOf x (page_of pages w side)) (sym h.nothing) p);
     all = λ e. absurd (not_early side.client.state h.early e);
     whole = λ e. absurd (not_early side.client.state h.early e);
   }
   served_by w side (Some o) q h =
-      let c : Connection = serving (sockets_of side) w.node.connections in
+      let c : Connection = serving (client_sockets side) w.node.connections in
       let k : captures_of w side ≡ (era side.past c o).captures = ap (λ x. captures_in x side.past c) q in
       let p : page_of pages w side ≡ pages.text side.client.request (era side.past c o).captures = ap (λ x. pages.text side.client.request x) k in
       record {

@@ -10,9 +10,9 @@ use Rattle.tcp_machine.specs.Connection.{Sockets}
 use Rattle.uip_node.specs.Events.Event.{EchoAsked, Arrived}
 use Rattle.uip_node.specs.Edge.{event_of, by_head, by_echo, by_segment, datagram_to}
 use Rattle.link_client.specs.declared.setup.Setup.{Setup}
-use Rattle.link_world.specs.World.{World, Side, Content, sockets_of}
+use Rattle.link_world.specs.World.{World, Side, Content, client_sockets}
 use Rattle.link_world.specs.World.Content.{OfSegment, OfPing, OfEcho}
-use Rattle.link_world.specs.Bytes.{ping_from, server_of, client_bytes, node_bytes, bytes_by, hears, heard_by}
+use Rattle.link_world.specs.Bytes.{ping_from, server_of, client_bytes, node_bytes, bytes_by, hears_datagram, heard_by}
 use Rattle.link_world.specs.declared.who.Who.{Who}
 use Rattle.link_world.specs.declared.who.Who.TheVariants.{FromClient, FromNode, Pinger}
 use Rattle.link_world.specs.Reading.{IsRead, BytesAreRead}
@@ -37,7 +37,7 @@ abbrev to_node : Side → ℕ → PlainSegment → Datagram
 to_node side id s = datagram_to side.client.setup.addr (server_of side.client.setup) id s
 
 abbrev to_client : Addr → Side → ℕ → PlainSegment → Datagram
-to_client addr side id s = datagram_to addr (sockets_of side) id s
+to_client addr side id s = datagram_to addr (client_sockets side) id s
 
 to_node_place : (side : Side) (id : ℕ) (s : PlainSegment) → id < 65536 → IsSoundClient side.client → IsPlace (to_node side id s)
 to_node_place side id s l c = record { source = c.addr.four; target = c.server.four; source_bytes = c.addr.all_bytes; target_bytes = c.server.all_bytes; from = c.port; to = c.server_port; id = l }
@@ -50,7 +50,7 @@ address a b e = ap (λ (x : Addr). x.0) (sym e)
 
 -- the node reads what a client sent
 node_reads : (addr : Addr) (side : Side) (id : ℕ) (s : PlainSegment) → id < 65536 → IsSoundSegment s → IsSoundClient side.client → side.client.setup.server ≡ addr →
-    event_of addr (datagram_bytes (to_node side id s)) ≡ Arrived (sockets_of side) s
+    event_of addr (datagram_bytes (to_node side id s)) ≡ Arrived (client_sockets side) s
 node_reads addr side id s l g c e =
     arrives (to_node side id s) (datagram_back (to_node side id s) (to_node_place side id s l c) g) addr (address side.client.setup.server addr e)
 
@@ -60,7 +60,7 @@ heard_is setup p s e = ap (λ b. if b then Some s else None) (is_same p (server_
 
 -- a client reads what the node sent to it
 client_reads : (addr : Addr) (side : Side) (id : ℕ) (s : PlainSegment) → IsAddr addr → id < 65536 → IsSoundSegment s → IsSoundClient side.client → side.client.setup.server ≡ addr →
-    hears side.client.setup (datagram_bytes (to_client addr side id s)) ≡ Some s
+    hears_datagram side.client.setup (datagram_bytes (to_client addr side id s)) ≡ Some s
 client_reads addr side id s a l g c e =
     let setup : Setup = side.client.setup in
     ap (heard_by setup) (arrives (to_client addr side id s) (datagram_back (to_client addr side id s) (to_client_place addr side id s a l c) g) setup.addr refl)
@@ -80,10 +80,10 @@ abbrev IsGood : World → Who → Content → Type 0
 IsGood w who content = IsRead w who content (bytes_by w who content) × (length (bytes_by w who content) ≤ 1500)
 
 abbrev AtNode : Addr → List ℕ → PlainSegment → Option Side → Type 0
-AtNode addr bytes s at = ((side : Side) → at ≡ Some side → side.client.setup.server ≡ addr → event_of addr bytes ≡ Arrived (sockets_of side) s) × (length bytes ≤ 1500)
+AtNode addr bytes s at = ((side : Side) → at ≡ Some side → side.client.setup.server ≡ addr → event_of addr bytes ≡ Arrived (client_sockets side) s) × (length bytes ≤ 1500)
 
 abbrev AtClient : Addr → List ℕ → PlainSegment → Option Side → Type 0
-AtClient addr bytes s at = ((side : Side) → at ≡ Some side → side.client.setup.server ≡ addr → hears side.client.setup bytes ≡ Some s) × (length bytes ≤ 1500)
+AtClient addr bytes s at = ((side : Side) → at ≡ Some side → side.client.setup.server ≡ addr → hears_datagram side.client.setup bytes ≡ Some s) × (length bytes ≤ 1500)
 
 some_side : (P : Side → Type 0) (a b : Side) → Some a ≡ Some b → P a → P b
 some_side P a b e h = subst P (let f : a ≡ b = cc in f) h
@@ -91,14 +91,14 @@ some_side P a b e h = subst P (let f : a ≡ b = cc in f) h
 at_node : (addr : Addr) (id : ℕ) (s : PlainSegment) (at : Option Side) → id < 65536 → IsSoundSegment s → ((x : Side) → at ≡ Some x → IsSoundClient x.client) → AtNode addr (client_bytes id s at) s at
 at_node addr id s None l g h = ((λ side e f. absurd (cc)), omega arith)
 at_node addr id s (Some side) l g h = (
-  (λ x e. some_side (λ (y : Side). y.client.setup.server ≡ addr → event_of addr (datagram_bytes (to_node side id s)) ≡ Arrived (sockets_of y) s) side x e (node_reads addr side id s l g (h side refl))),
+  (λ x e. some_side (λ (y : Side). y.client.setup.server ≡ addr → event_of addr (datagram_bytes (to_node side id s)) ≡ Arrived (client_sockets y) s) side x e (node_reads addr side id s l g (h side refl))),
   datagram_short (to_node side id s) (to_node_place side id s l (h side refl)) g,
 )
 
 at_client : (addr : Addr) (id : ℕ) (s : PlainSegment) (at : Option Side) → IsAddr addr → id < 65536 → IsSoundSegment s → ((x : Side) → at ≡ Some x → IsSoundClient x.client) → AtClient addr (node_bytes addr id s at) s at
 at_client addr id s None a l g h = ((λ side e f. absurd (cc)), omega arith)
 at_client addr id s (Some side) a l g h = (
-  (λ x e. some_side (λ (y : Side). y.client.setup.server ≡ addr → hears y.client.setup (datagram_bytes (to_client addr side id s)) ≡ Some s) side x e (client_reads addr side id s a l g (h side refl))),
+  (λ x e. some_side (λ (y : Side). y.client.setup.server ≡ addr → hears_datagram y.client.setup (datagram_bytes (to_client addr side id s)) ≡ Some s) side x e (client_reads addr side id s a l g (h side refl))),
   datagram_short (to_client addr side id s) (to_client_place addr side id s a l (h side refl)) g,
 )
 

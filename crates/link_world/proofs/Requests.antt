@@ -14,8 +14,8 @@ use Rattle.tcp_machine.specs.Segments.{is_plain_syn, is_again, syn_ack}
 use Rattle.tcp_machine.specs.Ask.{Outcome, asked}
 use Rattle.tcp_machine.specs.OnSegment.{accepted, on_segment}
 use Rattle.tcp_machine.specs.OnTick.{on_tick}
-use Rattle.link_client.specs.Client.{AbstractClient, ClientStep, one_if, fin_sent, first_of, client_takes, client_opens, client_again, client_closes, client_aborts, tells_window}
-use Rattle.link_world.specs.World.{World, Side, Sent, Era, becomes_opened, with_client, marked, is_clean, sockets_of}
+use Rattle.link_client.specs.Client.{AbstractClient, ClientStep, one_if, fin_sent, own_first, client_takes, client_opens, client_again, client_closes, client_aborts, tells_window}
+use Rattle.link_world.specs.World.{World, Side, Sent, Era, becomes_opened, with_client, marked, is_clean, client_sockets}
 use Rattle.link_world.specs.History.{era, serving, fresh_side, Planned, IsPlan, opening_world}
 use Rattle.link_world.specs.Headline.{IsReached}
 use Rattle.link_world.proofs.Basics.{same_place, get_push, zero_or_more}
@@ -46,7 +46,7 @@ RequestedBy k client c sent (Some o) = is_live c.state ≡ true → Requested k 
 pub record Taken (client : AbstractClient) (c : Connection) (s : PlainSegment) : Type 0 where
   pub at : ℕ
   pub low : at ≤ c.taken
-  pub is : s.ack ≡ wrap (first_of client + 1 + at)
+  pub is : s.ack ≡ wrap (own_first client + 1 + at)
 
 abbrev pub Acks : ℕ → AbstractClient → ℕ → Connection → List Sent → Type 0
 Acks k client epoch c sent = is_live c.state ≡ true → (j : ℕ) (e : Sent) → slice_get sent j ≡ Some e → e.who ≡ to k → e.epoch ≡ epoch → has_rst (seg e).flags ≡ false → has_ack (seg e).flags ≡ true → Taken client c (seg e)
@@ -83,7 +83,7 @@ one_small true = omega arith
 one_small false = omega arith
 
 -- a segment with SYN is not taken: it stands before every number that is expected
-not_syn : (client : AbstractClient) (opened : Option ℕ) (epoch taken : ℕ) (s : PlainSegment) → Steady client → ClientSaid client opened epoch s → has_rst s.flags ≡ false → taken ≤ used client → s.seq ≡ wrap (first_of client + 1 + taken) → has_syn s.flags ≡ false
+not_syn : (client : AbstractClient) (opened : Option ℕ) (epoch taken : ℕ) (s : PlainSegment) → Steady client → ClientSaid client opened epoch s → has_rst s.flags ≡ false → taken ≤ used client → s.seq ≡ wrap (own_first client + 1 + taken) → has_syn s.flags ≡ false
 not_syn client opened epoch taken s st (said_reset r) nr h q = absurd (let z : true ≡ false = sym r ∙ nr in cc)
 not_syn client opened epoch taken s st (said_data d) nr h q = d.no_syn
 not_syn client opened epoch taken s st (said_syn y) nr h q =
@@ -91,8 +91,8 @@ not_syn client opened epoch taken s st (said_syn y) nr h q =
     let fits = st.out_fits in
     let low = st.low in
     let small : one_if (fin_sent client.fin) ≤ 1 = one_small (fin_sent client.fin) in
-    let start : wrap (first_of client + 0) ≡ first_of client = omega (arith, low) in
-    let same : 0 ≡ 1 + taken = same_place (first_of client) 0 (1 + taken) (omega arith) (omega (arith, h, fits, short, small)) (start ∙ sym y.seq ∙ q ∙ ap wrap (let z : first_of client + 1 + taken ≡ first_of client + (1 + taken) = omega arith in z)) in
+    let start : wrap (own_first client + 0) ≡ own_first client = omega (arith, low) in
+    let same : 0 ≡ 1 + taken = same_place (own_first client) 0 (1 + taken) (omega arith) (omega (arith, h, fits, short, small)) (start ∙ sym y.seq ∙ q ∙ ap wrap (let z : own_first client + 1 + taken ≡ own_first client + (1 + taken) = omega arith in z)) in
     absurd (let z : ⊥ = omega (arith, same) in z)
 
 module _ (m : Meaning) (pages : Pages) (lawful : IsPaged m pages) where
@@ -160,7 +160,7 @@ module _ (m : Meaning) (pages : Pages) (lawful : IsPaged m pages) where
       }
 
   -- a segment of the client at its connection
-  enough_room : (client : AbstractClient) (opened : Option ℕ) (epoch k j : ℕ) (c d : Connection) (sent : List Sent) (e : Sent) → Steady client → ClientSaid client opened epoch (seg e) → c.peer_first ≡ first_of client → slice_get sent j ≡ Some e → e.who ≡ from k →
+  enough_room : (client : AbstractClient) (opened : Option ℕ) (epoch k j : ℕ) (c d : Connection) (sent : List Sent) (e : Sent) → Steady client → ClientSaid client opened epoch (seg e) → c.peer_first ≡ own_first client → slice_get sent j ≡ Some e → e.who ≡ from k →
       Asking.Takes c d (seg e) → Requested k client c sent → d.taken ≤ used client
   enough_room client opened epoch k j c d sent e st said first there who t r =
       let high = r.high in
@@ -168,7 +168,7 @@ module _ (m : Meaning) (pages : Pages) (lawful : IsPaged m pages) where
       elim (zero_or_more t.count) [
         | inl z ↦ omega (arith, z, high, more)
         | inr l ↦ (let at = t.place l in
-            let seq : (seg e).seq ≡ wrap (first_of client + 1 + c.taken) = at.0 ∙ ap (λ n. wrap (n + 1 + c.taken)) first in
+            let seq : (seg e).seq ≡ wrap (own_first client + 1 + c.taken) = at.0 ∙ ap (λ n. wrap (n + 1 + c.taken)) first in
             let small : one_if (fin_sent client.fin) ≤ 1 = one_small (fin_sent client.fin) in
             let short = st.short in
             let fits = st.out_fits in
@@ -218,14 +218,14 @@ module _ (m : Meaning) (pages : Pages) (lawful : IsPaged m pages) where
       }
 
   -- the client's numbers go on
-  goes_on : (k : ℕ) (client d : AbstractClient) (c : Connection) (sent : List Sent) → used client ≤ used d → first_of d ≡ first_of client → d.acked ≤ c.taken → Requested k client c sent → Requested k d c sent
+  goes_on : (k : ℕ) (client d : AbstractClient) (c : Connection) (sent : List Sent) → used client ≤ used d → own_first d ≡ own_first client → d.acked ≤ c.taken → Requested k client c sent → Requested k d c sent
   goes_on k client d c sent u f l r = record {
     low = l;
     high = (let z = r.high in omega (arith, z, u));
     ends = λ j e x w nr ns p at lo q. (let z = r.ends j e x w nr ns p at lo (q ∙ ap (λ n. wrap (n + 1 + at)) f) in omega (arith, z, u));
   }
 
-  acks_go_on : (k : ℕ) (client d : AbstractClient) (epoch : ℕ) (c : Connection) (sent : List Sent) → first_of d ≡ first_of client → Acks k client epoch c sent → Acks k d epoch c sent
+  acks_go_on : (k : ℕ) (client d : AbstractClient) (epoch : ℕ) (c : Connection) (sent : List Sent) → own_first d ≡ own_first client → Acks k client epoch c sent → Acks k d epoch c sent
   acks_go_on k client d epoch c sent f g l j e x w q r a = (let t = g l j e x w q r a in record { at = t.at; low = t.low; is = t.is ∙ ap (λ n. wrap (n + 1 + t.at)) (sym f) })
 
   nothing_taken : (c : Connection) (st : State) (client : AbstractClient) → is_live st ≡ true → StateGood pages None client c st → c.taken ≡ 0
@@ -290,9 +290,9 @@ module _ (m : Meaning) (pages : Pages) (lawful : IsPaged m pages) where
             let small : one_if (fin_sent client.fin) ≤ 1 = one_small (fin_sent client.fin) in
             let short = st.short in
             let fits = st.out_fits in
-            let joined : wrap (first_of client + 1 + client.acked + client.out + one_if (fin_sent client.fin)) ≡ wrap (first_of client + 1 + used client) =
-            ap wrap (let z : first_of client + 1 + client.acked + client.out + one_if (fin_sent client.fin) ≡ first_of client + 1 + (client.acked + client.out + one_if (fin_sent client.fin)) = omega arith in z) in
-            let all : y.at ≡ used client = same_place (first_of client + 1) y.at (used client) (omega (arith, at, high, short, fits, small)) (omega (arith, short, fits, small)) (sym y.is ∙ e.2 ∙ joined) in
+            let joined : wrap (own_first client + 1 + client.acked + client.out + one_if (fin_sent client.fin)) ≡ wrap (own_first client + 1 + used client) =
+            ap wrap (let z : own_first client + 1 + client.acked + client.out + one_if (fin_sent client.fin) ≡ own_first client + 1 + (client.acked + client.out + one_if (fin_sent client.fin)) = omega arith in z) in
+            let all : y.at ≡ used client = same_place (own_first client + 1) y.at (used client) (omega (arith, at, high, short, fits, small)) (omega (arith, short, fits, small)) (sym y.is ∙ e.2 ∙ joined) in
             let now = e.3 in
             omega (arith, now, all, at))
       ]
@@ -321,7 +321,7 @@ module _ (m : Meaning) (pages : Pages) (lawful : IsPaged m pages) where
         single = b.single;
         each = λ k side x. (let p = get_map fresh_side plan k side x in record {
           good = b.each k side x;
-          asked_by = λ cl. nothing_opened side.opened (ap (λ (o : Side). o.opened) (sym p.is)) k side.client (serving (sockets_of side) (replicate 10 closed)) [] (ap (λ (o : Side). used o.client) (sym p.is));
+          asked_by = λ cl. nothing_opened side.opened (ap (λ (o : Side). o.opened) (sym p.is)) k side.client (serving (client_sockets side) (replicate 10 closed)) [] (ap (λ (o : Side). used o.client) (sym p.is));
           acks = λ cl l j e y. absurd (cc);
         });
       }

@@ -8,7 +8,7 @@ use Rattle.uip_node.specs.Events.Reply.{Tcp}
 use Rattle.uip_node.specs.Counters.{ticks_of}
 use Rattle.uip_node.specs.Node.{AbstractNode, NodeStep, arrives}
 use Rattle.link_client.specs.Client.{AbstractClient, ClientStep, client_takes}
-use Rattle.link_world.specs.World.{World, Side, Sent, numbered, sockets_of, becomes_opened, posts, delivers, gives, client_stepped, node_stepped}
+use Rattle.link_world.specs.World.{World, Side, Sent, numbered, client_sockets, becomes_opened, posts, delivers, hands_to, client_stepped, node_stepped}
 use Rattle.link_world.specs.World.Content.{OfSegment}
 use Rattle.link_world.specs.Acts.{does, no_datagram, or_full, fault_of, done_or, acts, and_then, runs}
 use Rattle.link_world.specs.Schedule.{numbers_from, mark_after, with_mark, plays_line}
@@ -73,7 +73,7 @@ module _ (m : Meaning) (served : ℕ → Bool) where
   delivered : (w : World) (k : ℕ) (e : Sent) → numbered w.sent k ≡ Some e → length w.sent + 1 ≤ 65535 → acts m served w (Act.Give k) ≡ Ok (delivers m served w k e e.who e.content)
   delivered w k e there room =
       ap (λ f. done_or (does m served w (Act.Give k)) f) (has_room w k e there room)
-      ∙ ap (λ o. Ok (gives m served w k o)) there
+      ∙ ap (λ o. Ok (hands_to m served w k o)) there
 
   pub round_of_one : (node : AbstractNode) (side : Side) (before : List Sent) (e : Sent) → suc (length before) + 1 ≤ 65535 →
       plays_line m served (under_way node side before e) Round
@@ -97,14 +97,14 @@ module _ (m : Meaning) (served : ℕ → Bool) where
 
   -- What a delivery to the node leaves, where the connection answers and lives on.
   pub node_answers : (n d : AbstractNode) (c : AbstractClient) (opened : Option ℕ) (before : List Sent) (tick id number : ℕ) (again : Bool) (s t : PlainSegment) → suc (length before) + 1 ≤ 65535 →
-      arrives m served n (sockets_of (only_side c opened)) s ≡ record { node = d; sent = Some (Tcp (sockets_of (only_side c opened)) number again t); gone = None } →
+      arrives m served n (client_sockets (only_side c opened)) s ≡ record { node = d; sent = Some (Tcp (client_sockets (only_side c opened)) number again t); gone = None } →
       plays_line m served (under_way n (only_side c opened) before (sent_by (FromClient 1) tick false id s)) Round
       ≡ Ok (under_way d (only_side c opened) (before ++ sent_by (FromClient 1) tick false id s ∷ []) (sent_by (FromNode 1) (ticks_of d.past) again number t))
   node_answers n d c opened before tick id number again s t room e =
       let side : Side = only_side c opened in
       let first : Sent = sent_by (FromClient 1) tick false id s in
       let all : List Sent = before ++ first ∷ [] in
-      let own : same_sockets (sockets_of side) (sockets_of side) ≡ true = same_self (sockets_of side) in
+      let own : same_sockets (client_sockets side) (client_sockets side) ≡ true = same_self (client_sockets side) in
       round_of_one n side before first room
       ∙ ap (λ (r : NodeStep). Ok (record (node_stepped (under_way n side before first) r) { mark = length all })) e
       ∙ ap (λ b. Ok (record (posts (record (under_way n side before first) { node = d }) (FromNode (if b then 1 else 0)) again (OfSegment number t)) { mark = length all })) own

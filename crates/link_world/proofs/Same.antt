@@ -17,7 +17,7 @@ use Rattle.tcp_machine.specs.Ask.{Outcome, asked}
 use Rattle.tcp_machine.specs.OnSegment.{first_mss, accepted, on_segment}
 use Rattle.tcp_machine.specs.OnTick.{on_tick}
 use Rattle.link_client.specs.Client.{ClientStep, client_takes}
-use Rattle.link_world.specs.World.{World, Side, Sent, Content, sockets_of, with_client, marked, is_clean}
+use Rattle.link_world.specs.World.{World, Side, Sent, Content, client_sockets, with_client, marked, is_clean}
 use Rattle.link_world.specs.World.Content.{OfSegment, OfPing, OfEcho}
 use Rattle.link_world.specs.History.{era_of, serving, Planned, IsPlan, opening_world}
 use Rattle.link_world.specs.Headline.{Alike, IsReached, SameBytes, AgainExactly}
@@ -336,7 +336,7 @@ module _ (m : Meaning) (pages : Pages) (lawful : IsPaged m pages) where
   opening_told addr numbers plan is = record {
     apart = opening_apart plan is;
     single = λ p i j x y a b u v. absurd (let z = none_serves 10 p i x a in cc);
-    each = λ k side x. (let e : serving (sockets_of side) (replicate 10 closed) ≡ closed = serving_free (replicate 10 closed) (sockets_of side) (none_serves 10 (sockets_of side)) in
+    each = λ k side x. (let e : serving (client_sockets side) (replicate 10 closed) ≡ closed = serving_free (replicate 10 closed) (client_sockets side) (none_serves 10 (client_sockets side)) in
         subst (λ c. Told k side c []) (sym e) (record { fit = closed_fits; safe = λ l. absurd (cc); was_sent = λ l. absurd (cc); time = λ j e' y. absurd (cc); tells = λ j e' y. absurd (cc); repeats = λ j e' y. absurd (cc); agree = λ i j e' f y. absurd (cc) }));
   }
 

@@ -18,7 +18,7 @@ use Rattle.uip_node.specs.Counters.{initial_number, ident_of}
 use Rattle.uip_node.specs.Node.{AbstractNode, NodeStep, answer_of, reply_of, moment, happened, connection_in, slot_for_syn, passes, refuses, opens_in, opens, from_stranger, arrives_at, step}
 use Rattle.link_client.specs.Client.{AbstractClient, ClientStep, client_takes, client_opens, client_again, client_closes, client_aborts, tells_window}
 use Rattle.link_client.specs.declared.setup.Setup.{Setup}
-use Rattle.link_world.specs.World.{World, Side, Sent, Content, numbered, sockets_of, buries, buries_in, addressed, posts, posts_reply, node_stepped, node_handles, with_client, with_side, posts_of_client, client_stepped, marked, gives_node, gives_client, delivers, gives}
+use Rattle.link_world.specs.World.{World, Side, Sent, Content, numbered, client_sockets, buries, buries_in, addressed, posts, posts_reply, node_stepped, node_handles, with_client, with_side, posts_of_client, client_stepped, marked, gives_node, gives_client, delivers, hands_to}
 use Rattle.link_world.specs.World.Content.{OfSegment, OfPing, OfEcho}
 use Rattle.link_world.specs.Bytes.{ping_from}
 use Rattle.link_world.specs.Acts.{client_acts, handles_all, does}
@@ -46,7 +46,7 @@ pub record HasClient (sides : List Side) (p : Sockets) : Type 0 where
   pub index : ℕ
   pub side : Side
   pub get : slice_get sides index ≡ Some side
-  pub same : p ≡ sockets_of side
+  pub same : p ≡ client_sockets side
 
 -- every connection that lives is one with a client
 abbrev pub HaveClients : List Side → List Connection → Type 0
@@ -79,7 +79,7 @@ pub record HasSenders (w : World) : Type 0 where
 record Stays (after : List Side) (k : ℕ) (side : Side) : Type 0 where
   new : Side
   get : slice_get after k ≡ Some new
-  same : sockets_of new ≡ sockets_of side
+  same : client_sockets new ≡ client_sockets side
 
 abbrev AllStay : List Side → List Side → Type 0
 AllStay before after = (k : ℕ) (side : Side) → slice_get before k ≡ Some side → Stays after k side
@@ -108,9 +108,9 @@ sender_stays a b Pinger (OfEcho request) f h = absurd h
 senders_stay : (a b : List Side) (sent : List Sent) → AllStay a b → AllFrom a sent → AllFrom b sent
 senders_stay a b sent f h k e x = (sender_stays a b e.who e.content f (h k e x).0, (h k e x).1)
 
-put_stays : (sides : List Side) (n : ℕ) (side new : Side) → slice_get sides n ≡ Some side → sockets_of new ≡ sockets_of side → AllStay sides (set sides n new)
+put_stays : (sides : List Side) (n : ℕ) (side new : Side) → slice_get sides n ≡ Some side → client_sockets new ≡ client_sockets side → AllStay sides (set sides n new)
 put_stays [] n side new at e k old h = absurd (cc)
-put_stays (s ∷ ss) zero side new at e zero old h = record { new = new; get = refl; same = (let q : side ≡ old = cc in e ∙ ap (λ (o : Side). sockets_of o) q) }
+put_stays (s ∷ ss) zero side new at e zero old h = record { new = new; get = refl; same = (let q : side ≡ old = cc in e ∙ ap (λ (o : Side). client_sockets o) q) }
 put_stays (s ∷ ss) zero side new at e (suc k) old h = record { new = old; get = h; same = refl }
 put_stays (s ∷ ss) (suc n) side new at e zero old h = record { new = old; get = h; same = refl }
 put_stays (s ∷ ss) (suc n) side new at e (suc k) old h = let r : Stays (set ss n new) k old = put_stays ss n side new at e k old h in record { new = r.new; get = r.get; same = r.same }
@@ -256,7 +256,7 @@ module _ (sides : List Side) (sent : List Sent) where
 
 -- ---- the acts
 
-put_from : (w : World) (n : ℕ) (side new : Side) → slice_get w.sides n ≡ Some side → sockets_of new ≡ sockets_of side → HasSenders w → HasSenders (with_side w (suc n) new)
+put_from : (w : World) (n : ℕ) (side new : Side) → slice_get w.sides n ≡ Some side → client_sockets new ≡ client_sockets side → HasSenders w → HasSenders (with_side w (suc n) new)
 put_from w n side new at e h =
     let stay : AllStay w.sides (set w.sides n new) = put_stays w.sides n side new at e in
     record {
@@ -289,8 +289,8 @@ module _ (m : Meaning) (served : ℕ → Bool) where
   gives_node_from w n k e s (Some side) at h =
       let v : World = with_side w (suc n) (marked side k e) in
       let g : HasSenders v = put_from w n side (marked side k e) at refl h in
-      stepped_from v (step m served v.node (Arrived (sockets_of side) s))
-      (arrival_from v.sides v.sent m served v.node (sockets_of side) s record { index = n; side = marked side k e; get = get_set_same w.sides n side (marked side k e) at; same = refl } g.conns) g
+      stepped_from v (step m served v.node (Arrived (client_sockets side) s))
+      (arrival_from v.sides v.sent m served v.node (client_sockets side) s record { index = n; side = marked side k e; get = get_set_same w.sides n side (marked side k e) at; same = refl } g.conns) g
 
   gives_client_from : (w : World) (n k : ℕ) (e : Sent) (s : PlainSegment) (side : Option Side) → slice_get w.sides n ≡ side → HasSenders w → HasSenders (gives_client w (suc n) k e s side)
   gives_client_from w n k e s None at h = h
@@ -312,11 +312,11 @@ module _ (m : Meaning) (served : ℕ → Bool) where
   delivers_from w k e Pinger (OfSegment id s) a h = h
   delivers_from w k e Pinger (OfEcho request) a h = h
 
-  gives_from : (w : World) (k j : ℕ) (e : Option Sent) → slice_get w.sent j ≡ e → HasSenders w → HasSenders (gives m served w k e)
+  gives_from : (w : World) (k j : ℕ) (e : Option Sent) → slice_get w.sent j ≡ e → HasSenders w → HasSenders (hands_to m served w k e)
   gives_from w k j None at h = h
   gives_from w k j (Some e) at h = delivers_from w k e e.who e.content (λ datagram q. record { index = j; asker = e; get = at; is = q }) h
 
-  number_from : (w : World) (k : ℕ) → HasSenders w → HasSenders (gives m served w k (numbered w.sent k))
+  number_from : (w : World) (k : ℕ) → HasSenders w → HasSenders (hands_to m served w k (numbered w.sent k))
   number_from w zero h = h
   number_from w (suc j) h = gives_from w (suc j) j (slice_get w.sent j) refl h
 

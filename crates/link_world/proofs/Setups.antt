@@ -3,7 +3,7 @@ use Rattle.std.proofs.Common.{◌≡◌, ◌&&◌, ◌+◌, Bool, true, false, n
 use Rattle.uip_wire.specs.Numbers.{wrap}
 use Rattle.tcp_segment.specs.Segments.{PlainSegment, has_syn, has_rst, has_ack}
 use Rattle.tcp_machine.specs.Segments.{has_place}
-use Rattle.link_client.specs.Client.{AbstractClient, ClientStep, sends_next, waits_for_ack, is_receiving, may_finish, fin_sent, fin_out, keeps, hears_ack, takes_in_order, takes_text, takes_by, client_takes, is_reset_by, opened_by, opens_by, again_by, closes_by, aborts_by, first_of, next_own}
+use Rattle.link_client.specs.Client.{AbstractClient, ClientStep, sends_next, has_outstanding, is_receiving, may_finish, fin_sent, fin_out, keeps, hears_ack, takes_in_order, takes_text, takes_by, client_takes, is_reset_by, opened_by, opens_by, again_by, closes_by, aborts_by, own_first, next_own}
 use Rattle.link_client.specs.declared.client_state.ClientState.{ClientState}
 use Rattle.link_client.specs.declared.client_state.ClientState.TheVariants as Is
 use Rattle.link_world.proofs.Basics.{choose}
@@ -14,12 +14,12 @@ SameSetup c x = x.client.setup ≡ c.setup
 sends_setup : (owed : Bool) (c : AbstractClient) → SameSetup c (sends_next owed c)
 unfolding sends_next
 sends_setup owed c =
-    choose (λ x. SameSetup c x) (not (waits_for_ack c) && (is_receiving c.state && ltb c.acked (length c.request))) _ _ (λ e. refl) (λ e.
-    choose (λ x. SameSetup c x) (not (waits_for_ack c) && (may_finish c.state && not (fin_sent c.fin))) _ _ (λ f. refl) (λ f.
+    choose (λ x. SameSetup c x) (not (has_outstanding c) && (is_receiving c.state && ltb c.acked (length c.request))) _ _ (λ e. refl) (λ e.
+    choose (λ x. SameSetup c x) (not (has_outstanding c) && (may_finish c.state && not (fin_sent c.fin))) _ _ (λ f. refl) (λ f.
     choose (λ x. SameSetup c x) owed _ _ (λ g. refl) (λ g. refl)))
 
 ack_setup : (c : AbstractClient) (s : PlainSegment) → (hears_ack c s).setup ≡ c.setup
-ack_setup c s = choose (λ (x : AbstractClient). x.setup ≡ c.setup) (has_ack s.flags && (waits_for_ack c && eqb s.ack (next_own c))) _ _ (λ e. refl) (λ e. refl)
+ack_setup c s = choose (λ (x : AbstractClient). x.setup ≡ c.setup) (has_ack s.flags && (has_outstanding c && eqb s.ack (next_own c))) _ _ (λ e. refl) (λ e. refl)
 
 order_setup : (c : AbstractClient) (s : PlainSegment) → SameSetup c (takes_in_order c s)
 unfolding takes_in_order
@@ -35,7 +35,7 @@ by_setup : (st : ClientState) (c : AbstractClient) (s : PlainSegment) → SameSe
 unfolding takes_by
 by_setup Is.Idle c s = refl
 by_setup Is.Reset c s = refl
-by_setup Is.Opening c s = choose (λ x. SameSetup c x) (has_syn s.flags && (has_ack s.flags && eqb s.ack (wrap (first_of c + 1)))) _ _ (λ e. sends_setup true (opened_by c s)) (λ e. refl)
+by_setup Is.Opening c s = choose (λ x. SameSetup c x) (has_syn s.flags && (has_ack s.flags && eqb s.ack (wrap (own_first c + 1)))) _ _ (λ e. sends_setup true (opened_by c s)) (λ e. refl)
 by_setup Is.Opened c s = heard_setup c s
 by_setup Is.Closing c s = heard_setup c s
 by_setup Is.Closed c s = heard_setup c s

@@ -16,12 +16,12 @@ use Rattle.app_events.specs.declared.state.State.TheVariants.{Closed, SynRcvd, E
 use Rattle.app_events.specs.declared.want.Want.{Want}
 use Rattle.app_events.specs.declared.want.Want.TheVariants.{Nothing, Send, Close, Abort}
 use Rattle.tcp_machine.specs.Connection.{Sockets, Connection, closed}
-use Rattle.tcp_machine.specs.Segments.{has_place, bare_ack, syn_ack, text_of, fin_of, reset_of, reset_to_none, segment_of}
+use Rattle.tcp_machine.specs.Segments.{has_place, bare_ack, syn_ack, text_segment, fin_of, reset_of, reset_to_none, segment_of}
 use Rattle.tcp_machine.specs.Ask.{Outcome, peer_has_closed, idles, does_as_wanted, prepared, asked_for, asked}
 use Rattle.tcp_machine.specs.OnSegment.{first_mss, accepted, is_out_of_order, is_acked, rests, has_text, with_part, peer_closes, goes_on, in_established, fin_acked, fin_waits, in_fin_wait_2, by_state, on_segment}
 use Rattle.tcp_machine.specs.OnTick.{limit_of, by_beat, waits_for_ack, rests_on, rest_time, ticks_established, tick_by, on_tick}
 use Rattle.tcp_machine.specs.declared.step.Step.{Step}
-use Rattle.link_client.specs.Client.{AbstractClient, ClientStep, sends_next, waits_for_ack as client_waits, is_receiving, may_finish, fin_sent, fin_out, keeps, hears_ack, takes_in_order, takes_text, takes_by, client_takes, is_reset_by, opened_by, opens_by, again_by, closes_by, aborts_by, first_of, next_own, request_of, ack_of, syn_of, offered}
+use Rattle.link_client.specs.Client.{AbstractClient, ClientStep, sends_next, has_outstanding as client_waits, is_receiving, may_finish, fin_sent, fin_out, keeps, hears_ack, takes_in_order, takes_text, takes_by, client_takes, is_reset_by, opened_by, opens_by, again_by, closes_by, aborts_by, own_first, next_own, own_request, ack_of, syn_of, offered}
 use Rattle.link_client.specs.Client as client
 use Rattle.link_client.specs.declared.client_state.ClientState.{ClientState}
 use Rattle.link_client.specs.declared.client_state.ClientState.TheVariants as Is
@@ -151,7 +151,7 @@ module _ (m : Meaning) where
         IsSoundSegment (record { seq = wrap (c.first + c.acked); ack = wrap (c.peer_first + 1 + c.taken); flags = flags; window = window; mss = mss; text = [] })
     control c flags window mss f w n = record { seq = wrap_low _; ack = wrap_low _; flags = f; window = w; mss = n; short = omega arith; alone = inr refl; text = all_nil IsByte }
 
-    text_sound : (c : Connection) → FitConn c → Lens c → IsSoundSegment (text_of m c)
+    text_sound : (c : Connection) → FitConn c → Lens c → IsSoundSegment (text_segment m c)
     text_sound c f l = record {
       seq = wrap_low _;
       ack = wrap_low _;
@@ -168,7 +168,7 @@ module _ (m : Meaning) where
     step_sound c Step.Drop s f l e = absurd (cc)
     step_sound c Step.Ack s f l e = only_some (λ x. IsSoundSegment x) (bare_ack c) s e (control c 16 OWN_MSS None (omega arith) (omega arith) tt)
     step_sound c (Step.SynAck again) s f l e = only_some (λ x. IsSoundSegment x) (syn_ack c) s e (control c 18 OWN_MSS (Some OWN_MSS) (omega arith) (omega arith) (omega arith, omega arith))
-    step_sound c (Step.Text again) s f l e = only_some (λ x. IsSoundSegment x) (text_of m c) s e (text_sound c f l)
+    step_sound c (Step.Text again) s f l e = only_some (λ x. IsSoundSegment x) (text_segment m c) s e (text_sound c f l)
     step_sound c (Step.Fin again) s f l e = only_some (λ x. IsSoundSegment x) (fin_of c) s e (control c 17 OWN_MSS None (omega arith) (omega arith) tt)
     step_sound c Step.Reset s f l e = only_some (λ x. IsSoundSegment x) (reset_of c) s e (control c 20 0 None (omega arith) (omega arith) tt)
     step_sound c (Step.Ask fresh) s f l e = absurd (cc)
@@ -182,7 +182,7 @@ pub record IsSoundClient (c : AbstractClient) : Type 0 where
   pub port : c.setup.port.0 < 65536
   pub server : IsAddr c.setup.server
   pub server_port : c.setup.server_port.0 < 65536
-  pub first : first_of c < 4294967296
+  pub first : own_first c < 4294967296
   pub offered : c.setup.mss < 65536
   pub seg : c.setup.seg ≤ 1460
   pub request : All IsByte c.request
@@ -197,13 +197,13 @@ pub record SoundStep (x : ClientStep) : Type 0 where
 kept : (c : AbstractClient) → IsSoundClient c → SoundStep (keeps c)
 kept c h = record { client = h; said = λ s e. absurd (cc) }
 
-given : (c : AbstractClient) (s : PlainSegment) → IsSoundClient c → IsSoundSegment s → SoundStep (client.gives c s)
+given : (c : AbstractClient) (s : PlainSegment) → IsSoundClient c → IsSoundSegment s → SoundStep (client.steps_with c s)
 given c s h g = record { client = h; said = λ x e. only_some (λ y. IsSoundSegment y) s x e g }
 
 plain : (seq ack flags window : ℕ) → seq < 4294967296 → ack < 4294967296 → flags < 64 → window < 65536 → IsSoundSegment (record { seq = seq; ack = ack; flags = flags; window = window; mss = None; text = [] })
 plain seq ack flags window a b f w = record { seq = a; ack = b; flags = f; window = w; mss = tt; short = omega arith; alone = inr refl; text = all_nil IsByte }
 
-request_sound : (c : AbstractClient) → IsSoundClient c → IsSoundSegment (request_of c)
+request_sound : (c : AbstractClient) → IsSoundClient c → IsSoundSegment (own_request c)
 request_sound c h = record {
   seq = wrap_low _;
   ack = h.expected;
@@ -233,10 +233,10 @@ syn_sound c h = record {
 ack_sound : (c : AbstractClient) → IsSoundClient c → IsSoundSegment (ack_of c)
 ack_sound c h = plain (next_own c) c.expected 16 c.window (wrap_low _) h.expected (omega arith) h.window
 
-end_sound : (c : AbstractClient) → IsSoundClient c → IsSoundSegment (client.fin_of c)
-end_sound c h = plain (wrap (first_of c + 1 + c.acked + c.out)) c.expected 17 c.window (wrap_low _) h.expected (omega arith) h.window
+end_sound : (c : AbstractClient) → IsSoundClient c → IsSoundSegment (client.own_fin c)
+end_sound c h = plain (wrap (own_first c + 1 + c.acked + c.out)) c.expected 17 c.window (wrap_low _) h.expected (omega arith) h.window
 
-abort_sound : (c d : AbstractClient) → IsSoundClient c → IsSoundSegment (client.reset_of c)
+abort_sound : (c d : AbstractClient) → IsSoundClient c → IsSoundSegment (client.own_reset c)
 abort_sound c d h = plain (next_own c) c.expected 20 c.window (wrap_low _) h.expected (omega arith) h.window
 
 sends_sound : (owed : Bool) (c : AbstractClient) → IsSoundClient c → SoundStep (sends_next owed c)
@@ -245,9 +245,9 @@ sends_sound owed c h =
     choose (λ x. SoundStep x) (not (client_waits c) && (is_receiving c.state && ltb c.acked (length c.request))) _ _
     (λ e. let d : AbstractClient = record c { out = min c.setup.seg (length c.request - c.acked) } in
     let g : IsSoundClient d = record { addr = h.addr; port = h.port; server = h.server; server_port = h.server_port; first = h.first; offered = h.offered; seg = h.seg; request = h.request; expected = h.expected; window = h.window; out = omega (arith, h.seg) } in
-    given d (request_of d) g (request_sound d g))
+    given d (own_request d) g (request_sound d g))
     (λ e. choose (λ x. SoundStep x) (not (client_waits c) && (may_finish c.state && not (fin_sent c.fin))) _ _
-    (λ f. given _ (client.fin_of c) record { addr = h.addr; port = h.port; server = h.server; server_port = h.server_port; first = h.first; offered = h.offered; seg = h.seg; request = h.request; expected = h.expected; window = h.window; out = h.out } (end_sound c h))
+    (λ f. given _ (client.own_fin c) record { addr = h.addr; port = h.port; server = h.server; server_port = h.server_port; first = h.first; offered = h.offered; seg = h.seg; request = h.request; expected = h.expected; window = h.window; out = h.out } (end_sound c h))
     (λ f. choose (λ x. SoundStep x) owed _ _ (λ g. given c (ack_of c) h (ack_sound c h)) (λ g. kept c h)))
 
 hears_sound : (c : AbstractClient) (s : PlainSegment) → IsSoundClient c → IsSoundClient (hears_ack c s)
@@ -271,7 +271,7 @@ unfolding takes_by
 by_sound Is.Idle c s h = kept c h
 by_sound Is.Reset c s h = kept c h
 by_sound Is.Opening c s h =
-    choose (λ x. SoundStep x) (has_syn s.flags && (has_ack s.flags && eqb s.ack (wrap (first_of c + 1)))) _ _
+    choose (λ x. SoundStep x) (has_syn s.flags && (has_ack s.flags && eqb s.ack (wrap (own_first c + 1)))) _ _
     (λ e. sends_sound true (opened_by c s) record { addr = h.addr; port = h.port; server = h.server; server_port = h.server_port; first = h.first; offered = h.offered; seg = h.seg; request = h.request; expected = wrap_low _; window = h.window; out = h.out })
     (λ e. kept c h)
 by_sound Is.Opened c s h = order_sound (hears_ack c s) s (hears_sound c s h)
@@ -302,8 +302,8 @@ opens_sound Is.Reset c h = kept c h
 repeats_sound : (c : AbstractClient) → IsSoundClient c → SoundStep (again_by Is.Opened c)
 unfolding again_by
 repeats_sound c h =
-    choose (λ x. SoundStep x) (ltb 0 c.out) _ _ (λ e. given c (request_of c) h (request_sound c h)) (λ e.
-    choose (λ x. SoundStep x) (fin_out c.fin) _ _ (λ f. given c (client.fin_of c) h (end_sound c h)) (λ f. given c (ack_of c) h (ack_sound c h)))
+    choose (λ x. SoundStep x) (ltb 0 c.out) _ _ (λ e. given c (own_request c) h (request_sound c h)) (λ e.
+    choose (λ x. SoundStep x) (fin_out c.fin) _ _ (λ f. given c (client.own_fin c) h (end_sound c h)) (λ f. given c (ack_of c) h (ack_sound c h)))
 
 pub again_sound : (st : ClientState) (c : AbstractClient) → IsSoundClient c → SoundStep (again_by st c)
 unfolding again_by
@@ -327,9 +327,9 @@ closes_sound Is.Reset c h = kept c h
 
 pub aborts_sound : (st : ClientState) (c : AbstractClient) → IsSoundClient c → SoundStep (aborts_by st c)
 unfolding aborts_by
-aborts_sound Is.Opening c h = given _ (client.reset_of c) (in_other_state c Is.Reset h) (abort_sound c c h)
-aborts_sound Is.Opened c h = given _ (client.reset_of c) (in_other_state c Is.Reset h) (abort_sound c c h)
-aborts_sound Is.Closing c h = given _ (client.reset_of c) (in_other_state c Is.Reset h) (abort_sound c c h)
+aborts_sound Is.Opening c h = given _ (client.own_reset c) (in_other_state c Is.Reset h) (abort_sound c c h)
+aborts_sound Is.Opened c h = given _ (client.own_reset c) (in_other_state c Is.Reset h) (abort_sound c c h)
+aborts_sound Is.Closing c h = given _ (client.own_reset c) (in_other_state c Is.Reset h) (abort_sound c c h)
 aborts_sound Is.Idle c h = kept c h
 aborts_sound Is.Closed c h = kept c h
 aborts_sound Is.Ended c h = kept c h

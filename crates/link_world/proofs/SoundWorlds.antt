@@ -10,7 +10,7 @@ use Rattle.uip_node.specs.Events.Event.{Arrived, EchoAsked, Periodic}
 use Rattle.uip_node.specs.Events.Reply.{Echo, Tcp}
 use Rattle.uip_node.specs.Node.{NodeStep, step}
 use Rattle.link_client.specs.Client.{AbstractClient, ClientStep, client_takes, client_opens, client_again, client_closes, client_aborts, tells_window}
-use Rattle.link_world.specs.World.{World, Side, Sent, Content, numbered, sockets_of, buries, buries_in, addressed, posts, posts_reply, node_stepped, node_handles, with_client, with_side, posts_of_client, client_stepped, marked, gives_node, gives_client, delivers, gives}
+use Rattle.link_world.specs.World.{World, Side, Sent, Content, numbered, client_sockets, buries, buries_in, addressed, posts, posts_reply, node_stepped, node_handles, with_client, with_side, posts_of_client, client_stepped, marked, gives_node, gives_client, delivers, hands_to}
 use Rattle.link_world.specs.World.Content.{OfSegment, OfPing, OfEcho}
 use Rattle.link_world.specs.Bytes.{ping_from}
 use Rattle.link_world.specs.Acts.{client_acts, handles_all, does}
@@ -61,7 +61,7 @@ buried_sound None sides h k side x = h k side x
 buried_sound (Some g) sides h k side x =
     let p = get_map (buries_in g) sides k side x in
     let s : IsSoundClient p.from.client = h k p.from p.get in
-    subst (λ (o : Side). IsSoundClient o.client) p.is (choose (λ (o : Side). IsSoundClient o.client) (same_sockets g.sockets (sockets_of p.from)) _ _ (λ e. s) (λ e. s))
+    subst (λ (o : Side). IsSoundClient o.client) p.is (choose (λ (o : Side). IsSoundClient o.client) (same_sockets g.sockets (client_sockets p.from)) _ _ (λ e. s) (λ e. s))
 
 stepped_sound : (w : World) (r : NodeStep) → SoundNode w.node r → SoundWorld w → SoundWorld (node_stepped w r)
 stepped_sound w r g h = reply_sound (record w { node = r.node; sides = buries r.gone w.sides }) r.sent g.said record {
@@ -111,7 +111,7 @@ module _ (m : Meaning) (pages : Pages) (lawful : IsPaged m pages) (page : HasByt
       let v : World = with_side w (suc n) (marked side k e) in
       let vf : FitWorld v = put_fits w n side (marked side k e) at refl refl f in
       let vh : SoundWorld v = put_sound w n (marked side k e) (h.sides n side at) h in
-      stepped_sound v (step m served v.node (Arrived (sockets_of side) s)) (arrival_node m pages lawful page served v.node (sockets_of side) s (f.sides n side at).addr (f.sides n side at).port g vf.node vh.conns) vh
+      stepped_sound v (step m served v.node (Arrived (client_sockets side) s)) (arrival_node m pages lawful page served v.node (client_sockets side) s (f.sides n side at).addr (f.sides n side at).port g vf.node vh.conns) vh
 
   gives_client_sound : (w : World) (n k : ℕ) (e : Sent) (s : PlainSegment) (side : Option Side) → slice_get w.sides n ≡ side → SoundWorld w → SoundWorld (gives_client w (suc n) k e s side)
   gives_client_sound w n k e s None at h = h
@@ -133,11 +133,11 @@ module _ (m : Meaning) (pages : Pages) (lawful : IsPaged m pages) (page : HasByt
   delivers_sound w k e Pinger (OfSegment id s) g f h = h
   delivers_sound w k e Pinger (OfEcho request) g f h = h
 
-  gives_sound : (w : World) (k j : ℕ) (e : Option Sent) → slice_get w.sent j ≡ e → FitWorld w → SoundWorld w → SoundWorld (gives m served w k e)
+  gives_sound : (w : World) (k j : ℕ) (e : Option Sent) → slice_get w.sent j ≡ e → FitWorld w → SoundWorld w → SoundWorld (hands_to m served w k e)
   gives_sound w k j None at f h = h
   gives_sound w k j (Some e) at f h = delivers_sound w k e e.who e.content (h.sent j e at) f h
 
-  number_sound : (w : World) (k : ℕ) → FitWorld w → SoundWorld w → SoundWorld (gives m served w k (numbered w.sent k))
+  number_sound : (w : World) (k : ℕ) → FitWorld w → SoundWorld w → SoundWorld (hands_to m served w k (numbered w.sent k))
   number_sound w zero f h = h
   number_sound w (suc j) f h = gives_sound w (suc j) j (slice_get w.sent j) refl f h
 

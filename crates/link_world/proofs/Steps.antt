@@ -13,12 +13,12 @@ use Rattle.app_events.specs.declared.state.State.TheVariants.{Closed, SynRcvd, E
 use Rattle.app_events.specs.declared.want.Want.{Want}
 use Rattle.app_events.specs.declared.want.Want.TheVariants.{Nothing, Send, Close, Abort}
 use Rattle.tcp_machine.specs.Connection.{Connection, is_live, rcv_nxt}
-use Rattle.tcp_machine.specs.Segments.{bare_ack, syn_ack, text_of, fin_of, reset_of}
+use Rattle.tcp_machine.specs.Segments.{bare_ack, syn_ack, text_segment, fin_of, reset_of}
 use Rattle.tcp_machine.specs.Ask.{Outcome, leaves, closes, sends_text, sends_fin, after_own_fin, peer_has_closed, idles, does_as_wanted, prepared, ask, asked_for, asked}
 use Rattle.tcp_machine.specs.OnSegment.{is_out_of_order, is_acked, rests, has_text, hears, takes, with_part, in_state, with_window, connects, peer_closes, goes_on, in_established, fin_acked, fin_waits, in_fin_wait_2, by_state, on_segment}
 use Rattle.tcp_machine.specs.OnTick.{outstanding, limit_of, grows_older, by_beat, waits_for_ack, rests_on, rest_time, ticks_established, tick_by, on_tick}
 use Rattle.tcp_machine.specs.declared.step.Step.{Step}
-use Rattle.link_client.specs.Client.{AbstractClient, first_of}
+use Rattle.link_client.specs.Client.{AbstractClient, own_first}
 use Rattle.link_world.proofs.Basics.{IsPart, prefix_part, prefix_length, prefix_joins, and_true, same_place, empty_part, zero_or_more, ltb-zero, in_place, choose, append_nothing, cut_part, part_prefix}
 use Rattle.link_world.proofs.Later.{page_more, page_heard, front_grows, front_all}
 use Rattle.link_world.proofs.Good.{Spoken, spoken, AtSyn, AtText, AtOpen, AtFin, ConnGood, StateGood, Moved, StepGood, SentGood, ClientSaid, IsData, Steady}
@@ -84,7 +84,7 @@ module _ (m : Meaning) (pages : Pages) (lawful : IsPaged m pages) where
     pub says_syn : (d : Connection) → is_live d.state ≡ true → d.acked ≡ 0 → SentGood pages opened client d (syn_ack d)
     says_syn d l z = record { lives = λ e. l; said = node_syn refl record { syn = refl; seq = ap wrap (omega (arith, z)) } }
 
-    says_text : (d : Connection) → is_live d.state ≡ true → AtText pages opened client d → SentGood pages opened client d (text_of m d)
+    says_text : (d : Connection) → is_live d.state ≡ true → AtText pages opened client d → SentGood pages opened client d (text_segment m d)
     says_text d l h =
         let said : m.said d.part ≡ pages.text d.part.heard d.part.captures = lawful.said d.part in
         record {
@@ -116,7 +116,7 @@ module _ (m : Meaning) (pages : Pages) (lawful : IsPaged m pages) where
     stays_good c g = record { first = refl; more = []; captures = sym (append_nothing c.part.captures); good = λ l. g }
 
     -- d is c in another state, or with other counts
-    turns : (c d : Connection) → d.first ≡ c.first → d.part.captures ≡ c.part.captures → d.peer_first ≡ first_of client → StateGood pages opened client d d.state → Moved pages opened client c d
+    turns : (c d : Connection) → d.first ≡ c.first → d.part.captures ≡ c.part.captures → d.peer_first ≡ own_first client → StateGood pages opened client d d.state → Moved pages opened client c d
     turns c d f k pf s = record { first = f; more = []; captures = k ∙ sym (append_nothing c.part.captures); good = λ y. record { peer_first = pf; state = s } }
 
     closes_good : (c d : Connection) → d.first ≡ c.first → d.part.captures ≡ c.part.captures → Moved pages opened client c (closes d)
@@ -200,7 +200,7 @@ module _ (m : Meaning) (pages : Pages) (lawful : IsPaged m pages) where
     wanted_good (Send n) fresh c numbers o g h w =
         let d : Connection = sends_text (min n c.mss) c in
         let t : AtText pages opened client d = like_text c d refl refl h.count (omega (arith, w.1)) h in
-        move_says c d (text_of m d) (turns c d refl refl g.peer_first (text_state c d c.state o g.state t refl refl)) (says_text d (open_live c.state o) t)
+        move_says c d (text_segment m d) (turns c d refl refl g.peer_first (text_state c d c.state o g.state t refl refl)) (says_text d (open_live c.state o) t)
     wanted_good Nothing fresh c numbers o g h w =
         choose (λ (x : Outcome). StepGood pages opened client c (spoken m x)) (peer_has_closed c.state) _ _
         (λ e. move_says c (closes c) (reset_of (closes c)) (closes_good c c refl refl) (says_reset (closes c) (closes c)))
@@ -234,7 +234,7 @@ module _ (m : Meaning) (pages : Pages) (lawful : IsPaged m pages) where
     OutBy c d Step.Drop = StepGood pages opened client c (record { connection = d; sent = None })
     OutBy c d Step.Ack = StepGood pages opened client c (record { connection = d; sent = Some (bare_ack d) })
     OutBy c d (Step.SynAck again) = StepGood pages opened client c (record { connection = d; sent = Some (syn_ack d) })
-    OutBy c d (Step.Text again) = StepGood pages opened client c (record { connection = d; sent = Some (text_of m d) })
+    OutBy c d (Step.Text again) = StepGood pages opened client c (record { connection = d; sent = Some (text_segment m d) })
     OutBy c d (Step.Fin again) = StepGood pages opened client c (record { connection = d; sent = Some (fin_of d) })
     OutBy c d Step.Reset = StepGood pages opened client c (record { connection = d; sent = Some (reset_of d) })
 
@@ -255,15 +255,15 @@ module _ (m : Meaning) (pages : Pages) (lawful : IsPaged m pages) where
 
     -- the peer's text stands in its request where the connection expects it
     said_part : (at_epoch : ℕ) (c : Connection) (s : PlainSegment) (n : ℕ) → Steady client → ClientSaid client opened at_epoch s → has_rst s.flags ≡ false →
-        c.peer_first ≡ first_of client → c.taken ≡ n → n ≤ length client.request → (0 < length s.text → s.seq ≡ rcv_nxt c) → IsPart client.request s.text n
+        c.peer_first ≡ own_first client → c.taken ≡ n → n ≤ length client.request → (0 < length s.text → s.seq ≡ rcv_nxt c) → IsPart client.request s.text n
     said_part at_epoch c s n steady (said_reset r) nr pf t l e = absurd (cc)
     said_part at_epoch c s n steady (said_syn y) nr pf t l e = empty_part client.request s.text n (ap length y.no_text) l
     said_part at_epoch c s n steady (said_data d) nr pf t l e =
         elim (zero_or_more (length s.text)) [
           | inl z ↦ empty_part client.request s.text n z l
-          | inr k ↦ (let a : s.seq ≡ wrap (first_of client + 1 + d.at) = d.seq k in
+          | inr k ↦ (let a : s.seq ≡ wrap (own_first client + 1 + d.at) = d.seq k in
               let b : s.seq ≡ wrap (c.peer_first + 1 + c.taken) = e k in
-              let f : d.at ≡ n = same_place (first_of client + 1) d.at n (omega (arith, d.part.fits, steady.short)) (omega (arith, l, steady.short)) (sym a ∙ b ∙ ap (λ x. wrap (x + 1 + c.taken)) pf ∙ ap (λ x. wrap (first_of client + 1 + x)) t) in
+              let f : d.at ≡ n = same_place (own_first client + 1) d.at n (omega (arith, d.part.fits, steady.short)) (omega (arith, l, steady.short)) (sym a ∙ b ∙ ap (λ x. wrap (x + 1 + c.taken)) pf ∙ ap (λ x. wrap (own_first client + 1 + x)) t) in
               subst (λ x. IsPart client.request s.text x) f d.part)
         ]
 
@@ -287,7 +287,7 @@ module _ (m : Meaning) (pages : Pages) (lawful : IsPaged m pages) where
     front_fits : (c : Connection) → AtText pages opened client c → length c.part.heard ≤ length client.request
     front_fits c h = prefix_length c.part.heard client.request h.heard
 
-    peer_closes_good : (c : Connection) (numbers : List ℕ) (s : PlainSegment) → c.peer_first ≡ first_of client → AtOpen pages opened client c → IsPart client.request s.text (length c.part.heard) → OutGood c (peer_closes m c numbers s)
+    peer_closes_good : (c : Connection) (numbers : List ℕ) (s : PlainSegment) → c.peer_first ≡ own_first client → AtOpen pages opened client c → IsPart client.request s.text (length c.part.heard) → OutGood c (peer_closes m c numbers s)
     unfolding peer_closes
     peer_closes_good c numbers s pf h part =
         let x = hears_is numbers c.part s.text in
@@ -298,7 +298,7 @@ module _ (m : Meaning) (pages : Pages) (lawful : IsPaged m pages) where
         (λ e. move_says c d (bare_ack d) w (says_ack d refl))
         (λ e. record { moved = w; is_asked = refl; idle = ltb-zero c.len e })
 
-    goes_on_good : (acked : Bool) (c : Connection) (numbers : List ℕ) (s : PlainSegment) → c.state ≡ Established → c.peer_first ≡ first_of client → AtOpen pages opened client c → IsPart client.request s.text (length c.part.heard) → OutGood c (goes_on m acked c numbers s)
+    goes_on_good : (acked : Bool) (c : Connection) (numbers : List ℕ) (s : PlainSegment) → c.state ≡ Established → c.peer_first ≡ own_first client → AtOpen pages opened client c → IsPart client.request s.text (length c.part.heard) → OutGood c (goes_on m acked c numbers s)
     unfolding goes_on
     goes_on_good acked c numbers s st pf h part =
         let x = hears_is numbers c.part s.text in
@@ -314,7 +314,7 @@ module _ (m : Meaning) (pages : Pages) (lawful : IsPaged m pages) where
         (λ f. record { moved = w; is_asked = ap is_open st; idle = ltb-zero c.len f }))
 
     established_good : (at_epoch : ℕ) (acked : Bool) (c : Connection) (numbers : List ℕ) (s : PlainSegment) → Steady client → ClientSaid client opened at_epoch s → has_rst s.flags ≡ false →
-        c.state ≡ Established → c.peer_first ≡ first_of client → AtOpen pages opened client c → (0 < length s.text → s.seq ≡ rcv_nxt c) → OutGood c (in_established m acked c numbers s)
+        c.state ≡ Established → c.peer_first ≡ own_first client → AtOpen pages opened client c → (0 < length s.text → s.seq ≡ rcv_nxt c) → OutGood c (in_established m acked c numbers s)
     unfolding in_established
     established_good at_epoch acked c numbers s steady said nr st pf h e =
         let part : IsPart client.request s.text (length c.part.heard) = said_part at_epoch c s (length c.part.heard) steady said nr pf h.taken (front_fits c h.text) e in
@@ -337,12 +337,12 @@ module _ (m : Meaning) (pages : Pages) (lawful : IsPaged m pages) where
     out_from c b d Step.Drop f k h = from_good c b (record { connection = d; sent = None }) [] f (k ∙ sym (append_nothing c.part.captures)) h
     out_from c b d Step.Ack f k h = from_good c b (record { connection = d; sent = Some (bare_ack d) }) [] f (k ∙ sym (append_nothing c.part.captures)) h
     out_from c b d (Step.SynAck again) f k h = from_good c b (record { connection = d; sent = Some (syn_ack d) }) [] f (k ∙ sym (append_nothing c.part.captures)) h
-    out_from c b d (Step.Text again) f k h = from_good c b (record { connection = d; sent = Some (text_of m d) }) [] f (k ∙ sym (append_nothing c.part.captures)) h
+    out_from c b d (Step.Text again) f k h = from_good c b (record { connection = d; sent = Some (text_segment m d) }) [] f (k ∙ sym (append_nothing c.part.captures)) h
     out_from c b d (Step.Fin again) f k h = from_good c b (record { connection = d; sent = Some (fin_of d) }) [] f (k ∙ sym (append_nothing c.part.captures)) h
     out_from c b d Step.Reset f k h = from_good c b (record { connection = d; sent = Some (reset_of d) }) [] f (k ∙ sym (append_nothing c.part.captures)) h
 
     connects_good : (at_epoch : ℕ) (c : Connection) (numbers : List ℕ) (s : PlainSegment) → Steady client → ClientSaid client opened at_epoch s → has_rst s.flags ≡ false → has_ack s.flags ≡ true →
-        c.peer_first ≡ first_of client → AtSyn c → (0 < length s.text → s.seq ≡ rcv_nxt c) → OutGood c (connects m c numbers s)
+        c.peer_first ≡ own_first client → AtSyn c → (0 < length s.text → s.seq ≡ rcv_nxt c) → OutGood c (connects m c numbers s)
     connects_good at_epoch c numbers s steady said nr ac pf h e =
         let told = is_data at_epoch s said nr ac in
         let start : Part = (m.connected numbers c.sockets.own_port.0).part in
@@ -368,7 +368,7 @@ module _ (m : Meaning) (pages : Pages) (lawful : IsPaged m pages) where
         }
 
     by_state_good : (at_epoch : ℕ) (st : State) (acked : Bool) (c : Connection) (numbers : List ℕ) (s : PlainSegment) → Steady client → ClientSaid client opened at_epoch s → has_rst s.flags ≡ false →
-        c.state ≡ st → c.peer_first ≡ first_of client → StateGood pages opened client c st → is_acked c s ≡ acked → (0 < length s.text → s.seq ≡ rcv_nxt c) → is_live st ≡ true →
+        c.state ≡ st → c.peer_first ≡ own_first client → StateGood pages opened client c st → is_acked c s ≡ acked → (0 < length s.text → s.seq ≡ rcv_nxt c) → is_live st ≡ true →
         OutGood c (by_state m st acked c numbers s)
     unfolding fin_acked fin_waits in_fin_wait_2
     by_state_good at_epoch Closed acked c numbers s steady said nr st pf h ac e lv = absurd (cc)
@@ -449,8 +449,8 @@ module _ (m : Meaning) (pages : Pages) (lawful : IsPaged m pages) where
     again_good : (c d : Connection) (st : State) → Moved pages opened client c d → d.state ≡ st → StateGood pages opened client d st → OutBy c d (outstanding true st)
     again_good c d Closed w e h = move_silent c d w
     again_good c d SynRcvd w e h = move_says c d (syn_ack d) w (says_syn d (ap is_live e) h.acked)
-    again_good c d Established w e h = move_says c d (text_of m d) w (says_text d (ap is_live e) h.text)
-    again_good c d CloseWait w e h = move_says c d (text_of m d) w (says_text d (ap is_live e) h)
+    again_good c d Established w e h = move_says c d (text_segment m d) w (says_text d (ap is_live e) h.text)
+    again_good c d CloseWait w e h = move_says c d (text_segment m d) w (says_text d (ap is_live e) h)
     again_good c d FinWait1 w e h = move_says c d (fin_of d) w (says_fin d (ap is_live e) h)
     again_good c d FinWait2 w e h = move_silent c d w
     again_good c d Closing w e h = move_says c d (fin_of d) w (says_fin d (ap is_live e) h)

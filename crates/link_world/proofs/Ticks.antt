@@ -12,7 +12,7 @@ use Rattle.app_events.specs.declared.now.Now.{Now}
 use Rattle.app_events.specs.declared.state.State.{State}
 use Rattle.app_events.specs.declared.state.State.TheVariants.{Closed, SynRcvd, Established, CloseWait, FinWait1, FinWait2, Closing, TimeWait, LastAck}
 use Rattle.tcp_machine.specs.Connection.{Connection, closed, tries_of, is_resting}
-use Rattle.tcp_machine.specs.Segments.{segment_of, is_again, syn_ack, text_of, fin_of}
+use Rattle.tcp_machine.specs.Segments.{segment_of, is_again, syn_ack, text_segment, fin_of}
 use Rattle.tcp_machine.specs.Ask.{leaves, asked}
 use Rattle.tcp_machine.specs.OnTick.{limit_of, outstanding, grows_older, by_beat, waits_for_ack, ticks_established, tick_by, on_tick}
 use Rattle.tcp_machine.specs.declared.step.Step.{Step}
@@ -124,8 +124,8 @@ module _ (m : Meaning) where
 
   due : (st : State) (d : Connection) → may_wait st ≡ true → Due st d
   due SynRcvd d w = record { segment = syn_ack d; is = refl; again = refl }
-  due Established d w = record { segment = text_of m d; is = refl; again = refl }
-  due CloseWait d w = record { segment = text_of m d; is = refl; again = refl }
+  due Established d w = record { segment = text_segment m d; is = refl; again = refl }
+  due CloseWait d w = record { segment = text_segment m d; is = refl; again = refl }
   due FinWait1 d w = record { segment = fin_of d; is = refl; again = refl }
   due Closing d w = record { segment = fin_of d; is = refl; again = refl }
   due LastAck d w = record { segment = fin_of d; is = refl; again = refl }

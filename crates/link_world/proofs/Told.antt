@@ -15,7 +15,7 @@ use Rattle.app_events.specs.declared.state.State.TheVariants.{Closed, SynRcvd, E
 use Rattle.app_events.specs.declared.want.Want.{Want}
 use Rattle.app_events.specs.declared.want.Want.TheVariants.{Nothing, Send, Close, Abort}
 use Rattle.tcp_machine.specs.Connection.{Connection, is_live, snd_nxt}
-use Rattle.tcp_machine.specs.Segments.{has_place, bare_ack, syn_ack, text_of, fin_of, reset_of, segment_of, is_again}
+use Rattle.tcp_machine.specs.Segments.{has_place, bare_ack, syn_ack, text_segment, fin_of, reset_of, segment_of, is_again}
 use Rattle.tcp_machine.specs.Ask.{Outcome, leaves, closes, sends_text, sends_fin, after_own_fin, peer_has_closed, idles, does_as_wanted, prepared, ask, asked_for, asked}
 use Rattle.tcp_machine.specs.OnSegment.{is_out_of_order, is_acked, rests, has_text, hears, takes, with_part, in_state, with_window, peer_closes, goes_on, in_established, fin_acked, fin_waits, in_fin_wait_2, by_state, on_segment}
 use Rattle.tcp_machine.specs.OnTick.{outstanding, limit_of, grows_older, by_beat, waits_for_ack, rests_on, rest_time, ticks_established, tick_by, on_tick}
@@ -28,8 +28,8 @@ use Rattle.link_world.proofs.Steps.{is_open, Heard, hears_is, prepare_is}
 -- what is outstanding in a state
 abbrev pub due : Meaning → State → Connection → PlainSegment
 due m SynRcvd c = syn_ack c
-due m Established c = text_of m c
-due m CloseWait c = text_of m c
+due m Established c = text_segment m c
+due m CloseWait c = text_segment m c
 due m FinWait1 c = fin_of c
 due m Closing c = fin_of c
 due m LastAck c = fin_of c
@@ -149,7 +149,7 @@ module _ (m : Meaning) (pages : Pages) (lawful : IsPaged m pages) where
   OutTells c d Step.Drop = StepTells c d None false
   OutTells c d Step.Ack = StepTells c d (Some (bare_ack d)) false
   OutTells c d (Step.SynAck again) = StepTells c d (Some (syn_ack d)) again
-  OutTells c d (Step.Text again) = StepTells c d (Some (text_of m d)) again
+  OutTells c d (Step.Text again) = StepTells c d (Some (text_segment m d)) again
   OutTells c d (Step.Fin again) = StepTells c d (Some (fin_of d)) again
   OutTells c d Step.Reset = StepTells c d (Some (reset_of d)) false
 
@@ -222,9 +222,9 @@ module _ (m : Meaning) (pages : Pages) (lawful : IsPaged m pages) where
   open_live : (st : State) → is_open st ≡ true → is_live st ≡ true
   open_live st h = Rattle.link_world.proofs.Steps.open_live st h
 
-  text_due : (d : Connection) (st : State) → is_open st ≡ true → Alike (text_of m d) (due m st d)
-  text_due d Established o = alike_refl (text_of m d)
-  text_due d CloseWait o = alike_refl (text_of m d)
+  text_due : (d : Connection) (st : State) → is_open st ≡ true → Alike (text_segment m d) (due m st d)
+  text_due d Established o = alike_refl (text_segment m d)
+  text_due d CloseWait o = alike_refl (text_segment m d)
   text_due d Closed o = absurd (cc)
   text_due d SynRcvd o = absurd (cc)
   text_due d FinWait1 o = absurd (cc)
@@ -292,10 +292,10 @@ module _ (m : Meaning) (pages : Pages) (lawful : IsPaged m pages) where
   abbrev pub OutTold : Connection → Outcome → Type 0
   OutTold c o = StepTells c o.connection (segment_of m o.connection o.step) (is_again o.step)
 
-  text_placed : (d : Connection) → TextSafe d → 0 < d.len → has_place (text_of m d) ≡ true
+  text_placed : (d : Connection) → TextSafe d → 0 < d.len → has_place (text_segment m d) ≡ true
   text_placed d h l =
       let e : length (take d.len (drop d.part.acked (m.said d.part))) ≡ d.len = ap (λ t. length (take d.len (drop d.part.acked t))) (lawful.said d.part) ∙ cut_length (pages.text d.part.heard d.part.captures) d.part.acked d.len h.fits in
-      placed_by_length (text_of m d) (omega (arith, e, l))
+      placed_by_length (text_segment m d) (omega (arith, e, l))
 
   wanted_tells : (w : Want) (fresh : Bool) (c : Connection) (numbers : List ℕ) → is_open c.state ≡ true → c.len ≡ 0 → 0 < c.mss → 0 < c.initial_mss → TextSafe c → All IsMoment c.part.captures → MayWant pages c.part w →
       OutTold c (does_as_wanted w fresh c numbers)
@@ -311,7 +311,7 @@ module _ (m : Meaning) (pages : Pages) (lawful : IsPaged m pages) where
       let d : Connection = sends_text (min n c.mss) c in
       let some : 0 < d.len = omega (arith, w.0, ms) in
       let t : TextSafe d = record { fits = omega (arith, w.1); count = h.count } in
-      new_tells c d (text_of m d) (onto_idle c d refl z refl) (open_live c.state o)
+      new_tells c d (text_segment m d) (onto_idle c d refl z refl) (open_live c.state o)
       record { mss = ms; initial = ini; state = text_safe d c.state o t some }
       record { len = some; seq = refl; alike = text_due d c.state o } (λ x. absurd (omega (arith, x, z))) (text_placed d t some)
   wanted_tells Nothing fresh c numbers o z ms ini h fit w =
@@ -376,8 +376,8 @@ module _ (m : Meaning) (pages : Pages) (lawful : IsPaged m pages) where
   -- text of ESTABLISHED that is outstanding stays so in CLOSE-WAIT
   open_due : (c d : Connection) → c.state ≡ Established → is_open d.state ≡ true → take d.len (drop d.part.acked (m.said d.part)) ≡ take c.len (drop c.part.acked (m.said c.part)) → Alike (due m d.state d) (due m c.state c)
   open_due c d e o h =
-      alike_trans (due m d.state d) (text_of m d) (due m c.state c) (alike_sym (text_of m d) (due m d.state d) (text_due d d.state o))
-      (alike_trans (text_of m d) (text_of m c) (due m c.state c) record { flags = refl; text = h } (text_due c c.state (ap is_open e)))
+      alike_trans (due m d.state d) (text_segment m d) (due m c.state c) (alike_sym (text_segment m d) (due m d.state d) (text_due d d.state o))
+      (alike_trans (text_segment m d) (text_segment m c) (due m c.state c) record { flags = refl; text = h } (text_due c c.state (ap is_open e)))
 
   heard_onto : (c d : Connection) (text : List ℕ) → c.state ≡ Established → is_open d.state ≡ true → TextSafe c → Heard m pages lawful c.part d.part text → d.first ≡ c.first → d.acked ≡ c.acked → d.len ≡ c.len → Onto c d
   heard_onto c d text st o h x f ea el = record {
@@ -431,7 +431,7 @@ module _ (m : Meaning) (pages : Pages) (lawful : IsPaged m pages) where
   out_from c b d Step.Drop n o new none h = acked_tells c b d None o new none h
   out_from c b d Step.Ack n o new none h = acked_tells c b d (Some (bare_ack d)) o new none h
   out_from c b d (Step.SynAck again) n o new none h = subst (λ x. StepTells c d (Some (syn_ack d)) x) (sym n) (acked_tells c b d (Some (syn_ack d)) o new none (subst (λ x. StepTells b d (Some (syn_ack d)) x) n h))
-  out_from c b d (Step.Text again) n o new none h = subst (λ x. StepTells c d (Some (text_of m d)) x) (sym n) (acked_tells c b d (Some (text_of m d)) o new none (subst (λ x. StepTells b d (Some (text_of m d)) x) n h))
+  out_from c b d (Step.Text again) n o new none h = subst (λ x. StepTells c d (Some (text_segment m d)) x) (sym n) (acked_tells c b d (Some (text_segment m d)) o new none (subst (λ x. StepTells b d (Some (text_segment m d)) x) n h))
   out_from c b d (Step.Fin again) n o new none h = subst (λ x. StepTells c d (Some (fin_of d)) x) (sym n) (acked_tells c b d (Some (fin_of d)) o new none (subst (λ x. StepTells b d (Some (fin_of d)) x) n h))
   out_from c b d Step.Reset n o new none h = acked_tells c b d (Some (reset_of d)) o new none h
 
@@ -552,14 +552,14 @@ module _ (m : Meaning) (pages : Pages) (lawful : IsPaged m pages) where
     marked = λ x e p. only_some (λ y. has_place y ≡ true) s x e placed;
   }
 
-  text_place : (c : Connection) → TextSafe c → 0 < c.len → has_place (text_of m (grows_older c)) ≡ true
+  text_place : (c : Connection) → TextSafe c → 0 < c.len → has_place (text_segment m (grows_older c)) ≡ true
   text_place c h l = text_placed (grows_older c) record { fits = h.fits; count = h.count } l
 
   again_tells : (c : Connection) (st : State) → c.state ≡ st → is_live st ≡ true → Safe c → SafeState c st → 0 < c.len → OutTells c (grows_older c) (outstanding true st)
   again_tells c Closed e l f h some = absurd (cc)
   again_tells c SynRcvd e l f h some = repeat_tells c (syn_ack (grows_older c)) (ap is_live e) f some refl (subst (λ x. Alike (syn_ack (grows_older c)) (due m x (grows_older c))) (sym e) (alike_refl (syn_ack (grows_older c)))) refl
-  again_tells c Established e l f h some = repeat_tells c (text_of m (grows_older c)) (ap is_live e) f some refl (subst (λ x. Alike (text_of m (grows_older c)) (due m x (grows_older c))) (sym e) (alike_refl (text_of m (grows_older c)))) (text_place c h some)
-  again_tells c CloseWait e l f h some = repeat_tells c (text_of m (grows_older c)) (ap is_live e) f some refl (subst (λ x. Alike (text_of m (grows_older c)) (due m x (grows_older c))) (sym e) (alike_refl (text_of m (grows_older c)))) (text_place c h.text some)
+  again_tells c Established e l f h some = repeat_tells c (text_segment m (grows_older c)) (ap is_live e) f some refl (subst (λ x. Alike (text_segment m (grows_older c)) (due m x (grows_older c))) (sym e) (alike_refl (text_segment m (grows_older c)))) (text_place c h some)
+  again_tells c CloseWait e l f h some = repeat_tells c (text_segment m (grows_older c)) (ap is_live e) f some refl (subst (λ x. Alike (text_segment m (grows_older c)) (due m x (grows_older c))) (sym e) (alike_refl (text_segment m (grows_older c)))) (text_place c h.text some)
   again_tells c FinWait1 e l f h some = repeat_tells c (fin_of (grows_older c)) (ap is_live e) f some refl (subst (λ x. Alike (fin_of (grows_older c)) (due m x (grows_older c))) (sym e) (alike_refl (fin_of (grows_older c)))) refl
   again_tells c Closing e l f h some = repeat_tells c (fin_of (grows_older c)) (ap is_live e) f some refl (subst (λ x. Alike (fin_of (grows_older c)) (due m x (grows_older c))) (sym e) (alike_refl (fin_of (grows_older c)))) refl
   again_tells c LastAck e l f h some = repeat_tells c (fin_of (grows_older c)) (ap is_live e) f some refl (subst (λ x. Alike (fin_of (grows_older c)) (due m x (grows_older c))) (sym e) (alike_refl (fin_of (grows_older c)))) refl

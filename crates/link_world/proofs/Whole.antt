@@ -18,7 +18,7 @@ use Rattle.tcp_segment.specs.Segments.{PlainSegment, Datagram, datagram_bytes, s
 use Rattle.tcp_segment.proofs.Back.{segment_back}
 use Rattle.app_events.specs.Pages.{IsByte, IsAddr}
 use Rattle.link_world.specs.Bytes.{ping_from}
-use Rattle.link_world.specs.Headline.{IsWhole}
+use Rattle.link_world.specs.Headline.{IsWholeDatagram}
 use Rattle.link_world.proofs.Fits.{all_nil, all_cons}
 use Rattle.link_world.proofs.Sound.{IsSoundSegment}
 
@@ -129,7 +129,7 @@ datagram_short d p h = let n = whole_length d p in let s = size_low d h in omega
 pub datagram_back : (d : Datagram) → IsPlace d → IsSoundSegment d.segment → IsReadBack d
 datagram_back d p h = segment_back d record { source = p.source; target = p.target; from = p.from; to = p.to; id = p.id; seq = h.seq; ack = h.ack; flags = h.flags; window = h.window; mss = h.mss; size = size_low d h }
 
-pub datagram_whole : (d : Datagram) → IsPlace d → IsSoundSegment d.segment → IsWhole (datagram_bytes d)
+pub datagram_whole : (d : Datagram) → IsPlace d → IsSoundSegment d.segment → IsWholeDatagram (datagram_bytes d)
 datagram_whole d p h =
     let b : IsReadBack d = datagram_back d p h in
     record {
@@ -173,7 +173,7 @@ ping_low source addr s a =
     let low : Each IsByte ping = (omega arith, (omega arith, (omega arith, (omega arith, (omega arith, (omega arith, (omega arith, (omega arith, tt)))))))) in
     All-append IsByte (head_bytes 28 1 Icmp source.0 addr.0) ping (head_bytes_low 28 1 Icmp source.0 addr.0 (omega arith) (omega arith) s.all_bytes a.all_bytes) (each_all IsByte ping low)
 
-pub ping_whole : (source addr : Addr) → IsAddr source → IsAddr addr → IsWhole (ping_from source addr)
+pub ping_whole : (source addr : Addr) → IsAddr source → IsAddr addr → IsWholeDatagram (ping_from source addr)
 ping_whole source addr s a =
     let b : IsPingBack source addr = ping_back source addr s a in
     record {

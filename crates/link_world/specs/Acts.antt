@@ -7,14 +7,14 @@ use Rattle.uip_node.specs.Edge.{event_of}
 use Rattle.link_client.specs.Client.{AbstractClient, ClientStep, client_takes, client_opens, client_again, client_closes, client_aborts, tells_window}
 use Rattle.link_client.specs.declared.client_state.ClientState.{ClientState}
 use Rattle.link_client.specs.declared.client_state.ClientState.TheVariants.{Idle}
-use Rattle.link_world.specs.World.{World, Side, Sent, numbered, posts, node_handles, client_stepped, gives}
+use Rattle.link_world.specs.World.{World, Side, Sent, numbered, posts, node_handles, client_stepped, hands_to}
 use Rattle.link_world.specs.World.Content.{OfPing}
 use Rattle.link_world.specs.declared.act.Act.{Act}
 use Rattle.link_world.specs.declared.step_fault.StepFault.{StepFault}
 use Rattle.link_world.specs.declared.step_fault.StepFault.TheVariants.{NoDatagram, NoByte, AlreadyOpen, NotOpen, Full}
 use Rattle.link_world.specs.declared.who.Who.{Who}
 use Rattle.link_world.specs.declared.who.Who.TheVariants.{FromClient, FromNode, Pinger}
-use Rattle.link_world.specs.Bytes.{ping_from, bytes_of, changed, hears}
+use Rattle.link_world.specs.Bytes.{ping_from, sent_bytes, changed, hears_datagram}
 
 -- a client's own act
 abbrev pub client_acts : World → ℕ → (AbstractClient → ClientStep) → Option Side → World
@@ -32,7 +32,7 @@ client_handed w number side (Some s) = client_stepped w number side (client_take
 
 abbrev pub handed : World → ℕ → List ℕ → Option Side → World
 handed w number bytes None = w
-handed w number bytes (Some side) = client_handed w number side (hears side.client.setup bytes)
+handed w number bytes (Some side) = client_handed w number side (hears_datagram side.client.setup bytes)
 
 -- A damaged datagram is handed over as bytes. This is no delivery: no mark of a client changes.
 abbrev pub hands_over : Meaning → (ℕ → Bool) → World → List ℕ → Who → World
@@ -42,7 +42,7 @@ hands_over m served w bytes (FromNode number) = handed w number bytes (numbered 
 
 abbrev pub damages_at : Meaning → (ℕ → Bool) → World → ℕ → ℕ → Option Sent → World
 damages_at m served w at mask None = w
-damages_at m served w at mask (Some e) = hands_over m served w (changed (bytes_of w e) at mask) e.who
+damages_at m served w at mask (Some e) = hands_over m served w (changed (sent_bytes w e) at mask) e.who
 
 -- what an act does where it is not refused
 abbrev pub does : Meaning → (ℕ → Bool) → World → Act → World
@@ -52,7 +52,7 @@ does m served w (Act.Closes number) = client_acts w number client_closes (number
 does m served w (Act.Aborts number) = client_acts w number client_aborts (numbered w.sides number)
 does m served w (Act.Window number window) = client_acts w number (tells_window window) (numbered w.sides number)
 does m served w (Act.Ping source) = posts w Pinger false (OfPing (ping_from source w.node.addr))
-does m served w (Act.Give k) = gives m served w k (numbered w.sent k)
+does m served w (Act.Give k) = hands_to m served w k (numbered w.sent k)
 does m served w (Act.Damage k at mask) = damages_at m served w at mask (numbered w.sent k)
 does m served w Act.Tick = handles_all m served tick w
 
@@ -84,7 +84,7 @@ no_datagram (Some e) = None
 
 abbrev pub no_byte : World → ℕ → Option Sent → Option StepFault
 no_byte w at None = Some NoDatagram
-no_byte w at (Some e) = if nat_lt at (length (bytes_of w e)) then None else Some NoByte
+no_byte w at (Some e) = if nat_lt at (length (sent_bytes w e)) then None else Some NoByte
 
 -- why an act is refused, apart from want of numbers
 abbrev pub named_fault : World → Act → Option StepFault

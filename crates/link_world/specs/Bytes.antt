@@ -10,7 +10,7 @@ use Rattle.uip_node.specs.Events.{Event}
 use Rattle.uip_node.specs.Events.Event.{IpRefused, IcmpRefused, TcpRefused, EchoAsked, Arrived, Overlong, Periodic}
 use Rattle.uip_node.specs.Edge.{event_of, datagram_to}
 use Rattle.link_client.specs.declared.setup.Setup.{Setup}
-use Rattle.link_world.specs.World.{World, Side, Sent, Content, sockets_of, numbered}
+use Rattle.link_world.specs.World.{World, Side, Sent, Content, client_sockets, numbered}
 use Rattle.link_world.specs.World.Content.{OfSegment, OfPing, OfEcho}
 use Rattle.link_world.specs.declared.who.Who.{Who}
 use Rattle.link_world.specs.declared.who.Who.TheVariants.{FromClient, FromNode, Pinger}
@@ -29,7 +29,7 @@ client_bytes id s (Some side) = datagram_bytes (datagram_to side.client.setup.ad
 
 abbrev pub node_bytes : Addr → ℕ → PlainSegment → Option Side → List ℕ
 node_bytes addr id s None = []
-node_bytes addr id s (Some side) = datagram_bytes (datagram_to addr (sockets_of side) id s)
+node_bytes addr id s (Some side) = datagram_bytes (datagram_to addr (client_sockets side) id s)
 
 abbrev pub bytes_by : World → Who → Content → List ℕ
 bytes_by w (FromClient number) (OfSegment id s) = client_bytes id s (numbered w.sides number)
@@ -39,8 +39,8 @@ bytes_by w who (OfPing datagram) = datagram
 bytes_by w who (OfEcho request) = echo_reply request
 
 -- the bytes of a datagram that was sent
-abbrev pub bytes_of : World → Sent → List ℕ
-bytes_of w e = bytes_by w e.who e.content
+abbrev pub sent_bytes : World → Sent → List ℕ
+sent_bytes w e = bytes_by w e.who e.content
 
 -- the byte at a place is changed by exclusive or with the mask
 abbrev pub changed : List ℕ → ℕ → ℕ → List ℕ
@@ -56,5 +56,5 @@ heard_by setup (EchoAsked datagram) = None
 heard_by setup Overlong = None
 heard_by setup (Periodic place) = None
 
-abbrev pub hears : Setup → List ℕ → Option PlainSegment
-hears setup bytes = heard_by setup (event_of setup.addr bytes)
+abbrev pub hears_datagram : Setup → List ℕ → Option PlainSegment
+hears_datagram setup bytes = heard_by setup (event_of setup.addr bytes)

@@ -28,8 +28,8 @@ use Rattle.icmp_echo.specs.declared.fate.IcmpFate.TheVariants as Icmp
 use Rattle.tcp_segment.specs.declared.fate.TcpFate.TheVariants as Tcp
 use Rattle.tcp_segment.specs.Received.{segment_or_fate}
 use Rattle.tcp_segment.specs.declared.segment.Segment.{Segment}
-use Rattle.link_world.specs.Bytes.{bytes_of}
-use Rattle.link_world.specs.World.{World, Side, Sent, numbered, sockets_of, is_clean}
+use Rattle.link_world.specs.Bytes.{sent_bytes}
+use Rattle.link_world.specs.World.{World, Side, Sent, numbered, client_sockets, is_clean}
 use Rattle.link_world.specs.World.Content.{OfSegment}
 use Rattle.link_world.specs.declared.who.Who.{Who}
 use Rattle.link_world.specs.declared.who.Who.TheVariants.{FromClient, FromNode, Pinger}
@@ -100,7 +100,7 @@ OfLine P Event.Half = (number : ℕ) → P (Act.Give number)
 OfLine P Event.Lose = Unit {0}
 
 -- The world that the lines of a schedule reach, each of them accepted.
-pub record IsPlayed (m : Meaning) (pages : Pages) (w : World) : Type 0 where
+pub record IsSchedulePlayed (m : Meaning) (pages : Pages) (w : World) : Type 0 where
   pub served : ℕ → Bool
   pub addr : Addr
   pub is_addr : IsAddr addr
@@ -115,7 +115,7 @@ pub record IsPlayed (m : Meaning) (pages : Pages) (w : World) : Type 0 where
 
 -- What lines reach, acts reach, apart from the mark, of which no law speaks.
 abbrev pub LinesAreActs : Type 0
-LinesAreActs = (m : Meaning) (pages : Pages) (w : World) → IsPlayed m pages w → IsReached m pages (record w { mark = 0 })
+LinesAreActs = (m : Meaning) (pages : Pages) (w : World) → IsSchedulePlayed m pages w → IsReached m pages (record w { mark = 0 })
 
 -- A client has received a prefix of its page, and the whole page where it saw a plain close.
 pub record IsServed (pages : Pages) (w : World) (side : Side) : Type 0 where
@@ -169,7 +169,7 @@ AgainExactly =
 
 -- the connection that serves a client
 abbrev pub server_side : World → Side → Connection
-server_side w side = serving (sockets_of side) w.node.connections
+server_side w side = serving (client_sockets side) w.node.connections
 
 -- Where a client stands beside a connection, whose first number is `first`: it took `ahead` numbers after the SYN, and has
 -- acknowledged no more than these. While the connection lives, at most what is outstanding there is not taken here.
@@ -223,7 +223,7 @@ abbrev pub PassesBy : Proto → IpHead → List ℕ → Type 0
 PassesBy TcpProto head bytes = (s : Segment) × (segment_or_fate head bytes ≡ Ok s)
 PassesBy IcmpProto head bytes = echo_fate (payload_of head bytes) ≡ None
 
-pub record IsWhole (bytes : List ℕ) : Type 0 where
+pub record IsWholeDatagram (bytes : List ℕ) : Type 0 where
   pub head : IpHead
   pub is : IsHeadOf head bytes
   pub total : head.total ≡ length bytes
@@ -286,5 +286,5 @@ CountsBy (FromNode number) w v = v.node.past ≡ w.node.past
 -- connection and no list; where it was sent to the node, its past has one refused datagram more.
 abbrev pub DamageIsLoss : Type 0
 DamageIsLoss =
-    (m : Meaning) (served : ℕ → Bool) (w : World) (k at mask : ℕ) (e : Sent) → numbered w.sent k ≡ Some e → IsWhole (bytes_of w e) → at < length (bytes_of w e) → 1 ≤ mask → mask < 256 →
+    (m : Meaning) (served : ℕ → Bool) (w : World) (k at mask : ℕ) (e : Sent) → numbered w.sent k ≡ Some e → IsWholeDatagram (sent_bytes w e) → at < length (sent_bytes w e) → 1 ≤ mask → mask < 256 →
     IsLoss w (does m served w (Act.Damage k at mask)) × CountsBy e.who w (does m served w (Act.Damage k at mask))

@@ -8,7 +8,7 @@ use Rattle.tcp_machine.specs.Connection.{Sockets, Connection, closed, serves}
 use Rattle.uip_node.specs.Node.{opening}
 use Rattle.link_client.specs.Client.{idle}
 use Rattle.link_client.specs.declared.setup.Setup.{Setup}
-use Rattle.link_world.specs.World.{World, Side, Era, sockets_of}
+use Rattle.link_world.specs.World.{World, Side, Era, client_sockets}
 
 -- the first connection that serves these sockets; one that is CLOSED where none does
 abbrev pub serving : Sockets → List Connection → Connection
@@ -31,7 +31,7 @@ captures_in (Some o) past c = (era past c o).captures
 
 -- the captures of a client: those of the server's connection of the epoch in which it opened
 abbrev pub captures_of : World → Side → List Moment
-captures_of w side = captures_in side.opened side.past (serving (sockets_of side) w.node.connections)
+captures_of w side = captures_in side.opened side.past (serving (client_sockets side) w.node.connections)
 
 -- the page of a client: that of its whole request and its captures
 abbrev pub page_of : Pages → World → Side → List ℕ

@@ -7,7 +7,7 @@ use Rattle.app_events.specs.Laws.{IsPrefixOf}
 use Rattle.app_events.specs.Pages.{Pages, IsPaged}
 use Rattle.app_events.specs.declared.state.State.TheVariants.{SynRcvd, Established, CloseWait}
 use Rattle.tcp_machine.specs.Connection.{Connection, is_live}
-use Rattle.link_client.specs.Client.{AbstractClient, first_of, fin_sent}
+use Rattle.link_client.specs.Client.{AbstractClient, own_first, fin_sent}
 use Rattle.link_world.specs.World.{World, Side, Sent, Era, is_clean}
 use Rattle.link_world.specs.World.Content.{OfSegment}
 use Rattle.link_world.specs.declared.who.Who.TheVariants.{FromClient, FromNode}
@@ -46,7 +46,7 @@ pub record SaysPage (pages : Pages) (side : Side) (epoch : ℕ) (era : Era) (s :
 pub record AsksRequest (side : Side) (s : PlainSegment) : Type 0 where
   pub at : ℕ
   pub slice : IsSlice side.client.request s.text at
-  pub seq : s.seq ≡ wrap (first_of side.client + 1 + at)
+  pub seq : s.seq ≡ wrap (own_first side.client + 1 + at)
 
 -- Before a client opens nothing is received, and its connection is not past SYN-RECEIVED. After it opened, its connection lives
 -- in that epoch alone.

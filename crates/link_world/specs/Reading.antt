@@ -5,9 +5,9 @@ use Rattle.app_events.specs.Part.{Meaning}
 use Rattle.app_events.specs.Pages.{Pages, IsPaged}
 use Rattle.uip_node.specs.Events.Event.{EchoAsked, Arrived}
 use Rattle.uip_node.specs.Edge.{event_of}
-use Rattle.link_world.specs.World.{World, Side, Sent, Content, numbered, sockets_of}
+use Rattle.link_world.specs.World.{World, Side, Sent, Content, numbered, client_sockets}
 use Rattle.link_world.specs.World.Content.{OfSegment, OfPing, OfEcho}
-use Rattle.link_world.specs.Bytes.{bytes_of, hears}
+use Rattle.link_world.specs.Bytes.{sent_bytes, hears_datagram}
 use Rattle.link_world.specs.declared.who.Who.{Who}
 use Rattle.link_world.specs.declared.who.Who.TheVariants.{FromClient, FromNode, Pinger}
 use Rattle.link_world.specs.Headline.{HasBytes, IsReached}
@@ -16,9 +16,9 @@ use Rattle.link_world.specs.Headline.{HasBytes, IsReached}
 -- server is the node.
 abbrev pub IsRead : World → Who → Content → List ℕ → Type 0
 IsRead w (FromClient number) (OfSegment id s) bytes =
-    (side : Side) → numbered w.sides number ≡ Some side → side.client.setup.server ≡ w.node.addr → event_of w.node.addr bytes ≡ Arrived (sockets_of side) s
+    (side : Side) → numbered w.sides number ≡ Some side → side.client.setup.server ≡ w.node.addr → event_of w.node.addr bytes ≡ Arrived (client_sockets side) s
 IsRead w (FromNode number) (OfSegment id s) bytes =
-    (side : Side) → numbered w.sides number ≡ Some side → side.client.setup.server ≡ w.node.addr → hears side.client.setup bytes ≡ Some s
+    (side : Side) → numbered w.sides number ≡ Some side → side.client.setup.server ≡ w.node.addr → hears_datagram side.client.setup bytes ≡ Some s
 IsRead w Pinger (OfPing datagram) bytes = event_of w.node.addr bytes ≡ EchoAsked datagram
 IsRead w who content bytes = Unit {0}  -- nothing else is delivered
 
@@ -26,7 +26,7 @@ IsRead w who content bytes = Unit {0}  -- nothing else is delivered
 abbrev pub BytesAreRead : Type 0
 BytesAreRead =
     (m : Meaning) (pages : Pages) → IsPaged m pages → HasBytes pages → (w : World) → IsReached m pages w →
-    (k : ℕ) (e : Sent) → slice_get w.sent k ≡ Some e → IsRead w e.who e.content (bytes_of w e) × (length (bytes_of w e) ≤ LARGEST_DATAGRAM)
+    (k : ℕ) (e : Sent) → slice_get w.sent k ≡ Some e → IsRead w e.who e.content (sent_bytes w e) × (length (sent_bytes w e) ≤ LARGEST_DATAGRAM)
 
 -- a client has this number
 abbrev pub IsNumberOf : List Side → ℕ → Type 0

@@ -35,8 +35,8 @@ abbrev pub is_clean : Side → Bool
 is_clean side = is_none side.first_stale
 
 -- the sockets of the server's connection with a client
-abbrev pub sockets_of : Side → Sockets
-sockets_of side = record { peer = side.client.setup.addr; peer_port = side.client.setup.port; own_port = side.client.setup.server_port }
+abbrev pub client_sockets : Side → Sockets
+client_sockets side = record { peer = side.client.setup.addr; peer_port = side.client.setup.port; own_port = side.client.setup.server_port }
 
 -- What a datagram is, apart from its addresses.
 pub data Content : Type 0 where
@@ -70,7 +70,7 @@ set_numbered xs (suc n) x = slice_set xs n x
 -- the client whose connection became CLOSED is one epoch on
 abbrev pub buries_in : Connection → Side → Side
 buries_in gone side =
-    if same_sockets gone.sockets (sockets_of side)
+    if same_sockets gone.sockets (client_sockets side)
     then record side { past = side.past ++ record { first = gone.first; captures = gone.part.captures } ∷ [] }
     else side
 
@@ -81,7 +81,7 @@ buries (Some gone) sides = map (buries_in gone) sides
 -- the client, by its number, whose sockets a datagram of the node has; 0 where there is none
 abbrev pub addressed : ℕ → Sockets → List Side → ℕ
 addressed number sockets [] = 0
-addressed number sockets (side ∷ sides) = if same_sockets sockets (sockets_of side) then number else addressed (number + 1) sockets sides
+addressed number sockets (side ∷ sides) = if same_sockets sockets (client_sockets side) then number else addressed (number + 1) sockets sides
 
 abbrev pub epoch_at : Option Side → ℕ
 epoch_at None = 0
@@ -146,7 +146,7 @@ marked side number e = record side {
 abbrev pub gives_node : Meaning → (ℕ → Bool) → World → ℕ → ℕ → Sent → PlainSegment → Option Side → World
 gives_node m served w number k e s None = w
 gives_node m served w number k e s (Some side) =
-    node_handles m served (with_side w number (marked side k e)) (Arrived (sockets_of side) s)
+    node_handles m served (with_side w number (marked side k e)) (Arrived (client_sockets side) s)
 
 -- datagram k, sent to client `number`, is delivered to it
 abbrev pub gives_client : World → ℕ → ℕ → Sent → PlainSegment → Option Side → World
@@ -160,6 +160,6 @@ delivers m served w k e (FromNode number) (OfSegment id s) = gives_client w numb
 delivers m served w k e Pinger (OfPing datagram) = node_handles m served w (EchoAsked datagram)
 delivers m served w k e _ _ = w
 
-abbrev pub gives : Meaning → (ℕ → Bool) → World → ℕ → Option Sent → World
-gives m served w k None = w
-gives m served w k (Some e) = delivers m served w k e e.who e.content
+abbrev pub hands_to : Meaning → (ℕ → Bool) → World → ℕ → Option Sent → World
+hands_to m served w k None = w
+hands_to m served w k (Some e) = delivers m served w k e e.who e.content

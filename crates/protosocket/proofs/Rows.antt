@@ -1,6 +1,6 @@
 -- Words computed from the definitions.
 use Rattle.std.proofs.Common.{◌≡◌, true, false, [], ◌++◌, codes, replicate, refl}
-use Rattle.protosocket.specs.Line.{after, fresh, heard, taken}
+use Rattle.protosocket.specs.Line.{after, fresh, heard, part_taken}
 use Rattle.protosocket.specs.declared.stops.Stops.TheVariants.{Space, SpaceOrLine}
 
 -- a method ends at a space, and a line's end is part of it
@@ -17,7 +17,7 @@ path = refl
 old_request : heard SpaceOrLine (codes "/a\r\n") ≡ record { name = codes "/a"; over = false; query = false; done = true; stops = SpaceOrLine }
 old_request = refl
 
-line_feed : taken (fresh SpaceOrLine) (codes "/a\nb") ≡ 3
+line_feed : part_taken (fresh SpaceOrLine) (codes "/a\nb") ≡ 3
 line_feed = refl
 
 nothing : heard SpaceOrLine (codes " /a") ≡ record { name = []; over = false; query = false; done = true; stops = SpaceOrLine }
@@ -32,5 +32,5 @@ one_too_many : heard Space (replicate 65 65) ≡ record { name = replicate 64 65
 one_too_many = refl
 
 -- a piece after the stop is left
-left_alone : taken (after (fresh Space) (codes "GET ")) (codes "/") ≡ 0
+left_alone : part_taken (after (fresh Space) (codes "GET ")) (codes "/") ≡ 0
 left_alone = refl

@@ -6,7 +6,7 @@ use Rattle.std.proofs.lemmas.List.{take-take, take_all, take-append-le}
 use Rattle.std.proofs.lemmas.List.Folds.{list_any-append}
 use Rattle.std.proofs.lemmas.List.Sums.{take_while-cons}
 use Rattle.std.proofs.Math.Bool.{or_assoc}
-use Rattle.protosocket.specs.Line.{Line, is_stop, is_mark, word_of, name_part, with_word, after, taken}
+use Rattle.protosocket.specs.Line.{Line, is_stop, is_query_mark, word_of, name_part, with_word, after, part_taken}
 
 -- what stands before the first element that passes
 first_here : (p : ℕ → Bool) (x : ℕ) (xs : List ℕ) → p x ≡ true → before_first p (x ∷ xs) ≡ []
@@ -50,12 +50,12 @@ stop_fits p (x ∷ xs) =
     ] refl
 
 -- the name grows by the word's part, whichever way the word is cut
-name_parts : (query : Bool) (a b : List ℕ) → name_part query (a ++ b) ≡ name_part query a ++ name_part (query || list_any is_mark a) b
+name_parts : (query : Bool) (a b : List ℕ) → name_part query (a ++ b) ≡ name_part query a ++ name_part (query || list_any is_query_mark a) b
 name_parts true a b = refl
 name_parts false a b =
-    elim (list_any is_mark a) as (λ m. list_any is_mark a ≡ m → before_first is_mark (a ++ b) ≡ before_first is_mark a ++ name_part m b) [
-      | true ↦ λ h. one_before is_mark a b h ∙ sym (append-nil (before_first is_mark a))
-      | false ↦ λ h. none_before is_mark a b h ∙ ap (λ front. front ++ before_first is_mark b) (sym (none_at_all is_mark a h))
+    elim (list_any is_query_mark a) as (λ m. list_any is_query_mark a ≡ m → before_first is_query_mark (a ++ b) ≡ before_first is_query_mark a ++ name_part m b) [
+      | true ↦ λ h. one_before is_query_mark a b h ∙ sym (append-nil (before_first is_query_mark a))
+      | false ↦ λ h. none_before is_query_mark a b h ∙ ap (λ front. front ++ before_first is_query_mark b) (sym (none_at_all is_query_mark a h))
     ] refl
 
 kept_in_turn : (n : ℕ) (a b : List ℕ) → take n (take n a ++ b) ≡ take n (a ++ b)
@@ -82,7 +82,7 @@ over_in_turn n a b =
 with_words : (line : Line) (a b : List ℕ) → with_word line (a ++ b) ≡ with_word (with_word line a) b
 with_words line a b =
     let part : List ℕ = name_part line.query a in
-    let rest : List ℕ = name_part (line.query || list_any is_mark a) b in
+    let rest : List ℕ = name_part (line.query || list_any is_query_mark a) b in
     let whole : line.name ++ name_part line.query (a ++ b) ≡ (line.name ++ part) ++ rest =
     ap (λ r. line.name ++ r) (name_parts line.query a b) ∙ sym (append_assoc line.name part rest) in
     let name : take 64 (line.name ++ name_part line.query (a ++ b)) ≡ take 64 (take 64 (line.name ++ part) ++ rest) =
@@ -92,23 +92,23 @@ with_words line a b =
     ap (λ r. line.over || nat_lt 64 (length r)) whole
     ∙ ap (λ more. line.over || more) (over_in_turn 64 (line.name ++ part) rest)
     ∙ sym (or_assoc line.over (nat_lt 64 (length (line.name ++ part))) (nat_lt 64 (length (take 64 (line.name ++ part) ++ rest)))) in
-    let query : (line.query || list_any is_mark (a ++ b)) ≡ (line.query || list_any is_mark a || list_any is_mark b) =
-    ap (λ more. line.query || more) (list_any-append is_mark a b)
-    ∙ sym (or_assoc line.query (list_any is_mark a) (list_any is_mark b)) in
+    let query : (line.query || list_any is_query_mark (a ++ b)) ≡ (line.query || list_any is_query_mark a || list_any is_query_mark b) =
+    ap (λ more. line.query || more) (list_any-append is_query_mark a b)
+    ∙ sym (or_assoc line.query (list_any is_query_mark a) (list_any is_query_mark b)) in
     λ i. record line { name = name i; over = over i; query = query i }
 
 -- pieces to a line that is not done
 abbrev open_after : Line → List ℕ → Line
 open_after line piece = record (with_word line (word_of line.stops piece)) { done = list_any (is_stop line.stops) piece }
 
-pub takes_front : (line : Line) (piece : List ℕ) → taken line piece ≤ length piece
+pub takes_front : (line : Line) (piece : List ℕ) → part_taken line piece ≤ length piece
 takes_front line piece =
     elim line.done as (λ d. (if d then 0 else length (word_of line.stops piece) + (if list_any (is_stop line.stops) piece then 1 else 0)) ≤ length piece) [
       | true ↦ omega arith
       | false ↦ stop_fits (is_stop line.stops) piece
     ]
 
-pub takes_nothing : (line : Line) (piece : List ℕ) → line.done ≡ true → (taken line piece ≡ 0) × (after line piece ≡ line)
+pub takes_nothing : (line : Line) (piece : List ℕ) → line.done ≡ true → (part_taken line piece ≡ 0) × (after line piece ≡ line)
 takes_nothing line piece e = (
   ap (λ d. if d then 0 else length (word_of line.stops piece) + (if list_any (is_stop line.stops) piece then 1 else 0)) e,
   ap (λ d. if d then line else record (with_word line (word_of line.stops piece)) { done = list_any (is_stop line.stops) piece }) e,
@@ -120,12 +120,12 @@ opened line piece e = ap (λ d. if d then line else open_after line piece) e
 abbrev open_taken : Line → List ℕ → ℕ
 open_taken line piece = length (word_of line.stops piece) + (if list_any (is_stop line.stops) piece then 1 else 0)
 
-took : (line : Line) (piece : List ℕ) → line.done ≡ false → taken line piece ≡ open_taken line piece
+took : (line : Line) (piece : List ℕ) → line.done ≡ false → part_taken line piece ≡ open_taken line piece
 took line piece e = ap (λ d. if d then 0 else open_taken line piece) e
 
-pub takes_all : (line : Line) (piece : List ℕ) → (after line piece).done ≡ false → taken line piece ≡ length piece
+pub takes_all : (line : Line) (piece : List ℕ) → (after line piece).done ≡ false → part_taken line piece ≡ length piece
 takes_all line piece e =
-    elim line.done as (λ d. line.done ≡ d → taken line piece ≡ length piece) [
+    elim line.done as (λ d. line.done ≡ d → part_taken line piece ≡ length piece) [
       | true ↦ λ h. elim (true≢false (sym h ∙ sym (ap (λ l. l.done) (takes_nothing line piece h).1) ∙ e)) [ ]
       | false ↦ λ h.
           let none : list_any (is_stop line.stops) piece ≡ false = sym (ap (λ l. l.done) (opened line piece h)) ∙ e in
@@ -137,7 +137,7 @@ takes_all line piece e =
 
 -- the two equations of hearing joined pieces
 abbrev Joins : Line → List ℕ → List ℕ → Type 0
-Joins line xs ys = (after line (xs ++ ys) ≡ after (after line xs) ys) × (taken line (xs ++ ys) ≡ taken line xs + taken (after line xs) ys)
+Joins line xs ys = (after line (xs ++ ys) ≡ after (after line xs) ys) × (part_taken line (xs ++ ys) ≡ part_taken line xs + part_taken (after line xs) ys)
 
 stopped : (line : Line) (xs ys : List ℕ) → line.done ≡ false → list_any (is_stop line.stops) xs ≡ true → Joins line xs ys
 stopped line xs ys h m =
@@ -145,12 +145,12 @@ stopped line xs ys h m =
     let stop : list_any (is_stop line.stops) (xs ++ ys) ≡ list_any (is_stop line.stops) xs =
     list_any-append (is_stop line.stops) xs ys ∙ ap (λ d. d || list_any (is_stop line.stops) ys) m ∙ sym m in
     let first : after line xs ≡ open_after line xs = opened line xs h in
-    let none : (taken (open_after line xs) ys ≡ 0) × (after (open_after line xs) ys ≡ open_after line xs) =
+    let none : (part_taken (open_after line xs) ys ≡ 0) × (after (open_after line xs) ys ≡ open_after line xs) =
     takes_nothing (open_after line xs) ys m in
     let same : open_after line (xs ++ ys) ≡ open_after line xs = λ i. record (with_word line (word i)) { done = stop i } in
     let all : open_taken line (xs ++ ys) ≡ open_taken line xs = λ i. length (word i) + (if stop i then 1 else 0) in (
       opened line (xs ++ ys) h ∙ same ∙ sym (none.1) ∙ ap (λ l. after l ys) (sym first),
-      omega (arith, took line (xs ++ ys) h, all, took line xs h, none.0, ap (λ l. taken l ys) first),
+      omega (arith, took line (xs ++ ys) h, all, took line xs h, none.0, ap (λ l. part_taken l ys) first),
     )
 
 goes_on : (line : Line) (xs ys : List ℕ) → line.done ≡ false → list_any (is_stop line.stops) xs ≡ false → Joins line xs ys
@@ -175,7 +175,7 @@ goes_on line xs ys h m =
         front,
         length-append (word_of line.stops xs) (word_of line.stops ys),
         took (open_after line xs) ys m,
-        ap (λ l. taken l ys) first,
+        ap (λ l. part_taken l ys) first,
       ),
     )
 
@@ -185,7 +185,7 @@ hears_joined line xs ys =
       | true ↦ λ h.
           let first : after line xs ≡ line = (takes_nothing line xs h).1 in (
             (takes_nothing line (xs ++ ys) h).1 ∙ sym ((takes_nothing line ys h).1) ∙ ap (λ l. after l ys) (sym first),
-            omega (arith, (takes_nothing line (xs ++ ys) h).0, (takes_nothing line xs h).0, (takes_nothing line ys h).0, ap (λ l. taken l ys) first),
+            omega (arith, (takes_nothing line (xs ++ ys) h).0, (takes_nothing line xs h).0, (takes_nothing line ys h).0, ap (λ l. part_taken l ys) first),
           )
       | false ↦ λ h.
           elim (list_any (is_stop line.stops) xs) as (λ m. list_any (is_stop line.stops) xs ≡ m → Joins line xs ys) [

@@ -18,8 +18,8 @@ is_stop Space byte = byte == 32
 is_stop SpaceOrLine byte = (byte == 32) || ((byte == 13) || (byte == 10))
 
 -- '?' ends a name
-abbrev pub is_mark : ℕ → Bool
-is_mark byte = byte == 63
+abbrev pub is_query_mark : ℕ → Bool
+is_query_mark byte = byte == 63
 
 -- the part of a piece that belongs to the word
 abbrev pub word_of : Stops → List ℕ → List ℕ
@@ -27,7 +27,7 @@ word_of stops piece = before_first (is_stop stops) piece
 
 -- the part of further bytes of a word that belongs to its name: nothing, where a '?' came before
 abbrev pub name_part : Bool → List ℕ → List ℕ
-name_part query word = if query then [] else before_first is_mark word
+name_part query word = if query then [] else before_first is_query_mark word
 
 -- so many bytes of a name are kept
 abbrev pub longest_name : ℕ
@@ -38,7 +38,7 @@ abbrev pub with_word : Line → List ℕ → Line
 with_word line word = record line {
   name = take longest_name (line.name ++ name_part line.query word);
   over = line.over || nat_lt longest_name (length (line.name ++ name_part line.query word));
-  query = line.query || list_any is_mark word;
+  query = line.query || list_any is_query_mark word;
 }
 
 -- a piece is heard
@@ -48,8 +48,8 @@ after line piece =
     else record (with_word line (word_of line.stops piece)) { done = list_any (is_stop line.stops) piece }
 
 -- the bytes that are taken of it: those of the word, and its stop
-abbrev pub taken : Line → List ℕ → ℕ
-taken line piece =
+abbrev pub part_taken : Line → List ℕ → ℕ
+part_taken line piece =
     if line.done then 0
     else length (word_of line.stops piece) + (if list_any (is_stop line.stops) piece then 1 else 0)
 
@@ -60,9 +60,9 @@ fresh stops = record { name = []; over = false; query = false; done = false; sto
 -- a line that heard these bytes in all: the name is what stands before the word's first '?'
 abbrev pub heard : Stops → List ℕ → Line
 heard stops bytes = record {
-  name = take longest_name (before_first is_mark (word_of stops bytes));
-  over = nat_lt longest_name (length (before_first is_mark (word_of stops bytes)));
-  query = list_any is_mark (word_of stops bytes);
+  name = take longest_name (before_first is_query_mark (word_of stops bytes));
+  over = nat_lt longest_name (length (before_first is_query_mark (word_of stops bytes)));
+  query = list_any is_query_mark (word_of stops bytes);
   done = list_any (is_stop stops) bytes;
   stops = stops;
 }

@@ -2,7 +2,7 @@
 
 ghost use Rattle.std.specs.Prelude.{◌≡◌, ◌+◌, ◌++◌, ◌||◌, ◌≤◌, length, nat_lt, position, take};
 ghost use Rattle.std.specs.List.{before_first, list_any};
-ghost use Rattle.protosocket.specs.Line.{after, taken, fresh, is_mark, is_stop, longest_name, name_part, with_word, word_of};
+ghost use Rattle.protosocket.specs.Line.{after, part_taken, fresh, is_query_mark, is_stop, longest_name, name_part, with_word, word_of};
 ghost use Rattle.protosocket.specs.Hearing.{takes_front, takes_all, takes_nothing, hears_joined};
 
 use crate::stops::Stops;
@@ -50,7 +50,7 @@ fn until_stop(piece: &[u8], stops: Stops) -> (&[u8], bool)
 
 /// The place of the first `?`.
 fn mark_in(word: &[u8]) -> Option<usize>
-    ensures { result ≡ position is_mark word.now }
+    ensures { result ≡ position is_query_mark word.now }
 {
     word.iter().position(|byte| *byte == b'?')
 }
@@ -58,8 +58,8 @@ fn mark_in(word: &[u8]) -> Option<usize>
 /// What stands in the word before the first `?`, and whether one is there.
 #[tactic(auto, using(crate::proofs::Cutting::cut_there, crate::proofs::Cutting::is_there, crate::proofs::Cutting::not_there, crate::proofs::Cutting::not_cut))]
 fn until_mark(word: &[u8]) -> (&[u8], bool)
-    ensures name { result.0.now ≡ before_first is_mark word.now }
-    ensures mark { result.1 ≡ list_any is_mark word.now }
+    ensures name { result.0.now ≡ before_first is_query_mark word.now }
+    ensures mark { result.1 ≡ list_any is_query_mark word.now }
 {
     match mark_in(word) {
         Some(end) => (&word[..end], true),
@@ -109,7 +109,7 @@ impl Hears for LineIn {
 
     ghost after = { after };
 
-    ghost taken = { taken };
+    ghost taken = { part_taken };
 
     fn feed(&mut self, piece: &[u8]) -> usize {
         if self.done {

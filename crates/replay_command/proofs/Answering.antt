@@ -19,7 +19,7 @@ use Rattle.web_pages.specs.Requests.Wanted.{NotYet, Refused, Name}
 use Rattle.web_pages.specs.Deciding.{name_stays}
 use Rattle.web_pages.specs.Pieces.{Say}
 use Rattle.web_pages.specs.Pieces.Say.{Plain, Made}
-use Rattle.web_pages.specs.Pages.{takes_capture, made_text, hits_of, text_of, reach_end, page_for, whole_for, page, is_whole}
+use Rattle.web_pages.specs.Pages.{takes_capture, made_text, hits_of, page_text, reach_end, page_for, whole_for, page, is_page_whole}
 use Rattle.web_pages.specs.Growing.{silent_text, silent_end, stopped_text, made_first, made_end}
 use Rattle.web_pages.specs.WebLaws.{newdata_grows, with_capture}
 use Rattle.web_pages.specs.WebMeaning.{web_meaning, web_want, is_acknowledged, waits_for_capture, left_of}
@@ -98,27 +98,27 @@ module _ (files : List File) where
     abbrev Less : List Say → List Moment → ℕ → ℕ → Type 0
     Less pieces captures a x = left_in mss some (sizes pieces captures) (a + x) < left_in mss some (sizes pieces captures) a
 
-    pub less_left : (pieces : List Say) (captures : List Moment) (a x : ℕ) → 0 < x → a + x ≤ length (text_of files pieces captures) → (x ≡ mss) ⊎ (a + x ≡ length (text_of files pieces captures)) → Less pieces captures a x
+    pub less_left : (pieces : List Say) (captures : List Moment) (a x : ℕ) → 0 < x → a + x ≤ length (page_text files pieces captures) → (x ≡ mss) ⊎ (a + x ≡ length (page_text files pieces captures)) → Less pieces captures a x
     less_left [] captures a x l within whole = absurd (omega arith)
     less_left (Plain text ∷ more) captures a x l within whole =
-        by_piece (length text) (length (text_of files more captures)) (length (text ++ text_of files more captures)) a x (sizes more captures) (length-append text (text_of files more captures)) l within whole
+        by_piece (length text) (length (page_text files more captures)) (length (text ++ page_text files more captures)) a x (sizes more captures) (length-append text (page_text files more captures)) l within whole
         (λ b w i. less_left more captures b x l w i)
     less_left (Made function argument ∷ more) [] a x l within whole =
         both_ways (takes_capture function)
         (λ e. absurd (let z : ⊥ = omega (arith, l, within, ap length (stopped_text files function argument more e)) in z))
-        (λ e. by_piece (length_at_most function) (length (text_of files more [])) (length (text_of files (Made function argument ∷ more) [])) a x (sizes more [])
-        (let z : length (text_of files (Made function argument ∷ more) []) ≡ length_at_most function + length (text_of files more []) =
+        (λ e. by_piece (length_at_most function) (length (page_text files more [])) (length (page_text files (Made function argument ∷ more) [])) a x (sizes more [])
+        (let z : length (page_text files (Made function argument ∷ more) []) ≡ length_at_most function + length (page_text files more []) =
         omega (arith, ap length (silent_text files function argument more [] e), silent_none function e) in z) l within whole
         (λ b w i. less_left more [] b x l w i))
     less_left (Made function argument ∷ more) (capture ∷ later) a x l within whole =
         both_ways (takes_capture function)
         (λ e. subst (λ s. left_in mss some s (a + x) < left_in mss some s a) (sym (taken_size function argument more capture later e))
-        (by_piece (length (made_text files function argument capture)) (length (text_of files more later)) (length (text_of files (Made function argument ∷ more) (capture ∷ later))) a x (sizes more later)
-        (ap length (made_first files function argument more capture later e) ∙ length-append (made_text files function argument capture) (text_of files more later)) l within whole
+        (by_piece (length (made_text files function argument capture)) (length (page_text files more later)) (length (page_text files (Made function argument ∷ more) (capture ∷ later))) a x (sizes more later)
+        (ap length (made_first files function argument more capture later e) ∙ length-append (made_text files function argument capture) (page_text files more later)) l within whole
         (λ b w i. less_left more later b x l w i)))
         (λ e. subst (λ s. left_in mss some s (a + x) < left_in mss some s a) (sym (silent_size function argument more (capture ∷ later) e))
-        (by_piece (length_at_most function) (length (text_of files more (capture ∷ later))) (length (text_of files (Made function argument ∷ more) (capture ∷ later))) a x (sizes more (capture ∷ later))
-        (let z : length (text_of files (Made function argument ∷ more) (capture ∷ later)) ≡ length_at_most function + length (text_of files more (capture ∷ later)) =
+        (by_piece (length_at_most function) (length (page_text files more (capture ∷ later))) (length (page_text files (Made function argument ∷ more) (capture ∷ later))) a x (sizes more (capture ∷ later))
+        (let z : length (page_text files (Made function argument ∷ more) (capture ∷ later)) ≡ length_at_most function + length (page_text files more (capture ∷ later)) =
         omega (arith, ap length (silent_text files function argument more (capture ∷ later) e), silent_none function e) in z) l within whole
         (λ b w i. less_left more (capture ∷ later) b x l w i)))
 
@@ -131,49 +131,49 @@ module _ (files : List File) where
         let rest : a - n ≡ said = omega (arith, e) in
         omega (arith, behind mss some n a after (omega (arith, e)), behind mss some n a before (omega (arith, e)), ap (λ k. left_in mss some after k) rest, ap (λ k. left_in mss some before k) rest, h)
 
-    fewer_left : (pieces : List Say) (captures : List Moment) (capture : Moment) (a : ℕ) → IsMoment capture → reach_end pieces captures ≡ false → a ≡ length (text_of files pieces captures) →
+    fewer_left : (pieces : List Say) (captures : List Moment) (capture : Moment) (a : ℕ) → IsMoment capture → reach_end pieces captures ≡ false → a ≡ length (page_text files pieces captures) →
         Fewer (sizes pieces (captures ++ capture ∷ [])) (sizes pieces captures) a
     fewer_left [] captures capture a is stops h = absurd (cc)
     fewer_left (Plain text ∷ more) captures capture a is stops h =
-        past_piece (length text) (length (text_of files more captures)) a (sizes more (captures ++ capture ∷ [])) (sizes more captures) (h ∙ length-append text (text_of files more captures))
-        (fewer_left more captures capture (length (text_of files more captures)) is stops refl)
+        past_piece (length text) (length (page_text files more captures)) a (sizes more (captures ++ capture ∷ [])) (sizes more captures) (h ∙ length-append text (page_text files more captures))
+        (fewer_left more captures capture (length (page_text files more captures)) is stops refl)
     fewer_left (Made function argument ∷ more) [] capture a is stops h =
         both_ways (takes_capture function)
         (λ e. subst (λ s. Fewer s (length_at_most function ∷ sizes more []) a) (sym (taken_size function argument more capture [] e))
         (subst (λ k. Fewer (length (made_text files function argument capture) ∷ sizes more []) (length_at_most function ∷ sizes more []) k) (sym (h ∙ ap length (stopped_text files function argument more e)))
         (shorter mss some (length (made_text files function argument capture)) (length_at_most function) (sizes more []) (made_short function argument capture e is))))
         (λ e. subst (λ s. Fewer s (length_at_most function ∷ sizes more []) a) (sym (silent_size function argument more (capture ∷ []) e))
-        (past_piece (length_at_most function) (length (text_of files more [])) a (sizes more (capture ∷ [])) (sizes more [])
-        (let z : a ≡ length_at_most function + length (text_of files more []) = omega (arith, h, ap length (silent_text files function argument more [] e), silent_none function e) in z)
-        (fewer_left more [] capture (length (text_of files more [])) is (sym (silent_end function argument more [] e) ∙ stops) refl)))
+        (past_piece (length_at_most function) (length (page_text files more [])) a (sizes more (capture ∷ [])) (sizes more [])
+        (let z : a ≡ length_at_most function + length (page_text files more []) = omega (arith, h, ap length (silent_text files function argument more [] e), silent_none function e) in z)
+        (fewer_left more [] capture (length (page_text files more [])) is (sym (silent_end function argument more [] e) ∙ stops) refl)))
     fewer_left (Made function argument ∷ more) (first ∷ later) capture a is stops h =
         both_ways (takes_capture function)
         (λ e. subst (λ s. Fewer s (sizes (Made function argument ∷ more) (first ∷ later)) a) (sym (taken_size function argument more first (later ++ capture ∷ []) e))
         (subst (λ s. Fewer (length (made_text files function argument first) ∷ sizes more (later ++ capture ∷ [])) s a) (sym (taken_size function argument more first later e))
-        (past_piece (length (made_text files function argument first)) (length (text_of files more later)) a (sizes more (later ++ capture ∷ [])) (sizes more later)
-        (h ∙ ap length (made_first files function argument more first later e) ∙ length-append (made_text files function argument first) (text_of files more later))
-        (fewer_left more later capture (length (text_of files more later)) is (sym (made_end function argument more first later e) ∙ stops) refl))))
+        (past_piece (length (made_text files function argument first)) (length (page_text files more later)) a (sizes more (later ++ capture ∷ [])) (sizes more later)
+        (h ∙ ap length (made_first files function argument more first later e) ∙ length-append (made_text files function argument first) (page_text files more later))
+        (fewer_left more later capture (length (page_text files more later)) is (sym (made_end function argument more first later e) ∙ stops) refl))))
         (λ e. subst (λ s. Fewer s (sizes (Made function argument ∷ more) (first ∷ later)) a) (sym (silent_size function argument more (first ∷ later ++ capture ∷ []) e))
         (subst (λ s. Fewer (length_at_most function ∷ sizes more (first ∷ later ++ capture ∷ [])) s a) (sym (silent_size function argument more (first ∷ later) e))
-        (past_piece (length_at_most function) (length (text_of files more (first ∷ later))) a (sizes more (first ∷ later ++ capture ∷ [])) (sizes more (first ∷ later))
-        (let z : a ≡ length_at_most function + length (text_of files more (first ∷ later)) = omega (arith, h, ap length (silent_text files function argument more (first ∷ later) e), silent_none function e) in z)
-        (fewer_left more (first ∷ later) capture (length (text_of files more (first ∷ later))) is (sym (silent_end function argument more (first ∷ later) e) ∙ stops) refl))))
+        (past_piece (length_at_most function) (length (page_text files more (first ∷ later))) a (sizes more (first ∷ later ++ capture ∷ [])) (sizes more (first ∷ later))
+        (let z : a ≡ length_at_most function + length (page_text files more (first ∷ later)) = omega (arith, h, ap length (silent_text files function argument more (first ∷ later) e), silent_none function e) in z)
+        (fewer_left more (first ∷ later) capture (length (page_text files more (first ∷ later))) is (sym (silent_end function argument more (first ∷ later) e) ∙ stops) refl))))
 
     -- and the text goes on
     abbrev Longer : List Say → List Moment → Moment → Type 0
-    Longer pieces captures capture = length (text_of files pieces captures) < length (text_of files pieces (captures ++ capture ∷ []))
+    Longer pieces captures capture = length (page_text files pieces captures) < length (page_text files pieces (captures ++ capture ∷ []))
 
     text_longer : (pieces : List Say) (captures : List Moment) (capture : Moment) → IsMoment capture → 0 < length capture.now.rows → reach_end pieces captures ≡ false → Longer pieces captures capture
     text_longer [] captures capture is l stops = absurd (cc)
     text_longer (Plain text ∷ more) captures capture is l stops =
-        omega (arith, length-append text (text_of files more captures), length-append text (text_of files more (captures ++ capture ∷ [])), text_longer more captures capture is l stops)
+        omega (arith, length-append text (page_text files more captures), length-append text (page_text files more (captures ++ capture ∷ [])), text_longer more captures capture is l stops)
     text_longer (Made function argument ∷ more) [] capture is l stops =
         both_ways (takes_capture function)
         (λ e. omega (
           arith,
           ap length (stopped_text files function argument more e),
           ap length (made_first files function argument more capture [] e),
-          length-append (made_text files function argument capture) (text_of files more []),
+          length-append (made_text files function argument capture) (page_text files more []),
           made_some function argument capture e is l,
         ))
         (λ e. omega (
@@ -188,8 +188,8 @@ module _ (files : List File) where
           arith,
           ap length (made_first files function argument more first later e),
           ap length (made_first files function argument more first (later ++ capture ∷ []) e),
-          length-append (made_text files function argument first) (text_of files more later),
-          length-append (made_text files function argument first) (text_of files more (later ++ capture ∷ [])),
+          length-append (made_text files function argument first) (page_text files more later),
+          length-append (made_text files function argument first) (page_text files more (later ++ capture ∷ [])),
           text_longer more later capture is l (sym (made_end function argument more first later e) ∙ stops),
         ))
         (λ e. omega (
@@ -233,14 +233,14 @@ module _ (files : List File) (request : List ℕ) (decided : wanted request ≢ 
 
   -- what is said is said of the pieces of the whole request
   record SaysPieces (p : Part) : Type 0 where
-    text : page files p.heard p.captures ≡ text_of files wanted_pieces p.captures
-    whole : is_whole files p.heard p.captures ≡ reach_end wanted_pieces p.captures
+    text : page files p.heard p.captures ≡ page_text files wanted_pieces p.captures
+    whole : is_page_whole files p.heard p.captures ≡ reach_end wanted_pieces p.captures
 
   says_named : (p : Part) (rest name : List ℕ) → p.heard ++ rest ≡ request → wanted p.heard ≡ Name name → SaysPieces p
   says_named p rest name joined e =
       let all : wanted request ≡ Name name = ap wanted (sym joined) ∙ name_stays p.heard rest name e in
       record {
-        text = ap (λ w. page_for files w p.captures) e ∙ ap (λ w. text_of files (pieces_for files w) p.captures) (sym all);
+        text = ap (λ w. page_for files w p.captures) e ∙ ap (λ w. page_text files (pieces_for files w) p.captures) (sym all);
         whole = ap (λ w. whole_for files w p.captures) e ∙ ap (λ w. reach_end (pieces_for files w) p.captures) (sym all);
       }
 
@@ -251,13 +251,13 @@ module _ (files : List File) (request : List ℕ) (decided : wanted request ≢ 
 
   -- what it wants, where nothing would be wrong
   wants_on : (q : Part) (most : ℕ) (rest : List ℕ) → q.heard ++ rest ≡ request → fine q ≡ true → left q ≤ most →
-      (left_of files q ≡ 0 → is_whole files q.heard q.captures && is_acknowledged files q ≡ false → q.heard ≡ request → ⊥) → GoesOnBy (web_meaning files) request mss fine left q most (web_want files q)
+      (left_of files q ≡ 0 → is_page_whole files q.heard q.captures && is_acknowledged files q ≡ false → q.heard ≡ request → ⊥) → GoesOnBy (web_meaning files) request mss fine left q most (web_want files q)
   wants_on q most rest joined f few none =
       let is = is_fine q f in
       let P : Want → Type 0 = GoesOnBy (web_meaning files) request mss fine left q most in
-      let by_end : Want = if is_whole files q.heard q.captures && is_acknowledged files q then Close else (if nat_lt 0 (left_of files q) then Send (min 1460 (left_of files q)) else Nothing) in
+      let by_end : Want = if is_page_whole files q.heard q.captures && is_acknowledged files q then Close else (if nat_lt 0 (left_of files q) then Send (min 1460 (left_of files q)) else Nothing) in
       subst P (sym (ap (λ b. if b then Abort else by_end) (let z : (q.polls == 20) ≡ false = ap (λ n. n == 20) is.polls in z)))
-      (both_ways (is_whole files q.heard q.captures && is_acknowledged files q)
+      (both_ways (is_page_whole files q.heard q.captures && is_acknowledged files q)
       (λ e. subst P (sym (ap (λ b. if b then Close else (if nat_lt 0 (left_of files q) then Send (min 1460 (left_of files q)) else Nothing)) e)) tt)
       (λ e. subst P (sym (ap (λ b. if b then Close else (if nat_lt 0 (left_of files q) then Send (min 1460 (left_of files q)) else Nothing)) e))
       (both_ways (nat_lt 0 (left_of files q))
@@ -268,17 +268,17 @@ module _ (files : List File) (request : List ℕ) (decided : wanted request ≢ 
       sends q most rest joined is few l =
           let x : ℕ = min (min 1460 (left_of files q)) mss in
           let says = says_some q rest joined (wanted q.heard) refl (omega (arith, l)) in
-          let size : length (page files q.heard q.captures) ≡ length (text_of files wanted_pieces q.captures) = ap length says.text in
-          let whole : (x ≡ mss) ⊎ (q.acked + x ≡ length (text_of files wanted_pieces q.captures)) =
+          let size : length (page files q.heard q.captures) ≡ length (page_text files wanted_pieces q.captures) = ap length says.text in
+          let whole : (x ≡ mss) ⊎ (q.acked + x ≡ length (page_text files wanted_pieces q.captures)) =
           elim (cases_lt (left_of files q) mss) [ inl h ↦ inr (omega (arith, h, low, is.acked, size)) | inr h ↦ inl (omega (arith, h, low)) ] in
           let less = less_left files mss some wanted_pieces q.captures q.acked x (omega (arith, l, some)) (omega (arith, l, is.acked, size)) whole in
           λ ns. (as_fine (record q { acked = q.acked + x; polls = 0 }) refl (omega (arith, l, is.acked)), omega (arith, less, few))
 
   -- nothing is wanted only while the request is not decided
-  never_rests : (p : Part) → is_acknowledged files p && waits_for_capture files (wanted p.heard) p ≡ false → IsFine p → left_of files p ≡ 0 → is_whole files p.heard p.captures && is_acknowledged files p ≡ false → p.heard ≡ request → ⊥
+  never_rests : (p : Part) → is_acknowledged files p && waits_for_capture files (wanted p.heard) p ≡ false → IsFine p → left_of files p ≡ 0 → is_page_whole files p.heard p.captures && is_acknowledged files p ≡ false → p.heard ≡ request → ⊥
   never_rests p waits is z rests all =
       let acked : is_acknowledged files p ≡ true = eq-eqb p.acked (length (page files p.heard p.captures)) (omega (arith, z, is.acked)) in
-      let part_whole : is_whole files p.heard p.captures ≡ false = unless_right (is_whole files p.heard p.captures) (is_acknowledged files p) rests acked in
+      let part_whole : is_page_whole files p.heard p.captures ≡ false = unless_right (is_page_whole files p.heard p.captures) (is_acknowledged files p) rests acked in
       let no_call : waits_for_capture files (wanted p.heard) p ≡ false = unless_left (is_acknowledged files p) (waits_for_capture files (wanted p.heard) p) waits acked in
       by_wanted (wanted p.heard) refl part_whole no_call
     where
@@ -290,7 +290,7 @@ module _ (files : List File) (request : List ℕ) (decided : wanted request ≢ 
       unless_left true b e f = e
       unless_left false b e f = absurd (cc)
 
-      by_wanted : (w : Wanted) → wanted p.heard ≡ w → is_whole files p.heard p.captures ≡ false → waits_for_capture files w p ≡ false → ⊥
+      by_wanted : (w : Wanted) → wanted p.heard ≡ w → is_page_whole files p.heard p.captures ≡ false → waits_for_capture files w p ≡ false → ⊥
       by_wanted NotYet e open_end no_call = decided (ap wanted (sym all) ∙ e)
       by_wanted Refused e open_end no_call = true≢false (sym (ap (λ w. whole_for files w p.captures) e) ∙ open_end)
       by_wanted (Name name) e open_end no_call = true≢false (sym (ap not open_end) ∙ no_call)
@@ -306,7 +306,7 @@ module _ (files : List File) (request : List ℕ) (decided : wanted request ≢ 
       let at_end : p.acked ≡ length (page files p.heard p.captures) = eqb-true p.acked (length (page files p.heard p.captures)) acked in
       let says = says_named p rest name joined named in
       let says_more = says_named q rest name joined named in
-      let stops : reach_end wanted_pieces p.captures ≡ false = sym says.whole ∙ not-true (is_whole files p.heard p.captures) waits in
+      let stops : reach_end wanted_pieces p.captures ≡ false = sym says.whole ∙ not-true (is_page_whole files p.heard p.captures) waits in
       let more = text_longer files mss some wanted_pieces p.captures capture is l stops in
       let longer : p.acked < length (page files q.heard q.captures) = omega (arith, at_end, ap length says.text, ap length says_more.text, more) in
       let goes : p.acked ≤ length (page files q.heard q.captures) = omega (arith, longer) in

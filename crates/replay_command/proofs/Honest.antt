@@ -14,7 +14,7 @@ use Rattle.link_world.specs.History.{IsPlan, IsPlanned, Planned}
 use Rattle.link_world.specs.Schedule.{plays}
 use Rattle.link_schedule.specs.declared.event.Event.{Event}
 use Rattle.link_schedule.specs.declared.event.Event.TheVariants.{Opens, Round}
-use Rattle.link_replay.specs.Opening.{opening, planned, server}
+use Rattle.link_replay.specs.Opening.{opening_for, planned, server}
 use Rattle.link_replay.proofs.Opened.{is_plan, server_is_addr}
 use Rattle.replay_command.specs.Laws.{HonestReplay, rounds_for}
 use Rattle.replay_command.specs.Playing.{is_served, no_hits}
@@ -57,6 +57,6 @@ honest_replay site loaded text content reads plan honest =
     let room = honest.room in
     let world = honest_pages site loaded is_served server (no_hits files) (planned 1 plan) server_is_addr (All-replicate IsWord (length files) 0 (lit< tt))
     (one_plan plan (is_planned plan typed range)) refl honest.decided (omega (arith, room)) in
-    let lines = ap (λ (events : List Event). plays (web_meaning files) is_served events (opening (no_hits files) content.clients)) honest.lines in
-    let clients = ap (λ (plans : List Plan). plays (web_meaning files) is_served (Opens 1 ∷ replicate (rounds_for files plan) Round) (opening (no_hits files) plans)) honest.alone in
+    let lines = ap (λ (events : List Event). plays (web_meaning files) is_served events (opening_for (no_hits files) content.clients)) honest.lines in
+    let clients = ap (λ (plans : List Plan). plays (web_meaning files) is_served (Opens 1 ∷ replicate (rounds_for files plan) Round) (opening_for (no_hits files) plans)) honest.alone in
     (world.0, record { content = content; reads = reads; plays = lines ∙ clients ∙ world.1 }, world.2)

@@ -9,26 +9,26 @@ use Rattle.site_image.specs.Files.{File}
 use Rattle.web_pages.specs.Pages.{pages_of}
 use Rattle.web_pages.specs.WebMeaning.{web_meaning}
 use Rattle.web_pages.proofs.PageLaws.{keeps_page_laws}
-use Rattle.link_schedule.specs.Reading.{Content, read_text}
+use Rattle.link_schedule.specs.Reading.{SchedulePlan, read_text}
 use Rattle.link_schedule.specs.declared.read_schedule.ReadSchedule.{ReadSchedule}
 use Rattle.link_schedule.specs.declared.read_schedule.ReadSchedule.TheVariants.{Bad}
 use Rattle.link_schedule.specs.declared.why.Why.{Why}
 use Rattle.link_world.specs.Headline.{HasBytes}
 use Rattle.link_world.specs.Schedule.{BadLine, plays}
 use Rattle.link_world.specs.World.{World}
-use Rattle.link_replay.specs.Opening.{opening}
+use Rattle.link_replay.specs.Opening.{opening_for}
 use Rattle.link_replay.specs.Playing.{Plays, Reaches, Refuses, event_at}
 use Rattle.link_replay.specs.Reaching.{IsAt}
 use Rattle.link_replay.specs.Report.{report}
 use Rattle.replay_command.specs.Playing.{bad_schedule, is_served, no_hits}
-use Rattle.replay_command.specs.Telling.{Answers, IsDue, Tells, Writes}
+use Rattle.replay_command.specs.Telling.{Answers, IsPlayDue, Tells, Writes}
 use Rattle.replay_command.specs.declared.replay_end.ReplayEnd.{ReplayEnd}
 use Rattle.replay_command.specs.declared.replay_end.ReplayEnd.TheVariants as ends
 use Rattle.replay_command.proofs.Kept.{has_bytes, keeps_promises}
 
 -- what the lines reach from the opening world on, where the files were asked for so often
-abbrev pub outcome_from : List ℕ → List File → Content → Result World BadLine
-outcome_from hits files content = plays (web_meaning files) is_served (map event_at content.lines) (opening hits content.clients)
+abbrev pub outcome_from : List ℕ → List File → SchedulePlan → Result World BadLine
+outcome_from hits files content = plays (web_meaning files) is_served (map event_at content.lines) (opening_for hits content.clients)
 
 -- what a schedule is played for, given that the server has pages of bytes and counts that are words
 abbrev pub ForPages : List File → List ℕ → Type 0 → Type 0
@@ -41,15 +41,15 @@ module _ (site : SiteContent) (loaded : IsLoaded site) (bytes : All IsByte site.
       for (pages_of (files_of site)) (keeps_page_laws site loaded) (has_bytes site bytes)
       (subst (All IsWord) (sym none) (All-replicate IsWord (length (files_of site)) 0 (lit< tt)))
 
-  module _ (text : List ℕ) (content : Content) (reads : read_text text ≡ Ok content) (show : Bool) (old new : Option (List ℕ)) (before now : ℕ) (result : ReplayEnd) where
+  module _ (text : List ℕ) (content : SchedulePlan) (reads : read_text text ≡ Ok content) (show : Bool) (old new : Option (List ℕ)) (before now : ℕ) (result : ReplayEnd) where
     -- the schedule was played to its end, and its world reported
     pub played_due : (Now : World → Type 0)
         → ForPages (files_of site) hits (Reaches (web_meaning (files_of site)) is_served Now (outcome_from hits (files_of site) content))
         → ((m : Meaning) (served : ℕ → Bool) (w : World) → Now w → IsAt m served w → Writes (report show w) ends.Done old new before now result)
-        → Answers (IsDue (files_of site) text show) old new before now result
+        → Answers (IsPlayDue (files_of site) text show) old new before now result
     played_due Now plays_for wrote =
         let reach = web_has (Reaches (web_meaning (files_of site)) is_served Now (outcome_from hits (files_of site) content)) plays_for in
-        let due : IsDue (files_of site) text show (report show reach.world) ends.Done = record {
+        let due : IsPlayDue (files_of site) text show (report show reach.world) ends.Done = record {
           world = reach.world;
           played = record { content = content; reads = reads; plays = ap (λ (h : List ℕ). outcome_from h (files_of site) content) (sym none) ∙ reach.meant_so };
           told = refl;
@@ -60,13 +60,13 @@ module _ (site : SiteContent) (loaded : IsLoaded site) (bytes : All IsByte site.
     -- a line of it was refused, and is told
     pub refused_due : {X : Type 0} (Now : X → World → Type 0) (fault : ReadSchedule) (line : ℕ) (why : Why) → fault ≡ Bad line why
         → ForPages (files_of site) hits (Plays (web_meaning (files_of site)) is_served hits content Now (Err fault))
-        → Tells (bad_schedule line why) (ends.BadSchedule line why) old new before now result → Answers (IsDue (files_of site) text show) old new before now result
+        → Tells (bad_schedule line why) (ends.BadSchedule line why) old new before now result → Answers (IsPlayDue (files_of site) text show) old new before now result
     refused_due Now fault line why is plays_for (inr short) = inr short
     refused_due Now fault line why is plays_for (inl wrote) =
         let ended = web_has (Plays (web_meaning (files_of site)) is_served hits content Now (Err fault)) plays_for in
         let refuses : Refuses content.lines (outcome_from hits (files_of site) content) line why =
         subst (λ (f : ReadSchedule). Plays (web_meaning (files_of site)) is_served hits content Now (Err f)) is ended in
-        let due : IsDue (files_of site) text show (bad_schedule line why) (ends.BadSchedule line why) = (
+        let due : IsPlayDue (files_of site) text show (bad_schedule line why) (ends.BadSchedule line why) = (
           inr (record {
             content = content;
             reads = reads;

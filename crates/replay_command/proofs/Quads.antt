@@ -3,7 +3,7 @@ use Rattle.std.specs.Prelude.{IfSome}
 use Rattle.std.proofs.Common.{◌≡◌, ℕ, ◌+◌, ◌*◌, ◌-◌, ◌≤◌, Bool, true, false, cond, not, ◌&&◌, List, [], ◌∷◌, Option, Some, None, refl, arith, eqb, leb, ltb}
 use Rattle.std.proofs.lemmas.Bool.{and_parts, leb-true, ltb-true}
 use Rattle.std.proofs.lemmas.List.Elements.{All-cons, All-nil}
-use Rattle.uip_wire.specs.Addr.{cut_at_dot, is_digit, number_of, quad_of, ◌>>=◌}
+use Rattle.uip_wire.specs.Addr.{cut_at_dot, is_digit, part_number, quad_of, ◌>>=◌}
 use Rattle.app_events.specs.Pages.{IsAddr, IsByte}
 
 -- what passes a test
@@ -14,7 +14,7 @@ tested P false x p = tt
 most_digit : (c : ℕ) → is_digit c ≡ true → c ≤ 57
 most_digit c e = leb-true c 57 (and_parts (leb 48 c) (leb c 57) e).1
 
-byte_of : (text : List ℕ) → IfSome (number_of text) IsByte
+byte_of : (text : List ℕ) → IfSome (part_number text) IsByte
 byte_of [] = tt
 byte_of (a ∷ []) = tested IsByte (is_digit a) (a - 48) (λ e. let d = most_digit a e in omega (arith, d))
 byte_of (a ∷ b ∷ []) =
@@ -55,4 +55,4 @@ quad_is_addr text =
     cut IsQuad (cut_at_dot text) _
     (λ first. cut IsQuad (cut_at_dot first.1) _
     (λ second. cut IsQuad (cut_at_dot second.1) _
-    (λ third. of_bytes (number_of first.0) (number_of second.0) (number_of third.0) (number_of third.1) (byte_of first.0) (byte_of second.0) (byte_of third.0) (byte_of third.1))))
+    (λ third. of_bytes (part_number first.0) (part_number second.0) (part_number third.0) (part_number third.1) (byte_of first.0) (byte_of second.0) (byte_of third.0) (byte_of third.1))))

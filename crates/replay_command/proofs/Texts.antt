@@ -6,7 +6,7 @@ use Rattle.std.proofs.lemmas.Bool.{cases_lt, lt-leb}
 use Rattle.std.proofs.lemmas.List.{take_all, length-take-le}
 use Rattle.file_tree.specs.Loading.{HoldsContent, HoldsFile}
 use Rattle.site_image.specs.Files.{File}
-use Rattle.site_commands.specs.Opening.{IsRead}
+use Rattle.site_commands.specs.Opening.{IsSiteRead}
 use Rattle.uip_edge.specs.Shelving.{Files}
 use Rattle.link_world.specs.World.{World}
 use Rattle.link_schedule.specs.Reading.{nothing_yet, read_lines, read_text}
@@ -14,7 +14,7 @@ use Rattle.link_schedule.specs.declared.why.Why.{Why}
 use Rattle.link_schedule.specs.declared.why.Why.TheVariants.{Long}
 use Rattle.replay_command.specs.Playing.{IsFirstBad, IsPlayed}
 use Rattle.replay_command.specs.Ending.{IsText}
-use Rattle.replay_command.specs.Telling.{IsDue}
+use Rattle.replay_command.specs.Telling.{IsPlayDue}
 use Rattle.replay_command.specs.declared.replay_end.ReplayEnd.{ReplayEnd}
 use Rattle.replay_command.specs.declared.replay_end.ReplayEnd.TheVariants as ends
 
@@ -59,8 +59,8 @@ reads_alike : (bytes content : List ℕ) → IsFrontOf bytes content → read_te
 reads_alike bytes content e = ap read_text e ∙ text_front content
 
 -- what is due for the bytes that were read is due for the shelf's files
-pub is_text : (site schedule : List ℕ) (show : Bool) (held : Option Files) (files : List File) (bytes text : List ℕ) (end : ReplayEnd) → IsRead site held (Ok files)
-    → HoldsFile held schedule (IsFrontOf bytes) → IsDue files bytes show text end → IsText site schedule show held text end
+pub is_text : (site schedule : List ℕ) (show : Bool) (held : Option Files) (files : List File) (bytes text : List ℕ) (end : ReplayEnd) → IsSiteRead site held (Ok files)
+    → HoldsFile held schedule (IsFrontOf bytes) → IsPlayDue files bytes show text end → IsText site schedule show held text end
 is_text site schedule show held files bytes text ends.Done read front due = record {
   files = files;
   world = due.world;

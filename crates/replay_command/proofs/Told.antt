@@ -6,10 +6,10 @@ use Rattle.file_tree.specs.Loading.{HoldsFile}
 use Rattle.site_image.specs.Files.{File}
 use Rattle.site_image.specs.declared.site_error.SiteError.{SiteError}
 use Rattle.site_commands.specs.Ending.{Desk}
-use Rattle.site_commands.specs.Opening.{IsRead}
+use Rattle.site_commands.specs.Opening.{IsSiteRead}
 use Rattle.site_commands.specs.Report.{bad_line}
 use Rattle.replay_command.specs.Ending.{IsText, ReplayEnds}
-use Rattle.replay_command.specs.Telling.{Answers, IsDue, IsShort, Tells, Writes}
+use Rattle.replay_command.specs.Telling.{Answers, IsPlayDue, IsShort, Tells, Writes}
 use Rattle.replay_command.specs.declared.replay_end.ReplayEnd.{ReplayEnd}
 use Rattle.replay_command.specs.declared.replay_end.ReplayEnd.TheVariants as ends
 use Rattle.replay_command.proofs.Texts.{IsFrontOf, holds_file, is_text}
@@ -40,14 +40,14 @@ module _ (site schedule : List ℕ) (show : Bool) (old new : Desk) (held : new.h
   short_ends result short = subst (ReplayEnds site schedule show old new) (sym short.0) (same_desk old new held short.1 shelf short.2)
 
   -- the bytes that were read of the schedule's file
-  pub schedule_ends : (files : List File) (bytes : List ℕ) (result : ReplayEnd) → IsRead site old.held (Ok files) → HoldsFile old.held schedule (IsFrontOf bytes)
-      → Answers (IsDue files bytes show) old.written new.written old.sink_faults new.sink_faults result → ReplayEnds site schedule show old new result
+  pub schedule_ends : (files : List File) (bytes : List ℕ) (result : ReplayEnd) → IsSiteRead site old.held (Ok files) → HoldsFile old.held schedule (IsFrontOf bytes)
+      → Answers (IsPlayDue files bytes show) old.written new.written old.sink_faults new.sink_faults result → ReplayEnds site schedule show old new result
   schedule_ends files bytes result read front (inl told) =
       written_ends told.0 told.1 result (is_text site schedule show old.held files bytes told.0 told.1 read front told.2) told.3
   schedule_ends files bytes result read front (inr short) = short_ends result short
 
   -- the line of a bad image
-  pub image_ends : (error : SiteError) (bytes : List ℕ) (result : ReplayEnd) → IsRead site old.held (Err error) → HoldsFile old.held schedule (IsFrontOf bytes)
+  pub image_ends : (error : SiteError) (bytes : List ℕ) (result : ReplayEnd) → IsSiteRead site old.held (Err error) → HoldsFile old.held schedule (IsFrontOf bytes)
       → Tells (bad_line error) (ends.BadSite error) old.written new.written old.sink_faults new.sink_faults result → ReplayEnds site schedule show old new result
   image_ends error bytes result read front (inl wrote) =
       written_ends (bad_line error) (ends.BadSite error) result (read, holds_file (IsFrontOf bytes) (λ content. ⊤) (λ content e. tt) old.held schedule front, refl) wrote

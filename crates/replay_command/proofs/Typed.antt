@@ -10,10 +10,10 @@ use Rattle.app_events.specs.Pages.{IsAddr, IsByte}
 use Rattle.hex.specs.Hex.{decode_of}
 use Rattle.hex.specs.declared.error.FromHexError.{FromHexError}
 use Rattle.link_schedule.specs.Clients.{Plan, got, is_seen, is_target, plan_of, plan_with, raw, request_of, side_of}
-use Rattle.link_schedule.specs.Events.{event_of}
+use Rattle.link_schedule.specs.Events.{event_of_words}
 use Rattle.link_schedule.specs.Kept.{Keeps, is_between}
-use Rattle.link_schedule.specs.Numbers.{address, addressed, within}
-use Rattle.link_schedule.specs.Reading.{BadText, Content, goes_on, is_passed_over, meets, nothing_yet, read_client, read_line, read_lines, read_text, read_words, with_client, with_event, with_line}
+use Rattle.link_schedule.specs.Numbers.{address, address_word, within}
+use Rattle.link_schedule.specs.Reading.{BadText, SchedulePlan, reads_on, is_passed_over, meets, nothing_yet, read_client, read_line, read_lines, read_text, read_words, with_plan, with_event, with_line}
 use Rattle.link_schedule.specs.declared.sides.ClientSide.{ClientSide}
 use Rattle.link_schedule.specs.declared.why.Why.{Why}
 use Rattle.link_schedule.specs.declared.why.Why.TheVariants.{Clients, Form, Long, Ports}
@@ -31,7 +31,7 @@ pub record HasTypes (plan : Plan) : Type 0 where
 abbrev SideTyped : ClientSide → Type 0
 SideTyped side = IsAddr side.addr × (side.mss < 65536)
 
-addressed_typed : (o : Option (List ℕ)) → IfSome o (λ quad. IsAddr (record { 0 = quad })) → IfOk (addressed o) IsAddr
+addressed_typed : (o : Option (List ℕ)) → IfSome o (λ quad. IsAddr (record { 0 = quad })) → IfOk (address_word o) IsAddr
 addressed_typed (Some quad) p = p
 addressed_typed None p = tt
 
@@ -89,58 +89,58 @@ plan_typed (a ∷ b ∷ c ∷ d ∷ e ∷ []) = tt
 plan_typed (a ∷ b ∷ c ∷ d ∷ e ∷ f ∷ []) = with_typed a b c d e f
 plan_typed (a ∷ b ∷ c ∷ d ∷ e ∷ f ∷ g ∷ words) = tt
 
-abbrev Typed : Content → Type 0
+abbrev Typed : SchedulePlan → Type 0
 Typed content = All HasTypes content.clients
 
-client_typed : (above : Content) (plan : Plan) → Typed above → HasTypes plan → IfOk (with_client above plan) Typed
-unfolding with_client
+client_typed : (above : SchedulePlan) (plan : Plan) → Typed above → HasTypes plan → IfOk (with_plan above plan) Typed
+unfolding with_plan
 client_typed above plan typed is =
-    let more : Result Content Why = Ok (record { clients = above.clients ++ plan ∷ []; lines = above.lines }) in
+    let more : Result SchedulePlan Why = Ok (record { clients = above.clients ++ plan ∷ []; lines = above.lines }) in
     either Typed (leb 64 (length above.clients)) (Err Clients) (cond (list_any (λ earlier. meets earlier plan) above.clients) (Err Ports) more) tt
     (either Typed (list_any (λ earlier. meets earlier plan) above.clients) (Err Ports) more tt
     (All-append HasTypes above.clients (plan ∷ []) typed (All-cons HasTypes plan [] is (All-nil HasTypes))))
 
-event_typed : (number : ℕ) (above : Content) (words : List (List ℕ)) → Typed above → IfOk (with_event number above words) Typed
+event_typed : (number : ℕ) (above : SchedulePlan) (words : List (List ℕ)) → Typed above → IfOk (with_event number above words) Typed
 event_typed number above words typed =
-    behind (λ event. Unit {0}) Typed (event_of (length above.clients) words) (λ event. Ok (with_line above number event))
-    (anything (event_of (length above.clients) words)) (λ event u. typed)
+    behind (λ event. Unit {0}) Typed (event_of_words (length above.clients) words) (λ event. Ok (with_line above number event))
+    (anything (event_of_words (length above.clients) words)) (λ event u. typed)
 
-words_typed : (number : ℕ) (above : Content) (words : List (List ℕ)) → Typed above → IfOk (read_words number above words) Typed
+words_typed : (number : ℕ) (above : SchedulePlan) (words : List (List ℕ)) → Typed above → IfOk (read_words number above words) Typed
 words_typed number above [] typed = tt
 words_typed number above (verb ∷ words) typed =
     either Typed (bytes_eq verb (codes "client")) (read_client words above) (with_event number above (verb ∷ words))
-    (behind HasTypes Typed (plan_of words) (with_client above) (plan_typed words) (λ plan is. client_typed above plan typed is))
+    (behind HasTypes Typed (plan_of words) (with_plan above) (plan_typed words) (λ plan is. client_typed above plan typed is))
     (event_typed number above (verb ∷ words) typed)
 
-line_typed : (number : ℕ) (above : Content) (line : List ℕ) → Typed above → IfOk (read_line number above line) Typed
+line_typed : (number : ℕ) (above : SchedulePlan) (line : List ℕ) → Typed above → IfOk (read_line number above line) Typed
 line_typed number above line typed =
     either Typed (is_passed_over line) (Ok above) (read_words number above (slice_split (λ c. eqb c 32) line)) typed
     (words_typed number above (slice_split (λ c. eqb c 32) line) typed)
 
-goes_typed : (number : ℕ) (next : Content → Result Content BadText) (r : Result Content Why) → IfOk r Typed
-    → ((content : Content) → Typed content → IfOk (next content) Typed) → IfOk (goes_on number next r) Typed
+goes_typed : (number : ℕ) (next : SchedulePlan → Result SchedulePlan BadText) (r : Result SchedulePlan Why) → IfOk r Typed
+    → ((content : SchedulePlan) → Typed content → IfOk (next content) Typed) → IfOk (reads_on number next r) Typed
 goes_typed number next (Ok content) typed f = f content typed
 goes_typed number next (Err why) typed f = tt
 
-lines_typed : (number : ℕ) (above : Content) (lines : List (List ℕ)) → Typed above → IfOk (read_lines number above lines) Typed
+lines_typed : (number : ℕ) (above : SchedulePlan) (lines : List (List ℕ)) → Typed above → IfOk (read_lines number above lines) Typed
 lines_typed number above [] typed = typed
 lines_typed number above (line ∷ lines) typed =
     goes_typed number (λ content. read_lines (number + 1) content lines) (read_line number above line) (line_typed number above line typed)
     (λ content is. lines_typed (number + 1) content lines is)
 
 -- a text that is not too long reads as its lines do
-lines_read : (text : List ℕ) (content : Content) → read_text text ≡ Ok content → read_lines 1 nothing_yet (slice_split (λ c. eqb c 10) text) ≡ Ok content
+lines_read : (text : List ℕ) (content : SchedulePlan) → read_text text ≡ Ok content → read_lines 1 nothing_yet (slice_split (λ c. eqb c 10) text) ≡ Ok content
 unfolding read_text
 lines_read text content e = by_test (leb (length text) 4194304) (read_lines 1 nothing_yet (slice_split (λ c. eqb c 10) text)) e
   where
-    by_test : (b : Bool) (x : Result Content BadText) → cond b x (Err (record { line = 0; why = Long })) ≡ Ok content → x ≡ Ok content
+    by_test : (b : Bool) (x : Result SchedulePlan BadText) → cond b x (Err (record { line = 0; why = Long })) ≡ Ok content → x ≡ Ok content
     by_test true x e = e
     by_test false x e = absurd (cc)
 
-pub all_typed : (text : List ℕ) (content : Content) → read_text text ≡ Ok content → All HasTypes content.clients
+pub all_typed : (text : List ℕ) (content : SchedulePlan) → read_text text ≡ Ok content → All HasTypes content.clients
 all_typed text content e =
-    let P : Result Content BadText → Type 0 = λ r. IfOk r Typed in
+    let P : Result SchedulePlan BadText → Type 0 = λ r. IfOk r Typed in
     subst P (lines_read text content e) (lines_typed 1 nothing_yet (slice_split (λ c. eqb c 10) text) (All-nil HasTypes))
 
-pub read_keeps : (text : List ℕ) (content : Content) → read_text text ≡ Ok content → Keeps content
+pub read_keeps : (text : List ℕ) (content : SchedulePlan) → read_text text ≡ Ok content → Keeps content
 read_keeps text content e = kept_where_read content (slice_split (λ c. eqb c 10) text) (lines_read text content e)

@@ -8,7 +8,7 @@ use Rattle.site_image.specs.Files.{File}
 use Rattle.file_tree.specs.Site.{files_of}
 use Rattle.link_client.specs.Client.{offered}
 use Rattle.link_world.specs.History.{IsPlanned}
-use Rattle.link_world.specs.Headline.{IsServed, IsPlayed}
+use Rattle.link_world.specs.Headline.{IsServed, IsSchedulePlayed}
 use Rattle.link_world.proofs.Prefix.{prefix_and_whole}
 use Rattle.link_world.proofs.Lines.{lines_are_acts}
 use Rattle.link_world.proofs.Honest.{honest_link}
@@ -27,7 +27,7 @@ pub pages_are_received : PagesAreReceived
 pages_are_received site loaded bytes w r k side there clean =
     let m : Meaning = web_meaning (files_of site) in
     let pages : Pages = pages_of (files_of site) in
-    let played : IsPlayed m pages w = record {
+    let played : IsSchedulePlayed m pages w = record {
       served = r.served;
       addr = r.addr;
       is_addr = r.is_addr;

@@ -4,7 +4,7 @@ use Rattle.std.specs.Io.KnownBytes.{Appends}
 use Rattle.file_tree.specs.Loading.{HoldsFile}
 use Rattle.site_image.specs.Files.{File}
 use Rattle.site_commands.specs.Ending.{Desk}
-use Rattle.site_commands.specs.Opening.{IsRead, LacksSite}
+use Rattle.site_commands.specs.Opening.{IsSiteRead, LacksSite}
 use Rattle.site_commands.specs.Report.{bad_line}
 use Rattle.uip_edge.specs.Causes.{Rose}
 use Rattle.uip_edge.specs.Shelving.{Files, IsMissing}
@@ -21,16 +21,16 @@ use Rattle.replay_command.specs.declared.replay_end.ReplayEnd.TheVariants as end
 pub record IsReport (site schedule : List ℕ) (show : Bool) (held : Option Files) (text : List ℕ) : Type 0 where
   pub files : List File
   pub world : World
-  pub read : IsRead site held (Ok files)
+  pub read : IsSiteRead site held (Ok files)
   pub played : HoldsFile held schedule (λ bytes. IsPlayed files bytes world)
   pub told : text ≡ report show world
   pub promises : KeepsPromises files world
 
 abbrev pub IsText : List ℕ → List ℕ → Bool → Option Files → List ℕ → ReplayEnd → Type 0
 IsText site schedule show held text ends.Done = IsReport site schedule show held text
-IsText site schedule show held text (ends.BadSite error) = IsRead site held (Err error) × HoldsFile held schedule (λ bytes. ⊤) × (text ≡ bad_line error)
+IsText site schedule show held text (ends.BadSite error) = IsSiteRead site held (Err error) × HoldsFile held schedule (λ bytes. ⊤) × (text ≡ bad_line error)
 IsText site schedule show held text (ends.BadSchedule line why) =
-    (files : List File) × IsRead site held (Ok files) × HoldsFile held schedule (λ bytes. IsFirstBad files bytes line why) × (text ≡ bad_schedule line why)
+    (files : List File) × IsSiteRead site held (Ok files) × HoldsFile held schedule (λ bytes. IsFirstBad files bytes line why) × (text ≡ bad_schedule line why)
 IsText site schedule show held text ends.ShelfFault = ⊥
 IsText site schedule show held text ends.WriteFault = ⊥
 IsText site schedule show held text ends.NoMemory = ⊥
@@ -44,7 +44,7 @@ pub record Told (site schedule : List ℕ) (show : Bool) (old new : Desk) (end :
   pub sink : new.sink_faults ≡ old.sink_faults
 
 -- the sink failed: a front of the text was written
-pub record Broke (site schedule : List ℕ) (show : Bool) (old new : Desk) : Type 0 where
+pub record BrokeOff (site schedule : List ℕ) (show : Bool) (old new : Desk) : Type 0 where
   pub text : List ℕ
   pub end : ReplayEnd
   pub is : IsText site schedule show old.held text end
@@ -63,6 +63,6 @@ abbrev pub ReplayEnds : List ℕ → List ℕ → Bool → Desk → Desk → Rep
 ReplayEnds site schedule show old new ends.Done = Told site schedule show old new ends.Done
 ReplayEnds site schedule show old new (ends.BadSite error) = Told site schedule show old new (ends.BadSite error)
 ReplayEnds site schedule show old new (ends.BadSchedule line why) = Told site schedule show old new (ends.BadSchedule line why)
-ReplayEnds site schedule show old new ends.WriteFault = Broke site schedule show old new
+ReplayEnds site schedule show old new ends.WriteFault = BrokeOff site schedule show old new
 ReplayEnds site schedule show old new ends.ShelfFault = Lacks site schedule old new
 ReplayEnds site schedule show old new ends.NoMemory = new ≡ old

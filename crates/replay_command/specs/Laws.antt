@@ -13,7 +13,7 @@ use Rattle.replay_command.specs.Web.{parts_of, texts_of}
 use Rattle.link_world.specs.World.{World}
 use Rattle.link_schedule.specs.declared.event.Event.TheVariants.{Opens, Round}
 use Rattle.link_schedule.specs.Clients.{Plan}
-use Rattle.link_schedule.specs.Reading.{Content, read_text}
+use Rattle.link_schedule.specs.Reading.{SchedulePlan, read_text}
 use Rattle.link_world.specs.Honest.{IsServedWhole}
 use Rattle.link_replay.specs.Opening.{planned}
 use Rattle.link_replay.specs.Playing.{event_at}
@@ -23,8 +23,8 @@ use Rattle.replay_command.specs.declared.replay_end.ReplayEnd.{ReplayEnd}
 use Rattle.replay_command.specs.declared.replay_end.ReplayEnd.TheVariants as ends
 
 -- the shelf tells its files, and lacks the site or the schedule
-abbrev pub LacksFile : List ℕ → List ℕ → Option Files → Type 0
-LacksFile site schedule held = LacksSite site held ⊎ IsMissing held schedule
+abbrev pub LacksEither : List ℕ → List ℕ → Option Files → Type 0
+LacksEither site schedule held = LacksSite site held ⊎ IsMissing held schedule
 
 -- the whole text that is due with the end was written, or memory was short
 abbrev pub EndsAsDue : List ℕ → List ℕ → Bool → Desk → Desk → ReplayEnd → Type 0
@@ -35,14 +35,14 @@ EndsAsDue site schedule show old new end =
 abbrev pub ReplayIsTold : Type 0
 ReplayIsTold =
     (site schedule : List ℕ) (show : Bool) (old new : Desk) (end : ReplayEnd) → ReplayEnds site schedule show old new end → IsCalm old new
-    → ¬ (LacksFile site schedule old.held) → EndsAsDue site schedule show old new end
+    → ¬ (LacksEither site schedule old.held) → EndsAsDue site schedule show old new end
 
 -- two rounds for each part of the request of the first client, two for each text of its page, and six more
 abbrev pub rounds_for : List File → Plan → ℕ
 rounds_for files plan = 2 * parts_of (planned 1 plan) + 2 * texts_of files (planned 1 plan) + 6
 
 -- One client, whose request is decided, opens, and only so many rounds follow: every datagram is delivered, once and in order.
-pub record IsHonest (files : List File) (content : Content) (plan : Plan) : Type 0 where
+pub record IsHonest (files : List File) (content : SchedulePlan) (plan : Plan) : Type 0 where
   pub alone : content.clients ≡ plan ∷ []
   pub lines : map event_at content.lines ≡ Opens 1 ∷ replicate (rounds_for files plan) Round
   pub decided : wanted plan.request ≢ NotYet
@@ -51,5 +51,5 @@ pub record IsHonest (files : List File) (content : Content) (plan : Plan) : Type
 -- The text of such a schedule is played to its end, and its client has its whole page.
 abbrev pub HonestReplay : Type 0
 HonestReplay =
-    (site : SiteContent) → IsLoaded site → (text : List ℕ) (content : Content) → read_text text ≡ Ok content → (plan : Plan)
+    (site : SiteContent) → IsLoaded site → (text : List ℕ) (content : SchedulePlan) → read_text text ≡ Ok content → (plan : Plan)
     → IsHonest (files_of site) content plan → (w : World) × IsPlayed (files_of site) text w × IsServedWhole (pages_of (files_of site)) w

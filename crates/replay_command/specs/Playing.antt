@@ -4,10 +4,10 @@ use Rattle.site_image.specs.Files.{File}
 use Rattle.web_pages.specs.WebMeaning.{web_meaning}
 use Rattle.link_world.specs.World.{World}
 use Rattle.link_world.specs.Schedule.{BadLine, plays}
-use Rattle.link_schedule.specs.Reading.{Content, read_text}
+use Rattle.link_schedule.specs.Reading.{SchedulePlan, read_text}
 use Rattle.link_schedule.specs.declared.why.Why.{Why}
 use Rattle.link_schedule.specs.declared.why.Why.TheVariants as why
-use Rattle.link_replay.specs.Opening.{opening}
+use Rattle.link_replay.specs.Opening.{opening_for}
 use Rattle.link_replay.specs.Playing.{event_at, Refuses}
 
 -- pages are served at port 80 alone
@@ -19,18 +19,18 @@ abbrev pub no_hits : List File → List ℕ
 no_hits files = replicate (length files) 0
 
 -- what the lines reach from the opening world on, or the first that is refused
-abbrev pub outcome : List File → Content → Result World BadLine
-outcome files content = plays (web_meaning files) is_served (map event_at content.lines) (opening (no_hits files) content.clients)
+abbrev pub outcome : List File → SchedulePlan → Result World BadLine
+outcome files content = plays (web_meaning files) is_served (map event_at content.lines) (opening_for (no_hits files) content.clients)
 
 -- this text is played to its end
 pub record IsPlayed (files : List File) (text : List ℕ) (w : World) : Type 0 where
-  pub content : Content
+  pub content : SchedulePlan
   pub reads : read_text text ≡ Ok content
   pub plays : outcome files content ≡ Ok w
 
 -- this line of the text is the first that does not read, or else the first that is refused
 pub record IsRefused (files : List File) (text : List ℕ) (line : ℕ) (reason : Why) : Type 0 where
-  pub content : Content
+  pub content : SchedulePlan
   pub reads : read_text text ≡ Ok content
   pub refuses : Refuses content.lines (outcome files content) line reason
 

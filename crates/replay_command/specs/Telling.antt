@@ -19,13 +19,13 @@ pub record IsPlayReport (files : List File) (bytes : List ℕ) (show : Bool) (te
   pub promises : KeepsPromises files world
 
 -- the text that is due with an end, for the files of a site and the text of a schedule
-abbrev pub IsDue : List File → List ℕ → Bool → List ℕ → ReplayEnd → Type 0
-IsDue files bytes show text ends.Done = IsPlayReport files bytes show text
-IsDue files bytes show text (ends.BadSchedule line why) = IsFirstBad files bytes line why × (text ≡ bad_schedule line why)
-IsDue files bytes show text (ends.BadSite error) = ⊥
-IsDue files bytes show text ends.ShelfFault = ⊥
-IsDue files bytes show text ends.WriteFault = ⊥
-IsDue files bytes show text ends.NoMemory = ⊥
+abbrev pub IsPlayDue : List File → List ℕ → Bool → List ℕ → ReplayEnd → Type 0
+IsPlayDue files bytes show text ends.Done = IsPlayReport files bytes show text
+IsPlayDue files bytes show text (ends.BadSchedule line why) = IsFirstBad files bytes line why × (text ≡ bad_schedule line why)
+IsPlayDue files bytes show text (ends.BadSite error) = ⊥
+IsPlayDue files bytes show text ends.ShelfFault = ⊥
+IsPlayDue files bytes show text ends.WriteFault = ⊥
+IsPlayDue files bytes show text ends.NoMemory = ⊥
 
 -- The text was written whole, which ends so, or the sink failed behind a front of it.
 abbrev pub Writes : List ℕ → ReplayEnd → Option (List ℕ) → Option (List ℕ) → ℕ → ℕ → ReplayEnd → Type 0

@@ -18,7 +18,7 @@ use Rattle.link_world.specs.Headline.{OfLine, IsAct, IsServed}
 use Rattle.link_world.specs.Honest.{IsServedWhole}
 use Rattle.web_pages.specs.Requests.{Wanted, wanted}
 use Rattle.web_pages.specs.Requests.Wanted.{NotYet, Refused, Name}
-use Rattle.web_pages.specs.Pieces.{Say, reply_of}
+use Rattle.web_pages.specs.Pieces.{Say, reply_pieces}
 use Rattle.web_pages.specs.Pieces.Say.{Plain, Made}
 use Rattle.web_pages.specs.Pages.{pages_of}
 use Rattle.web_pages.specs.WebMeaning.{web_meaning}
@@ -57,7 +57,7 @@ texts_for mss pieces = sum_by (λ piece. div_ceil (most_of piece) mss) pieces
 abbrev pub pieces_for : List File → Wanted → List Say
 pieces_for files NotYet = []
 pieces_for files Refused = []
-pieces_for files (Name name) = reply_of files name
+pieces_for files (Name name) = reply_pieces files name
 
 -- the parts in which a client sends its request
 abbrev pub parts_of : Planned → ℕ

@@ -65,13 +65,13 @@ text_in (OfSegment id segment) = segment.text
 text_in (OfPing datagram) = []
 text_in (OfEcho request) = []
 
-abbrev pub text_of : Option Sent → List ℕ
-text_of None = []
-text_of (Some sent) = text_in sent.content
+abbrev pub worked_text : Option Sent → List ℕ
+worked_text None = []
+worked_text (Some sent) = text_in sent.content
 
 -- the text of the datagram with a number
 abbrev pub text_sent : ℕ → Result World BadLine → List ℕ
-text_sent k (Ok w) = text_of (numbered w.sent k)
+text_sent k (Ok w) = worked_text (numbered w.sent k)
 text_sent k (Err bad) = []
 
 abbrev pub clean : ClientState → List ℕ → Has

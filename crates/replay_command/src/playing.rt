@@ -10,7 +10,7 @@ ghost use Rattle.link_replay.specs.Reaching.{IsAt};
 ghost use Rattle.link_replay.specs.Stands.{WorldStands};
 ghost use Rattle.link_replay.specs.Report.{report as report_of};
 ghost use Rattle.replay_command.specs.Playing.{bad_schedule as line_of};
-ghost use Rattle.replay_command.specs.Telling.{Answers, IsDue, Tells, Writes};
+ghost use Rattle.replay_command.specs.Telling.{Answers, IsPlayDue, Tells, Writes};
 ghost use Rattle.replay_command.specs.declared.replay_end.ReplayEnd.TheVariants as ends;
 
 use crate::lines::{bad_schedule, write_text};
@@ -32,7 +32,7 @@ pub(crate) fn play_text<K: Sink>(
     show: bool,
     out: &mut K,
 ) -> ReplayEnd
-    ensures { Answers (IsDue (files_of site) text.now show) (K.written out.old) (K.written out.new) (K.faults out.old) (K.faults out.new) result }
+    ensures { Answers (IsPlayDue (files_of site) text.now show) (K.written out.old) (K.written out.new) (K.faults out.old) (K.faults out.new) result }
 {
     match Schedule::read(alloc, text) {
         Ok(schedule) => play_schedule(alloc, site, &schedule, show, out),
@@ -50,7 +50,7 @@ fn play_schedule<K: Sink>(
     out: &mut K,
 ) -> ReplayEnd
     ensures { (text : List ℕ) → read_text text ≡ Ok (content_at schedule.now)
-        → Answers (IsDue (files_of site) text show) (K.written out.old) (K.written out.new) (K.faults out.old) (K.faults out.new) result }
+        → Answers (IsPlayDue (files_of site) text show) (K.written out.old) (K.written out.new) (K.faults out.old) (K.faults out.new) result }
 {
     see_loaded(&site);
     let Ok(web) = Web::new(alloc, site) else {

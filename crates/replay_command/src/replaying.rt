@@ -1,7 +1,7 @@
 ghost use Rattle.std.specs.Prelude.{◌≡◌, ℕ, Bool, List, Err, Ok};
 ghost use Rattle.file_tree.specs.Site.{files_of};
 ghost use Rattle.site_commands.specs.Ending.{desk};
-ghost use Rattle.site_commands.specs.Opening.{IsRead};
+ghost use Rattle.site_commands.specs.Opening.{IsSiteRead};
 ghost use Rattle.site_commands.specs.Report.{bad_line as line_of};
 ghost use Rattle.replay_command.specs.Ending.{ReplayEnds};
 ghost use Rattle.replay_command.specs.Telling.{Tells};
@@ -49,7 +49,7 @@ fn replay_site<H: Shelf, K: Sink>(
     shelf: &mut H,
     out: &mut K,
 ) -> ReplayEnd
-    ensures ends { (name : List ℕ) → IsRead name (H.held shelf.old) (Ok (files_of site))
+    ensures ends { (name : List ℕ) → IsSiteRead name (H.held shelf.old) (Ok (files_of site))
         → ReplayEnds name schedule.now show (desk H.held K.written H.faults K.faults shelf.old out.old)
         (desk H.held K.written H.faults K.faults shelf.new out.new) result }
     ensures kept { H.held shelf.new ≡ H.held shelf.old }
@@ -70,7 +70,7 @@ fn refuse_site<H: Shelf, K: Sink>(
     shelf: &mut H,
     out: &mut K,
 ) -> ReplayEnd
-    ensures ends { (name : List ℕ) (show : Bool) → IsRead name (H.held shelf.old) (Err error)
+    ensures ends { (name : List ℕ) (show : Bool) → IsSiteRead name (H.held shelf.old) (Err error)
         → ReplayEnds name schedule.now show (desk H.held K.written H.faults K.faults shelf.old out.old)
         (desk H.held K.written H.faults K.faults shelf.new out.new) result }
     ensures kept { H.held shelf.new ≡ H.held shelf.old }

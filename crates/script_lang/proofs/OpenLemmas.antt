@@ -3,7 +3,7 @@ use Rattle.std.proofs.Common.{◌≡◌, ℕ, zero, suc, ◌+◌, ◌-◌, ◌<�
 use Rattle.std.specs.List.{range_with_len, list_any}
 use Rattle.std.proofs.lemmas.Bool.{cases_eq, or_left, or_right, or_cases, and_from, and_parts, false_from_ne_true, not_from_false, not-true, true≢false}
 use Rattle.script_lang.specs.Places.{places}
-use Rattle.script_lang.specs.Directives.{is_mark, is_line_end, is_open}
+use Rattle.script_lang.specs.Directives.{is_directive_mark, is_line_end, is_inside_directive}
 
 any-of-range : (test : ℕ → Bool) (n a k : ℕ) → a ≤ k → k < a + n → test k ≡ true → list_any test (range_with_len a n) ≡ true
 any-of-range test zero a k low high t = absurd (omega arith)
@@ -44,23 +44,23 @@ any-false test a b none =
 -- `%!` stands at q, before p, and no line ends between
 pub record Opens (text : List ℕ) (p q : ℕ) : Type 0 where
   pub before : q < p
-  pub mark : is_mark text q ≡ true
+  pub mark : is_directive_mark text q ≡ true
   pub line : (k : ℕ) → q ≤ k → k < p → is_line_end text k ≡ false
 
 no-line-end : (text : List ℕ) (q p : ℕ) → list_any (is_line_end text) (places q p) ≡ false → (k : ℕ) → q ≤ k → k < p → is_line_end text k ≡ false
 no-line-end text q p none k low high =
     false_from_ne_true (is_line_end text k) (λ t. true≢false (sym (any-true (is_line_end text) q p k low high t) ∙ none))
 
-pub open-by : (text : List ℕ) (p q : ℕ) → Opens text p q → is_open text p ≡ true
+pub open-by : (text : List ℕ) (p q : ℕ) → Opens text p q → is_inside_directive text p ≡ true
 open-by text p q o =
-    any-true (λ q. is_mark text q && not (list_any (is_line_end text) (places q p))) 0 p q (omega arith) o.before
-    (and_from (is_mark text q) (not (list_any (is_line_end text) (places q p))) o.mark
+    any-true (λ q. is_directive_mark text q && not (list_any (is_line_end text) (places q p))) 0 p q (omega arith) o.before
+    (and_from (is_directive_mark text q) (not (list_any (is_line_end text) (places q p))) o.mark
     (not_from_false (list_any (is_line_end text) (places q p)) (any-false (is_line_end text) q p o.line)))
 
-pub opens : (text : List ℕ) (p : ℕ) → is_open text p ≡ true → (q : ℕ) × Opens text p q
+pub opens : (text : List ℕ) (p : ℕ) → is_inside_directive text p ≡ true → (q : ℕ) × Opens text p q
 opens text p t =
-    let found = any-passes (λ q. is_mark text q && not (list_any (is_line_end text) (places q p))) 0 p t in
-    let parts = and_parts (is_mark text found.0) (not (list_any (is_line_end text) (places found.0 p))) found.3 in (
+    let found = any-passes (λ q. is_directive_mark text q && not (list_any (is_line_end text) (places q p))) 0 p t in
+    let parts = and_parts (is_directive_mark text found.0) (not (list_any (is_line_end text) (places found.0 p))) found.3 in (
       found.0,
       record {
         before = found.2;
@@ -69,8 +69,8 @@ opens text p t =
       },
     )
 
-pub closed-by : (text : List ℕ) (p : ℕ) → ((q : ℕ) → Opens text p q → ⊥) → is_open text p ≡ false
-closed-by text p none = false_from_ne_true (is_open text p) (λ t. let o = opens text p t in none o.0 o.1)
+pub closed-by : (text : List ℕ) (p : ℕ) → ((q : ℕ) → Opens text p q → ⊥) → is_inside_directive text p ≡ false
+closed-by text p none = false_from_ne_true (is_inside_directive text p) (λ t. let o = opens text p t in none o.0 o.1)
 
-pub not-opens : (text : List ℕ) (p q : ℕ) → is_open text p ≡ false → Opens text p q → ⊥
+pub not-opens : (text : List ℕ) (p q : ℕ) → is_inside_directive text p ≡ false → Opens text p q → ⊥
 not-opens text p q closed o = true≢false (sym (open-by text p q o) ∙ closed)

@@ -5,7 +5,7 @@ use Rattle.std.proofs.lemmas.Bool.{cases_Bool, cond-false, cases_eq, or_left, ne
 use Rattle.script_lang.specs.declared.piece.Found.{Found}
 use Rattle.script_lang.specs.Places.{places}
 use Rattle.script_lang.specs.declared.piece.Piece.TheVariants.{Text}
-use Rattle.script_lang.specs.Directives.{is_mark, is_open, line_end, directive, IsPlace}
+use Rattle.script_lang.specs.Directives.{is_directive_mark, is_inside_directive, line_end, directive, IsPlace}
 use Rattle.script_lang.specs.Pieces.{starts, run_end, piece_at, pieces_from}
 use Rattle.script_lang.proofs.PlaceLemmas.{first_place-is, places-first, places-none}
 use Rattle.script_lang.proofs.StartLemmas.{GoesTo, directive-goes, run-goes, run-inside, run-same}
@@ -83,13 +83,13 @@ next-other : (t : Bool) (x y : Found) → t ≡ false → y.next ≡ (cond t x y
 next-other t x y e = sym (ap (λ b. (cond b x y).next) e)
 
 -- the piece that is read from a place on goes to the next piece
-pub piece-goes : (text : List ℕ) (a : ℕ) → is_open text a ≡ false → a < length text → GoesTo text a ((piece_at text a).next)
+pub piece-goes : (text : List ℕ) (a : ℕ) → is_inside_directive text a ≡ false → a < length text → GoesTo text a ((piece_at text a).next)
 piece-goes text a closed lt =
     let mark : Found = record { piece = directive text a; next = min (line_end text (a + 2) + 1) (length text) } in
     let run : Found = record { piece = Text a (run_end text a - a); next = run_end text a } in
-    elim (cases_Bool (is_mark text a)) [
-      | inl m ↦ subst (GoesTo text a) (next-chosen (is_mark text a) mark run m) (directive-goes text a m)
-      | inr m ↦ subst (GoesTo text a) (next-other (is_mark text a) mark run m) (run-goes text a m closed lt)
+    elim (cases_Bool (is_directive_mark text a)) [
+      | inl m ↦ subst (GoesTo text a) (next-chosen (is_directive_mark text a) mark run m) (directive-goes text a m)
+      | inr m ↦ subst (GoesTo text a) (next-other (is_directive_mark text a) mark run m) (run-goes text a m closed lt)
     ]
 
 -- the same at any place, for the piece that was found there
@@ -97,7 +97,7 @@ pub found-goes : (text : List ℕ) (a : ℕ) (found : Found) → IsPlace text a 
 found-goes text a found place before e =
     subst (λ b. GoesTo text a b) (sym (ap (λ f. f.next) e)) (piece-goes text a (closed place.1) (omega (arith, place.0, before)))
   where
-    closed : ◌⊎◌ (is_open text a ≡ false) (a ≡ length text) → is_open text a ≡ false
+    closed : ◌⊎◌ (is_inside_directive text a ≡ false) (a ≡ length text) → is_inside_directive text a ≡ false
     closed (inl c) = c
     closed (inr end) = absurd (before end)
 
@@ -106,14 +106,14 @@ found-pieces text a found goes e =
     pieces_from-step text a found.next goes ∙ ap (λ f. f ∷ pieces_from text found.next) (sym e)
 
 -- what is left of a text run from any place of it
-pub run-rest : (text : List ℕ) (a q : ℕ) → is_open text a ≡ false → a ≤ q → q < run_end text a → a ≤ length text
+pub run-rest : (text : List ℕ) (a q : ℕ) → is_inside_directive text a ≡ false → a ≤ q → q < run_end text a → a ≤ length text
     → pieces_from text q ≡ record { piece = Text q (run_end text a - q); next = run_end text a } ∷ pieces_from text (run_end text a)
 run-rest text a q closed le lt in_text =
     let here = run-inside text a q closed le lt in_text in
     let same = run-same text a q le lt in_text in
-    let high : run_end text a ≤ length text = (first_place-is (is_mark text) a (length text) in_text).high in
+    let high : run_end text a ≤ length text = (first_place-is (is_directive_mark text) a (length text) in_text).high in
     let run : Found = record { piece = Text q (run_end text q - q); next = run_end text q } in
     let mark : Found = record { piece = directive text q; next = min (line_end text (q + 2) + 1) (length text) } in
     pieces_from-step text q (run_end text q) (run-goes text q here.0 here.1 (omega arith))
-    ∙ ap (λ f. f ∷ pieces_from text (run_end text q)) (cond-false (is_mark text q) mark run here.0)
+    ∙ ap (λ f. f ∷ pieces_from text (run_end text q)) (cond-false (is_directive_mark text q) mark run here.0)
     ∙ ap (λ r. (record { piece = Text q (r - q); next = r }) ∷ pieces_from text r) same

@@ -2,7 +2,7 @@
 use Rattle.std.proofs.Common.{◌≡◌, ℕ, ◌+◌, ◌-◌, ◌<◌, ◌≤◌, true, false, not, ◌||◌, ◌&&◌, List, length, min, nat_lt, eqb, ap, ◌∙◌, sym, inl, inr, ◌⊎◌, arith, slice_index}
 use Rattle.std.proofs.lemmas.Bool.{cases_lt, cases_eq, and_from, and_left, and_right, and_parts, or_from, or_left, or_right, ne_eqb, eqb-true, not_from_true, not_from_false, true≢false, lt-ltb}
 use Rattle.std.proofs.lemmas.List.{get_or_past}
-use Rattle.script_lang.specs.Directives.{is_mark, is_line_end, is_open, begins, ends, line_end, IsPlace}
+use Rattle.script_lang.specs.Directives.{is_directive_mark, is_line_end, is_inside_directive, begins, ends, line_end, IsPlace}
 use Rattle.script_lang.specs.Pieces.{starts, run_end}
 use Rattle.script_lang.proofs.PlaceLemmas.{IsFirst, first_place-is, same-first}
 use Rattle.script_lang.proofs.OpenLemmas.{open-by, closed-by, not-opens}
@@ -20,31 +20,31 @@ no-start text q pos b e =
     or_from (eqb q 0 || begins text q) (ends text q)
     (or_from (eqb q 0) (begins text q) (ne_eqb q 0 (λ zero. omega arith)) b) e
 
-no-begin-open : (text : List ℕ) (q : ℕ) → is_open text q ≡ true → begins text q ≡ false
-no-begin-open text q o = and_right (is_mark text q) (not (is_open text q)) (not_from_true (is_open text q) o)
+no-begin-open : (text : List ℕ) (q : ℕ) → is_inside_directive text q ≡ true → begins text q ≡ false
+no-begin-open text q o = and_right (is_directive_mark text q) (not (is_inside_directive text q)) (not_from_true (is_inside_directive text q) o)
 
-no-begin : (text : List ℕ) (q : ℕ) → is_mark text q ≡ false → begins text q ≡ false
-no-begin text q m = and_left (is_mark text q) (not (is_open text q)) m
+no-begin : (text : List ℕ) (q : ℕ) → is_directive_mark text q ≡ false → begins text q ≡ false
+no-begin text q m = and_left (is_directive_mark text q) (not (is_inside_directive text q)) m
 
 no-end-line : (text : List ℕ) (q : ℕ) → is_line_end text (q - 1) ≡ false → ends text q ≡ false
 no-end-line text q l =
-    and_left (nat_lt 0 q && is_line_end text (q - 1)) (is_open text (q - 1)) (and_right (nat_lt 0 q) (is_line_end text (q - 1)) l)
+    and_left (nat_lt 0 q && is_line_end text (q - 1)) (is_inside_directive text (q - 1)) (and_right (nat_lt 0 q) (is_line_end text (q - 1)) l)
 
-no-end-closed : (text : List ℕ) (q : ℕ) → is_open text (q - 1) ≡ false → ends text q ≡ false
-no-end-closed text q o = and_right (nat_lt 0 q && is_line_end text (q - 1)) (is_open text (q - 1)) o
+no-end-closed : (text : List ℕ) (q : ℕ) → is_inside_directive text (q - 1) ≡ false → ends text q ≡ false
+no-end-closed text q o = and_right (nat_lt 0 q && is_line_end text (q - 1)) (is_inside_directive text (q - 1)) o
 
-start-begin : (text : List ℕ) (q : ℕ) → is_mark text q ≡ true → is_open text q ≡ false → starts text q ≡ true
+start-begin : (text : List ℕ) (q : ℕ) → is_directive_mark text q ≡ true → is_inside_directive text q ≡ false → starts text q ≡ true
 start-begin text q m o =
     or_left (eqb q 0 || begins text q) (ends text q)
-    (or_right (eqb q 0) (begins text q) (and_from (is_mark text q) (not (is_open text q)) m (not_from_false (is_open text q) o)))
+    (or_right (eqb q 0) (begins text q) (and_from (is_directive_mark text q) (not (is_inside_directive text q)) m (not_from_false (is_inside_directive text q) o)))
 
-start-end : (text : List ℕ) (q e : ℕ) → q ≡ e + 1 → is_line_end text e ≡ true → is_open text e ≡ true → starts text q ≡ true
+start-end : (text : List ℕ) (q e : ℕ) → q ≡ e + 1 → is_line_end text e ≡ true → is_inside_directive text e ≡ true → starts text q ≡ true
 start-end text q e is l o =
     let back : q - 1 ≡ e = omega arith in
     or_right (eqb q 0 || begins text q) (ends text q)
-    (and_from (nat_lt 0 q && is_line_end text (q - 1)) (is_open text (q - 1))
+    (and_from (nat_lt 0 q && is_line_end text (q - 1)) (is_inside_directive text (q - 1))
     (and_from (nat_lt 0 q) (is_line_end text (q - 1)) (lt-ltb 0 q (omega arith)) (ap (is_line_end text) back ∙ l))
-    (ap (is_open text) back ∙ o))
+    (ap (is_inside_directive text) back ∙ o))
 
 -- the two bytes of `%!` lie in the text, and end no line
 record Mark (text : List ℕ) (p : ℕ) : Type 0 where
@@ -52,7 +52,7 @@ record Mark (text : List ℕ) (p : ℕ) : Type 0 where
   first : is_line_end text p ≡ false
   second : is_line_end text (p + 1) ≡ false
 
-mark-bytes : (text : List ℕ) (p : ℕ) → is_mark text p ≡ true → Mark text p
+mark-bytes : (text : List ℕ) (p : ℕ) → is_directive_mark text p ≡ true → Mark text p
 mark-bytes text p m =
     let parts = and_parts (eqb (slice_index text p) 37) (eqb (slice_index text (p + 1)) 33) m in
     let percent = eqb-true (slice_index text p) 37 parts.0 in
@@ -66,7 +66,7 @@ mark-bytes text p m =
       second = ne_eqb (slice_index text (p + 1)) 10 (λ e. omega (arith, bang, e));
     }
 
-directive-goes-by : (text : List ℕ) (a e : ℕ) → is_mark text a ≡ true → Mark text a → IsFirst (is_line_end text) (a + 2) (length text) e → GoesTo text a (min (e + 1) (length text))
+directive-goes-by : (text : List ℕ) (a e : ℕ) → is_directive_mark text a ≡ true → Mark text a → IsFirst (is_line_end text) (a + 2) (length text) e → GoesTo text a (min (e + 1) (length text))
 directive-goes-by text a e m mark first =
     let low = first.low in
     let high = first.high in
@@ -78,7 +78,7 @@ directive-goes-by text a e m mark first =
         | inr far ↦ first.before k (omega arith) below
       ]
     ] in
-    let is_open_at : (q : ℕ) → a < q → q ≤ e → is_open text q ≡ true =
+    let is_open_at : (q : ℕ) → a < q → q ≤ e → is_inside_directive text q ≡ true =
     λ q later within. open-by text q a (record { before = later; mark = m; line = λ k from below. no_end k from (omega arith) }) in
     record {
       after = omega (arith, mark.inside);
@@ -92,39 +92,39 @@ directive-goes-by text a e m mark first =
       place = (omega arith, place-after);
     }
   where
-    place-after : ◌⊎◌ (is_open text (min (e + 1) (length text)) ≡ false) (min (e + 1) (length text) ≡ length text)
+    place-after : ◌⊎◌ (is_inside_directive text (min (e + 1) (length text)) ≡ false) (min (e + 1) (length text) ≡ length text)
     place-after = elim (cases_lt (e + 1) (length text)) [
       | inl short ↦
           let is : min (e + 1) (length text) ≡ e + 1 = omega arith in
-          inl (ap (is_open text) is ∙ closed-by text (e + 1) (λ q o.
+          inl (ap (is_inside_directive text) is ∙ closed-by text (e + 1) (λ q o.
           true≢false (sym (first.here (omega arith)) ∙ o.line e (omega (arith, o.before)) (omega arith))))
       | inr end ↦ inr (omega arith)
     ]
 
 -- a directive goes to the place after its LF, or to the text's end
-pub directive-goes : (text : List ℕ) (a : ℕ) → is_mark text a ≡ true → GoesTo text a (min (line_end text (a + 2) + 1) (length text))
+pub directive-goes : (text : List ℕ) (a : ℕ) → is_directive_mark text a ≡ true → GoesTo text a (min (line_end text (a + 2) + 1) (length text))
 directive-goes text a m =
     let mark = mark-bytes text a m in
     directive-goes-by text a (line_end text (a + 2)) m mark (first_place-is (is_line_end text) (a + 2) (length text) mark.inside)
 
 -- no directive opens where none is open and no `%!` stands
-still-closed : (text : List ℕ) (a b : ℕ) → a ≤ b → is_open text a ≡ false → ((k : ℕ) → a ≤ k → k < b → is_mark text k ≡ false) → is_open text b ≡ false
+still-closed : (text : List ℕ) (a b : ℕ) → a ≤ b → is_inside_directive text a ≡ false → ((k : ℕ) → a ≤ k → k < b → is_directive_mark text k ≡ false) → is_inside_directive text b ≡ false
 still-closed text a b le closed none = closed-by text b (λ q o.
     elim (cases_lt q a) [
       | inl earlier ↦ not-opens text a q closed (record { before = earlier; mark = o.mark; line = λ k low high. o.line k low (omega arith) })
       | inr later ↦ true≢false (sym o.mark ∙ none q later o.before)
     ])
 
-run-goes-by : (text : List ℕ) (a r : ℕ) → is_mark text a ≡ false → is_open text a ≡ false → a < length text → IsFirst (is_mark text) a (length text) r → GoesTo text a r
+run-goes-by : (text : List ℕ) (a r : ℕ) → is_directive_mark text a ≡ false → is_inside_directive text a ≡ false → a < length text → IsFirst (is_directive_mark text) a (length text) r → GoesTo text a r
 run-goes-by text a r m closed lt first =
     let low = first.low in
     let high = first.high in
     let after : a < r =
     elim (cases_eq a r) [
-      | inl same ↦ absurd (true≢false (sym (first.here (omega arith)) ∙ ap (is_mark text) (sym same) ∙ m))
+      | inl same ↦ absurd (true≢false (sym (first.here (omega arith)) ∙ ap (is_directive_mark text) (sym same) ∙ m))
       | inr other ↦ omega arith
     ] in
-    let stays : (q : ℕ) → a ≤ q → q ≤ r → is_open text q ≡ false =
+    let stays : (q : ℕ) → a ≤ q → q ≤ r → is_inside_directive text q ≡ false =
     λ q later within. still-closed text a q later closed (λ k from below. first.before k from (omega arith)) in
     record {
       after = after;
@@ -137,22 +137,22 @@ run-goes-by text a r m closed lt first =
     }
 
 -- a text run goes to the next `%!`, or to the text's end
-pub run-goes : (text : List ℕ) (a : ℕ) → is_mark text a ≡ false → is_open text a ≡ false → a < length text → GoesTo text a (run_end text a)
+pub run-goes : (text : List ℕ) (a : ℕ) → is_directive_mark text a ≡ false → is_inside_directive text a ≡ false → a < length text → GoesTo text a (run_end text a)
 run-goes text a m closed lt =
-    run-goes-by text a (run_end text a) m closed lt (first_place-is (is_mark text) a (length text) (omega arith))
+    run-goes-by text a (run_end text a) m closed lt (first_place-is (is_directive_mark text) a (length text) (omega arith))
 
 -- from any place of a run on, the run goes to the same place
 pub run-same : (text : List ℕ) (a q : ℕ) → a ≤ q → q < run_end text a → a ≤ length text → run_end text q ≡ run_end text a
 run-same text a q le lt in_text =
-    same-first (is_mark text) q (length text) (run_end text q) (run_end text a)
-    (first_place-is (is_mark text) q (length text) (omega (arith, whole.high)))
+    same-first (is_directive_mark text) q (length text) (run_end text q) (run_end text a)
+    (first_place-is (is_directive_mark text) q (length text) (omega (arith, whole.high)))
     (record { low = omega arith; high = whole.high; before = λ k from below. whole.before k (omega arith) below; here = whole.here })
   where
-    whole : IsFirst (is_mark text) a (length text) (run_end text a)
-    whole = first_place-is (is_mark text) a (length text) in_text
+    whole : IsFirst (is_directive_mark text) a (length text) (run_end text a)
+    whole = first_place-is (is_directive_mark text) a (length text) in_text
 
 -- at any place of a run no directive begins, and none is open
-pub run-inside : (text : List ℕ) (a q : ℕ) → is_open text a ≡ false → a ≤ q → q < run_end text a → a ≤ length text → (is_mark text q ≡ false) × (is_open text q ≡ false)
+pub run-inside : (text : List ℕ) (a q : ℕ) → is_inside_directive text a ≡ false → a ≤ q → q < run_end text a → a ≤ length text → (is_directive_mark text q ≡ false) × (is_inside_directive text q ≡ false)
 run-inside text a q closed le lt in_text =
-    let whole = first_place-is (is_mark text) a (length text) in_text in
+    let whole = first_place-is (is_directive_mark text) a (length text) in_text in
     (whole.before q le lt, still-closed text a q le closed (λ k from below. whole.before k from (omega arith)))

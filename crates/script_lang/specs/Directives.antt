@@ -10,28 +10,28 @@ use Rattle.script_lang.specs.declared.words.Span.{Span}
 use Rattle.script_lang.specs.Places.{places, first_place, is_byte, word_start, word_end, word}
 
 -- `%!` stands at place p
-abbrev pub is_mark : List ℕ → ℕ → Bool
-is_mark text p = is_byte text 37 p && is_byte text 33 (p + 1)
+abbrev pub is_directive_mark : List ℕ → ℕ → Bool
+is_directive_mark text p = is_byte text 37 p && is_byte text 33 (p + 1)
 
 -- a line ends with the byte at place p
 abbrev pub is_line_end : List ℕ → ℕ → Bool
 is_line_end text p = is_byte text 10 p
 
 -- a directive is open at p: `%!` stands before p, and no line ends between
-abbrev pub is_open : List ℕ → ℕ → Bool
-is_open text p = list_any (λ q. is_mark text q && not (list_any (is_line_end text) (places q p))) (places 0 p)
+abbrev pub is_inside_directive : List ℕ → ℕ → Bool
+is_inside_directive text p = list_any (λ q. is_directive_mark text q && not (list_any (is_line_end text) (places q p))) (places 0 p)
 
 -- a directive begins at p
 abbrev pub begins : List ℕ → ℕ → Bool
-begins text p = is_mark text p && not (is_open text p)
+begins text p = is_directive_mark text p && not (is_inside_directive text p)
 
 -- a directive ends with the byte before p
 abbrev pub ends : List ℕ → ℕ → Bool
-ends text p = nat_lt 0 p && is_line_end text (p - 1) && is_open text (p - 1)
+ends text p = nat_lt 0 p && is_line_end text (p - 1) && is_inside_directive text (p - 1)
 
 -- p is a place at or inside a text run, at the start of a directive, or the text's end
 abbrev pub IsPlace : List ℕ → ℕ → Type 0
-IsPlace text p = (p ≤ length text) × (IsFalse (is_open text p) ⊎ (p ≡ length text))
+IsPlace text p = (p ≤ length text) × (IsFalse (is_inside_directive text p) ⊎ (p ≡ length text))
 
 -- where the line of place p ends: at its LF, or at the text's end
 abbrev pub line_end : List ℕ → ℕ → ℕ

@@ -5,7 +5,7 @@ use Rattle.script_lang.specs.declared.piece.Found.{Found}
 use Rattle.script_lang.specs.declared.piece.Piece.{Piece}
 use Rattle.script_lang.specs.declared.piece.Piece.TheVariants.{Text, Include, Call}
 use Rattle.script_lang.specs.Places.{places, first_place}
-use Rattle.script_lang.specs.Directives.{is_mark, begins, ends, line_end, directive}
+use Rattle.script_lang.specs.Directives.{is_directive_mark, begins, ends, line_end, directive}
 
 -- a piece starts at p
 abbrev pub starts : List ℕ → ℕ → Bool
@@ -13,12 +13,12 @@ starts text p = (p == 0) || begins text p || ends text p
 
 -- the text run from p on goes to the next `%!`, or to the text's end
 abbrev pub run_end : List ℕ → ℕ → ℕ
-run_end text p = first_place (is_mark text) p (length text)
+run_end text p = first_place (is_directive_mark text) p (length text)
 
 -- the piece from p on: a directive where `%!` stands there, otherwise what is left of the text run
 abbrev pub piece_at : List ℕ → ℕ → Found
 piece_at text p =
-    if is_mark text p then record { piece = directive text p; next = min (line_end text (p + 2) + 1) (length text) }
+    if is_directive_mark text p then record { piece = directive text p; next = min (line_end text (p + 2) + 1) (length text) }
     else record { piece = Text p (run_end text p - p); next = run_end text p }
 
 -- the part that a piece names lies within the first n bytes

@@ -1,5 +1,5 @@
 ghost use Rattle.std.specs.Prelude.{◌≡◌, ℕ, ◌+◌, ◌<◌, ◌≤◌, ◌↔◌, ◌∷◌, [], length, IsTrue, IsNone, IfSome, MatchOption};
-ghost use Rattle.script_lang.specs.Directives.{IsPlace, is_mark, before_cr, directive_within};
+ghost use Rattle.script_lang.specs.Directives.{IsPlace, is_directive_mark, before_cr, directive_within};
 ghost use Rattle.script_lang.specs.Pieces.{piece_at, pieces_from, LiesWithin};
 
 use crate::function::function_of;
@@ -41,7 +41,7 @@ fn piece_from(text: &[u8], at: usize) -> Found
 
 /// The directive that begins at `at`.
 fn directive_from(text: &[u8], at: usize) -> Found
-    requires mark { IsTrue (is_mark text.now at) }
+    requires mark { IsTrue (is_directive_mark text.now at) }
     requires inside { at + 2 ≤ length text.now }
     ensures piece { result ≡ piece_at text.now at }
     ensures within { LiesWithin (length text.now) result.piece }

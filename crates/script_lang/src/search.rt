@@ -1,6 +1,6 @@
 ghost use Rattle.std.specs.Prelude.{◌≡◌, ℕ, ◌+◌, ◌<◌, ◌≤◌, not, length};
 ghost use Rattle.script_lang.specs.Places.{is_byte, first_place};
-ghost use Rattle.script_lang.specs.Directives.{is_mark};
+ghost use Rattle.script_lang.specs.Directives.{is_directive_mark};
 
 /// The first place from `from` up to before `to` where `byte` stands, else `to`.
 pub(crate) fn byte_from(text: &[u8], byte: u8, from: usize, to: usize) -> usize
@@ -37,7 +37,7 @@ pub(crate) fn other_from(text: &[u8], byte: u8, from: usize, to: usize) -> usize
 /// Whether `%!` stands at the place.
 pub(crate) fn is_mark_at(text: &[u8], at: usize) -> bool
     requires { at < length text.now }
-    ensures { result ≡ is_mark text.now at }
+    ensures { result ≡ is_directive_mark text.now at }
 {
     text[at] == b'%' && text.len() - at > 1 && text[at + 1] == b'!'
 }
@@ -45,7 +45,7 @@ pub(crate) fn is_mark_at(text: &[u8], at: usize) -> bool
 /// The first place from `from` on where `%!` stands, else the text's length.
 pub(crate) fn mark_from(text: &[u8], from: usize) -> usize
     requires { from ≤ length text.now }
-    ensures place { result ≡ first_place (is_mark text.now) from (length text.now) }
+    ensures place { result ≡ first_place (is_directive_mark text.now) from (length text.now) }
     ensures low { from ≤ result }
     ensures high { result ≤ length text.now }
 {

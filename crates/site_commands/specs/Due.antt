@@ -14,7 +14,7 @@ use Rattle.site_image.specs.declared.site_error.SiteError.{SiteError}
 use Rattle.site_image.specs.Files.{File}
 use Rattle.site_image.specs.Faults.{read_image}
 use Rattle.web_pages.specs.ZeroPages.{zero_page}
-use Rattle.site_commands.specs.Report.{report, bad_line}
+use Rattle.site_commands.specs.Report.{image_report, bad_line}
 
 -- the text, and the first fault of the image, if it has one
 pub record Due : Type 0 where
@@ -23,7 +23,7 @@ pub record Due : Type 0 where
 
 -- the report on an image that was read, or the line of its first fault
 abbrev pub checked : Result (List File) SiteError → Due
-checked (Ok files) = record { text = report files; fault = None }
+checked (Ok files) = record { text = image_report files; fault = None }
 checked (Err error) = record { text = bad_line error; fault = Some error }
 
 -- what is due for the image under the name; none where the file is missing
@@ -51,10 +51,10 @@ MakesImage image (Err halt.NoMemory) = ⊤
 MakesImage image (Err halt.Shelf) = ⊥
 
 -- what is made of a fault
-abbrev pub Refuses : LoadFault → Result Due Halt → Type 0
-Refuses fault.Shelf made = made ≡ Err halt.Shelf
-Refuses (fault.Bad error) made = made ≡ Ok (imaged (Err error))
-Refuses fault.NoMemory made = made ≡ Err halt.NoMemory
+abbrev pub MadeOfFault : LoadFault → Result Due Halt → Type 0
+MadeOfFault fault.Shelf made = made ≡ Err halt.Shelf
+MadeOfFault (fault.Bad error) made = made ≡ Ok (imaged (Err error))
+MadeOfFault fault.NoMemory made = made ≡ Err halt.NoMemory
 
 -- what reading the image under the name gives, and `-` is the site without files; nothing where the file is missing
 abbrev pub site_read : List ℕ → Files → Option (Result (List File) SiteError)

@@ -10,9 +10,9 @@ use Rattle.file_tree.specs.Site.{SiteContent, files_of}
 use Rattle.site_commands.specs.Due.{site_read}
 
 -- reading gives this, where the shelf tells its files
-abbrev pub IsRead : List ℕ → Option Files → Result (List File) SiteError → Type 0
-IsRead name None read = ⊤
-IsRead name (Some files) read = site_read name files ≡ Some read
+abbrev pub IsSiteRead : List ℕ → Option Files → Result (List File) SiteError → Type 0
+IsSiteRead name None read = ⊤
+IsSiteRead name (Some files) read = site_read name files ≡ Some read
 
 -- the shelf tells its files, and the one that is asked for is missing
 abbrev pub LacksSite : List ℕ → Option Files → Type 0
@@ -21,7 +21,7 @@ LacksSite name (Some files) = site_read name files ≡ None
 
 -- the site or why there is none, with the count of the shelf's faults before and after
 abbrev pub Opens : List ℕ → Option Files → ℕ → ℕ → Result SiteContent LoadFault → Type 0
-Opens name held before now (Ok site) = IsRead name held (Ok (files_of site)) × (now ≡ before)
-Opens name held before now (Err (Bad error)) = IsRead name held (Err error) × (now ≡ before)
+Opens name held before now (Ok site) = IsSiteRead name held (Ok (files_of site)) × (now ≡ before)
+Opens name held before now (Err (Bad error)) = IsSiteRead name held (Err error) × (now ≡ before)
 Opens name held before now (Err Shelf) = (Rose before now ⊎ LacksSite name held) × (before ≤ now)
 Opens name held before now (Err NoMemory) = now ≡ before

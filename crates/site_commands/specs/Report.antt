@@ -12,8 +12,8 @@ abbrev pub file_line : List File → File → List ℕ
 file_line files file = file.name ++ codes " " ++ decimal (page_length files file) ++ codes "\n"
 
 -- a line for each file in the image's order, and one with their count
-abbrev pub report : List File → List ℕ
-report files = flat_map (file_line files) files ++ codes "files " ++ decimal (length files) ++ codes "\n"
+abbrev pub image_report : List File → List ℕ
+image_report files = flat_map (file_line files) files ++ codes "files " ++ decimal (length files) ++ codes "\n"
 
 -- the word of a fault
 abbrev pub why_word : SiteWhy → List ℕ

@@ -1,7 +1,7 @@
 ghost use Rattle.std.specs.Prelude.{◌≡◌, List, ℕ, Result, OnOk};
 ghost use Rattle.site_image.specs.declared.site_error.SiteError.{SiteError as AnyError};
 ghost use Rattle.file_tree.specs.Answers.{Gives};
-ghost use Rattle.site_commands.specs.Due.{MakesImage, Refuses};
+ghost use Rattle.site_commands.specs.Due.{MakesImage, MadeOfFault};
 
 use crate::halt::Halt;
 use crate::outcome::Outcome;
@@ -20,7 +20,7 @@ pub(crate) fn imaged(alloc: Global, made: Result<Vec<u8>, LoadFault>) -> Result<
 
 /// Nothing to write, for the fault.
 pub(crate) fn refused(alloc: Global, fault: LoadFault) -> Result<Outcome, Halt>
-    ensures { Refuses fault result }
+    ensures { MadeOfFault fault result }
 {
     match fault {
         LoadFault::Shelf => Err(Halt::Shelf),

@@ -2,7 +2,7 @@ ghost use Rattle.std.specs.Prelude.{◌≡◌, ◌<◌, ◌++◌, decimal, lengt
 ghost use Rattle.std.specs.List.{flat_map};
 ghost use Rattle.site_image.specs.Files.{File};
 ghost use Rattle.file_tree.specs.Site.{files_of};
-ghost use Rattle.site_commands.specs.Report.{bad_line as bad_line_of, file_line, report as report_of, why_word as word_of};
+ghost use Rattle.site_commands.specs.Report.{bad_line as bad_line_of, file_line, image_report as report_of, why_word as word_of};
 
 use file_tree::{FileId, Site, SiteError, SiteWhy};
 use itoa::Buffer;

@@ -17,7 +17,7 @@ use Rattle.site_image.specs.declared.version.Version.TheVariants.{One, Two}
 use Rattle.site_image.specs.Files.{File, has_name}
 use Rattle.site_image.specs.Pages.{script_fault}
 use Rattle.site_image.specs.Grammar.{magic, entry, image, short_text, long_text, IsFile, IsImage}
-use Rattle.site_image.specs.Faults.{unless, fault, ◌>>=◌, refuse, version_of, count_of, head_of, entries, scripts, read_image}
+use Rattle.site_image.specs.Faults.{unless, fault, ◌>>=◌, refuse, version_of, file_count, image_head, entries, scripts, read_image}
 use Rattle.site_image.proofs.PartLaws.{IsBytes, IsBytes-drop, IsBytes-take}
 use Rattle.site_image.proofs.EntryLaws.{AreFresh, AreShort, entries-read, entries-again, unless-none}
 
@@ -51,7 +51,7 @@ pub record ReadsHead (bytes : List ℕ) (v : Version) (n : ℕ) : Type 0 where
   pub count : n ≤ MOST_FILES
   pub parts : bytes ≡ magic v ++ (to_be_bytes w16 n ++ drop 10 bytes)
 
-head-parts : (bytes : List ℕ) (v : Version) (n : ℕ) → IsBytes bytes → 10 ≤ length bytes → starts_with nat_eq bytes (magic v) ≡ true → n ≡ count_of bytes
+head-parts : (bytes : List ℕ) (v : Version) (n : ℕ) → IsBytes bytes → 10 ≤ length bytes → starts_with nat_eq bytes (magic v) ≡ true → n ≡ file_count bytes
     → bytes ≡ magic v ++ (to_be_bytes w16 n ++ drop 10 bytes)
 head-parts bytes v n fits long starts is =
     let rest = drop 8 bytes in
@@ -61,21 +61,21 @@ head-parts bytes v n fits long starts is =
     ∙ ap (λ x. x ++ rest) (sym (magic-front bytes v starts))
     ∙ ap (λ x. magic v ++ x) (sym (take-append-drop 2 rest) ∙ ap (λ x. x ++ drop 2 rest) (sym number) ∙ ap (λ x. to_be_bytes w16 n ++ x) (drop-drop 2 8 bytes))
 
-pub head-reads : (bytes : List ℕ) (v : Version) (n : ℕ) → IsBytes bytes → head_of bytes ≡ Ok (v, n) → ReadsHead bytes v n
-unfolding head_of
+pub head-reads : (bytes : List ℕ) (v : Version) (n : ℕ) → IsBytes bytes → image_head bytes ≡ Ok (v, n) → ReadsHead bytes v n
+unfolding image_head
 head-reads bytes v n fits e =
-    let made : Version → Result (Version × ℕ) SiteError = λ w. Ok (w, count_of bytes) in
-    let last : Version → Result (Version × ℕ) SiteError = λ w. refuse (ltb MOST_FILES (count_of bytes)) TooMany >>= λ _. made w in
+    let made : Version → Result (Version × ℕ) SiteError = λ w. Ok (w, file_count bytes) in
+    let last : Version → Result (Version × ℕ) SiteError = λ w. refuse (ltb MOST_FILES (file_count bytes)) TooMany >>= λ _. made w in
     let third : Version → Result (Version × ℕ) SiteError = λ w. refuse (ltb (length bytes) 10) Cut >>= λ _. last w in
     let a = bind_ok (refuse (ltb LONGEST_IMAGE (length bytes)) TooLong) (λ _. version_of bytes >>= third) (v, n) e in
     let b = bind_ok (version_of bytes) third (v, n) a.2 in
     let c = bind_ok (refuse (ltb (length bytes) 10) Cut) (λ _. last b.0) (v, n) b.2 in
-    let d = bind_ok (refuse (ltb MOST_FILES (count_of bytes)) TooMany) (λ _. made b.0) (v, n) c.2 in
-    let same = ok_is (b.0, count_of bytes) (v, n) d.2 in
+    let d = bind_ok (refuse (ltb MOST_FILES (file_count bytes)) TooMany) (λ _. made b.0) (v, n) c.2 in
+    let same = ok_is (b.0, file_count bytes) (v, n) d.2 in
     let version_is : b.0 ≡ v = ap (λ (p : Version × ℕ). p.0) same in
-    let count_is : count_of bytes ≡ n = ap (λ (p : Version × ℕ). p.1) same in
+    let count_is : file_count bytes ≡ n = ap (λ (p : Version × ℕ). p.1) same in
     let starts = version-by bytes (starts_with nat_eq bytes (magic One)) (starts_with nat_eq bytes (magic Two)) b.0 refl refl b.1 in
-    let most = ltb-false MOST_FILES (count_of bytes) (refuse-ok (ltb MOST_FILES (count_of bytes)) TooMany d.0 d.1) in
+    let most = ltb-false MOST_FILES (file_count bytes) (refuse-ok (ltb MOST_FILES (file_count bytes)) TooMany d.0 d.1) in
     record {
       size = ltb-false LONGEST_IMAGE (length bytes) (refuse-ok (ltb LONGEST_IMAGE (length bytes)) TooLong a.0 a.1);
       count = omega (arith, most, count_is);
@@ -92,23 +92,23 @@ magic-length One = refl
 magic-length Two = refl
 
 pub head-again : (v : Version) (n : ℕ) (rest : List ℕ) → n ≤ MOST_FILES → length (magic v ++ (to_be_bytes w16 n ++ rest)) ≤ LONGEST_IMAGE
-    → head_of (magic v ++ (to_be_bytes w16 n ++ rest)) ≡ Ok (v, n)
-unfolding head_of
+    → image_head (magic v ++ (to_be_bytes w16 n ++ rest)) ≡ Ok (v, n)
+unfolding image_head
 head-again v n rest few size =
     let tail = to_be_bytes w16 n ++ rest in
     let bytes = magic v ++ tail in
     let len : length bytes ≡ 10 + length rest = omega (arith, length-append (magic v) tail, length-append (to_be_bytes w16 n) rest, magic-length v) in
-    let counted : count_of bytes ≡ n =
+    let counted : file_count bytes ≡ n =
     ap (λ x. from_be_bytes w16 (take 2 x)) (drop_at (magic v) tail 8 (magic-length v))
     ∙ ap (from_be_bytes w16) (take_at (to_be_bytes w16 n) rest 2 refl)
     ∙ from_be_bytes-to_be_bytes_2 n (omega arith) in
-    let made : Version → Result (Version × ℕ) SiteError = λ w. Ok (w, count_of bytes) in
-    let last : Version → Result (Version × ℕ) SiteError = λ w. refuse (ltb MOST_FILES (count_of bytes)) TooMany >>= λ _. made w in
+    let made : Version → Result (Version × ℕ) SiteError = λ w. Ok (w, file_count bytes) in
+    let last : Version → Result (Version × ℕ) SiteError = λ w. refuse (ltb MOST_FILES (file_count bytes)) TooMany >>= λ _. made w in
     let third : Version → Result (Version × ℕ) SiteError = λ w. refuse (ltb (length bytes) 10) Cut >>= λ _. last w in
     ap (λ t. refuse t TooLong >>= λ _. version_of bytes >>= third) (le-ltb LONGEST_IMAGE (length bytes) size)
     ∙ ap (λ r. r >>= third) (version-again v tail)
     ∙ ap (λ t. refuse t Cut >>= λ _. last v) (le-ltb (length bytes) 10 (omega arith))
-    ∙ ap (λ t. refuse t TooMany >>= λ _. made v) (le-ltb MOST_FILES (count_of bytes) (omega arith))
+    ∙ ap (λ t. refuse t TooMany >>= λ _. made v) (le-ltb MOST_FILES (file_count bytes) (omega arith))
     ∙ ap (λ k. Ok (v, k)) counted
 
 -- ---- the scripts
@@ -264,7 +264,7 @@ after_head : List ℕ → Version × ℕ → Result (List File) SiteError
 unfolding after_entries
 after_head bytes head = entries head.0 head.1 [] (drop 10 bytes) >>= after_entries
 
-read-is : (bytes : List ℕ) → read_image bytes ≡ (head_of bytes >>= after_head bytes)
+read-is : (bytes : List ℕ) → read_image bytes ≡ (image_head bytes >>= after_head bytes)
 unfolding read_image after_head after_entries after_rest
 read-is bytes = refl
 
@@ -272,7 +272,7 @@ read-is bytes = refl
 record ReadsWhole (bytes : List ℕ) (files : List File) : Type 0 where
   version : Version
   count : ℕ
-  head : head_of bytes ≡ Ok (version, count)
+  head : image_head bytes ≡ Ok (version, count)
   rest : List ℕ
   entries_are : entries version count [] (drop 10 bytes) ≡ Ok (files, rest)
   nothing : rest ≡ []
@@ -281,7 +281,7 @@ record ReadsWhole (bytes : List ℕ) (files : List File) : Type 0 where
 reads-whole : (bytes : List ℕ) (files : List File) → read_image bytes ≡ Ok files → ReadsWhole bytes files
 unfolding after_head after_entries after_rest
 reads-whole bytes files e =
-    let a = bind_ok (head_of bytes) (after_head bytes) files (sym (read-is bytes) ∙ e) in
+    let a = bind_ok (image_head bytes) (after_head bytes) files (sym (read-is bytes) ∙ e) in
     let b = bind_ok (entries a.0.0 a.0.1 [] (drop 10 bytes)) after_entries files a.2 in
     let c = bind_ok (refuse (ltb 0 (length b.0.1)) Rest) (λ _. after_rest b.0) files b.2 in
     let d = bind_ok (scripts b.0.0 0 b.0.0) (λ _. Ok b.0.0) files c.2 in

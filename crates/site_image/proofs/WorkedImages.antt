@@ -6,7 +6,7 @@ use Rattle.site_image.specs.declared.version.Version.TheVariants.{One}
 use Rattle.site_image.specs.Files.{File}
 use Rattle.site_image.specs.Pages.{page_length}
 use Rattle.site_image.specs.Grammar.{image}
-use Rattle.site_image.specs.Faults.{head_of, entries, scripts, read_image, fault}
+use Rattle.site_image.specs.Faults.{image_head, entries, scripts, read_image, fault}
 
 -- what is wrong with an image
 abbrev fault_of : Result (List File) SiteError → Option SiteError
@@ -14,7 +14,7 @@ fault_of (Ok files) = None
 fault_of (Err e) = Some e
 
 first_fault : List ℕ → Option SiteError
-unfolding head_of entries scripts read_image
+unfolding image_head entries scripts read_image
 first_fault bytes = fault_of (read_image bytes)
 
 hello : File
@@ -30,52 +30,52 @@ unfolding hello hello_image
 spelled = refl
 
 good : first_fault hello_image ≡ None
-unfolding first_fault hello_image head_of entries scripts read_image
+unfolding first_fault hello_image image_head entries scripts read_image
 good = refl
 
 -- cut at each length, it has the fault of the first part that is not whole
 magic_cut : map (λ n. first_fault (take n hello_image)) (0 ∷ 1 ∷ 7 ∷ []) ≡ Some (fault why.Magic 0) ∷ Some (fault why.Magic 0) ∷ Some (fault why.Magic 0) ∷ []
-unfolding first_fault hello_image head_of entries scripts read_image
+unfolding first_fault hello_image image_head entries scripts read_image
 magic_cut = refl
 
 count_cut : map (λ n. first_fault (take n hello_image)) (8 ∷ 9 ∷ []) ≡ Some (fault why.Cut 0) ∷ Some (fault why.Cut 0) ∷ []
-unfolding first_fault hello_image head_of entries scripts read_image
+unfolding first_fault hello_image image_head entries scripts read_image
 count_cut = refl
 
 entry_cut : map (λ n. first_fault (take n hello_image)) (10 ∷ 11 ∷ 15 ∷ 21 ∷ 22 ∷ 25 ∷ 26 ∷ 31 ∷ [])
     ≡ Some (fault why.Cut 1) ∷ Some (fault why.Cut 1) ∷ Some (fault why.Cut 1) ∷ Some (fault why.Cut 1) ∷ Some (fault why.Cut 1)
     ∷ Some (fault why.Cut 1) ∷ Some (fault why.Cut 1) ∷ Some (fault why.Cut 1) ∷ []
-unfolding first_fault hello_image head_of entries scripts read_image
+unfolding first_fault hello_image image_head entries scripts read_image
 entry_cut = refl
 
 -- a byte too many, a count of 1025, a name of no byte, a byte of a name that is not allowed, a name twice
 rest : first_fault (hello_image ++ 0x21 ∷ []) ≡ Some (fault why.Rest 0)
-unfolding first_fault hello_image head_of entries scripts read_image
+unfolding first_fault hello_image image_head entries scripts read_image
 rest = refl
 
 many : first_fault (codes "UIPSITE1" ++ 0x04 ∷ 0x01 ∷ []) ≡ Some (fault why.TooMany 0)
-unfolding first_fault head_of entries scripts read_image
+unfolding first_fault image_head entries scripts read_image
 many = refl
 
 no_name : first_fault (codes "UIPSITE1" ++ 0x00 ∷ 0x01 ∷ 0x00 ∷ []) ≡ Some (fault why.Name 1)
-unfolding first_fault head_of entries scripts read_image
+unfolding first_fault image_head entries scripts read_image
 no_name = refl
 
 query : first_fault (codes "UIPSITE1" ++ 0x00 ∷ 0x01 ∷ 0x02 ∷ 0x2F ∷ 0x3F ∷ []) ≡ Some (fault why.Name 1)
-unfolding first_fault head_of entries scripts read_image
+unfolding first_fault image_head entries scripts read_image
 query = refl
 
 same_name : first_fault (codes "UIPSITE1" ++ 0 ∷ 2 ∷ 2 ∷ codes "/x" ++ 0 ∷ 0 ∷ 0 ∷ 1 ∷ 0x31 ∷ 2 ∷ codes "/x" ++ 0 ∷ 0 ∷ 0 ∷ 1 ∷ 0x32 ∷ []) ≡ Some (fault why.Twice 2)
-unfolding first_fault head_of entries scripts read_image
+unfolding first_fault image_head entries scripts read_image
 same_name = refl
 
 -- a content type of 65 bytes, and an include that names no file
 long_kind : first_fault (codes "UIPSITE2" ++ 0 ∷ 1 ∷ 2 ∷ codes "/x" ++ 65 ∷ codes "text/html") ≡ Some (fault why.Kind 1)
-unfolding first_fault head_of entries scripts read_image
+unfolding first_fault image_head entries scripts read_image
 long_kind = refl
 
 no_include : first_fault (codes "UIPSITE1" ++ 0 ∷ 1 ∷ 8 ∷ codes "/a.shtml" ++ 0 ∷ 0 ∷ 0 ∷ 6 ∷ codes "%!:/x" ++ 10 ∷ []) ≡ Some (fault why.Include 1)
-unfolding first_fault head_of entries scripts read_image
+unfolding first_fault image_head entries scripts read_image
 no_include = refl
 
 -- the greatest lengths of pages

@@ -13,7 +13,7 @@ use Rattle.site_image.specs.declared.version.Version.TheVariants.{One, Two}
 use Rattle.site_image.specs.Files.{File, has_name}
 use Rattle.site_image.specs.Pages.{script_fault}
 use Rattle.site_image.specs.Grammar.{magic}
-use Rattle.site_image.specs.Parts.{text, after_text, kind_text, after_kind, content, after_content, name_fault, kind_fault, content_fault}
+use Rattle.site_image.specs.Parts.{text, after_text, kind_given, after_kind, content, after_content, name_fault, kind_fault, content_fault}
 
 -- a fault of entry i, counted from 1; 0 stands for the whole
 abbrev pub fault : SiteWhy → ℕ → SiteError
@@ -41,17 +41,17 @@ version_of bytes =
     else Err (fault Magic 0)
 
 -- the two bytes after them: the count of the entries
-abbrev pub count_of : List ℕ → ℕ
-count_of bytes = from_be_bytes w16 (take 2 (drop 8 bytes))
+abbrev pub file_count : List ℕ → ℕ
+file_count bytes = from_be_bytes w16 (take 2 (drop 8 bytes))
 
 -- the version and the count
-unfoldable pub head_of : List ℕ → Result (Version × ℕ) SiteError
-head_of bytes = do
+unfoldable pub image_head : List ℕ → Result (Version × ℕ) SiteError
+image_head bytes = do
   _ ← refuse (nat_lt LONGEST_IMAGE (length bytes)) TooLong
   version ← version_of bytes
   _ ← refuse (nat_lt (length bytes) 10) Cut
-  _ ← refuse (nat_lt MOST_FILES (count_of bytes)) TooMany
-  Ok (version, count_of bytes)
+  _ ← refuse (nat_lt MOST_FILES (file_count bytes)) TooMany
+  Ok (version, file_count bytes)
 
 -- an earlier file has the name of the entry
 abbrev pub twice : List File → List ℕ → Option SiteWhy
@@ -67,7 +67,7 @@ entry_fault version earlier bytes =
 abbrev pub entry_file : Version → List ℕ → File
 entry_file version bytes = record {
   name = text bytes;
-  kind = kind_text version (after_text bytes);
+  kind = kind_given version (after_text bytes);
   content = content (after_kind version (after_text bytes));
 }
 
@@ -90,7 +90,7 @@ scripts all i (file ∷ files) = unless (script_fault all file) (i + 1) (scripts
 -- the files of the image, or its first fault
 unfoldable pub read_image : List ℕ → Result (List File) SiteError
 read_image bytes = do
-  head ← head_of bytes
+  head ← image_head bytes
   read ← entries head.0 head.1 [] (drop 10 bytes)
   _ ← refuse (nat_lt 0 (length read.1)) Rest
   _ ← scripts read.0 0 read.0

@@ -61,9 +61,9 @@ kind_fault Two bytes = first_of (
     ∷ [])
 
 -- the content type, and what follows it
-abbrev pub kind_text : Version → List ℕ → List ℕ
-kind_text One bytes = []
-kind_text Two bytes = text bytes
+abbrev pub kind_given : Version → List ℕ → List ℕ
+kind_given One bytes = []
+kind_given Two bytes = text bytes
 
 abbrev pub after_kind : Version → List ℕ → List ℕ
 after_kind One bytes = bytes

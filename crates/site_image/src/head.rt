@@ -1,5 +1,5 @@
 ghost use Rattle.std.specs.Prelude.{◌≡◌, ◌≤◌, length, IfOk};
-ghost use Rattle.site_image.specs.Faults.{version_of, head_of};
+ghost use Rattle.site_image.specs.Faults.{version_of, image_head};
 
 use crate::site_error::{SiteError, SiteWhy};
 use crate::version::Version;
@@ -28,9 +28,9 @@ fn version_at(bytes: &[u8]) -> Result<Version, SiteError>
 }
 
 /// The version of an image and the count of its entries, or the first fault that is no entry's.
-#[tactic(auto, unfolding(crate::specs::Faults::head_of))]
+#[tactic(auto, unfolding(crate::specs::Faults::image_head))]
 pub fn read_head(bytes: &[u8]) -> Result<(Version, usize), SiteError>
-    ensures head { result ≡ head_of bytes.now }
+    ensures head { result ≡ image_head bytes.now }
     ensures size { IfOk result (λ head. (10 ≤ length bytes.now) × (length bytes.now ≤ LONGEST_IMAGE)) }
     ensures few { IfOk result (λ head. head.1 ≤ MOST_FILES) }
 {

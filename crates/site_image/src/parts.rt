@@ -1,5 +1,5 @@
 ghost use Rattle.std.specs.Prelude.{◌≡◌, ◌+◌, ◌≤◌, ◌^◌, ◌<◌, drop, length, IfOk, IfErr, Some, None};
-ghost use Rattle.site_image.specs.Parts.{name_fault, kind_fault, content_fault, byte_length, long_length, text, after_text, kind_text, after_kind, content, after_content};
+ghost use Rattle.site_image.specs.Parts.{name_fault, kind_fault, content_fault, byte_length, long_length, text, after_text, kind_given, after_kind, content, after_content};
 ghost use Rattle.site_image.specs.Places.{IsPart};
 ghost use Rattle.site_image.specs.declared.version.Version.TheVariants.{Two};
 
@@ -84,7 +84,7 @@ pub fn name_part(image: &[u8], at: usize) -> Result<Part, SiteWhy>
 pub fn kind_part(image: &[u8], at: usize, version: Version) -> Result<Part, SiteWhy>
     requires { at ≤ length image.now }
     ensures ok { IfOk result (λ part. (kind_fault version (drop at image.now) ≡ None)
-        × IsPart image.now part (kind_text version (drop at image.now)) (after_kind version (drop at image.now))) }
+        × IsPart image.now part (kind_given version (drop at image.now)) (after_kind version (drop at image.now))) }
     ensures err { IfErr result (λ why. kind_fault version (drop at image.now) ≡ Some why) }
 {
     match version {

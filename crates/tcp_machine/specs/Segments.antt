@@ -24,8 +24,8 @@ abbrev pub syn_ack : Connection → PlainSegment
 syn_ack c = record (bare_ack c) { flags = SYN + ACK; mss = Some OWN_MSS }
 
 -- the text from the acknowledged offset on, as long as what is outstanding
-abbrev pub text_of : Meaning → Connection → PlainSegment
-text_of m c = record (bare_ack c) { flags = ACK + PSH; text = take c.len (text_left m c.part) }
+abbrev pub text_segment : Meaning → Connection → PlainSegment
+text_segment m c = record (bare_ack c) { flags = ACK + PSH; text = take c.len (text_left m c.part) }
 
 abbrev pub fin_of : Connection → PlainSegment
 fin_of c = record (bare_ack c) { flags = FIN + ACK }
@@ -42,7 +42,7 @@ abbrev pub segment_of : Meaning → Connection → Step → Option PlainSegment
 segment_of m c Step.Drop = None
 segment_of m c Step.Ack = Some (bare_ack c)
 segment_of m c (Step.SynAck again) = Some (syn_ack c)
-segment_of m c (Step.Text again) = Some (text_of m c)
+segment_of m c (Step.Text again) = Some (text_segment m c)
 segment_of m c (Step.Fin again) = Some (fin_of c)
 segment_of m c Step.Reset = Some (reset_of c)
 segment_of m c (Step.Ask fresh) = None

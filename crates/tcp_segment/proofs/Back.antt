@@ -12,7 +12,7 @@ use Rattle.uip_ipv4.proofs.Back.{passes, not_less, equal, neither, length-head_b
 use Rattle.uip_ipv4.specs.Head.{head_bytes, head_or_fate, payload_of}
 use Rattle.uip_ipv4.specs.declared.proto.Proto.TheVariants.{Tcp}
 use Rattle.tcp_segment.specs.Options.{mss_in, value_of}
-use Rattle.tcp_segment.specs.ReadBack.{IsSound, IsReadBack, ReadsBack, head_of}
+use Rattle.tcp_segment.specs.ReadBack.{IsSoundDatagram, IsReadBack, ReadsBack, head_of}
 use Rattle.tcp_segment.specs.Received.{header_len, segment_in}
 use Rattle.tcp_segment.specs.Segments.{Datagram, datagram_bytes, pseudo_header, segment_bytes}
 use Rattle.tcp_segment.specs.declared.fate.TcpFate.{TcpFate}
@@ -137,7 +137,7 @@ text_is d at s t e =
     ∙ ap (λ l. take len l) (sym (drop-drop at 20 (datagram_bytes d)) ∙ ap (λ l. drop at l) (behind_head d s t) ∙ e)
     ∙ take-length d.segment.text
 
-head_back : (d : Datagram) → IsSound d → head_or_fate (datagram_bytes d) d.target ≡ Ok (head_of d)
+head_back : (d : Datagram) → IsSoundDatagram d → head_or_fate (datagram_bytes d) d.target ≡ Ok (head_of d)
 unfolding datagram_bytes
 head_back d sound =
     reads_back (20 + length (segment_bytes d)) d.id Tcp d.source d.target (segment_bytes d) sound.source sound.target (omega arith) (omega arith)
@@ -148,7 +148,7 @@ some_value mss h = grind (arith, common_steps)
 abbrev with_mss : Datagram → Option ℕ → Datagram
 with_mss d mss = record d { segment = record d.segment { mss = mss } }
 
-back : (d : Datagram) (mss : Option ℕ) → IsSound (with_mss d mss) → IsReadBack (with_mss d mss)
+back : (d : Datagram) (mss : Option ℕ) → IsSoundDatagram (with_mss d mss) → IsReadBack (with_mss d mss)
 back d None sound =
     let sent : Datagram = with_mss d None in
     record {

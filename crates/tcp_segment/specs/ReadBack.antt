@@ -9,7 +9,7 @@ use Rattle.tcp_segment.specs.Segments.{Datagram, datagram_bytes, offset_of, segm
 use Rattle.tcp_segment.specs.declared.segment.Segment.{Segment}
 
 -- Each number fits its field, the option's value is not 0, and the whole is no longer than the largest datagram.
-pub record IsSound (d : Datagram) : Type 0 where
+pub record IsSoundDatagram (d : Datagram) : Type 0 where
   pub source : length d.source ≡ 4
   pub target : length d.target ≡ 4
   pub from : d.from < 65536
@@ -52,4 +52,4 @@ pub record IsReadBack (d : Datagram) : Type 0 where
   pub segment : plain_of (fields_sent d) (datagram_bytes d) ≡ d.segment
 
 abbrev pub ReadsBack : Type 0
-ReadsBack = (d : Datagram) → IsSound d → IsReadBack d
+ReadsBack = (d : Datagram) → IsSoundDatagram d → IsReadBack d

@@ -8,9 +8,9 @@ use Rattle.tcp_table.specs.declared.conn.Conn.{Conn}
 abbrev pub waited : {A : Type 0} → Conn A → ℕ
 waited c = if is_time_wait c.state then c.timer.count else 0
 
-abbrev pub longest_wait : {A : Type 0} → List (Conn A) → ℕ
-longest_wait [] = 0
-longest_wait (c ∷ cs) = max (waited c) (longest_wait cs)
+abbrev pub longest_rest : {A : Type 0} → List (Conn A) → ℕ
+longest_rest [] = 0
+longest_rest (c ∷ cs) = max (waited c) (longest_rest cs)
 
 abbrev pub has_waited : {A : Type 0} → ℕ → Conn A → Bool
 has_waited ticks c = is_time_wait c.state && (c.timer.count == ticks)
@@ -19,5 +19,5 @@ abbrev pub or_else : Option ℕ → Option ℕ → Option ℕ
 or_else (Some i) other = Some i
 or_else None other = other
 
-abbrev pub slot_for_syn : {A : Type 0} → List (Conn A) → Option ℕ
-slot_for_syn cs = or_else (position (λ c. not (is_live c.state)) cs) (position (has_waited (longest_wait cs)) cs)
+abbrev pub slot_to_take : {A : Type 0} → List (Conn A) → Option ℕ
+slot_to_take cs = or_else (position (λ c. not (is_live c.state)) cs) (position (has_waited (longest_rest cs)) cs)

@@ -3,7 +3,7 @@
 ghost use Rattle.std.specs.Prelude.{◌≡◌, position, not};
 ghost use Rattle.app_events.specs.States.{is_live};
 ghost use Rattle.tcp_table.specs.Connections.{is_at};
-ghost use Rattle.tcp_table.specs.Slots.{longest_wait, has_waited, slot_for_syn};
+ghost use Rattle.tcp_table.specs.Slots.{longest_rest, has_waited, slot_to_take};
 
 use crate::conn::Conn;
 use uip_wire::{Addr, Port};
@@ -31,7 +31,7 @@ fn closed_in<A>(conns: &[Conn<A>]) -> Option<usize>
 
 /// How many ticks the TIME-WAIT connection has waited that waited longest, 0 where there is none.
 fn longest_in<A>(conns: &[Conn<A>]) -> u8
-    ensures { result ≡ longest_wait conns.now }
+    ensures { result ≡ longest_rest conns.now }
 {
     match conns {
         [] => 0,
@@ -48,7 +48,7 @@ fn waited_in<A>(conns: &[Conn<A>], ticks: u8) -> Option<usize>
 
 /// The slot that a plain SYN takes.
 pub(crate) fn slot_in<A>(conns: &[Conn<A>]) -> Option<usize>
-    ensures { result ≡ slot_for_syn conns.now }
+    ensures { result ≡ slot_to_take conns.now }
 {
     match closed_in(conns) {
         Some(slot) => Some(slot),

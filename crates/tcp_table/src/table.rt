@@ -2,7 +2,7 @@
 
 ghost use Rattle.std.specs.Prelude.{◌≡◌, ℕ, ◌+◌, ◌%◌, ◌^◌, ◌<◌, ◌≤◌, length, IfOk, IfSome, All, position, slice_get, Some};
 ghost use Rattle.tcp_table.specs.Connections.{is_at};
-ghost use Rattle.tcp_table.specs.Slots.{slot_for_syn};
+ghost use Rattle.tcp_table.specs.Slots.{slot_to_take};
 
 use crate::conn::Conn;
 use crate::search::{find_in, slot_in};
@@ -53,7 +53,7 @@ impl<A: App> Table<A> {
 
     /// The slot that a plain SYN takes.
     pub fn slot_for_syn(&self) -> Option<usize>
-        ensures { result ≡ slot_for_syn self.now.conns }
+        ensures { result ≡ slot_to_take self.now.conns }
     {
         slot_in(&self.conns)
     }

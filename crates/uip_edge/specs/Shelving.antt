@@ -16,8 +16,8 @@ pub record HeldFile : Type 0 where
   pub content : List ℕ
 
 -- the files of a list, of which the first one of a name counts
-abbrev pub files_of : List HeldFile → Files
-files_of list name = option_map (λ held. held.content) (find (λ held. bytes_eq held.name name) list)
+abbrev pub told_files : List HeldFile → Files
+told_files list name = option_map (λ held. held.content) (find (λ held. bytes_eq held.name name) list)
 
 -- an answer about a file, with the bytes that it read at the front of the buffer: they are the file's bytes from the
 -- place on, and there are none exactly where the place is not below the file's length. Without such a file a call fails

@@ -137,24 +137,24 @@ greater true x y rest more h e = let same = h refl in cc
 greater false x y rest more h e = omega (arith, e)
 
 longest_agrees : {A S : Type 0} (g : Ghosts A S) (k : g.Kept) (cs : List (Conn A)) (abstracts : List Connection) → length cs ≡ length abstracts →
-    ((i : ℕ) (c : Conn A) (a : Connection) → slice_get cs i ≡ Some c → slice_get abstracts i ≡ Some a → ConnStands g k c a × IsSound g k c) → table.longest_wait cs ≡ longest_wait abstracts
+    ((i : ℕ) (c : Conn A) (a : Connection) → slice_get cs i ≡ Some c → slice_get abstracts i ≡ Some a → ConnStands g k c a × IsSound g k c) → table.longest_rest cs ≡ longest_wait abstracts
 longest_agrees g k [] [] e h = refl
 longest_agrees g k [] (a ∷ abstracts) e h = absurd (omega (arith, e))
 longest_agrees g k (c ∷ cs) [] e h = absurd (omega (arith, e))
 longest_agrees g k (c ∷ cs) (a ∷ abstracts) e h =
     let here = h 0 c a refl refl in
     let rest = longest_agrees g k cs abstracts (omega (arith, e)) (λ i d b at there. h (suc i) d b at there) in
-    ap (λ (s : State). max (if is_time_wait s then c.timer.count else 0) (table.longest_wait cs)) here.0.numbers.state
-    ∙ greater (is_time_wait a.state) c.timer.count a.age (table.longest_wait cs) (longest_wait abstracts) (age_counted g k c a here.0 here.1) rest
+    ap (λ (s : State). max (if is_time_wait s then c.timer.count else 0) (table.longest_rest cs)) here.0.numbers.state
+    ∙ greater (is_time_wait a.state) c.timer.count a.age (table.longest_rest cs) (longest_wait abstracts) (age_counted g k c a here.0 here.1) rest
 
-pub slot_agrees : {A S : Type 0} (g : Ghosts A S) (k : g.Kept) (cs : List (Conn A)) (abstracts : List Connection) → SlotsStand g k cs abstracts → AllKept g k cs → table.slot_for_syn cs ≡ slot_for_syn abstracts
+pub slot_agrees : {A S : Type 0} (g : Ghosts A S) (k : g.Kept) (cs : List (Conn A)) (abstracts : List Connection) → SlotsStand g k cs abstracts → AllKept g k cs → table.slot_to_take cs ≡ slot_for_syn abstracts
 slot_agrees {A} g k cs abstracts h kept =
     let size : length cs ≡ length abstracts = sym h.same_length in
     let free = position_agrees (λ (c : Conn A). not (is_live c.state)) (λ (a : Connection). not (is_live a.state)) cs abstracts size (λ i c a at there. ap (λ (s : State). not (is_live s)) (h.each i c a at there).numbers.state) in
     let longest = longest_agrees g k cs abstracts size (λ i c a at there. (h.each i c a at there, (kept i c at).sound)) in
-    let waits = position_agrees (has_waited (table.longest_wait cs)) (λ (a : Connection). is_waiting a && (a.age == table.longest_wait cs)) cs abstracts size
-    (λ i c a at there. waited_agrees g k (table.longest_wait cs) c a (h.each i c a at there) (kept i c at).sound) in
-    ap (λ (o : Option ℕ). or_else o (position (has_waited (table.longest_wait cs)) cs)) free
+    let waits = position_agrees (has_waited (table.longest_rest cs)) (λ (a : Connection). is_waiting a && (a.age == table.longest_rest cs)) cs abstracts size
+    (λ i c a at there. waited_agrees g k (table.longest_rest cs) c a (h.each i c a at there) (kept i c at).sound) in
+    ap (λ (o : Option ℕ). or_else o (position (has_waited (table.longest_rest cs)) cs)) free
     ∙ ap (or_else (position (λ (a : Connection). not (is_live a.state)) abstracts)) (waits ∙ ap (λ (n : ℕ). position (λ (a : Connection). is_waiting a && (a.age == n)) abstracts) longest)
 
 or_else_some : (o other : Option ℕ) (i : ℕ) → or_else o other ≡ Some i → (o ≡ Some i) ⊎ (other ≡ Some i)
@@ -162,9 +162,9 @@ or_else_some (Some j) other i h = inl h
 or_else_some None other i h = inr h
 
 -- a slot that is found is one of the table's
-pub slot_within : {A : Type 0} (cs : List (Conn A)) (i : ℕ) → table.slot_for_syn cs ≡ Some i → i < length cs
+pub slot_within : {A : Type 0} (cs : List (Conn A)) (i : ℕ) → table.slot_to_take cs ≡ Some i → i < length cs
 slot_within {A} cs i h =
-    elim (or_else_some (position (λ (c : Conn A). not (is_live c.state)) cs) (position (has_waited (table.longest_wait cs)) cs) i h) [
+    elim (or_else_some (position (λ (c : Conn A). not (is_live c.state)) cs) (position (has_waited (table.longest_rest cs)) cs) i h) [
       | inl e ↦ (found (λ (c : Conn A). not (is_live c.state)) cs i e).0
-      | inr e ↦ (found (has_waited (table.longest_wait cs)) cs i e).0
+      | inr e ↦ (found (has_waited (table.longest_rest cs)) cs i e).0
     ]

@@ -9,15 +9,15 @@ abbrev pub is_digit : ℕ → Bool
 is_digit c = nat_le 48 c && nat_le c 57
 
 -- a number from 0 to 255 in decimal digits, without a leading zero
-abbrev pub number_of : List ℕ → Option ℕ
-number_of [] = None
-number_of (a ∷ []) = if is_digit a then Some (a - 48) else None
-number_of (a ∷ b ∷ []) =
+abbrev pub part_number : List ℕ → Option ℕ
+part_number [] = None
+part_number (a ∷ []) = if is_digit a then Some (a - 48) else None
+part_number (a ∷ b ∷ []) =
     if is_digit a && is_digit b && not (a == 48) then Some ((a - 48) * 10 + (b - 48)) else None
-number_of (a ∷ b ∷ c ∷ []) =
+part_number (a ∷ b ∷ c ∷ []) =
     if is_digit a && is_digit b && is_digit c && not (a == 48) && nat_lt ((a - 48) * 100 + (b - 48) * 10 + (c - 48)) 256
     then Some ((a - 48) * 100 + (b - 48) * 10 + (c - 48)) else None
-number_of (a ∷ b ∷ c ∷ d ∷ rest) = None
+part_number (a ∷ b ∷ c ∷ d ∷ rest) = None
 
 -- the part before the first dot, and the part after it
 abbrev pub cut_at_dot : List ℕ → Option (List ℕ × List ℕ)
@@ -34,8 +34,8 @@ quad_of text = do
   first ← cut_at_dot text
   second ← cut_at_dot first.1
   third ← cut_at_dot second.1
-  a ← number_of first.0
-  b ← number_of second.0
-  c ← number_of third.0
-  d ← number_of third.1
+  a ← part_number first.0
+  b ← part_number second.0
+  c ← part_number third.0
+  d ← part_number third.1
   Some (a ∷ b ∷ c ∷ d ∷ [])

@@ -1,6 +1,6 @@
 ghost use Rattle.std.specs.List.{position_or_len};
 ghost use Rattle.std.specs.Prelude.{◌≡◌, ◌==◌, ◌+◌, ◌≤◌, length, option_map};
-ghost use Rattle.uip_wire.specs.Addr.{address_at, cut_at_dot, number_of, quad_of};
+ghost use Rattle.uip_wire.specs.Addr.{address_at, cut_at_dot, part_number, quad_of};
 ghost use Rattle.uip_wire.specs.Fields.{written};
 
 /// An Internet address, its first byte first.
@@ -67,7 +67,7 @@ fn first_dot(text: &[u8]) -> usize
 
 /// A number from 0 to 255 in decimal digits, without a leading zero.
 fn number(text: &[u8]) -> Option<u8>
-    ensures { result ≡ number_of text.now }
+    ensures { result ≡ part_number text.now }
 {
     match text {
         [a] if a.is_ascii_digit() => Some(a - b'0'),

@@ -48,13 +48,13 @@ abbrev pub kind_word : List ℕ → KindContent
 kind_word word = record { name = front_part word; kind = back_part word }
 
 -- what a command of the code asks for
-abbrev pub asked : Command → Task
-asked (Serve site own limits) = Serves site.now own limits.pace limits.items
-asked (Check site) = Checks site.now
-asked (Pack words) = Packs (map named_file (map string_bytes words.now))
-asked (Upgrade site words) = Upgrades site.now (map kind_word (map string_bytes words.now))
-asked (Page site target) = Pages site.now target.now
-asked (Replay site schedule show) = Replays site.now schedule.now show
+abbrev pub task_meant : Command → Task
+task_meant (Serve site own limits) = Serves site.now own limits.pace limits.items
+task_meant (Check site) = Checks site.now
+task_meant (Pack words) = Packs (map named_file (map string_bytes words.now))
+task_meant (Upgrade site words) = Upgrades site.now (map kind_word (map string_bytes words.now))
+task_meant (Page site target) = Pages site.now target.now
+task_meant (Replay site schedule show) = Replays site.now schedule.now show
 
 -- nothing, or a zero in front of something
 abbrev pub leads_badly : List ℕ → Bool

@@ -1,7 +1,7 @@
 ghost use Rattle.std.specs.Prelude.{◌≡◌, Option, ℕ, map, option_map, string_bytes, IfSome};
 ghost use Rattle.std.specs.Char.{is_ascii_digit};
 ghost use Rattle.std.specs.List.{list_all};
-ghost use Rattle.uipd.specs.Words.{asked, task_of, check_words as words_of_check, pack_words as words_of_pack, serve_words as words_of_serve};
+ghost use Rattle.uipd.specs.Words.{task_meant, task_of, check_words as words_of_check, pack_words as words_of_pack, serve_words as words_of_serve};
 ghost use Rattle.uipd.specs.Words.{upgrade_words as words_of_upgrade};
 ghost use Rattle.uipd.specs.Words.{page_words as words_of_page, replay_words as words_of_replay};
 ghost use Rattle.uipd.specs.Words.{ends_here as no_more, limited as limits_meant, limits_at as limits_behind, limits_of as limits_spelled};
@@ -37,7 +37,7 @@ pub enum Command<'a> {
 
 /// The command that the words spell, if they have a form.
 pub fn command_of(words: &[String]) -> Option<Command<'_>>
-    ensures task { option_map asked result ≡ task_of (map string_bytes words.now) }
+    ensures task { option_map task_meant result ≡ task_of (map string_bytes words.now) }
     ensures kinds { IfSome result AllowsKinds }
 {
     match words {
@@ -54,7 +54,7 @@ pub fn command_of(words: &[String]) -> Option<Command<'_>>
 
 /// The words behind `serve`: `SITE ADDR`, and further words.
 fn serve_words(words: &[String]) -> Option<Command<'_>>
-    ensures { option_map asked result ≡ words_of_serve (map string_bytes words.now) }
+    ensures { option_map task_meant result ≡ words_of_serve (map string_bytes words.now) }
 {
     match words {
         [site, address, words @ ..] => Some(Command::Serve(
@@ -115,7 +115,7 @@ fn ends_here(words: &[String]) -> bool
 
 /// The words behind `check`.
 fn check_words(words: &[String]) -> Option<Command<'_>>
-    ensures { option_map asked result ≡ words_of_check (map string_bytes words.now) }
+    ensures { option_map task_meant result ≡ words_of_check (map string_bytes words.now) }
 {
     match words {
         [site] => Some(Command::Check(site)),
@@ -125,7 +125,7 @@ fn check_words(words: &[String]) -> Option<Command<'_>>
 
 /// The words behind `pack`, of which there is at least one.
 fn pack_words(words: &[String]) -> Option<Command<'_>>
-    ensures { option_map asked result ≡ words_of_pack (map string_bytes words.now) }
+    ensures { option_map task_meant result ≡ words_of_pack (map string_bytes words.now) }
 {
     if words.is_empty() || !have_parts(words) {
         return None;
@@ -135,7 +135,7 @@ fn pack_words(words: &[String]) -> Option<Command<'_>>
 
 /// The words behind `upgrade`: the site, and words that each give a file a content type.
 fn upgrade_words(words: &[String]) -> Option<Command<'_>>
-    ensures task { option_map asked result ≡ words_of_upgrade (map string_bytes words.now) }
+    ensures task { option_map task_meant result ≡ words_of_upgrade (map string_bytes words.now) }
     ensures kinds { IfSome result AllowsKinds }
 {
     match words {
@@ -146,7 +146,7 @@ fn upgrade_words(words: &[String]) -> Option<Command<'_>>
 
 /// The words behind `page`.
 fn page_words(words: &[String]) -> Option<Command<'_>>
-    ensures { option_map asked result ≡ words_of_page (map string_bytes words.now) }
+    ensures { option_map task_meant result ≡ words_of_page (map string_bytes words.now) }
 {
     match words {
         [site, target] => Some(Command::Page(site, target)),
@@ -156,7 +156,7 @@ fn page_words(words: &[String]) -> Option<Command<'_>>
 
 /// The words behind `replay`: the site and the schedule, and optionally `show`.
 fn replay_words(words: &[String]) -> Option<Command<'_>>
-    ensures { option_map asked result ≡ words_of_replay (map string_bytes words.now) }
+    ensures { option_map task_meant result ≡ words_of_replay (map string_bytes words.now) }
 {
     match words {
         [site, schedule] => Some(Command::Replay(site, schedule, false)),

@@ -19,9 +19,9 @@ use Rattle.site_image.specs.Pages.{size_of, piece_length, body_length, page_leng
 use Rattle.generators.proofs.Lengths.{texts_short}
 use Rattle.app_events.specs.Part.{Moment}
 use Rattle.app_events.specs.Pages.{IsMoment, IsWord}
-use Rattle.web_pages.specs.Pieces.{Say, says, bytes_of, body_of, found_reply, kind_line}
+use Rattle.web_pages.specs.Pieces.{Say, says, piece_bytes, body_of, found_reply, kind_line}
 use Rattle.web_pages.specs.Pieces.Say.{Plain, Made}
-use Rattle.web_pages.specs.Pages.{takes_capture, made_text, hits_of, number_at, place_of, text_of}
+use Rattle.web_pages.specs.Pages.{takes_capture, made_text, hits_of, number_at, place_of, page_text}
 use Rattle.web_pages.specs.Growing.{silent_text, stopped_text, made_first}
 
 -- the greatest length of what is said
@@ -56,14 +56,14 @@ silent_none NetStats e = absurd cc
 silent_none Ticks e = absurd cc
 silent_none Unknown e = refl
 
-pub text_bound : (files : List File) (says : List Say) (captures : List Moment) → All IsMoment captures → length (text_of files says captures) ≤ all_said says
+pub text_bound : (files : List File) (says : List Say) (captures : List Moment) → All IsMoment captures → length (page_text files says captures) ≤ all_said says
 text_bound files [] captures all = lit≤ tt
 text_bound files (Plain text ∷ more) captures all =
     let rest = text_bound files more captures all in
-    omega (arith, length-append text (text_of files more captures), sum_by-cons most_said (Plain text) more)
+    omega (arith, length-append text (page_text files more captures), sum_by-cons most_said (Plain text) more)
 text_bound files (Made function argument ∷ more) [] all =
     let here = sum_by-cons most_said (Made function argument) more in
-    elim (takes_capture function) as (λ b. takes_capture function ≡ b → length (text_of files (Made function argument ∷ more) []) ≤ all_said (Made function argument ∷ more)) [
+    elim (takes_capture function) as (λ b. takes_capture function ≡ b → length (page_text files (Made function argument ∷ more) []) ≤ all_said (Made function argument ∷ more)) [
       | true ↦ λ e. omega (arith, ap length (stopped_text files function argument more e))
       | false ↦ λ e.
           let rest = text_bound files more [] all in
@@ -72,14 +72,14 @@ text_bound files (Made function argument ∷ more) [] all =
 text_bound files (Made function argument ∷ more) (capture ∷ later) all =
     let here = sum_by-cons most_said (Made function argument) more in
     elim (takes_capture function) as (λ b. takes_capture function ≡ b
-    → length (text_of files (Made function argument ∷ more) (capture ∷ later)) ≤ all_said (Made function argument ∷ more)) [
+    → length (page_text files (Made function argument ∷ more) (capture ∷ later)) ≤ all_said (Made function argument ∷ more)) [
       | true ↦ λ e.
           let rest = text_bound files more later (All-tail IsMoment capture later all) in
           let one = made_short files function argument capture (All-head IsMoment capture later all) in
           omega (
             arith,
             ap length (made_first files function argument more capture later e),
-            length-append (made_text files function argument capture) (text_of files more later),
+            length-append (made_text files function argument capture) (page_text files more later),
             here,
           )
       | false ↦ λ e.
@@ -92,7 +92,7 @@ text_bound files (Made function argument ∷ more) (capture ∷ later) all =
 pub range_short : {X : Type 0} (xs : List X) (a b n : ℕ) → b ≤ a + n → length (slice_range xs a b) ≤ n
 range_short xs a b n h = omega (arith, length-take (b - a) (drop a xs))
 
-bytes_size : (file : Option File) → length (bytes_of file) ≡ size_of file
+bytes_size : (file : Option File) → length (piece_bytes file) ≡ size_of file
 bytes_size None = refl
 bytes_size (Some file) = refl
 

@@ -28,9 +28,9 @@ use Rattle.app_events.specs.Part.{Moment}
 use Rattle.app_events.specs.Pages.{IsByte}
 use Rattle.web_pages.specs.Requests.{Wanted, wanted}
 use Rattle.web_pages.specs.Requests.Wanted.{NotYet, Refused, Name}
-use Rattle.web_pages.specs.Pieces.{Say, says, bytes_of, body_of, missing_body, missing_head, found_head, kind_line, reply_to, reply_of}
+use Rattle.web_pages.specs.Pieces.{Say, says, piece_bytes, body_of, missing_body, missing_head, found_head, kind_line, reply_to, reply_pieces}
 use Rattle.web_pages.specs.Pieces.Say.{Plain, Made}
-use Rattle.web_pages.specs.Pages.{takes_capture, hits_of, made_text, text_of, page_for}
+use Rattle.web_pages.specs.Pages.{takes_capture, hits_of, made_text, page_text, page_for}
 use Rattle.web_pages.specs.Claims.{IsMadeOfBytes}
 use Rattle.web_pages.proofs.Found.{found_there}
 
@@ -189,15 +189,15 @@ AreSaid (say ∷ more) = IsSaid say × AreSaid more
 made_bytes : (files : List File) (function : Function) (argument : List ℕ) (moment : Moment) → All IsByte (made_text files function argument moment)
 made_bytes files function argument moment = capture_bytes (capture_of function (hits_of files moment.numbers argument) moment.now)
 
-text_bytes : (files : List File) (said : List Say) (captures : List Moment) → AreSaid said → All IsByte (text_of files said captures)
+text_bytes : (files : List File) (said : List Say) (captures : List Moment) → AreSaid said → All IsByte (page_text files said captures)
 text_bytes files [] captures all = All-nil IsByte
 text_bytes files (Plain text ∷ more) captures all =
-    All-append IsByte text (text_of files more captures) all.0 (text_bytes files more captures all.1)
+    All-append IsByte text (page_text files more captures) all.0 (text_bytes files more captures all.1)
 text_bytes files (Made function argument ∷ more) [] all =
-    either_bytes (takes_capture function) [] (text_of files more []) (All-nil IsByte) (text_bytes files more [] all.1)
+    either_bytes (takes_capture function) [] (page_text files more []) (All-nil IsByte) (text_bytes files more [] all.1)
 text_bytes files (Made function argument ∷ more) (capture ∷ later) all =
-    either_bytes (takes_capture function) (made_text files function argument capture ++ text_of files more later) (text_of files more (capture ∷ later))
-    (All-append IsByte (made_text files function argument capture) (text_of files more later) (made_bytes files function argument capture) (text_bytes files more later all.1))
+    either_bytes (takes_capture function) (made_text files function argument capture ++ page_text files more later) (page_text files more (capture ∷ later))
+    (All-append IsByte (made_text files function argument capture) (page_text files more later) (made_bytes files function argument capture) (text_bytes files more later all.1))
     (text_bytes files more (capture ∷ later) all.1)
 
 -- ---- files of bytes
@@ -224,7 +224,7 @@ files_bytes : (site : SiteContent) → All IsByte site.image → AreOfBytes (fil
 files_bytes site all k file s =
     place_bytes site.image (slice_get site.files k) file all (sym (slice_get-map (file_in site.image) site.files k) ∙ s)
 
-named_bytes : (files : List File) (name : List ℕ) (found : Option File) → AreOfBytes files → file_named files name ≡ found → All IsByte (bytes_of found)
+named_bytes : (files : List File) (name : List ℕ) (found : Option File) → AreOfBytes files → file_named files name ≡ found → All IsByte (piece_bytes found)
 named_bytes files name None all e = All-nil IsByte
 named_bytes files name (Some file) all e = (let there = found_there files name file e in (all there.place file there.at).content)
 
@@ -285,7 +285,7 @@ reply_bytes files name (Some file) all e =
 bytes_by : (files : List File) (asked : Wanted) (captures : List Moment) → AreOfBytes files → All IsByte (page_for files asked captures)
 bytes_by files NotYet captures all = All-nil IsByte
 bytes_by files Refused captures all = All-nil IsByte
-bytes_by files (Name name) captures all = text_bytes files (reply_of files name) captures (reply_bytes files name (file_named files name) all refl)
+bytes_by files (Name name) captures all = text_bytes files (reply_pieces files name) captures (reply_bytes files name (file_named files name) all refl)
 
 pub made_of_bytes : IsMadeOfBytes
 made_of_bytes site all request captures moments = bytes_by (files_of site) (wanted request) captures (files_bytes site all)

@@ -16,7 +16,7 @@ use Rattle.site_image.specs.Names.{is_script, is_kind, is_kind_byte, kind_by_nam
 use Rattle.site_image.specs.Files.{File, file_named, kind_of}
 use Rattle.site_image.specs.Pages.{misses, script_fault, piece_length, page_length, body_length}
 use Rattle.site_image.specs.Places.{file_in}
-use Rattle.site_image.specs.Faults.{◌>>=◌, refuse, head_of, entries, scripts, read_image}
+use Rattle.site_image.specs.Faults.{◌>>=◌, refuse, image_head, entries, scripts, read_image}
 use Rattle.site_image.proofs.ImageLaws.{AreSound, bind_ok, scripts-sound}
 use Rattle.file_tree.specs.Site.{SiteContent, IsLoaded, files_of, image_files}
 use Rattle.file_tree.proofs.KindLemmas.{kind-short}
@@ -24,9 +24,9 @@ use Rattle.app_events.specs.Part.{Moment}
 use Rattle.app_events.specs.Pages.{IsMoment}
 use Rattle.web_pages.specs.Requests.{Wanted, wanted}
 use Rattle.web_pages.specs.Requests.Wanted.{NotYet, Refused, Name}
-use Rattle.web_pages.specs.Pieces.{Say, missing_body, missing_reply, missing_head, reply_to, reply_of, found_reply, kind_line}
+use Rattle.web_pages.specs.Pieces.{Say, missing_body, missing_reply, missing_head, reply_to, reply_pieces, found_reply, kind_line}
 use Rattle.web_pages.specs.Pieces.Say.{Plain}
-use Rattle.web_pages.specs.Pages.{text_of, page_for, page}
+use Rattle.web_pages.specs.Pages.{page_text, page_for, page}
 use Rattle.web_pages.specs.Claims.{IsAtMostGreatest}
 use Rattle.web_pages.proofs.Found.{found_there, found_itself}
 use Rattle.web_pages.proofs.Bounds.{all_said, most_said, text_bound, found_bound}
@@ -45,7 +45,7 @@ rest_read read = refuse (nat_lt 0 (length read.1)) Rest >>= λ _. scripts_read r
 read_sound : (bytes : List ℕ) (files : List File) → read_image bytes ≡ Ok files → AreSound files files
 unfolding read_image
 read_sound bytes files e =
-    let a = bind_ok (head_of bytes) (λ (head : Version × ℕ). entries head.0 head.1 [] (drop 10 bytes) >>= rest_read) files e in
+    let a = bind_ok (image_head bytes) (λ (head : Version × ℕ). entries head.0 head.1 [] (drop 10 bytes) >>= rest_read) files e in
     let b = bind_ok (entries a.0.0 a.0.1 [] (drop 10 bytes)) rest_read files a.2 in
     let d = bind_ok (refuse (nat_lt 0 (length b.0.1)) Rest) (λ _. scripts_read b.0) files b.2 in
     let s = bind_ok (scripts b.0.0 0 b.0.0) (λ _. Ok b.0.0) files d.2 in
@@ -149,7 +149,7 @@ short_by : (site : SiteContent) → IsLoaded site → (asked : Wanted) (captures
 short_by site is NotYet captures all = lit< tt
 short_by site is Refused captures all = lit< tt
 short_by site is (Name name) captures all =
-    let text = text_bound (files_of site) (reply_of (files_of site) name) captures all in
+    let text = text_bound (files_of site) (reply_pieces (files_of site) name) captures all in
     let said = reply_bound site is name (file_named (files_of site) name) refl in
     omega arith
 
@@ -162,8 +162,8 @@ pub at_most_greatest : IsAtMostGreatest
 at_most_greatest site is id file s request captures asked all =
     let files = files_of site in
     let itself : file_named files file.name ≡ Some file = found_itself files is.apart id file s in
-    let same : page files request captures ≡ text_of files (found_reply files file) captures =
-    ap (λ w. page_for files w captures) asked ∙ ap (λ found. text_of files (reply_to files found) captures) itself in
+    let same : page files request captures ≡ page_text files (found_reply files file) captures =
+    ap (λ w. page_for files w captures) asked ∙ ap (λ found. page_text files (reply_to files found) captures) itself in
     let text = text_bound files (found_reply files file) captures all in
     let said = found_bound files file in
     omega (arith, ap length same)

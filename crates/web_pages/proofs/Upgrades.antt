@@ -20,9 +20,9 @@ use Rattle.generators.specs.Text.{capture_text}
 use Rattle.app_events.specs.Part.{Moment}
 use Rattle.web_pages.specs.Requests.{Wanted, wanted}
 use Rattle.web_pages.specs.Requests.Wanted.{NotYet, Refused, Name}
-use Rattle.web_pages.specs.Pieces.{Say, says, bytes_of, body_of, missing_body, missing_head, found_head, kind_line, reply_to, reply_of}
+use Rattle.web_pages.specs.Pieces.{Say, says, piece_bytes, body_of, missing_body, missing_head, found_head, kind_line, reply_to, reply_pieces}
 use Rattle.web_pages.specs.Pieces.Say.{Plain, Made}
-use Rattle.web_pages.specs.Pages.{takes_capture, place_of, number_at, made_text, text_of, reach_end, page_for, whole_for}
+use Rattle.web_pages.specs.Pages.{takes_capture, place_of, number_at, made_text, page_text, reach_end, page_for, whole_for}
 use Rattle.web_pages.specs.Claims.{UpgradeKeepsPages}
 use Rattle.web_pages.proofs.Found.{found_there}
 
@@ -49,7 +49,7 @@ place_upgraded words files name =
     let counted : length (upgraded words files) ≡ length files = length-map files (retyped words) in
     λ i. if nat_lt (first i) (counted i) then Some (first i) else None
 
-bytes_upgraded : (words : List KindContent) (file : Option File) → bytes_of (option_map (retyped words) file) ≡ bytes_of file
+bytes_upgraded : (words : List KindContent) (file : Option File) → piece_bytes (option_map (retyped words) file) ≡ piece_bytes file
 bytes_upgraded words None = refl
 bytes_upgraded words (Some file) = refl
 
@@ -63,7 +63,7 @@ says_upgraded : (words : List KindContent) (files : List File) (script : List �
 says_upgraded words files script (Text at len) = refl
 says_upgraded words files script (Include at len) =
     let name = slice_range script at (at + len) in
-    ap (λ bytes. Plain bytes) (ap bytes_of (named_upgraded words files name) ∙ bytes_upgraded words (file_named files name))
+    ap (λ bytes. Plain bytes) (ap piece_bytes (named_upgraded words files name) ∙ bytes_upgraded words (file_named files name))
 says_upgraded words files script (Call function at len) = refl
 
 all_upgraded : (words : List KindContent) (files : List File) (script : List ℕ) (found : List Found)
@@ -144,7 +144,7 @@ found_upgraded words files name (Some file) none e =
     let kind = kind_kept words file (unnamed words files there.place file none there.at) in
     λ i. Plain found_head ∷ Plain (kind_line (kind i)) ∷ body_upgraded words files file i
 
-reply_upgraded : (words : List KindContent) (files : List File) (name : List ℕ) → NameNone files words → reply_of (upgraded words files) name ≡ reply_of files name
+reply_upgraded : (words : List KindContent) (files : List File) (name : List ℕ) → NameNone files words → reply_pieces (upgraded words files) name ≡ reply_pieces files name
 reply_upgraded words files name none =
     ap (reply_to (upgraded words files)) (named_upgraded words files name) ∙ found_upgraded words files name (file_named files name) none refl
 
@@ -155,7 +155,7 @@ made_upgraded : (words : List KindContent) (files : List File) (function : Funct
 made_upgraded words files function argument moment =
     ap (λ place. capture_text (capture_of function (number_at moment.numbers place) moment.now)) (place_upgraded words files argument)
 
-text_upgraded : (words : List KindContent) (files : List File) (said : List Say) (captures : List Moment) → text_of (upgraded words files) said captures ≡ text_of files said captures
+text_upgraded : (words : List KindContent) (files : List File) (said : List Say) (captures : List Moment) → page_text (upgraded words files) said captures ≡ page_text files said captures
 text_upgraded words files [] captures = refl
 text_upgraded words files (Plain text ∷ more) captures = ap (λ rest. text ++ rest) (text_upgraded words files more captures)
 text_upgraded words files (Made function argument ∷ more) [] =
@@ -170,7 +170,7 @@ kept_by words files NotYet captures none = (refl, refl)
 kept_by words files Refused captures none = (refl, refl)
 kept_by words files (Name name) captures none =
     let reply = reply_upgraded words files name none in (
-      text_upgraded words files (reply_of (upgraded words files) name) captures ∙ ap (λ said. text_of files said captures) reply,
+      text_upgraded words files (reply_pieces (upgraded words files) name) captures ∙ ap (λ said. page_text files said captures) reply,
       ap (λ said. reach_end said captures) reply,
     )
 

@@ -9,7 +9,7 @@ use Rattle.std.proofs.lemmas.List.{take_all}
 use Rattle.std.proofs.lemmas.List.Sums.{take_while-cons}
 use Rattle.std.proofs.lemmas.Slice.Eq.{bytes_eq-Decides}
 use Rattle.protosocket.specs.declared.stops.Stops.TheVariants.{Space, SpaceOrLine}
-use Rattle.protosocket.specs.Line.{Line, is_mark, after, fresh, heard}
+use Rattle.protosocket.specs.Line.{Line, is_query_mark, after, fresh, heard}
 use Rattle.protosocket.specs.Hearing.{none_at_all}
 use Rattle.protosocket.proofs.Pieces.{hears_in_pieces}
 use Rattle.web_pages.specs.Requests.{Wanted, wanted, wanted_by, has_ended, method_of, after_method, target_of, name_in}
@@ -19,37 +19,37 @@ use Rattle.web_pages.specs.Deciding.{by_tests}
 
 -- ---- the method
 
-is_get_word : (word : List ℕ) → bytes_eq word (codes "GET") ≡ (bytes_eq (take 64 (before_first is_mark word)) (codes "GET") && not (list_any is_mark word))
+is_get_word : (word : List ℕ) → bytes_eq word (codes "GET") ≡ (bytes_eq (take 64 (before_first is_query_mark word)) (codes "GET") && not (list_any is_query_mark word))
 is_get_word word =
     same_from_decides {P = word ≡ codes "GET"} _ _ (bytes_eq-Decides word (codes "GET")) (from, to)
   where
-    from : (bytes_eq (take 64 (before_first is_mark word)) (codes "GET") && not (list_any is_mark word)) ≡ true → word ≡ codes "GET"
+    from : (bytes_eq (take 64 (before_first is_query_mark word)) (codes "GET") && not (list_any is_query_mark word)) ≡ true → word ≡ codes "GET"
     from e =
-        let both = and_parts (bytes_eq (take 64 (before_first is_mark word)) (codes "GET")) (not (list_any is_mark word)) e in
-        let whole : before_first is_mark word ≡ word = none_at_all is_mark word (not-true (list_any is_mark word) both.1) in
-        let same : take 64 word ≡ codes "GET" = ap (take 64) (sym whole) ∙ (bytes_eq-Decides (take 64 (before_first is_mark word)) (codes "GET")).0 both.0 in
+        let both = and_parts (bytes_eq (take 64 (before_first is_query_mark word)) (codes "GET")) (not (list_any is_query_mark word)) e in
+        let whole : before_first is_query_mark word ≡ word = none_at_all is_query_mark word (not-true (list_any is_query_mark word) both.1) in
+        let same : take 64 word ≡ codes "GET" = ap (take 64) (sym whole) ∙ (bytes_eq-Decides (take 64 (before_first is_query_mark word)) (codes "GET")).0 both.0 in
         let three : length (codes "GET") ≡ 3 = refl in
         let short : length word ≤ 64 = omega (arith, length-take 64 word, ap length same) in
         sym (take_all 64 word short) ∙ same
 
-    to : word ≡ codes "GET" → (bytes_eq (take 64 (before_first is_mark word)) (codes "GET") && not (list_any is_mark word)) ≡ true
-    to e = ap (λ w. bytes_eq (take 64 (before_first is_mark w)) (codes "GET") && not (list_any is_mark w)) e
+    to : word ≡ codes "GET" → (bytes_eq (take 64 (before_first is_query_mark word)) (codes "GET") && not (list_any is_query_mark word)) ≡ true
+    to e = ap (λ w. bytes_eq (take 64 (before_first is_query_mark w)) (codes "GET") && not (list_any is_query_mark w)) e
 
 -- ---- the target
 
 abbrev pub front : List ℕ → List ℕ
-front target = before_first is_mark target
+front target = before_first is_query_mark target
 
-front_here : (x : ℕ) (xs : List ℕ) → is_mark x ≡ true → front (x ∷ xs) ≡ []
-front_here x xs e = take_while-cons (λ b. not (is_mark b)) x xs ∙ ap (λ b. if not b then x ∷ front xs else []) e
+front_here : (x : ℕ) (xs : List ℕ) → is_query_mark x ≡ true → front (x ∷ xs) ≡ []
+front_here x xs e = take_while-cons (λ b. not (is_query_mark b)) x xs ∙ ap (λ b. if not b then x ∷ front xs else []) e
 
-front_later : (x : ℕ) (xs : List ℕ) → is_mark x ≡ false → front (x ∷ xs) ≡ x ∷ front xs
-front_later x xs e = take_while-cons (λ b. not (is_mark b)) x xs ∙ ap (λ b. if not b then x ∷ front xs else []) e
+front_later : (x : ℕ) (xs : List ℕ) → is_query_mark x ≡ false → front (x ∷ xs) ≡ x ∷ front xs
+front_later x xs e = take_while-cons (λ b. not (is_query_mark b)) x xs ∙ ap (λ b. if not b then x ∷ front xs else []) e
 
 front_again : (target : List ℕ) → front (front target) ≡ front target
 front_again [] = refl
 front_again (x ∷ xs) =
-    elim (is_mark x) as (λ b. is_mark x ≡ b → front (front (x ∷ xs)) ≡ front (x ∷ xs)) [
+    elim (is_query_mark x) as (λ b. is_query_mark x ≡ b → front (front (x ∷ xs)) ≡ front (x ∷ xs)) [
       | true ↦ λ e. ap front (front_here x xs e) ∙ sym (front_here x xs e)
       | false ↦ λ e. ap front (front_later x xs e) ∙ front_later x (front xs) e ∙ ap (λ ys. x ∷ ys) (front_again xs) ∙ sym (front_later x xs e)
     ] refl
@@ -57,13 +57,13 @@ front_again (x ∷ xs) =
 begins_slash : List ℕ → Bool
 begins_slash target = starts_with nat_eq target (codes "/")
 
-mark_no_slash : (x : ℕ) → is_mark x ≡ true → (47 == x) ≡ false
+mark_no_slash : (x : ℕ) → is_query_mark x ≡ true → (47 == x) ≡ false
 mark_no_slash x e = ap (λ y. 47 == y) (eqb-true x 63 e)
 
 pub slash_front : (target : List ℕ) → starts_with nat_eq (front target) (codes "/") ≡ starts_with nat_eq target (codes "/")
 slash_front [] = refl
 slash_front (x ∷ xs) =
-    elim (is_mark x) as (λ b. is_mark x ≡ b → starts_with nat_eq (front (x ∷ xs)) (codes "/") ≡ starts_with nat_eq (x ∷ xs) (codes "/")) [
+    elim (is_query_mark x) as (λ b. is_query_mark x ≡ b → starts_with nat_eq (front (x ∷ xs)) (codes "/") ≡ starts_with nat_eq (x ∷ xs) (codes "/")) [
       | true ↦ λ e. ap (λ ys. starts_with nat_eq ys (codes "/")) (front_here x xs e) ∙ sym (ap (λ b. b && true) (mark_no_slash x e))
       | false ↦ λ e. ap (λ ys. starts_with nat_eq ys (codes "/")) (front_later x xs e)
     ] refl

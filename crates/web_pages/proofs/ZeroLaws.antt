@@ -13,9 +13,9 @@ use Rattle.protosocket.specs.Hearing.{one_before, none_before, none_at_all}
 use Rattle.site_image.specs.Files.{File, file_named}
 use Rattle.web_pages.specs.Requests.{Wanted, wanted, wanted_by, has_ended}
 use Rattle.web_pages.specs.Requests.Wanted.{NotYet, Refused, Name}
-use Rattle.web_pages.specs.Pieces.{Say, reply_of}
+use Rattle.web_pages.specs.Pieces.{Say, reply_pieces}
 use Rattle.web_pages.specs.Pieces.Say.{Plain, Made}
-use Rattle.web_pages.specs.Pages.{takes_capture, number_at, place_of, made_text, text_of, page_for}
+use Rattle.web_pages.specs.Pages.{takes_capture, number_at, place_of, made_text, page_text, page_for}
 use Rattle.web_pages.specs.ZeroPages.{zero_moment, zero_said, zero_reply, request_for, zero_page, most_captures}
 use Rattle.web_pages.specs.Growing.{silent_text, made_first}
 use Rattle.web_pages.specs.Deciding.{decided_by_target}
@@ -36,13 +36,13 @@ silent_zero Unknown argument e = refl
 made_zero : (files : List File) (function : Function) (argument : List ℕ) → made_text files function argument zero_moment ≡ zero_said (Made function argument)
 made_zero files function argument = ap (λ hits. capture_text (capture_of function hits zero_moment.now)) (no_number (place_of files argument))
 
-pub zero_text : (files : List File) (says : List Say) (n : ℕ) → length says ≤ n → text_of files says (replicate n zero_moment) ≡ flat_map zero_said says
+pub zero_text : (files : List File) (says : List Say) (n : ℕ) → length says ≤ n → page_text files says (replicate n zero_moment) ≡ flat_map zero_said says
 zero_text files [] n h = refl
 zero_text files (Plain text ∷ more) n h = ap (λ rest. text ++ rest) (zero_text files more n (omega arith))
 zero_text files (Made function argument ∷ more) zero h = absurd (omega arith)
 zero_text files (Made function argument ∷ more) (suc n) h =
     elim (takes_capture function) as (λ b. takes_capture function ≡ b
-    → text_of files (Made function argument ∷ more) (replicate (suc n) zero_moment) ≡ zero_said (Made function argument) ++ flat_map zero_said more) [
+    → page_text files (Made function argument ∷ more) (replicate (suc n) zero_moment) ≡ zero_said (Made function argument) ++ flat_map zero_said more) [
       | true ↦ λ e.
           made_first files function argument more zero_moment (replicate n zero_moment) e
           ∙ (λ i. made_zero files function argument i ++ zero_text files more n (omega arith) i)
@@ -78,7 +78,7 @@ zero_for files (Name name) = zero_reply files (file_named files name)
 page_for_zero : (files : List File) (asked : Wanted) → page_for files asked (replicate (most_captures files asked) zero_moment) ≡ zero_for files asked
 page_for_zero files NotYet = refl
 page_for_zero files Refused = refl
-page_for_zero files (Name name) = zero_text files (reply_of files name) (length (reply_of files name)) (omega arith)
+page_for_zero files (Name name) = zero_text files (reply_pieces files name) (length (reply_pieces files name)) (omega arith)
 
 pub zero_asked : (files : List File) (target : List ℕ) (asked : Wanted) → wanted (request_for target) ≡ asked → zero_page files target ≡ zero_for files asked
 zero_asked files target asked e = page_for_zero files (wanted (request_for target)) ∙ ap (zero_for files) e

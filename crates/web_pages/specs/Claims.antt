@@ -9,7 +9,7 @@ use Rattle.file_tree.specs.Site.{SiteContent, IsLoaded, files_of}
 use Rattle.file_tree.specs.Upgrading.{KindContent, upgraded}
 use Rattle.web_pages.specs.Requests.{wanted}
 use Rattle.web_pages.specs.Requests.Wanted.{NotYet, Name}
-use Rattle.web_pages.specs.Pages.{page, is_whole, pages_of}
+use Rattle.web_pages.specs.Pages.{page, is_page_whole, pages_of}
 use Rattle.web_pages.specs.WebMeaning.{web_meaning}
 
 -- The web server of a site keeps the laws from which the headline follows.
@@ -34,7 +34,7 @@ abbrev pub UpgradeKeepsPages : Type 0
 UpgradeKeepsPages =
     (files : List File) (words : List KindContent) → ((word : KindContent) (k : ℕ) → slice_get words k ≡ Some word → has_name files word.name ≡ false) →
     (request : List ℕ) (captures : List Moment) →
-    (page (upgraded words files) request captures ≡ page files request captures) × (is_whole (upgraded words files) request captures ≡ is_whole files request captures)
+    (page (upgraded words files) request captures ≡ page files request captures) × (is_page_whole (upgraded words files) request captures ≡ is_page_whole files request captures)
 
 -- What is decided of a request stays, whatever bytes follow.
 abbrev pub DecisionStays : Type 0

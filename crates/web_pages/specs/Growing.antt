@@ -6,18 +6,18 @@ use Rattle.app_events.specs.Part.{Moment}
 use Rattle.app_events.specs.Laws.{IsPrefixOf}
 use Rattle.web_pages.specs.Requests.{Wanted, wanted}
 use Rattle.web_pages.specs.Requests.Wanted.{NotYet, Refused, Name}
-use Rattle.web_pages.specs.Pieces.{Say, reply_of}
+use Rattle.web_pages.specs.Pieces.{Say, reply_pieces}
 use Rattle.web_pages.specs.Pieces.Say.{Plain, Made}
-use Rattle.web_pages.specs.Pages.{takes_capture, made_text, text_of, reach_end, page_for, whole_for, page, is_whole}
+use Rattle.web_pages.specs.Pages.{takes_capture, made_text, page_text, reach_end, page_for, whole_for, page, is_page_whole}
 use Rattle.web_pages.specs.Deciding.{more_by}
 
 -- ---- a call, by whether it takes a capture
 
 pub silent_text : (files : List File) (function : Function) (argument : List ℕ) (more : List Say) (captures : List Moment) → takes_capture function ≡ false
-    → text_of files (Made function argument ∷ more) captures ≡ text_of files more captures
-silent_text files function argument more [] e = ap (λ b. if b then [] else text_of files more []) e
+    → page_text files (Made function argument ∷ more) captures ≡ page_text files more captures
+silent_text files function argument more [] e = ap (λ b. if b then [] else page_text files more []) e
 silent_text files function argument more (capture ∷ later) e =
-    ap (λ b. if b then made_text files function argument capture ++ text_of files more later else text_of files more (capture ∷ later)) e
+    ap (λ b. if b then made_text files function argument capture ++ page_text files more later else page_text files more (capture ∷ later)) e
 
 pub silent_end : (function : Function) (argument : List ℕ) (more : List Say) (captures : List Moment) → takes_capture function ≡ false
     → reach_end (Made function argument ∷ more) captures ≡ reach_end more captures
@@ -25,16 +25,16 @@ silent_end function argument more [] e = ap (λ b. if b then false else reach_en
 silent_end function argument more (capture ∷ later) e = ap (λ b. if b then reach_end more later else reach_end more (capture ∷ later)) e
 
 pub stopped_text : (files : List File) (function : Function) (argument : List ℕ) (more : List Say) → takes_capture function ≡ true
-    → text_of files (Made function argument ∷ more) [] ≡ []
-stopped_text files function argument more e = ap (λ b. if b then [] else text_of files more []) e
+    → page_text files (Made function argument ∷ more) [] ≡ []
+stopped_text files function argument more e = ap (λ b. if b then [] else page_text files more []) e
 
 pub stopped_end : (function : Function) (argument : List ℕ) (more : List Say) → takes_capture function ≡ true → reach_end (Made function argument ∷ more) [] ≡ false
 stopped_end function argument more e = ap (λ b. if b then false else reach_end more []) e
 
 pub made_first : (files : List File) (function : Function) (argument : List ℕ) (more : List Say) (capture : Moment) (later : List Moment) → takes_capture function ≡ true
-    → text_of files (Made function argument ∷ more) (capture ∷ later) ≡ made_text files function argument capture ++ text_of files more later
+    → page_text files (Made function argument ∷ more) (capture ∷ later) ≡ made_text files function argument capture ++ page_text files more later
 made_first files function argument more capture later e =
-    ap (λ b. if b then made_text files function argument capture ++ text_of files more later else text_of files more (capture ∷ later)) e
+    ap (λ b. if b then made_text files function argument capture ++ page_text files more later else page_text files more (capture ∷ later)) e
 
 pub made_end : (function : Function) (argument : List ℕ) (more : List Say) (capture : Moment) (later : List Moment) → takes_capture function ≡ true
     → reach_end (Made function argument ∷ more) (capture ∷ later) ≡ reach_end more later
@@ -56,22 +56,22 @@ same_prefix xs ys e = record { rest = []; joined = append-nil xs ∙ sym e }
 
 -- ---- the text of pieces
 
-pub text_grows : (files : List File) (says : List Say) (captures later : List Moment) → IsPrefixOf (text_of files says captures) (text_of files says (captures ++ later))
+pub text_grows : (files : List File) (says : List Say) (captures later : List Moment) → IsPrefixOf (page_text files says captures) (page_text files says (captures ++ later))
 text_grows files [] captures later = nothing_prefix []
 text_grows files (Plain text ∷ more) captures later =
-    prefix_behind text (text_of files more captures) (text_of files more (captures ++ later)) (text_grows files more captures later)
+    prefix_behind text (page_text files more captures) (page_text files more (captures ++ later)) (text_grows files more captures later)
 text_grows files (Made function argument ∷ more) [] later =
-    elim (takes_capture function) as (λ b. takes_capture function ≡ b → IsPrefixOf (text_of files (Made function argument ∷ more) []) (text_of files (Made function argument ∷ more) later)) [
-      | true ↦ λ e. prefix_along _ [] _ _ (stopped_text files function argument more e) refl (nothing_prefix (text_of files (Made function argument ∷ more) later))
+    elim (takes_capture function) as (λ b. takes_capture function ≡ b → IsPrefixOf (page_text files (Made function argument ∷ more) []) (page_text files (Made function argument ∷ more) later)) [
+      | true ↦ λ e. prefix_along _ [] _ _ (stopped_text files function argument more e) refl (nothing_prefix (page_text files (Made function argument ∷ more) later))
       | false ↦ λ e.
           prefix_along _ _ _ _ (silent_text files function argument more [] e) (silent_text files function argument more later e) (text_grows files more [] later)
     ] refl
 text_grows files (Made function argument ∷ more) (capture ∷ rest) later =
     elim (takes_capture function) as (λ b. takes_capture function ≡ b
-    → IsPrefixOf (text_of files (Made function argument ∷ more) (capture ∷ rest)) (text_of files (Made function argument ∷ more) (capture ∷ rest ++ later))) [
+    → IsPrefixOf (page_text files (Made function argument ∷ more) (capture ∷ rest)) (page_text files (Made function argument ∷ more) (capture ∷ rest ++ later))) [
       | true ↦ λ e.
           prefix_along _ _ _ _ (made_first files function argument more capture rest e) (made_first files function argument more capture (rest ++ later) e)
-          (prefix_behind (made_text files function argument capture) (text_of files more rest) (text_of files more (rest ++ later)) (text_grows files more rest later))
+          (prefix_behind (made_text files function argument capture) (page_text files more rest) (page_text files more (rest ++ later)) (text_grows files more rest later))
       | false ↦ λ e.
           prefix_along _ _ _ _ (silent_text files function argument more (capture ∷ rest) e) (silent_text files function argument more (capture ∷ rest ++ later) e)
           (text_grows files more (capture ∷ rest) later)
@@ -80,7 +80,7 @@ text_grows files (Made function argument ∷ more) (capture ∷ rest) later =
 -- where nothing stops the pieces, more captures change nothing
 abbrev Stays : List File → List Say → List Moment → List Moment → Type 0
 Stays files says captures later =
-    reach_end says captures ≡ true → (text_of files says (captures ++ later) ≡ text_of files says captures) × (reach_end says (captures ++ later) ≡ true)
+    reach_end says captures ≡ true → (page_text files says (captures ++ later) ≡ page_text files says captures) × (reach_end says (captures ++ later) ≡ true)
 
 pub text_stays : (files : List File) (says : List Say) (captures later : List Moment) → Stays files says captures later
 text_stays files [] captures later whole = (refl, refl)
@@ -89,7 +89,7 @@ text_stays files (Plain text ∷ more) captures later whole =
     (ap (λ zs. text ++ zs) rest.0, rest.1)
 text_stays files (Made function argument ∷ more) [] later whole =
     elim (takes_capture function) as (λ b. takes_capture function ≡ b
-    → (text_of files (Made function argument ∷ more) later ≡ text_of files (Made function argument ∷ more) []) × (reach_end (Made function argument ∷ more) later ≡ true)) [
+    → (page_text files (Made function argument ∷ more) later ≡ page_text files (Made function argument ∷ more) []) × (reach_end (Made function argument ∷ more) later ≡ true)) [
       | true ↦ λ e. absurd (true≢false (sym whole ∙ stopped_end function argument more e))
       | false ↦ λ e.
           let rest = text_stays files more [] later (sym (silent_end function argument more [] e) ∙ whole) in (
@@ -99,7 +99,7 @@ text_stays files (Made function argument ∷ more) [] later whole =
     ] refl
 text_stays files (Made function argument ∷ more) (capture ∷ captures) later whole =
     elim (takes_capture function) as (λ b. takes_capture function ≡ b
-    → (text_of files (Made function argument ∷ more) (capture ∷ captures ++ later) ≡ text_of files (Made function argument ∷ more) (capture ∷ captures))
+    → (page_text files (Made function argument ∷ more) (capture ∷ captures ++ later) ≡ page_text files (Made function argument ∷ more) (capture ∷ captures))
     × (reach_end (Made function argument ∷ more) (capture ∷ captures ++ later) ≡ true)) [
       | true ↦ λ e.
           let rest = text_stays files more captures later (sym (made_end function argument more capture captures e) ∙ whole) in (
@@ -129,23 +129,23 @@ grows_by files NotYet request more captures later e = nothing_prefix (page files
 grows_by files Refused request more captures later e = nothing_prefix (page files (request ++ more) (captures ++ later))
 grows_by files (Name name) request more captures later e =
     prefix_along _ _ _ _ refl (ap (λ w. page_for files w (captures ++ later)) (more_by (Name name) request more e (name_open name)))
-    (text_grows files (reply_of files name) captures later)
+    (text_grows files (reply_pieces files name) captures later)
 
 pub page_grows : (files : List File) (request more : List ℕ) (captures later : List Moment)
     → IsPrefixOf (page files request captures) (page files (request ++ more) (captures ++ later))
 page_grows files request more captures later = grows_by files (wanted request) request more captures later refl
 
 stays_by : (files : List File) (before : Wanted) (request more : List ℕ) (captures later : List Moment) → wanted request ≡ before → whole_for files before captures ≡ true
-    → (page files (request ++ more) (captures ++ later) ≡ page_for files before captures) × (is_whole files (request ++ more) (captures ++ later) ≡ true)
+    → (page files (request ++ more) (captures ++ later) ≡ page_for files before captures) × (is_page_whole files (request ++ more) (captures ++ later) ≡ true)
 stays_by files NotYet request more captures later e whole = absurd (true≢false (sym whole))
 stays_by files Refused request more captures later e whole =
     let same : wanted (request ++ more) ≡ Refused = more_by Refused request more e refused_open in
     (ap (λ w. page_for files w (captures ++ later)) same, ap (λ w. whole_for files w (captures ++ later)) same)
 stays_by files (Name name) request more captures later e whole =
     let same : wanted (request ++ more) ≡ Name name = more_by (Name name) request more e (name_open name) in
-    let rest = text_stays files (reply_of files name) captures later whole in
+    let rest = text_stays files (reply_pieces files name) captures later whole in
     (ap (λ w. page_for files w (captures ++ later)) same ∙ rest.0, ap (λ w. whole_for files w (captures ++ later)) same ∙ rest.1)
 
-pub page_stays : (files : List File) (request more : List ℕ) (captures later : List Moment) → is_whole files request captures ≡ true
-    → (page files (request ++ more) (captures ++ later) ≡ page files request captures) × (is_whole files (request ++ more) (captures ++ later) ≡ true)
+pub page_stays : (files : List File) (request more : List ℕ) (captures later : List Moment) → is_page_whole files request captures ≡ true
+    → (page files (request ++ more) (captures ++ later) ≡ page files request captures) × (is_page_whole files (request ++ more) (captures ++ later) ≡ true)
 page_stays files request more captures later whole = stays_by files (wanted request) request more captures later refl whole

@@ -12,7 +12,7 @@ use Rattle.app_events.specs.Part.{Moment}
 use Rattle.app_events.specs.Pages.{Pages}
 use Rattle.web_pages.specs.Requests.{Wanted, wanted}
 use Rattle.web_pages.specs.Requests.Wanted.{NotYet, Refused, Name}
-use Rattle.web_pages.specs.Pieces.{Say, reply_of}
+use Rattle.web_pages.specs.Pieces.{Say, reply_pieces}
 use Rattle.web_pages.specs.Pieces.Say.{Plain, Made}
 
 -- a call of an unknown function says nothing and takes no capture
@@ -41,13 +41,13 @@ abbrev pub made_text : List File → Function → List ℕ → Moment → List �
 made_text files function argument moment = capture_text (capture_of function (hits_of files moment.numbers argument) moment.now)
 
 -- the text of pieces, as far as the captures reach
-abbrev pub text_of : List File → List Say → List Moment → List ℕ
-text_of files [] captures = []
-text_of files (Plain text ∷ more) captures = text ++ text_of files more captures
-text_of files (Made function argument ∷ more) [] = if takes_capture function then [] else text_of files more []
-text_of files (Made function argument ∷ more) (capture ∷ later) =
-    if takes_capture function then made_text files function argument capture ++ text_of files more later
-    else text_of files more (capture ∷ later)
+abbrev pub page_text : List File → List Say → List Moment → List ℕ
+page_text files [] captures = []
+page_text files (Plain text ∷ more) captures = text ++ page_text files more captures
+page_text files (Made function argument ∷ more) [] = if takes_capture function then [] else page_text files more []
+page_text files (Made function argument ∷ more) (capture ∷ later) =
+    if takes_capture function then made_text files function argument capture ++ page_text files more later
+    else page_text files more (capture ∷ later)
 
 -- nothing stops the pieces
 abbrev pub reach_end : List Say → List Moment → Bool
@@ -60,21 +60,21 @@ reach_end (Made function argument ∷ more) (capture ∷ later) =
 abbrev pub page_for : List File → Wanted → List Moment → List ℕ
 page_for files NotYet captures = []
 page_for files Refused captures = []
-page_for files (Name name) captures = text_of files (reply_of files name) captures
+page_for files (Name name) captures = page_text files (reply_pieces files name) captures
 
 abbrev pub whole_for : List File → Wanted → List Moment → Bool
 whole_for files NotYet captures = false
 whole_for files Refused captures = true
-whole_for files (Name name) captures = reach_end (reply_of files name) captures
+whole_for files (Name name) captures = reach_end (reply_pieces files name) captures
 
 -- the page of a request and captures
 abbrev pub page : List File → List ℕ → List Moment → List ℕ
 page files request captures = page_for files (wanted request) captures
 
 -- and whether it is whole
-abbrev pub is_whole : List File → List ℕ → List Moment → Bool
-is_whole files request captures = whole_for files (wanted request) captures
+abbrev pub is_page_whole : List File → List ℕ → List Moment → Bool
+is_page_whole files request captures = whole_for files (wanted request) captures
 
 -- the pages of a site
 abbrev pub pages_of : List File → Pages
-pages_of files = record { text = page files; whole = is_whole files }
+pages_of files = record { text = page files; whole = is_page_whole files }

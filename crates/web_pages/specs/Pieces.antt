@@ -24,14 +24,14 @@ abbrev pub kind_line : List ℕ → List ℕ
 kind_line kind = codes "Content-type: " ++ kind ++ codes "\r\n\r\n"
 
 -- the bytes of a file, none where there is no file
-abbrev pub bytes_of : Option File → List ℕ
-bytes_of None = []
-bytes_of (Some file) = file.content
+abbrev pub piece_bytes : Option File → List ℕ
+piece_bytes None = []
+piece_bytes (Some file) = file.content
 
 -- what a piece of a script says: a text run its bytes, an include the bytes of the file that it names, as they are
 abbrev pub says : List File → List ℕ → Piece → Say
 says files script (Text at len) = Plain (slice_range script at (at + len))
-says files script (Include at len) = Plain (bytes_of (file_named files (slice_range script at (at + len))))
+says files script (Include at len) = Plain (piece_bytes (file_named files (slice_range script at (at + len))))
 says files script (Call function at len) = Made function (slice_range script at (at + len))
 
 -- the pieces of a file's body: those of a script, or its bytes
@@ -58,5 +58,5 @@ reply_to files None = missing_reply files
 reply_to files (Some file) = found_reply files file
 
 -- the reply to a request for a name
-abbrev pub reply_of : List File → List ℕ → List Say
-reply_of files name = reply_to files (file_named files name)
+abbrev pub reply_pieces : List File → List ℕ → List Say
+reply_pieces files name = reply_to files (file_named files name)

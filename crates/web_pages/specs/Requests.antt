@@ -4,7 +4,7 @@ use Rattle.std.specs.List.{before_first, list_any, starts_with}
 use Rattle.std.specs.Str.{bytes_eq}
 use Rattle.protosocket.specs.declared.stops.Stops.{Stops}
 use Rattle.protosocket.specs.declared.stops.Stops.TheVariants.{Space, SpaceOrLine}
-use Rattle.protosocket.specs.Line.{is_stop, is_mark, word_of}
+use Rattle.protosocket.specs.Line.{is_stop, is_query_mark, word_of}
 
 -- Nothing is decided yet, the request is refused, or the file of a name is asked for.
 pub data Wanted : Type 0 where
@@ -31,7 +31,7 @@ target_of request = word_of SpaceOrLine (after_method request)
 -- the name in a target: what stands before its first '?'; `/` is short for `/index.html`
 abbrev pub name_in : List ℕ → List ℕ
 name_in target =
-    if bytes_eq (before_first is_mark target) (codes "/") then codes "/index.html" else before_first is_mark target
+    if bytes_eq (before_first is_query_mark target) (codes "/") then codes "/index.html" else before_first is_query_mark target
 
 -- a target that has ended: it begins with `/`
 abbrev pub wanted_by : List ℕ → Wanted

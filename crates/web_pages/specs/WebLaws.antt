@@ -8,7 +8,7 @@ use Rattle.app_events.specs.Pages.{MayWant}
 use Rattle.app_events.specs.declared.want.Want.{Want}
 use Rattle.app_events.specs.declared.want.Want.TheVariants.{Nothing, Send, Close, Abort}
 use Rattle.web_pages.specs.Requests.{wanted}
-use Rattle.web_pages.specs.Pages.{page, is_whole, pages_of}
+use Rattle.web_pages.specs.Pages.{page, is_page_whole, pages_of}
 use Rattle.web_pages.specs.WebMeaning.{web_meaning, web_want, is_acknowledged, waits_for_capture, left_of}
 use Rattle.web_pages.specs.Growing.{page_grows, same_prefix}
 use Rattle.web_pages.specs.declared.TheConstants.{MOST_POLLS, LARGEST_SEGMENT}
@@ -42,10 +42,10 @@ some_left most left one e =
     (omega arith, omega arith)
 
 wants_by : (files : List File) (part : Part) (P : Want → Type 0) → P Abort → P Nothing
-    → (is_whole files part.heard part.captures ≡ true → part.acked ≡ length (page files part.heard part.captures) → P Close)
+    → (is_page_whole files part.heard part.captures ≡ true → part.acked ≡ length (page files part.heard part.captures) → P Close)
     → ((n : ℕ) → 1 ≤ n → n ≤ left_of files part → P (Send n)) → P (web_want files part)
 wants_by files part P abort nothing close send =
-    by_polls (part.polls == MOST_POLLS) (by_end (is_whole files part.heard part.captures && is_acknowledged files part) refl)
+    by_polls (part.polls == MOST_POLLS) (by_end (is_page_whole files part.heard part.captures && is_acknowledged files part) refl)
   where
     by_left : (b : Bool) → nat_lt 0 (left_of files part) ≡ b → P (if b then Send (min LARGEST_SEGMENT (left_of files part)) else Nothing)
     by_left true e =
@@ -53,16 +53,16 @@ wants_by files part P abort nothing close send =
         send (min LARGEST_SEGMENT (left_of files part)) some.0 some.1
     by_left false e = nothing
 
-    by_end : (b : Bool) → (is_whole files part.heard part.captures && is_acknowledged files part) ≡ b
+    by_end : (b : Bool) → (is_page_whole files part.heard part.captures && is_acknowledged files part) ≡ b
         → P (if b then Close else (if nat_lt 0 (left_of files part) then Send (min LARGEST_SEGMENT (left_of files part)) else Nothing))
     by_end true e =
-        let both = and_parts (is_whole files part.heard part.captures) (is_acknowledged files part) e in
+        let both = and_parts (is_page_whole files part.heard part.captures) (is_acknowledged files part) e in
         close both.0 (eqb-true part.acked (length (page files part.heard part.captures)) both.1)
     by_end false e = by_left (nat_lt 0 (left_of files part)) refl
 
     by_polls : (b : Bool)
-        → P (if is_whole files part.heard part.captures && is_acknowledged files part then Close else (if nat_lt 0 (left_of files part) then Send (min LARGEST_SEGMENT (left_of files part)) else Nothing))
-        → P (if b then Abort else (if is_whole files part.heard part.captures && is_acknowledged files part then Close else (if nat_lt 0 (left_of files part) then Send (min LARGEST_SEGMENT (left_of files part)) else Nothing)))
+        → P (if is_page_whole files part.heard part.captures && is_acknowledged files part then Close else (if nat_lt 0 (left_of files part) then Send (min LARGEST_SEGMENT (left_of files part)) else Nothing))
+        → P (if b then Abort else (if is_page_whole files part.heard part.captures && is_acknowledged files part then Close else (if nat_lt 0 (left_of files part) then Send (min LARGEST_SEGMENT (left_of files part)) else Nothing)))
     by_polls true rest = abort
     by_polls false rest = rest
 

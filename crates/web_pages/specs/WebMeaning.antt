@@ -8,7 +8,7 @@ use Rattle.app_events.specs.declared.want.Want.TheVariants.{Nothing, Send, Close
 use Rattle.site_image.specs.Files.{File}
 use Rattle.web_pages.specs.Requests.{Wanted, wanted}
 use Rattle.web_pages.specs.Requests.Wanted.{NotYet, Refused, Name}
-use Rattle.web_pages.specs.Pages.{page, is_whole, place_of}
+use Rattle.web_pages.specs.Pages.{page, is_page_whole, place_of}
 use Rattle.web_pages.specs.declared.TheConstants.{MOST_POLLS, LARGEST_SEGMENT}
 
 -- a hit of the file at a place: its count rises by one modulo 2^32
@@ -32,7 +32,7 @@ is_acknowledged files part = part.acked == length (page files part.heard part.ca
 abbrev pub waits_for_capture : List File → Wanted → Part → Bool
 waits_for_capture files NotYet part = false
 waits_for_capture files Refused part = false
-waits_for_capture files (Name name) part = not (is_whole files part.heard part.captures)
+waits_for_capture files (Name name) part = not (is_page_whole files part.heard part.captures)
 
 -- what is left of the page so far
 abbrev pub left_of : List File → Part → ℕ
@@ -43,7 +43,7 @@ left_of files part = length (page files part.heard part.captures) - part.acked
 abbrev pub web_want : List File → Part → Want
 web_want files part =
     if part.polls == MOST_POLLS then Abort
-    else if is_whole files part.heard part.captures && is_acknowledged files part then Close
+    else if is_page_whole files part.heard part.captures && is_acknowledged files part then Close
     else if nat_lt 0 (left_of files part) then Send (min LARGEST_SEGMENT (left_of files part))
     else Nothing
 

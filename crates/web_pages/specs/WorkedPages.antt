@@ -2,7 +2,7 @@
 use Rattle.std.specs.Prelude.{◌≡◌, ℕ, true, false, List, [], ◌∷◌, ◌++◌, codes, length, replicate}
 use Rattle.site_image.specs.Files.{File}
 use Rattle.app_events.specs.Part.{Moment}
-use Rattle.web_pages.specs.Pages.{page, is_whole}
+use Rattle.web_pages.specs.Pages.{page, is_page_whole}
 use Rattle.web_pages.specs.ZeroPages.{zero_page}
 
 -- a file without a content type of its own
@@ -60,13 +60,13 @@ get target = codes "GET " ++ target ++ codes " HTTP/1.0\r\n\r\n"
 pub record AreWorkedPages : Type 0 where
   pub hello : page hello_site (get (codes "/")) [] ≡ ok ++ as_html ++ codes "hello\n"
   pub hello_length : length (zero_page hello_site (codes "/")) ≡ 86
-  pub hello_whole : is_whole hello_site (get (codes "/")) [] ≡ true
+  pub hello_whole : is_page_whole hello_site (get (codes "/")) [] ≡ true
   pub query : zero_page hello_site (codes "/?a=b") ≡ ok ++ as_html ++ codes "hello\n"
   pub not_yet : page hello_site (codes "GET /") [] ≡ []
-  pub not_yet_open : is_whole hello_site (codes "GET /") [] ≡ false
+  pub not_yet_open : is_page_whole hello_site (codes "GET /") [] ≡ false
   -- a request that is refused has the empty page, and it is whole
   pub refused : zero_page hello_site (codes "x") ≡ []
-  pub refused_whole : is_whole hello_site (get (codes "x")) [] ≡ true
+  pub refused_whole : is_page_whole hello_site (get (codes "x")) [] ≡ true
   -- no file has the name
   pub missing : zero_page hello_site (codes "/nosuch") ≡ not_found ++ as_html ++ codes "not found\n"
   pub missing_length : length (zero_page hello_site (codes "/nosuch")) ≡ 97
@@ -87,6 +87,6 @@ pub record AreWorkedPages : Type 0 where
   -- the page goes as far as its captures reach; a call of an unknown function takes none
   pub no_capture : page calls_site (get (codes "/s.shtml")) [] ≡ ok ++ as_html ++ codes "a"
   pub one_capture : page calls_site (get (codes "/s.shtml")) (moment_at 0 7 ∷ []) ≡ ok ++ as_html ++ codes "a         7bc"
-  pub one_capture_open : is_whole calls_site (get (codes "/s.shtml")) (moment_at 0 7 ∷ []) ≡ false
+  pub one_capture_open : is_page_whole calls_site (get (codes "/s.shtml")) (moment_at 0 7 ∷ []) ≡ false
   pub two_captures : page calls_site (get (codes "/s.shtml")) (moment_at 0 7 ∷ moment_at 0 12 ∷ []) ≡ ok ++ as_html ++ codes "a         7bc        12d"
-  pub two_captures_whole : is_whole calls_site (get (codes "/s.shtml")) (moment_at 0 7 ∷ moment_at 0 12 ∷ []) ≡ true
+  pub two_captures_whole : is_page_whole calls_site (get (codes "/s.shtml")) (moment_at 0 7 ∷ moment_at 0 12 ∷ []) ≡ true

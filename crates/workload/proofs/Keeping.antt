@@ -15,7 +15,7 @@ use Rattle.link_schedule.specs.declared.event.Event.{Event}
 use Rattle.link_schedule.specs.declared.event.Event.TheVariants.{Opens, Again, Round, Twice, Reverse, Half, Lose}
 use Rattle.link_schedule.specs.declared.line.Line.{Line}
 use Rattle.link_schedule.specs.Clients.{Plan}
-use Rattle.link_schedule.specs.Reading.{Content, meets}
+use Rattle.link_schedule.specs.Reading.{SchedulePlan, meets}
 use Rattle.link_schedule.specs.Kept.{Keeps, are_apart, client_in_range, event_in_range, is_between}
 use Rattle.workload.specs.Workload.{client_of, event_by, events_of, happens, numbered_from, request_by, words_from, workload_of}
 
@@ -161,5 +161,5 @@ all_events seed n s none opened drawn rested d e f g h =
     ∙ ap (λ (l : List Event). l ++ replicate 40 Round)
     (g ∙ ap (λ (l : List Event). l ++ flat_map (happens n) (first_words pcg32 200 s)) first ∙ ap (λ (z : Lcg). opens ++ flat_map (happens n) (first_words pcg32 200 z)) d)
 
-pub same_content : (plans ps : List Plan) (lines ls : List Line) → plans ≡ ps → lines ≡ ls → ◌≡◌ {A = Content} (record { clients = plans; lines = lines }) (record { clients = ps; lines = ls })
+pub same_content : (plans ps : List Plan) (lines ls : List Line) → plans ≡ ps → lines ≡ ls → ◌≡◌ {A = SchedulePlan} (record { clients = plans; lines = lines }) (record { clients = ps; lines = ls })
 same_content plans ps lines ls e f = cc

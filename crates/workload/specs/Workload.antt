@@ -8,7 +8,7 @@ use Rattle.link_schedule.specs.declared.event.Event.{Event}
 use Rattle.link_schedule.specs.declared.event.Event.TheVariants.{Opens, Again, Tick, Round, Twice, Reverse, Half, Lose}
 use Rattle.link_schedule.specs.declared.line.Line.{Line}
 use Rattle.link_schedule.specs.Clients.{Plan}
-use Rattle.link_schedule.specs.Reading.{Content}
+use Rattle.link_schedule.specs.Reading.{SchedulePlan}
 
 -- the page that a client asks for: an odd one the front page, an even one the script
 abbrev pub request_by : Bool → List ℕ
@@ -50,7 +50,7 @@ numbered_from number [] = []
 numbered_from number (event ∷ events) = record { at = number; event = event } ∷ numbered_from (number + 1) events
 
 -- the lines stand behind those of the clients
-abbrev pub workload_of : ℕ → ℕ → Content
+abbrev pub workload_of : ℕ → ℕ → SchedulePlan
 workload_of seed clients = record {
   clients = map client_of (range_with_len 1 clients);
   lines = numbered_from (clients + 1) (events_of seed clients);

@@ -3,14 +3,14 @@ use Rattle.std.specs.List.{insert}
 use Rattle.site_image.specs.declared.version.Version.TheVariants.{One}
 use Rattle.site_image.specs.Grammar.{entry}
 use Rattle.site_image.specs.Places.{files_in}
-use Rattle.file_tree.specs.Index.{IsSlot, IsTable}
+use Rattle.file_tree.specs.Index.{IsSlot, IsIndex}
 use Rattle.file_tree.specs.Packing.{file_of}
 use Rattle.file_tree.proofs.GrowLemmas.{table-push}
 use Rattle.file_tree.proofs.packing.push_named.Goals as goal
 use Rattle.file_tree.proofs.packing.push_named.Goals.{In_ok-push}
 
 -- the table with the further file
-pushed : (c : In_ok-push) → IsTable c.push_file.new.image.items (c.args.draft.now.files.items ++ c.in_ok-place.place ∷ []) (insert c.args.draft.now.order.items c.in-Ok.slot (record { 0 = c.len-number.result }))
+pushed : (c : In_ok-push) → IsIndex c.push_file.new.image.items (c.args.draft.now.files.items ++ c.in_ok-place.place ∷ []) (insert c.args.draft.now.order.items c.in-Ok.slot (record { 0 = c.len-number.result }))
     × (files_in c.push_file.new.image.items (c.args.draft.now.files.items ++ c.in_ok-place.place ∷ []) ≡ files_in c.args.draft.now.image.items c.args.draft.now.files.items ++ file_of c.args.name.now c.args.content.now ∷ [])
 pushed c =
     let old = c.args.draft.now in
@@ -27,5 +27,5 @@ returns-clause-files c = ap (files_in c.push_file.new.image.items) c.in_ok-push.
 
 pub returns-clause-table : goal.returns-clause-table
 returns-clause-table c =
-    subst (λ os. IsTable c.push_file.new.image.items c.push.new.self.items os) (sym c.in_ok-insert.ensures.items)
-    (subst (λ fs. IsTable c.push_file.new.image.items fs (insert c.args.draft.now.order.items c.in-Ok.slot (record { 0 = c.len-number.result }))) (sym c.in_ok-push.ensures.items) (pushed c).0)
+    subst (λ os. IsIndex c.push_file.new.image.items c.push.new.self.items os) (sym c.in_ok-insert.ensures.items)
+    (subst (λ fs. IsIndex c.push_file.new.image.items fs (insert c.args.draft.now.order.items c.in-Ok.slot (record { 0 = c.len-number.result }))) (sym c.in_ok-push.ensures.items) (pushed c).0)

@@ -2,7 +2,7 @@ use Rattle.std.proofs.Common.{◌≡◌, ◌+◌, drop, ap, sym, subst, ◌∙�
 use Rattle.std.specs.Prelude.{slice_range}
 use Rattle.std.proofs.lemmas.Result.{err_from_is_err_and}
 use Rattle.site_image.specs.Files.{has_name}
-use Rattle.site_image.specs.Parts.{text, after_text, kind_text, after_kind}
+use Rattle.site_image.specs.Parts.{text, after_text, kind_given, after_kind}
 use Rattle.site_image.specs.Places.{IsPart, files_in}
 use Rattle.file_tree.specs.Reading.{IsEntry}
 use Rattle.file_tree.proofs.OrderLemmas.{found-name, slot-fresh}
@@ -44,7 +44,7 @@ returns-in_err-content-clause-err c =
     let bytes = drop c.args.at c.args.image.now in
     let rest = drop c.in_ok-name.name.next c.args.image.now in
     let part : IsPart c.args.image.now c.in_ok-name.name (text bytes) (after_text bytes) = (c.in_ok-name.ensures.ok).1 in
-    let kind : IsPart c.args.image.now c.in_ok-kind.kind (kind_text c.args.version rest) (after_kind c.args.version rest) = (c.in_ok-kind.ensures.ok).1 in
+    let kind : IsPart c.args.image.now c.in_ok-kind.kind (kind_given c.args.version rest) (after_kind c.args.version rest) = (c.in_ok-kind.ensures.ok).1 in
     rw (p.1, p.2)
     (fault-content c.args.version (files_in c.args.image.now c.args.files.now) bytes (Some c.in_err-content.field-0.0) rest (drop c.in_ok-kind.kind.next c.args.image.now)
     (c.in_ok-name.ensures.ok).0 (fresh (goal.at.returns-in_err-content-clause-err c).In-Err) part.rest_is (c.in_ok-kind.ensures.ok).0 kind.rest_is c.in_err-content.ensures.err)

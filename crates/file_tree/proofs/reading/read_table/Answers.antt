@@ -5,7 +5,7 @@ use Rattle.site_image.specs.declared.place.Place.{Place}
 use Rattle.site_image.specs.Faults.{entries, scripts, read_image}
 use Rattle.site_image.specs.Places.{file_in, files_in}
 use Rattle.file_tree.specs.Answers.{Fails}
-use Rattle.file_tree.specs.Index.{IsTable, AreMeasured}
+use Rattle.file_tree.specs.Index.{IsIndex, AreMeasured}
 use Rattle.file_tree.proofs.ReadLemmas.{read-at-head, read-at-entries, read-at-rest, read-at-end, image-files-are, gives-fault, gives-same}
 use Rattle.site_image.proofs.ImageLaws.{image-reads}
 use Rattle.file_tree.proofs.GoodLemmas.{image-good, image-apart}
@@ -88,7 +88,7 @@ returns-clause-loaded c =
       apart = image-apart image (files_in image (places c)) (image-reads image (files_in image (places c)) (λ i. omega (arith, c.type_inv.image i)) (is-read c));
       size = size.1;
       few = omega (arith, counted, count, few);
-      table = subst (λ ps. IsTable image ps c.in_ok-table.table.order.items) (sym (places-are c))
-          (subst (λ os. IsTable image c.measure.new.files os) c.deref.ensures.value c.in_ok-measure.ensures.table);
+      table = subst (λ ps. IsIndex image ps c.in_ok-table.table.order.items) (sym (places-are c))
+          (subst (λ os. IsIndex image c.measure.new.files os) c.deref.ensures.value c.in_ok-measure.ensures.table);
       measured = subst (AreMeasured image) (sym (places-are c)) c.in_ok-measure.ensures.measured;
     }

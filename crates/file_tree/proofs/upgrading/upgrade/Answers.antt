@@ -9,7 +9,7 @@ use Rattle.site_image.specs.Grammar.{image}
 use Rattle.site_image.specs.Faults.{refuse, scripts, read_image}
 use Rattle.site_image.specs.Places.{file_in, files_in}
 use Rattle.file_tree.specs.Answers.{Fails}
-use Rattle.file_tree.specs.Index.{IsTable}
+use Rattle.file_tree.specs.Index.{IsIndex}
 use Rattle.file_tree.specs.Site.{SiteContent, IsLoaded, files_of}
 use Rattle.file_tree.specs.Upgrading.{upgraded, second_image}
 use Rattle.file_tree.proofs.UpgradeLemmas.{table-upgraded, second-long, second-scripts, second-reads}
@@ -37,9 +37,9 @@ measure-requires-clause-table c =
     let site = c.args.site.now in
     let made = c.push_new_files.new.image.items in
     let order_is = ap (λ (s : SiteContent). s.order) (sym c.site.view_is) ∙ sym c.deref-2.ensures.value in
-    subst (λ x. IsTable x c.deref_mut.result.now c.deref-2.result.now) (sym c.deref.ensures.value)
-    (subst (λ fs. IsTable made fs c.deref-2.result.now) (sym c.deref_mut.ensures.value)
-    (subst (λ os. IsTable made c.push_new_files.new.files.items os) order_is
+    subst (λ x. IsIndex x c.deref_mut.result.now c.deref-2.result.now) (sym c.deref.ensures.value)
+    (subst (λ fs. IsIndex made fs c.deref-2.result.now) (sym c.deref_mut.ensures.value)
+    (subst (λ os. IsIndex made c.push_new_files.new.files.items os) order_is
     (table-upgraded c.args.words.now (files_of site) site.order made c.push_new_files.new.files.items
     (loaded (goal.at.measure-requires-clause-table c).After-site).table.order_is
     c.in_ok-push_new_files.ensures.within c.in_ok-push_new_files.ensures.files)))

@@ -1,7 +1,7 @@
 use Rattle.std.proofs.Common.{[], refl, ap, ◌∙◌, true, false}
 use Rattle.app_events.specs.declared.want.Want.TheVariants.{Nothing, Close}
 use Rattle.httpd.specs.Reply.{left_from, reply_in}
-use Rattle.web_pages.specs.Pages.{reach_end, text_of}
+use Rattle.web_pages.specs.Pages.{reach_end, page_text}
 use Rattle.httpd.proofs.Walking.{call_seen, call_stops, end_reached, ready_on, text_unless, want_at}
 use Rattle.httpd.proofs.saying.want_reply.Goals as goal
 
@@ -19,7 +19,7 @@ returns-in-End c =
     let end = end_reached r (left_from r c.loop-ready.place) c.look-seen.result c.in-End.is c.look-seen.ensures in
     c.want_before_end.ensures
     ∙ want_at r c.args.thread c.loop-ready.place c.loop-ready.ready Close true c.loop-ready.invariant.0 c.loop-ready.invariant.1 c.loop-ready-test.true
-    (ap (λ p. text_of r.files p []) end) (ap (λ p. reach_end p []) end) refl
+    (ap (λ p. page_text r.files p []) end) (ap (λ p. reach_end p []) end) refl
 
 pub loop-ready-preserved : goal.loop-ready-preserved
 loop-ready-preserved c =

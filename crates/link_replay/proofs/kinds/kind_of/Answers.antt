@@ -2,7 +2,7 @@ use Rattle.std.proofs.Common.{◌≡◌, ℕ, List, sym, ◌∙◌, subst}
 use Rattle.uip_wire.specs.declared.addr.Addr.{Addr}
 use Rattle.uip_node.specs.Edge.{event_of}
 use Rattle.uip_node.specs.Events.Event.{Arrived}
-use Rattle.link_world.specs.Bytes.{bytes_of}
+use Rattle.link_world.specs.Bytes.{sent_bytes}
 use Rattle.link_world.specs.declared.who.Who.{Who}
 use Rattle.link_world.specs.declared.who.Who.TheVariants.{FromClient, FromNode}
 use Rattle.link_world.specs.Reading.{IsRead, IsSentBy}
@@ -17,12 +17,12 @@ pub returns-in-FromClient : goal.returns-in-FromClient
 returns-in-FromClient c = λ w e same stands home sent read by.
     let number = c.in-FromClient.field-0 in
     let who : e.who ≡ FromClient number = sym sent.who ∙ c.in-FromClient.is in
-    client_kind w number e.content (bytes_of w e) c.read_at.result
+    client_kind w number e.content (sent_bytes w e) c.read_at.result
     (λ sockets s at. c.read_at.ensures sockets s
     (subst (λ (b : List ℕ). event_of c.args.addr b ≡ Arrived sockets s) (sym (c.deref.ensures.value ∙ sent.bytes))
-    (subst (λ (a : Addr). event_of a (bytes_of w e) ≡ Arrived sockets s) (sym same) at)))
+    (subst (λ (a : Addr). event_of a (sent_bytes w e) ≡ Arrived sockets s) (sym same) at)))
     (speaks_to c.args.link.now w stands home number)
-    (subst (λ (x : Who). IsRead w x e.content (bytes_of w e)) who read) (subst (λ (x : Who). IsSentBy w.sides x e.content) who by)
+    (subst (λ (x : Who). IsRead w x e.content (sent_bytes w e)) who read) (subst (λ (x : Who). IsSentBy w.sides x e.content) who by)
 
 pub returns-in-Some : goal.returns-in-Some
 returns-in-Some c = λ w e same stands home sent read by.
@@ -30,11 +30,11 @@ returns-in-Some c = λ w e same stands home sent read by.
     let own = c.in-Some.own in
     let who : e.who ≡ FromNode number = sym sent.who ∙ c.in-FromNode.is in
     let m = subst (λ (xs : List CodeSide). Matched SideStands xs w.sides) (sym c.as_slice.ensures.value) stands.sides in
-    node_kind w number e.content (bytes_of w e) own c.read_at-in-Some.result (sym c.in-Some.is ∙ c.address_of.ensures w.sides m)
+    node_kind w number e.content (sent_bytes w e) own c.read_at-in-Some.result (sym c.in-Some.is ∙ c.address_of.ensures w.sides m)
     (λ sockets s at. c.read_at-in-Some.ensures sockets s
     (subst (λ (b : List ℕ). event_of own b ≡ Arrived sockets s) (sym (c.deref-in-Some.ensures.value ∙ sent.bytes)) at))
     (speaks_to c.args.link.now w stands home number)
-    (subst (λ (x : Who). IsRead w x e.content (bytes_of w e)) who read) (subst (λ (x : Who). IsSentBy w.sides x e.content) who by)
+    (subst (λ (x : Who). IsRead w x e.content (sent_bytes w e)) who read) (subst (λ (x : Who). IsSentBy w.sides x e.content) who by)
 
 pub returns-in-None : goal.returns-in-None
 returns-in-None c = λ w e same stands home sent read by.

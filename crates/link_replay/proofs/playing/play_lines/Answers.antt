@@ -9,7 +9,7 @@ use Rattle.link_world.specs.World.{World}
 use Rattle.link_world.specs.Schedule.{plays, plays_line}
 use Rattle.link_schedule.specs.declared.event.Event.{Event}
 use Rattle.link_replay.specs.Playing.{LinesEnd, event_at, refusal_at}
-use Rattle.link_replay.specs.Reaching.{Ends, IsAt}
+use Rattle.link_replay.specs.Reaching.{ActsEnd, IsAt}
 use Rattle.link_replay.specs.Stands.{WorldStands}
 use Rattle.link_replay.proofs.Pairs.{left_is}
 use Rattle.link_replay.proofs.Played.{AmidLines, line_further, line_refused}
@@ -31,8 +31,8 @@ loop-line-preserved g c =
           (AllPass-from_list_all (λ (l : Line). event_in_range c.requires.ranges.0 l.event) c.args.lines.now c.requires.ranges.1 i d c.loop-line-test.true) in
           let here : AmidLines m a.served (WorldStands a c.loop-line.world) i (line ∷ left) (plays m a.served (map event_at c.args.lines.now) w)
           = subst (λ (xs : List Line). AmidLines m a.served (WorldStands a c.loop-line.world) i xs (plays m a.served (map event_at c.args.lines.now) w)) (left_is c.args.lines.now i d c.loop-line-test.true) (c.loop-line.invariant.so_far w h s) in
-          let done : (v : World) → IsAt m a.served v → WorldStands a c.loop-line.world v → Ends (WorldStands a c.line.new.self) (Ok c.in_default.field-0) (plays_line m a.served v line.event)
-          = subst (λ k. (v : World) → IsAt (a.meaning k) a.served v → WorldStands a c.loop-line.world v → Ends (WorldStands a c.line.new.self) (Ok c.in_default.field-0) (plays_line (a.meaning k) a.served v line.event)) c.loop-line.invariant.same c.in_default.ensures.line in
+          let done : (v : World) → IsAt m a.served v → WorldStands a c.loop-line.world v → ActsEnd (WorldStands a c.line.new.self) (Ok c.in_default.field-0) (plays_line m a.served v line.event)
+          = subst (λ k. (v : World) → IsAt (a.meaning k) a.served v → WorldStands a c.loop-line.world v → ActsEnd (WorldStands a c.line.new.self) (Ok c.in_default.field-0) (plays_line (a.meaning k) a.served v line.event)) c.loop-line.invariant.same c.in_default.ensures.line in
           line_further m a.served (WorldStands a c.loop-line.world) (WorldStands a c.line.new.self) line left i (plays m a.served (map event_at c.args.lines.now) w) c.in_default.field-0 fits done here);
     }
 
@@ -47,8 +47,8 @@ returns-in-Err-clause-played g c = λ w h s.
     let end = plays m a.served (map event_at c.args.lines.now) w in
     let here : AmidLines m a.served (WorldStands a c.loop-line.world) i (line ∷ left) end
     = subst (λ (xs : List Line). AmidLines m a.served (WorldStands a c.loop-line.world) i xs end) (left_is c.args.lines.now i d c.loop-line-test.true) (c.loop-line.invariant.so_far w h s) in
-    let done : (v : World) → IsAt m a.served v → WorldStands a c.loop-line.world v → Ends (WorldStands a c.line.new.self) (Err c.in-Err.fault) (plays_line m a.served v line.event)
-    = subst (λ k. (v : World) → IsAt (a.meaning k) a.served v → WorldStands a c.loop-line.world v → Ends (WorldStands a c.line.new.self) (Err c.in-Err.fault) (plays_line (a.meaning k) a.served v line.event)) c.loop-line.invariant.same c.in-Err.ensures.line in
+    let done : (v : World) → IsAt m a.served v → WorldStands a c.loop-line.world v → ActsEnd (WorldStands a c.line.new.self) (Err c.in-Err.fault) (plays_line m a.served v line.event)
+    = subst (λ k. (v : World) → IsAt (a.meaning k) a.served v → WorldStands a c.loop-line.world v → ActsEnd (WorldStands a c.line.new.self) (Err c.in-Err.fault) (plays_line (a.meaning k) a.served v line.event)) c.loop-line.invariant.same c.in-Err.ensures.line in
     subst (λ (e : ReadSchedule). LinesEnd m a.served (λ (done : Unit {0}). WorldStands a c.line.new.self) c.args.lines.now (Err e) end) {x = refusal_at line.at c.in-Err.fault}
     (sym {b = refusal_at line.at c.in-Err.fault} c.refused.ensures)
     (line_refused m a.served (λ (done : Unit {0}). WorldStands a c.line.new.self) (WorldStands a c.loop-line.world) (WorldStands a c.line.new.self) c.args.lines.now line left i end c.in-Err.fault

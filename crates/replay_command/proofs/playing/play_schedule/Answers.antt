@@ -6,7 +6,7 @@ use Rattle.file_tree.specs.Site.{SiteContent, IsLoaded, files_of}
 use Rattle.link_schedule.specs.Answer.{content_at}
 use Rattle.link_replay.specs.Stands.{WorldStands}
 use Rattle.replay_command.specs.Playing.{no_hits}
-use Rattle.replay_command.specs.Telling.{Answers, IsDue}
+use Rattle.replay_command.specs.Telling.{Answers, IsPlayDue}
 use Rattle.replay_command.proofs.Played.{played_due, refused_due}
 use Rattle.replay_command.proofs.playing.play_schedule.Goals as goal
 
@@ -15,7 +15,7 @@ returns-in-Ok-play g c = λ text reads.
     let site = c.in-Ok.web.site in
     let same = c.in-Ok.ensures.site in
     subst
-    (λ (s : SiteContent). Answers (IsDue (files_of s) text c.args.show) (g.K.Sink.written c.args.out.now) (g.K.Sink.written c.tell.new.out) (g.K.Sink.faults c.args.out.now)
+    (λ (s : SiteContent). Answers (IsPlayDue (files_of s) text c.args.show) (g.K.Sink.written c.args.out.now) (g.K.Sink.written c.tell.new.out) (g.K.Sink.faults c.args.out.now)
     (g.K.Sink.faults c.tell.new.out) c.tell.result)
     same
     (played_due site (subst IsLoaded (sym same) c.see_loaded.ensures.loaded) (subst (λ (s : SiteContent). All IsByte s.image) (sym same) c.see_loaded.ensures.bytes) c.in-Ok.web.hits
@@ -28,7 +28,7 @@ returns-in-Err-Bad g c = λ text reads.
     let site = c.in-Ok.web.site in
     let same = c.in-Ok.ensures.site in
     subst
-    (λ (s : SiteContent). Answers (IsDue (files_of s) text c.args.show) (g.K.Sink.written c.args.out.now) (g.K.Sink.written c.refuse.new.out) (g.K.Sink.faults c.args.out.now)
+    (λ (s : SiteContent). Answers (IsPlayDue (files_of s) text c.args.show) (g.K.Sink.written c.args.out.now) (g.K.Sink.written c.refuse.new.out) (g.K.Sink.faults c.args.out.now)
     (g.K.Sink.faults c.refuse.new.out) c.refuse.result)
     same
     (refused_due site (subst IsLoaded (sym same) c.see_loaded.ensures.loaded) (subst (λ (s : SiteContent). All IsByte s.image) (sym same) c.see_loaded.ensures.bytes) c.in-Ok.web.hits

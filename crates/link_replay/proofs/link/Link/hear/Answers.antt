@@ -5,7 +5,7 @@ use Rattle.link_client.specs.Client.{ClientStep}
 use Rattle.link_client.specs.declared.setup.Setup.{Setup}
 use Rattle.link_world.specs.Acts.{handed}
 use Rattle.link_world.specs.World.{World, Side, with_client, with_side}
-use Rattle.link_client.specs.Calls.{hears, takes}
+use Rattle.link_client.specs.Calls.{client_hears, client_hands}
 use Rattle.link_replay.specs.Stands.{LinkStands, SideStands}
 use Rattle.link_replay.specs.declared.side.Side.{Side as CodeSide}
 use Rattle.link_replay.proofs.Pairs.{there_is, partner}
@@ -52,7 +52,7 @@ returns-clause-heard c = λ w h t.
     let at : slice_get c.args.self.now.sides.items n ≡ Some old = there_is c.args.self.now.sides.items n old c.index_mut.ensures.value (omega arith) in
     let p = partner SideStands c.args.self.now.sides.items w.sides n old h.sides at in
     let s : Side = p.other in
-    let step : ClientStep = takes s.client (hears s.client.setup c.args.datagram.now) in
+    let step : ClientStep = client_hands s.client (client_hears s.client.setup c.args.datagram.now) in
     let st = c.in_ok-sent.ensures.step s p.pair in
     let t' : Side = with_client s step.client in
     let v : World = with_side w number t' in

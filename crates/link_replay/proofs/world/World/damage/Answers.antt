@@ -3,7 +3,7 @@ use Rattle.uip_node.specs.Edge.{event_of}
 use Rattle.uip_node.specs.Events.{Reply}
 use Rattle.uip_node.specs.Node.{step}
 use Rattle.link_world.specs.Acts.{damages_at, hands_over}
-use Rattle.link_world.specs.Bytes.{bytes_of, changed}
+use Rattle.link_world.specs.Bytes.{sent_bytes, changed}
 use Rattle.link_world.specs.World.{World, Sent, numbered}
 use Rattle.link_world.specs.declared.who.Who.{Who}
 use Rattle.link_replay.specs.Stands.{SentStands, WorldStands}
@@ -28,10 +28,10 @@ returns-clause-damaged g c = λ w h f s.
     let e : Sent = p.other in
     let there : numbered w.sent number ≡ Some e = numbered_at w.sent number above ∙ p.get in
     let items : c.in-Ok.bytes.items ≡ c.as_slice.result.now = search (rules, tests) in
-    let old : c.as_mut_slice.result.now ≡ bytes_of w e = c.as_mut_slice.ensures.value ∙ items ∙ c.as_slice.ensures.value ∙ p.pair.bytes in
+    let old : c.as_mut_slice.result.now ≡ sent_bytes w e = c.as_mut_slice.ensures.value ∙ items ∙ c.as_slice.ensures.value ∙ p.pair.bytes in
     let whole = area_is c.change.new.bytes c.in-Ok.bytes.items c.in-Ok.bytes.len (c.change.auto.bytes ∙ ap length c.as_mut_slice.ensures.value) (sym c.as_mut_slice.ensures.len ∙ ap length c.as_mut_slice.ensures.value) in
-    let bytes : c.as_slice-2.result.now ≡ changed (bytes_of w e) c.args.at c.args.mask
-    = c.as_slice-2.ensures.value ∙ whole ∙ c.change.ensures ∙ ap (λ (xs : List ℕ). changed xs c.from.result c.args.mask) old ∙ ap (λ i. changed (bytes_of w e) i c.args.mask) c.from.ensures in
+    let bytes : c.as_slice-2.result.now ≡ changed (sent_bytes w e) c.args.at c.args.mask
+    = c.as_slice-2.ensures.value ∙ whole ∙ c.change.ensures ∙ ap (λ (xs : List ℕ). changed xs c.from.result c.args.mask) old ∙ ap (λ i. changed (sent_bytes w e) i c.args.mask) c.from.ensures in
     let low : 1 ≤ c.args.mask = c.requires.mask in
     let high : c.args.mask < 256 = omega arith in
     let answer : Option Reply = (step m a.served w.node (event_of w.node.addr c.as_slice-2.result.now)).sent in
@@ -41,6 +41,6 @@ returns-clause-damaged g c = λ w h f s.
     (damage_answers m a.served w number c.args.at c.args.mask e h low high f there)) in
     let same : hands_over m a.served w c.as_slice-2.result.now code.who ≡ damages_at m a.served w c.args.at c.args.mask (numbered w.sent number)
     = ap (λ (b : List ℕ). hands_over m a.served w b code.who) bytes
-    ∙ ap (λ (who : Who). hands_over m a.served w (changed (bytes_of w e) c.args.at c.args.mask) who) p.pair.who
+    ∙ ap (λ (who : Who). hands_over m a.served w (changed (sent_bytes w e) c.args.at c.args.mask) who) p.pair.who
     ∙ sym (ap (λ (x : Option Sent). damages_at m a.served w c.args.at c.args.mask x) there) in
     subst (λ (u : World). WorldStands a c.hand.new.self u) same (c.in_ok-hand.ensures.handed w s answers)

@@ -4,8 +4,8 @@ use Rattle.uip_node.specs.Edge.{event_of}
 use Rattle.uip_node.specs.Events.{Reply}
 use Rattle.uip_node.specs.Node.{step}
 use Rattle.link_world.specs.Acts.{hands_over}
-use Rattle.link_world.specs.Bytes.{bytes_of}
-use Rattle.link_world.specs.World.{World, Sent, gives, numbered}
+use Rattle.link_world.specs.Bytes.{sent_bytes}
+use Rattle.link_world.specs.World.{World, Sent, hands_to, numbered}
 use Rattle.link_world.specs.declared.who.Who.{Who}
 use Rattle.link_replay.specs.Stands.{LinkStands, SentStands, WorldStands}
 use Rattle.link_replay.specs.Telling.{AnswersTo, client_of, sees}
@@ -43,10 +43,10 @@ returns-clause-given g c = λ w h s.
     let p = partner (SentStands w) sent w.sent n code s.link.sent at in
     let e : Sent = p.other in
     let items : c.in-Ok.bytes.items ≡ c.as_slice.result.now = search (rules, tests) in
-    let bytes : c.as_slice-2.result.now ≡ bytes_of w e = c.as_slice-2.ensures.value ∙ items ∙ c.as_slice.ensures.value ∙ p.pair.bytes in
+    let bytes : c.as_slice-2.result.now ≡ sent_bytes w e = c.as_slice-2.ensures.value ∙ items ∙ c.as_slice.ensures.value ∙ p.pair.bytes in
     let client : c.client_of.result ≡ client_of e.who = c.client_of.ensures ∙ ap client_of p.pair.who in
     let v : World = sees w (client_of e.who) number e (numbered w.sides (client_of e.who)) in
-    let facts = hands m a.served w number e (speaks_to c.args.self.now.link w s.link s.home) e.who e.content (bytes_of w e) (read_at m a.served w h n e p.get) (sent_at m a.served w h n e p.get) in
+    let facts = hands m a.served w number e (speaks_to c.args.self.now.link w s.link s.home) e.who e.content (sent_bytes w e) (read_at m a.served w h n e p.get) (sent_at m a.served w h n e p.get) in
     let stands : WorldStands a (record c.args.self.now { link = c.see.new.self }) v
     = seen a c.args.self.now c.see.new.self w (client_of e.who) number e (numbered w.sides (client_of e.who)) s
     (subst (λ k. LinkStands c.see.new.self (sees w k number e (numbered w.sides k))) client (c.see.ensures.stands w e s.link p.pair.epoch)) (c.see.ensures.kept w.node.addr s.home) in
@@ -54,10 +54,10 @@ returns-clause-given g c = λ w h s.
     let answers : AnswersTo v code.who answer
     = subst (λ (who : Who). AnswersTo v who answer) (sym p.pair.who)
     (subst (λ (b : List ℕ). AnswersTo v e.who (step m a.served v.node (event_of v.node.addr b)).sent) (sym bytes)
-    (answers_seen m a.served w (client_of e.who) number e (numbered w.sides (client_of e.who)) e.who (bytes_of w e) facts.answers)) in
-    let same : hands_over m a.served v c.as_slice-2.result.now code.who ≡ gives m a.served w number (numbered w.sent number)
+    (answers_seen m a.served w (client_of e.who) number e (numbered w.sides (client_of e.who)) e.who (sent_bytes w e) facts.answers)) in
+    let same : hands_over m a.served v c.as_slice-2.result.now code.who ≡ hands_to m a.served w number (numbered w.sent number)
     = ap (λ (b : List ℕ). hands_over m a.served v b code.who) bytes
-    ∙ ap (λ (who : Who). hands_over m a.served v (bytes_of w e) who) p.pair.who
+    ∙ ap (λ (who : Who). hands_over m a.served v (sent_bytes w e) who) p.pair.who
     ∙ facts.same
-    ∙ sym (ap (λ (x : Option Sent). gives m a.served w number x) (numbered_at w.sent number above ∙ p.get)) in
+    ∙ sym (ap (λ (x : Option Sent). hands_to m a.served w number x) (numbered_at w.sent number above ∙ p.get)) in
     subst (λ (u : World). WorldStands a c.hand.new.self u) same (c.in_ok-hand.ensures.handed v stands answers)

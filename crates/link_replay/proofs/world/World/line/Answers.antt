@@ -4,7 +4,7 @@ use Rattle.link_world.specs.Acts.{runs}
 use Rattle.link_world.specs.Schedule.{acts_of}
 use Rattle.link_world.specs.declared.act.Act.{Act}
 use Rattle.link_world.specs.Headline.{IsAct}
-use Rattle.link_replay.specs.Reaching.{Ends}
+use Rattle.link_replay.specs.Reaching.{ActsEnd}
 use Rattle.link_replay.specs.Stands.{WorldStands}
 use Rattle.link_replay.proofs.Lines.{all_acts, line_done}
 use Rattle.link_replay.proofs.world.World.line.Goals as goal
@@ -20,7 +20,7 @@ returns-clause-line g c = λ w h s.
     let m = a.meaning (a.kept c.args.self.now.node.shared) in
     let sent : length w.sent ≡ c.len-sent.result = omega (arith, s.link.sent.same_length, c.len-sent.ensures) in
     let acts : c.as_slice.result.now ≡ acts_of w c.args.event.now = c.as_slice.ensures.value ∙ c.in-Ok.ensures w (sym s.mark) sent in
-    let ran : Ends (WorldStands a c.run.new.self) (Ok c.in_ok-run.field-0) (runs m a.served c.as_slice.result.now w)
-    = subst (λ r. Ends (WorldStands a c.run.new.self) r (runs m a.served c.as_slice.result.now w)) c.in_ok-run.was (c.run.ensures.run w h s) in
+    let ran : ActsEnd (WorldStands a c.run.new.self) (Ok c.in_ok-run.field-0) (runs m a.served c.as_slice.result.now w)
+    = subst (λ r. ActsEnd (WorldStands a c.run.new.self) r (runs m a.served c.as_slice.result.now w)) c.in_ok-run.was (c.run.ensures.run w h s) in
     line_done a m a.served c.run.new.self w ran.0 c.args.event.now c.mark_after-self.result
     (ap (λ xs. runs m a.served xs w) (sym acts) ∙ ran.1) (c.mark_after-self.ensures w (sym s.mark) sent) ran.2
