@@ -5,9 +5,9 @@ use crate::app::App;
 use crate::ending::Ending;
 use crate::now::Now;
 use crate::want::Want;
-use uip_wire::Port;
+use uip_wire::{Port, WEB_PORT};
 
-/// The application that answers `hello` and a line feed to the first byte that it hears, at port 80.
+/// The application that answers `hello` and a line feed to the first byte that it hears, at the port of the web.
 #[derive(Drop)]
 pub struct Fixed {
     pub heard: bool,
@@ -16,6 +16,7 @@ pub struct Fixed {
 }
 
 impl App for Fixed {
+    ghost use Rattle.uip_wire.specs.declared.port.TheConstants.{WEB_PORT};
     ghost use Rattle.app_events.specs.FixedMeaning.{FixedStands};
     ghost use Rattle.app_events.specs.FixedLaws.{fixed_lawful, fixed_starts, fixed_same_left};
 
@@ -31,10 +32,10 @@ impl App for Fixed {
 
     ghost stands_for = { λ a _ p. FixedStands a p };
 
-    ghost served = { λ port. port == 80 };
+    ghost served = { λ port. port == WEB_PORT };
 
     fn serves(port: Port) -> bool {
-        port.0 == 80
+        port.0 == WEB_PORT
     }
 
     fn idle() -> Fixed {

@@ -10,7 +10,7 @@ use crate::web::{Web, hits_of};
 use app_events::{App, Ending, Now, Want};
 use generators::{Capture, take};
 use protosocket::{LineIn, Stops};
-use uip_wire::Port;
+use uip_wire::{Port, WEB_PORT};
 use web_pages::MOST_POLLS;
 
 /// The web server on one connection: how far the request was heard, where the reply goes on, and the record of the call that
@@ -28,6 +28,7 @@ pub struct Httpd {
 
 impl App for Httpd {
     ghost use Rattle.file_tree.specs.Site.{SiteContent, files_of};
+    ghost use Rattle.web_pages.specs.Serving.{is_served};
     ghost use Rattle.web_pages.specs.WebMeaning.{web_meaning};
     ghost use Rattle.web_pages.specs.WebLaws.{web_lawful, web_starts};
     ghost use Rattle.httpd.specs.HttpdStands.{HttpdStands};
@@ -45,10 +46,10 @@ impl App for Httpd {
 
     ghost stands_for = { HttpdStands };
 
-    ghost served = { λ port. port == 80 };
+    ghost served = { is_served };
 
     fn serves(port: Port) -> bool {
-        port.0 == 80
+        port.0 == WEB_PORT
     }
 
     fn idle() -> Httpd {

@@ -3,6 +3,7 @@
 ghost use Rattle.std.specs.Prelude.{◌≡◌, ◌<◌, length, replicate, option_map, IfOk, IfSome};
 ghost use Rattle.file_tree.specs.Site.{files_of};
 ghost use Rattle.site_image.specs.Files.{file_named};
+ghost use Rattle.web_pages.specs.Serving.{no_hits};
 ghost use Rattle.web_pages.specs.Pages.{hits_of, place_of};
 ghost use Rattle.httpd.specs.Reply.{found_file};
 ghost use Rattle.httpd.specs.Places.{IsFound};
@@ -43,9 +44,9 @@ impl Web {
     /// The site with no file asked for yet. On NoMemory the site is dropped.
     pub fn new(alloc: Global, site: Site) -> Result<Web, NoMemory>
         ensures site { IfOk result (λ web. web.site ≡ site) }
-        ensures hits { IfOk result (λ web. web.hits ≡ replicate (length (files_of site)) 0) }
+        ensures hits { IfOk result (λ web. web.hits ≡ no_hits (files_of site)) }
     {
-        let hits = zeros(alloc, site.count()).map_err(|_| NoMemory)?;
+        let hits = zeros(alloc, site.count())?;
         Ok(Web { site, hits })
     }
 }

@@ -1,6 +1,7 @@
 -- The world before the first line: the server, and the clients of a schedule.
 use Rattle.std.specs.Prelude.{◌≡◌, ℕ, suc, ◌+◌, ◌*◌, List, [], ◌∷◌, length, Some, slice_get}
 use Rattle.uip_wire.specs.declared.addr.Addr.{Addr}
+use Rattle.uip_wire.specs.declared.port.TheConstants.{WEB_PORT}
 use Rattle.link_client.specs.Calls.{IsClient}
 use Rattle.link_schedule.specs.Clients.{Plan}
 use Rattle.link_world.specs.World.{World}
@@ -12,7 +13,7 @@ use Rattle.link_replay.specs.declared.side.Side.{Side as CodeSide}
 abbrev pub server : Addr
 server = record { 0 = 10 ∷ 0 ∷ 0 ∷ 1 ∷ [] }
 
--- The client with a number: the first number that it sends is 1000 times its own, and it asks port 80 of the server.
+-- The client with a number: the first number that it sends is 1000 times its own, and it asks the web port of the server.
 abbrev pub planned : ℕ → Plan → Planned
 planned number plan = record {
   setup = record {
@@ -22,7 +23,7 @@ planned number plan = record {
     seg = plan.side.seg;
     iss = record { 0 = 1000 * number };
     server = server;
-    server_port = record { 0 = 80 };
+    server_port = record { 0 = WEB_PORT };
   };
   request = plan.request;
 }

@@ -19,13 +19,13 @@ use link_schedule::ClientPlan;
 use std::alloc::Global;
 use uip_edge::NoMemory;
 use uip_node::Node;
-use uip_wire::{Addr, LARGEST_DATAGRAM, Port, Seq};
+use uip_wire::{Addr, LARGEST_DATAGRAM, Port, Seq, WEB_PORT};
 
 /// The address of the node.
 const SERVER: Addr = Addr([10, 0, 0, 1]);
 
 /// The port that every client asks.
-const SERVER_PORT: Port = Port(80);
+const SERVER_PORT: Port = Port(WEB_PORT);
 
 /// Each client's first number is so many times its own.
 const FIRST_NUMBERS: u32 = 1000;

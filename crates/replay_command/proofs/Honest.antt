@@ -17,7 +17,7 @@ use Rattle.link_schedule.specs.declared.event.Event.TheVariants.{Opens, Round}
 use Rattle.link_replay.specs.Opening.{opening_for, planned, server}
 use Rattle.link_replay.proofs.Opened.{is_plan, server_is_addr}
 use Rattle.replay_command.specs.Laws.{HonestReplay, rounds_for}
-use Rattle.replay_command.specs.Playing.{is_served, no_hits}
+use Rattle.web_pages.specs.Serving.{is_served, no_hits}
 use Rattle.replay_command.proofs.Typed.{HasTypes, all_typed, read_keeps}
 
 is_planned : (plan : Plan) → HasTypes plan → client_in_range plan ≡ true → IsPlanned (planned 1 plan)

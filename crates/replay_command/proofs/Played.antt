@@ -20,7 +20,8 @@ use Rattle.link_replay.specs.Opening.{opening_for}
 use Rattle.link_replay.specs.Playing.{Plays, Reaches, Refuses, event_at}
 use Rattle.link_replay.specs.Reaching.{IsAt}
 use Rattle.link_replay.specs.Report.{report}
-use Rattle.replay_command.specs.Playing.{bad_schedule, is_served, no_hits}
+use Rattle.replay_command.specs.Playing.{bad_schedule}
+use Rattle.web_pages.specs.Serving.{is_served, no_hits}
 use Rattle.replay_command.specs.Telling.{Answers, IsPlayDue, Tells, Writes}
 use Rattle.replay_command.specs.declared.replay_end.ReplayEnd.{ReplayEnd}
 use Rattle.replay_command.specs.declared.replay_end.ReplayEnd.TheVariants as ends

@@ -1,6 +1,7 @@
 -- What a schedule's text does with the web server of a site.
-use Rattle.std.specs.Prelude.{◌≡◌, ◌==◌, ◌⊎◌, ◌++◌, ℕ, Bool, List, codes, decimal, length, map, replicate, Result, Ok, Err}
+use Rattle.std.specs.Prelude.{◌≡◌, ◌⊎◌, ◌++◌, ℕ, List, codes, decimal, map, Result, Ok, Err}
 use Rattle.site_image.specs.Files.{File}
+use Rattle.web_pages.specs.Serving.{is_served, no_hits}
 use Rattle.web_pages.specs.WebMeaning.{web_meaning}
 use Rattle.link_world.specs.World.{World}
 use Rattle.link_world.specs.Schedule.{BadLine, plays}
@@ -9,14 +10,6 @@ use Rattle.link_schedule.specs.declared.why.Why.{Why}
 use Rattle.link_schedule.specs.declared.why.Why.TheVariants as why
 use Rattle.link_replay.specs.Opening.{opening_for}
 use Rattle.link_replay.specs.Playing.{event_at, Refuses}
-
--- pages are served at port 80 alone
-abbrev pub is_served : ℕ → Bool
-is_served port = port == 80
-
--- no file was asked for yet
-abbrev pub no_hits : List File → List ℕ
-no_hits files = replicate (length files) 0
 
 -- what the lines reach from the opening world on, or the first that is refused
 abbrev pub outcome : List File → SchedulePlan → Result World BadLine

@@ -10,6 +10,7 @@ use Rattle.link_world.specs.History.{Planned, opening_world}
 use Rattle.link_world.specs.Schedule.{plays, BadLine}
 use Rattle.link_schedule.specs.declared.event.Event.{Event}
 use Rattle.link_schedule.specs.declared.event.Event.TheVariants.{Opens, Closes, Ping, Give, Tick, Round, Lose}
+use Rattle.web_pages.specs.Serving.{is_served}
 use Rattle.web_pages.specs.WebMeaning.{web_meaning}
 use Rattle.web_pages.specs.WorkedPages.{file, ok, as_html, get, hello_site, hits_site}
 
@@ -50,12 +51,9 @@ abbrev pub ending_of : Result World BadLine → Result Ending BadLine
 ending_of (Ok w) = Ok (ending_at w)
 ending_of (Err bad) = Err bad
 
-abbrev pub on_port_80 : ℕ → Bool
-on_port_80 port = port == 80
-
 -- a schedule's lines over a site of which no file was asked for before
 abbrev pub replayed : List File → List Planned → List Event → Result World BadLine
-replayed files plan lines = plays (web_meaning files) on_port_80 lines (opening_world (record { 0 = 10 ∷ 0 ∷ 0 ∷ 1 ∷ [] }) (map (λ file. 0) files) plan)
+replayed files plan lines = plays (web_meaning files) is_served lines (opening_world (record { 0 = 10 ∷ 0 ∷ 0 ∷ 1 ∷ [] }) (map (λ file. 0) files) plan)
 
 abbrev pub ends_with : List File → List Planned → List Event → Result Ending BadLine
 ends_with files plan lines = ending_of (replayed files plan lines)

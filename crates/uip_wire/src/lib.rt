@@ -12,7 +12,7 @@ mod sums;
 
 pub use addr::Addr;
 pub use fields::{get16, get32, put16, put32};
-pub use port::Port;
+pub use port::{Port, WEB_PORT};
 pub use seq::Seq;
 pub use sizes::{LARGEST_DATAGRAM, OWN_MSS};
 pub use summer::Summer;

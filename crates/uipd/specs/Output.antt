@@ -1,20 +1,13 @@
 -- What is written for the items of a line.
-use Rattle.std.specs.Prelude.{ℕ, ◌==◌, Bool, List, length, replicate}
+use Rattle.std.specs.Prelude.{ℕ, List}
 use Rattle.site_image.specs.Files.{File}
+use Rattle.web_pages.specs.Serving.{is_served, no_hits}
 use Rattle.web_pages.specs.WebMeaning.{web_meaning}
 use Rattle.uip_edge.specs.declared.item.Item.{Item}
 use Rattle.uip_node.specs.Node.{opening, run}
 use Rattle.uip_wire.specs.declared.addr.Addr.{Addr}
 use Rattle.serve_loop.specs.LineEvents.{line_events}
 use Rattle.serve_loop.specs.Running.{text_of}
-
--- pages are served at port 80 alone
-abbrev pub is_served : ℕ → Bool
-is_served port = port == 80
-
--- no file was asked for yet
-abbrev pub no_hits : List File → List ℕ
-no_hits files = replicate (length files) 0
 
 -- what is written for the items of a line to the address `own` at a pace: the texts of what the node with the files of a site
 -- sends, from its opening on, over the events of the line

@@ -10,3 +10,4 @@ pub mod WebLaws
 pub mod Claims
 pub mod WorkedRequests
 pub mod WorkedPages
+pub mod Serving

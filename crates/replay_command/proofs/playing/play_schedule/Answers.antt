@@ -5,7 +5,7 @@ use Rattle.app_events.specs.Pages.{IsByte}
 use Rattle.file_tree.specs.Site.{SiteContent, IsLoaded, files_of}
 use Rattle.link_schedule.specs.Answer.{content_at}
 use Rattle.link_replay.specs.Stands.{WorldStands}
-use Rattle.replay_command.specs.Playing.{no_hits}
+use Rattle.web_pages.specs.Serving.{no_hits}
 use Rattle.replay_command.specs.Telling.{Answers, IsPlayDue}
 use Rattle.replay_command.proofs.Played.{played_due, refused_due}
 use Rattle.replay_command.proofs.playing.play_schedule.Goals as goal
