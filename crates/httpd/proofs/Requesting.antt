@@ -9,7 +9,7 @@ use Rattle.web_pages.specs.Requests.{after_method, has_ended, method_of, name_in
 use Rattle.web_pages.specs.Requests.Wanted.{Name, Refused}
 use Rattle.web_pages.specs.Deciding.{after_more, ended_more, word_more}
 use Rattle.httpd.specs.Hearing.{HasName, HearsMethod, HearsTarget}
-use Rattle.httpd.specs.Undecided.{other_method, target_ended}
+use Rattle.web_pages.specs.Deciding.{decided_by_target, other_method}
 use Rattle.httpd.proofs.Words.{EndsHere, ends_here, front_of, get_heard, heard_more, path_heard, rest_of}
 
 -- ---- the first word
@@ -86,7 +86,7 @@ decided : (old line : Line) (request piece : List ℕ) → HearsTarget old reque
     → wanted (request ++ piece) ≡ (if starts_with nat_eq line.name (codes "/") then Name (name_in (target_of (request ++ piece))) else Refused)
 decided old line request piece is e done =
     let g = goes old line request piece is e in
-    target_ended (request ++ piece) g.method_ended g.method (sym (ap (λ (l : Line). l.done) g.holds) ∙ done)
+    decided_by_target (request ++ piece) g.method_ended g.method (sym (ap (λ (l : Line). l.done) g.holds) ∙ done)
     ∙ ap (λ b. if b then Name (name_in (target_of (request ++ piece))) else Refused)
     (sym (ap (λ (l : Line). starts_with nat_eq l.name (codes "/")) g.holds ∙ path_heard (target_of (request ++ piece))))
 

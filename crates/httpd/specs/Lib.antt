@@ -4,7 +4,6 @@ pub mod Looking
 pub mod Saying
 pub mod Web
 pub mod Hearing
-pub mod Undecided
 pub mod HttpdStands
 pub mod SameLeft
 pub mod Zero

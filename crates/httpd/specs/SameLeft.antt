@@ -15,7 +15,7 @@ use Rattle.httpd.specs.declared.stage.Stage.TheVariants as stage
 use Rattle.httpd.specs.declared.httpd.Httpd.{Httpd}
 use Rattle.httpd.specs.Reply.{left_from, reply_in}
 use Rattle.httpd.specs.HttpdStands.{HttpdStands, StandsIn}
-use Rattle.httpd.specs.Undecided.{method_open, target_open}
+use Rattle.web_pages.specs.Deciding.{method_open, target_open}
 
 -- what a value has left to say
 abbrev pub left_in : Httpd → SiteContent → Stage → List ℕ
@@ -31,8 +31,8 @@ nothing_left : (files : List File) (part : Part) (w : Wanted) → wanted part.he
 nothing_left files part w e none = ap (λ v. drop part.acked (page_for files v part.captures)) e ∙ ap (λ xs. drop part.acked xs) none ∙ drop_none part.acked
 
 left_by : (a : Httpd) (site : SiteContent) (part : Part) (s : Stage) → StandsIn a site part s → text_left (web_meaning (files_of site)) part ≡ left_in a site s
-left_by a site part stage.Method (hears, nothing) = nothing_left (files_of site) part NotYet (method_open a.line part.heard hears) refl
-left_by a site part stage.Target (hears, nothing) = nothing_left (files_of site) part NotYet (target_open a.line part.heard hears) refl
+left_by a site part stage.Method (hears, nothing) = nothing_left (files_of site) part NotYet (method_open part.heard hears.goes_on) refl
+left_by a site part stage.Target (hears, nothing) = nothing_left (files_of site) part NotYet (target_open part.heard hears.method_ended hears.method hears.goes_on) refl
 left_by a site part stage.Refused (refused, nothing) = nothing_left (files_of site) part Refused refused refl
 left_by a site part (stage.Reply found) (name, is) =
     ap (λ w. drop part.acked (page_for (files_of site) w part.captures)) is.wanted
