@@ -5,3 +5,4 @@ pub mod Site
 pub mod Loading
 pub mod Packing
 pub mod Upgrading
+pub mod Opening

@@ -6,6 +6,7 @@ ghost use Rattle.site_image.specs.Faults.{read_image};
 ghost use Rattle.site_image.specs.Pages.{page_length};
 ghost use Rattle.file_tree.specs.Answers.{Gives};
 ghost use Rattle.file_tree.specs.Loading.{Loads, HasLoadCause};
+ghost use Rattle.file_tree.specs.Opening.{Opens};
 ghost use Rattle.file_tree.specs.Site.{files_of};
 
 use crate::file_id::FileId;
@@ -70,6 +71,18 @@ impl Site {
     {
         let image = read_file(alloc, shelf, name, LONGEST_IMAGE)?;
         Site::from_image(image, alloc)
+    }
+
+    /// The site of the image that the shelf holds under the name, or the site without files where the name is `-`.
+    pub fn open<H: Shelf>(alloc: Global, shelf: &mut H, name: &[u8]) -> Result<Site, LoadFault>
+        ensures opens { Opens name.now (H.held shelf.old) (H.faults shelf.old) (H.faults shelf.new) result }
+        ensures kept { H.held shelf.new ≡ H.held shelf.old }
+    {
+        let none: &[u8] = b"-";
+        if name == none {
+            return Ok(Site::empty(alloc));
+        }
+        Site::load(alloc, shelf, name)
     }
 
     /// The same of an image that is already in memory.

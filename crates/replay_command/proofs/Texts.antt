@@ -6,7 +6,7 @@ use Rattle.std.proofs.lemmas.Bool.{cases_lt, lt-leb}
 use Rattle.std.proofs.lemmas.List.{take_all, length-take-le}
 use Rattle.file_tree.specs.Loading.{HoldsContent, HoldsFile}
 use Rattle.site_image.specs.Files.{File}
-use Rattle.site_commands.specs.Opening.{IsSiteRead}
+use Rattle.file_tree.specs.Opening.{IsSiteRead}
 use Rattle.uip_edge.specs.Shelving.{Files}
 use Rattle.link_world.specs.World.{World}
 use Rattle.link_schedule.specs.Reading.{nothing_yet, read_lines, read_text}

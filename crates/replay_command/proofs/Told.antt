@@ -6,7 +6,7 @@ use Rattle.file_tree.specs.Loading.{HoldsFile}
 use Rattle.site_image.specs.Files.{File}
 use Rattle.site_image.specs.declared.site_error.SiteError.{SiteError}
 use Rattle.site_commands.specs.Ending.{Desk}
-use Rattle.site_commands.specs.Opening.{IsSiteRead}
+use Rattle.file_tree.specs.Opening.{IsSiteRead}
 use Rattle.site_commands.specs.Report.{bad_line}
 use Rattle.replay_command.specs.Ending.{IsText, ReplayEnds}
 use Rattle.replay_command.specs.Telling.{Answers, IsPlayDue, IsShort, Tells, Writes}

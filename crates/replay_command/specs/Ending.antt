@@ -4,7 +4,7 @@ use Rattle.std.specs.Io.KnownBytes.{Appends}
 use Rattle.file_tree.specs.Loading.{HoldsFile}
 use Rattle.site_image.specs.Files.{File}
 use Rattle.site_commands.specs.Ending.{Desk}
-use Rattle.site_commands.specs.Opening.{IsSiteRead, LacksSite}
+use Rattle.file_tree.specs.Opening.{IsSiteRead, LacksSite}
 use Rattle.site_commands.specs.Report.{bad_line}
 use Rattle.uip_edge.specs.Causes.{Rose}
 use Rattle.uip_edge.specs.Shelving.{Files, IsMissing}

@@ -4,7 +4,7 @@ use Rattle.std.specs.Io.KnownBytes.{Appends}
 use Rattle.file_tree.specs.Site.{SiteContent, IsLoaded, files_of}
 use Rattle.site_image.specs.Files.{File}
 use Rattle.site_commands.specs.Ending.{Desk, IsCalm}
-use Rattle.site_commands.specs.Opening.{LacksSite}
+use Rattle.file_tree.specs.Opening.{LacksSite}
 use Rattle.uip_edge.specs.Shelving.{Files, IsMissing}
 use Rattle.web_pages.specs.Pages.{pages_of}
 use Rattle.web_pages.specs.Requests.{wanted}

@@ -1,7 +1,7 @@
 ghost use Rattle.std.specs.Prelude.{◌≡◌, ℕ, Bool, List, Err, Ok};
 ghost use Rattle.file_tree.specs.Site.{files_of};
 ghost use Rattle.site_commands.specs.Ending.{desk};
-ghost use Rattle.site_commands.specs.Opening.{IsSiteRead};
+ghost use Rattle.file_tree.specs.Opening.{IsSiteRead};
 ghost use Rattle.site_commands.specs.Report.{bad_line as line_of};
 ghost use Rattle.replay_command.specs.Ending.{ReplayEnds};
 ghost use Rattle.replay_command.specs.Telling.{Tells};
@@ -11,7 +11,7 @@ use crate::lines::write_text;
 use crate::playing::play_text;
 use crate::replay_end::ReplayEnd;
 use file_tree::{LoadFault, Site, SiteError, read_file};
-use site_commands::{bad_line, open_site};
+use site_commands::bad_line;
 use std::alloc::Global;
 use uip_edge::{Shelf, Sink};
 
@@ -32,7 +32,7 @@ pub fn replay<H: Shelf, K: Sink>(
         (desk H.held K.written H.faults K.faults shelf.new out.new) result }
     ensures kept { H.held shelf.new ≡ H.held shelf.old }
 {
-    match open_site(alloc, site, shelf) {
+    match Site::open(alloc, shelf, site) {
         Ok(site) => replay_site(alloc, site, schedule, show, shelf, out),
         Err(LoadFault::Bad(error)) => refuse_site(alloc, error, schedule, shelf, out),
         Err(LoadFault::Shelf) => ReplayEnd::ShelfFault,

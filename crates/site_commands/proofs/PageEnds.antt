@@ -9,7 +9,7 @@ use Rattle.web_pages.specs.ZeroPages.{zero_page}
 use Rattle.site_commands.specs.declared.site_end.SiteEnd.{SiteEnd}
 use Rattle.site_commands.specs.Due.{paged, page_due}
 use Rattle.site_commands.specs.Ending.{Desk, Ends, IsDue, Writes}
-use Rattle.site_commands.specs.Opening.{IsSiteRead, Opens}
+use Rattle.file_tree.specs.Opening.{IsSiteRead, Opens}
 
 page_is_due : (name target : List ℕ) (held : Option Files) (read : Result (List File) SiteError) → IsSiteRead name held read → IsDue (page_due name target) held (paged target read)
 page_is_due name target None read is = tt

@@ -1,9 +1,9 @@
 -- What is to be written for a shelf's files, and whether something is wrong with the image.
-use Rattle.std.specs.Prelude.{◌≡◌, ⊤, ℕ, List, [], codes, if◌then◌else◌, Option, None, Some, option_map, Result, Ok, Err}
-use Rattle.std.specs.Str.{bytes_eq}
+use Rattle.std.specs.Prelude.{◌≡◌, ⊤, ℕ, List, [], Option, None, Some, option_map, Result, Ok, Err}
 use Rattle.uip_edge.specs.Shelving.{Files}
 use Rattle.file_tree.specs.declared.load_fault.LoadFault.{LoadFault}
 use Rattle.file_tree.specs.declared.load_fault.LoadFault.TheVariants as fault
+use Rattle.file_tree.specs.Opening.{site_read}
 use Rattle.file_tree.specs.Packing.{listed, packed}
 use Rattle.file_tree.specs.Upgrading.{KindContent, upgraded, second_image}
 use Rattle.site_image.specs.Faults.{◌>>=◌}
@@ -55,10 +55,6 @@ abbrev pub MadeOfFault : LoadFault → Result Due Halt → Type 0
 MadeOfFault fault.Shelf made = made ≡ Err halt.Shelf
 MadeOfFault (fault.Bad error) made = made ≡ Ok (imaged (Err error))
 MadeOfFault fault.NoMemory made = made ≡ Err halt.NoMemory
-
--- what reading the image under the name gives, and `-` is the site without files; nothing where the file is missing
-abbrev pub site_read : List ℕ → Files → Option (Result (List File) SiteError)
-site_read name files = if bytes_eq name (codes "-") then Some (Ok []) else option_map read_image (files name)
 
 -- the page of a target, as a node says it at which nothing has happened; nothing is written of an image with a fault
 abbrev pub paged : List ℕ → Result (List File) SiteError → Due

@@ -2,4 +2,3 @@ pub mod Gathering
 pub mod Report
 pub mod Due
 pub mod Ending
-pub mod Opening

@@ -21,7 +21,7 @@ pub use file_tree::{KindWord, SiteError, SiteWhy};
 pub use laws::ends_as_due;
 pub use named_file::NamedFile;
 pub use packing::pack;
-pub use paging::{open_site, page};
+pub use paging::page;
 pub use report::bad_line;
 pub use site_end::SiteEnd;
 pub use upgrading::upgrade;

@@ -3,7 +3,6 @@ ghost use Rattle.file_tree.specs.Site.{files_of};
 ghost use Rattle.web_pages.specs.ZeroPages.{zero_page};
 ghost use Rattle.site_commands.specs.Due.{page_due};
 ghost use Rattle.site_commands.specs.Ending.{desk, Ends, Writes};
-ghost use Rattle.site_commands.specs.Opening.{Opens};
 
 use crate::site_end::SiteEnd;
 use file_tree::{LoadFault, Site};
@@ -25,24 +24,12 @@ pub fn page<H: Shelf, K: Sink>(
         (desk H.held K.written H.faults K.faults shelf.new out.new) result }
     ensures kept { H.held shelf.new ≡ H.held shelf.old }
 {
-    match open_site(alloc, name, shelf) {
+    match Site::open(alloc, shelf, name) {
         Ok(site) => write_page(&site, target, out),
         Err(LoadFault::Bad(error)) => SiteEnd::Bad(error),
         Err(LoadFault::Shelf) => SiteEnd::ShelfFault,
         Err(LoadFault::NoMemory) => SiteEnd::NoMemory,
     }
-}
-
-/// The site of the image that the shelf holds under the name, or the site without files where the name is `-`.
-pub fn open_site<H: Shelf>(alloc: Global, name: &[u8], shelf: &mut H) -> Result<Site, LoadFault>
-    ensures opens { Opens name.now (H.held shelf.old) (H.faults shelf.old) (H.faults shelf.new) result }
-    ensures kept { H.held shelf.new ≡ H.held shelf.old }
-{
-    let none: &[u8] = b"-";
-    if name == none {
-        return Ok(Site::empty(alloc));
-    }
-    Site::load(alloc, shelf, name)
 }
 
 /// Writes the page of a target.

@@ -6,5 +6,5 @@ pub returns-in-Ok-clause-ends : goal.returns-in-Ok-clause-ends
 returns-in-Ok-clause-ends g c =
     page_ends c.args.name.now c.args.target.now
     (desk g.H.Shelf.held g.K.Sink.written g.H.Shelf.faults g.K.Sink.faults c.args.shelf.now c.args.out.now)
-    (desk g.H.Shelf.held g.K.Sink.written g.H.Shelf.faults g.K.Sink.faults c.open_site.new.shelf c.write_page.new.out)
+    (desk g.H.Shelf.held g.K.Sink.written g.H.Shelf.faults g.K.Sink.faults c.open.new.shelf c.write_page.new.out)
     c.in-Ok.site c.write_page.result c.in-Ok.ensures.opens c.write_page.ensures

@@ -1,13 +1,18 @@
 -- Which site is opened under a name, and when that may fail.
-use Rattle.std.specs.Prelude.{◌≡◌, ◌≤◌, ◌⊎◌, ℕ, List, Option, None, Some, Result, Ok, Err, ⊤}
+use Rattle.std.specs.Prelude.{◌≡◌, ◌≤◌, ◌⊎◌, ℕ, List, [], codes, if◌then◌else◌, Option, None, Some, option_map, Result, Ok, Err, ⊤}
+use Rattle.std.specs.Str.{bytes_eq}
 use Rattle.uip_edge.specs.Causes.{Rose}
 use Rattle.uip_edge.specs.Shelving.{Files}
 use Rattle.site_image.specs.declared.site_error.SiteError.{SiteError}
 use Rattle.site_image.specs.Files.{File}
+use Rattle.site_image.specs.Faults.{read_image}
 use Rattle.file_tree.specs.declared.load_fault.LoadFault.{LoadFault}
 use Rattle.file_tree.specs.declared.load_fault.LoadFault.TheVariants.{Shelf, Bad, NoMemory}
 use Rattle.file_tree.specs.Site.{SiteContent, files_of}
-use Rattle.site_commands.specs.Due.{site_read}
+
+-- what reading the image under the name gives, and `-` is the site without files; nothing where the file is missing
+abbrev pub site_read : List ℕ → Files → Option (Result (List File) SiteError)
+site_read name files = if bytes_eq name (codes "-") then Some (Ok []) else option_map read_image (files name)
 
 -- reading gives this, where the shelf tells its files
 abbrev pub IsSiteRead : List ℕ → Option Files → Result (List File) SiteError → Type 0
