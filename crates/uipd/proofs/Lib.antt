@@ -1,4 +1,5 @@
 pub mod LoadLaws
+pub mod NeverLaws
 pub mod PartLaws
 pub mod ServeLaws
 pub mod SiteLaws

@@ -1,15 +1,20 @@
 -- A serving that nothing outside disturbs.
-use Rattle.std.proofs.Common.{◌≡◌, ℕ, ◌-◌, ◌^◌, ◌<◌, List, Option, None, Some, Result, Ok, Err, refl, sym, subst, ◌∙◌, inl, inr, arith}
+use Rattle.std.proofs.Common.{◌≡◌, ℕ, ◌-◌, ◌^◌, ◌<◌, ◌≤◌, List, Option, None, Some, Result, Ok, Err, refl, sym, subst, ◌∙◌, inl, inr, arith}
 use Rattle.std.specs.Prelude.{◌⊎◌}
 use Rattle.site_image.specs.Files.{File}
-use Rattle.site_image.specs.Faults.{read_image}
 use Rattle.site_image.specs.declared.site_error.SiteError.{SiteError}
-use Rattle.file_tree.specs.Loading.{HoldsFile}
+use Rattle.file_tree.specs.declared.load_fault.LoadFault.{LoadFault}
+use Rattle.file_tree.specs.declared.load_fault.LoadFault.TheVariants as loads
+use Rattle.file_tree.specs.Opening.{IsSiteRead, LacksSite, Opens, site_read}
 use Rattle.uip_edge.specs.Causes.{Rose}
-use Rattle.uip_edge.specs.Shelving.{Files, IsMissing}
+use Rattle.uip_edge.specs.Shelving.{Files}
+use Rattle.uip_edge.specs.declared.serve_end.ServeEnd.{ServeEnd}
+use Rattle.uip_edge.specs.declared.serve_end.ServeEnd.TheVariants as serves
 use Rattle.uip_wire.specs.declared.addr.Addr.{Addr}
-use Rattle.uipd.specs.SiteServing.{AnswersRead, IsUndisturbed, LoadRuns, ServesBy, SiteIsTold}
-use Rattle.uipd.specs.Surroundings.{Surroundings}
+use Rattle.uipd.specs.Serving.{ServeRuns, ServesFiles}
+use Rattle.uipd.specs.SiteServing.{AnswersRead, IsUndisturbed, SiteIsTold, WithSite}
+use Rattle.uipd.specs.Statuses.{status_of_fault, status_of_serving}
+use Rattle.uipd.specs.Surroundings.{Surroundings, line_of}
 use Rattle.uipd.specs.declared.status.Status.{Status}
 use Rattle.uipd.specs.declared.status.Status.TheVariants as status
 
@@ -17,43 +22,50 @@ use Rattle.uipd.specs.declared.status.Status.TheVariants as status
 stayed : (before now : ℕ) → now ≡ before → before < 2 ^ 64 - 1 → Rose before now → ⊥
 stayed before now e below rose = omega (arith, e, below, rose)
 
--- what holds of the file that is held
-held_fact : (held : Option Files) (files : Files) (name image : List ℕ) (fact : List ℕ → Type 0) → held ≡ Some files → files name ≡ Some image → HoldsFile held name fact → fact image
-held_fact held files name image fact e f holds =
-    let told : HoldsFile (Some files) name fact = subst (λ h. HoldsFile h name fact) e holds in
-    subst (λ o. Rattle.file_tree.specs.Loading.HoldsContent o fact) f told
-
-not_missing : (held : Option Files) (files : Files) (name image : List ℕ) → held ≡ Some files → files name ≡ Some image → IsMissing held name → ⊥
-not_missing held files name image e f gone =
-    let none : files name ≡ None = subst (λ h. IsMissing h name) e gone in
-    let no : Some image ≡ None = sym f ∙ none in
+-- a site is read in one way
+read_same : (held : Option Files) (files : Files) (site : List ℕ) (read told : Result (List File) SiteError) → held ≡ Some files → site_read site files ≡ Some read → IsSiteRead site held told → read ≡ told
+read_same held files site read told e f is =
+    let one : site_read site files ≡ Some told = subst (λ h. IsSiteRead site h told) e is in
+    let same : Some read ≡ Some told = sym f ∙ one in
     cc
 
-answered : (read : Result (List File) SiteError) (files : List File) (result : Status) → read ≡ Ok files → (result ≡ status.Done) ⊎ (result ≡ status.Budget) → AnswersRead read result
-answered read files result e h = subst (λ r. AnswersRead r result) (sym e) h
+not_lacking : (held : Option Files) (files : Files) (site : List ℕ) (read : Result (List File) SiteError) → held ≡ Some files → site_read site files ≡ Some read → LacksSite site held → ⊥
+not_lacking held files site read e f gone =
+    let none : site_read site files ≡ None = subst (λ h. LacksSite site h) e gone in
+    let no : Some read ≡ None = sym f ∙ none in
+    cc
 
-told_by : (site : List ℕ) (own : Addr) (pace n : ℕ) (old new : Surroundings) (result : Status) (files : Files) (image : List ℕ) → old.held ≡ Some files → files site ≡ Some image → IsUndisturbed old new
-    → LoadRuns site own pace n old new result → (result ≡ status.NoMemory) ⊎ AnswersRead (read_image image) result
-told_by site own pace n old new status.Done files image e f calm runs =
-    inr (answered (read_image image) runs.files status.Done (held_fact old.held files site image (λ content. read_image content ≡ Ok runs.files) e f runs.loaded) (inl refl))
-told_by site own pace n old new status.Budget files image e f calm runs =
-    inr (answered (read_image image) runs.files status.Budget (held_fact old.held files site image (λ content. read_image content ≡ Ok runs.files) e f runs.loaded) (inr refl))
-told_by site own pace n old new status.LinkFault files image e f calm runs =
-    absurd (stayed old.link_faults new.link_faults calm.line.link calm.line.link_below runs.serves.ends.1)
-told_by site own pace n old new status.WriteFault files image e f calm runs =
-    absurd (stayed old.sink_faults new.sink_faults calm.line.sink calm.line.sink_below runs.serves.ends.2)
-told_by site own pace n old new status.ShelfFault files image e f calm runs = by runs.cause
-  where
-    by : ◌⊎◌ (Rose old.shelf_faults new.shelf_faults) (IsMissing old.held site) → (status.ShelfFault ≡ status.NoMemory) ⊎ AnswersRead (read_image image) status.ShelfFault
-    by (inl rose) = absurd (stayed old.shelf_faults new.shelf_faults calm.shelf calm.shelf_below rose)
-    by (inr gone) = absurd (not_missing old.held files site image e f gone)
-told_by site own pace n old new (status.BadSite error) files image e f calm runs =
-    let read : read_image image ≡ Err error = held_fact old.held files site image (λ content. read_image content ≡ Err error) e f runs.0 in
-    inr (subst (λ r. AnswersRead r (status.BadSite error)) (sym read) refl)
-told_by site own pace n old new status.NoMemory files image e f calm runs = inl refl
-told_by site own pace n old new status.BadWords files image e f calm runs = absurd runs
-told_by site own pace n old new (status.BadSchedule line why) files image e f calm runs = absurd runs
+-- without a fault the line came to its end, or the budget did
+ended : (files : List File) (own : Addr) (pace n : ℕ) (old new : Surroundings) (end : ServeEnd) (result : Status) → IsUndisturbed old new → result ≡ status_of_serving end
+    → ServesFiles files own pace n (line_of old) (line_of new) end → (result ≡ status.Done) ⊎ (result ≡ status.Budget)
+ended files own pace n old new serves.End result calm e s = inl e
+ended files own pace n old new serves.Budget result calm e s = inr e
+ended files own pace n old new serves.LinkFault result calm e s = absurd (stayed old.link_faults new.link_faults calm.line.link calm.line.link_below s.ends.1)
+ended files own pace n old new serves.WriteFault result calm e s = absurd (stayed old.sink_faults new.sink_faults calm.line.sink calm.line.sink_below s.ends.2)
+
+served : (files : List File) (own : Addr) (pace n : ℕ) (old new : Surroundings) (result : Status) → IsUndisturbed old new → ServeRuns files own pace n (line_of old) (line_of new) result
+    → (result ≡ status.NoMemory) ⊎ ((result ≡ status.Done) ⊎ (result ≡ status.Budget))
+served files own pace n old new result calm (inl run) = inr (ended files own pace n old new run.0 result calm run.1 run.2)
+served files own pace n old new result calm (inr short) = inl short.0
+
+with_site : (site : List ℕ) (own : Addr) (pace n : ℕ) (old new : Surroundings) (result : Status) (files : Files) (read : Result (List File) SiteError)
+    → old.held ≡ Some files → site_read site files ≡ Some read → IsUndisturbed old new
+    → WithSite site old new (λ found. ServeRuns found own pace n (line_of old) (line_of new) result) → (result ≡ status.NoMemory) ⊎ AnswersRead read result
+with_site site own pace n old new result files read e f calm has =
+    elim (served has.files own pace n old new result calm has.done) [
+      | inl short ↦ inl short
+      | inr made ↦ inr (subst (λ r. AnswersRead r result) (sym (read_same old.held files site read (Ok has.files) e f has.read)) made)
+    ]
+
+without_site : (site : List ℕ) (old new : Surroundings) (result : Status) (files : Files) (read : Result (List File) SiteError) (fault : LoadFault)
+    → old.held ≡ Some files → site_read site files ≡ Some read → IsUndisturbed old new → result ≡ status_of_fault fault
+    → Opens site old.held old.shelf_faults new.shelf_faults (Err fault) → (result ≡ status.NoMemory) ⊎ AnswersRead read result
+without_site site old new result files read loads.Shelf e f calm told (inl rose, later) = absurd (stayed old.shelf_faults new.shelf_faults calm.shelf calm.shelf_below rose)
+without_site site old new result files read loads.Shelf e f calm told (inr gone, later) = absurd (not_lacking old.held files site read e f gone)
+without_site site old new result files read (loads.Bad error) e f calm told (is, same) =
+    inr (subst (λ r. AnswersRead r result) (sym (read_same old.held files site read (Err error) e f is)) told)
+without_site site old new result files read loads.NoMemory e f calm told same = inl told
 
 pub site_is_told : SiteIsTold
-site_is_told site own pace n old new result files image named e f calm runs =
-    told_by site own pace n old new result files image e f calm (subst (λ none. ServesBy none site own pace n old new result) named runs)
+site_is_told site own pace n old new result files read e f calm (inl has) = with_site site own pace n old new result files read e f calm has
+site_is_told site own pace n old new result files read e f calm (inr none) = without_site site old new result files read none.fault e f calm none.told none.opens

@@ -1,5 +1,5 @@
 -- A serving by the node of a site, from its opening on.
-use Rattle.std.proofs.Common.{◌≡◌, ℕ, Bool, List, [], Option, subst, sym, ap, ◌∙◌}
+use Rattle.std.proofs.Common.{◌≡◌, ℕ, Bool, List, [], Option, refl, subst, sym, ap, ◌∙◌, inl}
 use Rattle.app_events.specs.Part.{Meaning}
 use Rattle.app_events.specs.declared.app.App.{Ghosts}
 use Rattle.site_image.specs.Files.{File}
@@ -19,8 +19,10 @@ use Rattle.serve_loop.specs.Outside.{Outside}
 use Rattle.serve_loop.specs.Running.{Broke, text_of}
 use Rattle.serve_loop.specs.Serving.{Serves as ServesNode, WroteBy}
 use Rattle.serve_loop.proofs.RunLaws.{run-text-append}
-use Rattle.uipd.specs.Output.{is_served, no_hits}
-use Rattle.uipd.specs.Serving.{ServeRuns, Serves, Writes, status_of}
+use Rattle.web_pages.specs.Serving.{is_served, no_hits}
+use Rattle.uipd.specs.Output.{output_of}
+use Rattle.uipd.specs.Serving.{ServeRuns, ServesFiles, WrittenBy}
+use Rattle.uipd.specs.Statuses.{status_of_serving}
 
 -- where it broke off, a front of the whole output was written
 front_written : (files : List File) (own : Addr) (n : AbstractNode) (events : List Event) (P Q : AbstractNode → Type 0) (a b : Option (List ℕ)) → P n
@@ -32,23 +34,17 @@ front_written files own n events P Q a b p w =
     it.written
 
 writes_by : (end : ServeEnd) (files : List File) (own : Addr) (pace : ℕ) (taken : List Item) (P Q : AbstractNode → Type 0) (a b : Option (List ℕ)) → P (opening own (no_hits files))
-    → WroteBy end (web_meaning files) is_served own (line_events own pace taken) P Q a b → Writes end files own pace taken a b
+    → WroteBy end (web_meaning files) is_served own (line_events own pace taken) P Q a b → WrittenBy end a b (output_of files own pace taken)
 writes_by ends.End files own pace taken P Q a b p w = (w.each (opening own (no_hits files)) p).1
 writes_by ends.Budget files own pace taken P Q a b p w = (w.each (opening own (no_hits files)) p).1
 writes_by ends.LinkFault files own pace taken P Q a b p w = (w.each (opening own (no_hits files)) p).1
 writes_by ends.WriteFault files own pace taken P Q a b p w = front_written files own (opening own (no_hits files)) (line_events own pace taken) P Q a b p w
 
-runs : (files : List File) (own : Addr) (pace n : ℕ) (old new : Outside) (end : ServeEnd) → Serves files own pace n old new end → ServeRuns files own pace n old new (status_of end)
-runs files own pace n old new ends.End s = s
-runs files own pace n old new ends.LinkFault s = s
-runs files own pace n old new ends.WriteFault s = s
-runs files own pace n old new ends.Budget s = s
-
 -- what a node did that stands for the opening one, and whose application is the web server of a site
 pub served_pages : {A S : Type 0} (g : Ghosts A S)
     (files : List File) (own : Addr) (pace n : ℕ) (before after : Node A S) (old new : Outside) (end : ServeEnd) → g.meaning (g.kept before.shared) ≡ (web_meaning files) → g.served ≡ is_served
     → (hits : List ℕ) → hits ≡ no_hits files → Stands g before (opening own hits) [] → ServesNode g pace n before after old new end
-    → ServeRuns files own pace n old new (status_of end)
+    → ServeRuns files own pace n old new (status_of_serving end)
 served_pages g files own pace n before after old new end means serves hits none stands it =
     let st = subst (λ h. Stands g before (opening own h) []) none stands in
     let P : AbstractNode → Type 0 = λ a. Stands g before a a.past in
@@ -56,5 +52,4 @@ served_pages g files own pace n before after old new end means serves hits none 
     let one = subst (λ (m : Meaning). WroteBy end m g.served before.addr (line_events before.addr pace it.taken) P Q old.written new.written) means it.wrote in
     let two = subst (λ (s : ℕ → Bool). WroteBy end (web_meaning files) s before.addr (line_events before.addr pace it.taken) P Q old.written new.written) serves one in
     let three = subst (λ (o : Addr). WroteBy end (web_meaning files) is_served o (line_events o pace it.taken) P Q old.written new.written) st.addr two in
-    runs files own pace n old new end
-    (record { taken = it.taken; consumed = it.consumed; ends = it.ends; written = writes_by end files own pace it.taken P Q old.written new.written st three })
+    inl (end, refl, record { taken = it.taken; consumed = it.consumed; ends = it.ends; written = writes_by end files own pace it.taken P Q old.written new.written st three })

@@ -3,6 +3,7 @@ pub mod Output
 pub mod Running
 pub mod Serving
 pub mod SiteServing
+pub mod Statuses
 pub mod Surroundings
 pub mod Telling
 pub mod Words

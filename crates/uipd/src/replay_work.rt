@@ -1,8 +1,9 @@
 ghost use Rattle.std.specs.Prelude.{◌≡◌};
 ghost use Rattle.site_commands.specs.Ending.{desk};
-ghost use Rattle.uipd.specs.Running.{ReplayRuns};
+ghost use Rattle.replay_command.specs.Ending.{ReplayEnds};
+ghost use Rattle.uipd.specs.Statuses.{RunsAs, status_of_replay};
 
-use crate::status::{Status, replayed};
+use crate::status::Status;
 use replay_command::replay;
 use std::alloc::Global;
 use uip_edge::{Shelf, Sink};
@@ -16,11 +17,11 @@ pub fn replay_site<H: Shelf, K: Sink>(
     shelf: &mut H,
     out: &mut K,
 ) -> Status
-    ensures runs { ReplayRuns site.now schedule.now show (desk H.held K.written H.faults K.faults shelf.old out.old)
-        (desk H.held K.written H.faults K.faults shelf.new out.new) result }
+    ensures runs { RunsAs status_of_replay (ReplayEnds site.now schedule.now show (desk H.held K.written H.faults K.faults shelf.old out.old)
+        (desk H.held K.written H.faults K.faults shelf.new out.new)) result }
     ensures kept { H.held shelf.new ≡ H.held shelf.old }
 {
-    replayed(replay(
+    Status::from(replay(
         alloc,
         site.as_bytes(),
         schedule.as_bytes(),

@@ -2,7 +2,8 @@ ghost use Rattle.std.specs.Prelude.{◌≡◌, ◌⊎◌, Option, map, string_by
 ghost use Rattle.uip_edge.specs.Shelving.{Files};
 ghost use Rattle.site_commands.specs.Due.{Due};
 ghost use Rattle.site_commands.specs.Ending.{Desk, IsCalm, IsDue, LacksFile, end_of};
-ghost use Rattle.uipd.specs.Running.{Runs, SiteRuns, status_of_site};
+ghost use Rattle.uipd.specs.Running.{Runs, SiteRuns};
+ghost use Rattle.uipd.specs.Statuses.{status_of_site};
 ghost use Rattle.uipd.specs.Surroundings.{surroundings};
 ghost use Rattle.uipd.specs.declared.status.Status.TheVariants.{BadWords, NoMemory};
 ghost use Rattle.uipd.specs.declared.status.Status.{Status as Answer};

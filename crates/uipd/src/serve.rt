@@ -1,15 +1,16 @@
-ghost use Rattle.std.specs.Prelude.{◌≡◌, codes};
-ghost use Rattle.std.specs.Str.{bytes_eq};
+//! The command that serves a line.
+
+ghost use Rattle.std.specs.Prelude.{◌≡◌};
 ghost use Rattle.file_tree.specs.Site.{files_of};
 ghost use Rattle.serve_loop.specs.Outside.{outside};
-ghost use Rattle.uipd.specs.Output.{no_hits};
+ghost use Rattle.web_pages.specs.Serving.{no_hits};
 ghost use Rattle.uipd.specs.Serving.{ServeRuns};
-ghost use Rattle.uipd.specs.SiteServing.{LoadRuns, SiteIsTold, SiteServes};
+ghost use Rattle.uipd.specs.SiteServing.{SiteIsTold, SiteServes};
 ghost use Rattle.uipd.specs.Surroundings.{surroundings};
 
-use crate::status::{Status, ended};
+use crate::status::Status;
 use crate::words::Limits;
-use file_tree::{LoadFault, Site};
+use file_tree::Site;
 use httpd::{Httpd, Web};
 use serve_loop::serve as serve_line;
 use std::alloc::Global;
@@ -33,40 +34,9 @@ pub fn serve<H: Shelf, L: Link, K: Sink>(
         (surroundings H.held L.coming K.written H.faults L.faults K.faults shelf.new link.new out.new) result }
     ensures kept { H.held shelf.new ≡ H.held shelf.old }
 {
-    if is_none(name) {
-        return serve_site(alloc, Site::empty(alloc), own, limits, link, out);
-    }
-    serve_loaded(alloc, name, own, limits, shelf, link, out)
-}
-
-/// Whether the name stands for the site without files.
-fn is_none(name: &[u8]) -> bool
-    ensures { result ≡ bytes_eq name.now (codes "-") }
-{
-    let none: &[u8] = b"-";
-    name == none
-}
-
-/// Serves the line with the site that the shelf holds under the name.
-fn serve_loaded<H: Shelf, L: Link, K: Sink>(
-    alloc: Global,
-    name: &[u8],
-    own: Addr,
-    limits: Limits,
-    shelf: &mut H,
-    link: &mut L,
-    out: &mut K,
-) -> Status
-    ensures runs { LoadRuns name.now own limits.pace limits.items
-        (surroundings H.held L.coming K.written H.faults L.faults K.faults shelf.old link.old out.old)
-        (surroundings H.held L.coming K.written H.faults L.faults K.faults shelf.new link.new out.new) result }
-    ensures kept { H.held shelf.new ≡ H.held shelf.old }
-{
-    match Site::load(alloc, shelf, name) {
+    match Site::open(alloc, shelf, name) {
         Ok(site) => serve_site(alloc, site, own, limits, link, out),
-        Err(LoadFault::Shelf) => Status::ShelfFault,
-        Err(LoadFault::Bad(error)) => Status::BadSite(error),
-        Err(LoadFault::NoMemory) => Status::NoMemory,
+        Err(fault) => Status::from(fault),
     }
 }
 
@@ -102,7 +72,9 @@ fn serve_web<L: Link, K: Sink>(
         (outside L.coming K.written L.faults K.faults link.new out.new) result }
 {
     match Node::<Httpd>::new(alloc, own, web) {
-        Ok(mut node) => ended(serve_line(&mut node, link, out, limits.pace, limits.items)),
+        Ok(mut node) => {
+            Status::from(serve_line(&mut node, link, out, limits.pace, limits.items))
+        }
         Err(_) => Status::NoMemory,
     }
 }

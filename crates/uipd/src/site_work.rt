@@ -6,7 +6,7 @@ ghost use Rattle.uipd.specs.Running.{SiteRuns};
 ghost use Rattle.uipd.specs.Words.{back_part, kind_word, named_file};
 
 use crate::parts::{kind_words, named_files};
-use crate::status::{Status, worked};
+use crate::status::Status;
 use site_commands::{check, pack, page, upgrade};
 use std::alloc::Global;
 use uip_edge::{Shelf, Sink};
@@ -22,7 +22,7 @@ pub fn check_site<H: Shelf, K: Sink>(
         (desk H.held K.written H.faults K.faults shelf.new out.new) result }
     ensures kept { H.held shelf.new ≡ H.held shelf.old }
 {
-    worked(check(alloc, site.as_bytes(), shelf, out))
+    Status::from(check(alloc, site.as_bytes(), shelf, out))
 }
 
 /// Writes the page of a target, as a node says it at which nothing has happened.
@@ -37,7 +37,7 @@ pub fn page_site<H: Shelf, K: Sink>(
         (desk H.held K.written H.faults K.faults shelf.new out.new) result }
     ensures kept { H.held shelf.new ≡ H.held shelf.old }
 {
-    worked(page(alloc, site.as_bytes(), target.as_bytes(), shelf, out))
+    Status::from(page(alloc, site.as_bytes(), target.as_bytes(), shelf, out))
 }
 
 /// Packs the files that the words name.
@@ -52,7 +52,7 @@ pub fn pack_site<H: Shelf, K: Sink>(
     ensures kept { H.held shelf.new ≡ H.held shelf.old }
 {
     match named_files(alloc, words) {
-        Ok(files) => worked(pack(alloc, &files, shelf, out)),
+        Ok(files) => Status::from(pack(alloc, &files, shelf, out)),
         Err(_) => Status::NoMemory,
     }
 }
@@ -71,7 +71,7 @@ pub fn upgrade_site<H: Shelf, K: Sink>(
     ensures kept { H.held shelf.new ≡ H.held shelf.old }
 {
     match kind_words(alloc, words) {
-        Ok(kinds) => worked(upgrade(alloc, site.as_bytes(), &kinds, shelf, out)),
+        Ok(kinds) => Status::from(upgrade(alloc, site.as_bytes(), &kinds, shelf, out)),
         Err(_) => Status::NoMemory,
     }
 }

@@ -1,7 +1,9 @@
-ghost use Rattle.std.specs.Prelude.{◌≡◌};
-ghost use Rattle.uipd.specs.Running.{exit_code_of, status_of_replay, status_of_site};
-ghost use Rattle.uipd.specs.Serving.{status_of};
+//! How a run ends, and the status of each end of its work.
 
+ghost use Rattle.std.specs.Prelude.{◌≡◌};
+ghost use Rattle.uipd.specs.Statuses.{exit_code_of, status_of_fault, status_of_replay, status_of_serving, status_of_site};
+
+use file_tree::LoadFault;
 use replay_command::{ReplayEnd, Why};
 use site_commands::{SiteEnd, SiteError};
 use uip_edge::ServeEnd;
@@ -48,41 +50,60 @@ impl Status {
     }
 }
 
-/// The status of a run that served a line to this end.
-pub fn ended(end: ServeEnd) -> Status
-    ensures { result ≡ status_of end }
-{
-    match end {
-        ServeEnd::End => Status::Done,
-        ServeEnd::LinkFault => Status::LinkFault,
-        ServeEnd::WriteFault => Status::WriteFault,
-        ServeEnd::Budget => Status::Budget,
+/// Serving a line came to this end.
+impl From<ServeEnd> for Status {
+    ghost from_gives = { λ end status. status ≡ status_of_serving end };
+
+    fn from(end: ServeEnd) -> Status {
+        match end {
+            ServeEnd::End => Status::Done,
+            ServeEnd::LinkFault => Status::LinkFault,
+            ServeEnd::WriteFault => Status::WriteFault,
+            ServeEnd::Budget => Status::Budget,
+        }
     }
 }
 
-/// The status of work on an image that ended so.
-pub fn worked(end: SiteEnd) -> Status
-    ensures { result ≡ status_of_site end }
-{
-    match end {
-        SiteEnd::Done => Status::Done,
-        SiteEnd::ShelfFault => Status::ShelfFault,
-        SiteEnd::WriteFault => Status::WriteFault,
-        SiteEnd::Bad(error) => Status::BadSite(error),
-        SiteEnd::NoMemory => Status::NoMemory,
+/// A site could not be opened for this reason.
+impl From<LoadFault> for Status {
+    ghost from_gives = { λ fault status. status ≡ status_of_fault fault };
+
+    fn from(fault: LoadFault) -> Status {
+        match fault {
+            LoadFault::Shelf => Status::ShelfFault,
+            LoadFault::Bad(error) => Status::BadSite(error),
+            LoadFault::NoMemory => Status::NoMemory,
+        }
     }
 }
 
-/// The status of a replay that ended so.
-pub fn replayed(end: ReplayEnd) -> Status
-    ensures { result ≡ status_of_replay end }
-{
-    match end {
-        ReplayEnd::Done => Status::Done,
-        ReplayEnd::ShelfFault => Status::ShelfFault,
-        ReplayEnd::WriteFault => Status::WriteFault,
-        ReplayEnd::BadSite(error) => Status::BadSite(error),
-        ReplayEnd::BadSchedule { line, why } => Status::BadSchedule { line, why },
-        ReplayEnd::NoMemory => Status::NoMemory,
+/// Work on an image came to this end.
+impl From<SiteEnd> for Status {
+    ghost from_gives = { λ end status. status ≡ status_of_site end };
+
+    fn from(end: SiteEnd) -> Status {
+        match end {
+            SiteEnd::Done => Status::Done,
+            SiteEnd::ShelfFault => Status::ShelfFault,
+            SiteEnd::WriteFault => Status::WriteFault,
+            SiteEnd::Bad(error) => Status::BadSite(error),
+            SiteEnd::NoMemory => Status::NoMemory,
+        }
+    }
+}
+
+/// A replay came to this end.
+impl From<ReplayEnd> for Status {
+    ghost from_gives = { λ end status. status ≡ status_of_replay end };
+
+    fn from(end: ReplayEnd) -> Status {
+        match end {
+            ReplayEnd::Done => Status::Done,
+            ReplayEnd::ShelfFault => Status::ShelfFault,
+            ReplayEnd::WriteFault => Status::WriteFault,
+            ReplayEnd::BadSite(error) => Status::BadSite(error),
+            ReplayEnd::BadSchedule { line, why } => Status::BadSchedule { line, why },
+            ReplayEnd::NoMemory => Status::NoMemory,
+        }
     }
 }

@@ -1,27 +1,22 @@
-use Rattle.std.proofs.Common.{sym, subst, refl, ◌∙◌}
+use Rattle.std.proofs.Common.{refl, inl, inr}
 use Rattle.file_tree.specs.Site.{files_of}
-use Rattle.serve_loop.specs.Outside.{outside}
-use Rattle.uipd.specs.Serving.{ServeRuns}
-use Rattle.uipd.specs.SiteServing.{ServesBy}
-use Rattle.uipd.specs.Surroundings.{surroundings}
 use Rattle.uipd.proofs.serve.serve.Goals as goal
 
-pub returns-then-is_none-clause-runs : goal.returns-then-is_none-clause-runs
-returns-then-is_none-clause-runs g c =
-    subst (λ none. ServesBy none c.args.name.now c.args.own c.args.limits.pace c.args.limits.items
-    (surroundings g.H.Shelf.held g.L.Link.coming g.K.Sink.written g.H.Shelf.faults g.L.Link.faults g.K.Sink.faults c.args.shelf.now c.args.link.now c.args.out.now)
-    (surroundings g.H.Shelf.held g.L.Link.coming g.K.Sink.written g.H.Shelf.faults g.L.Link.faults g.K.Sink.faults c.args.shelf.now c.serve_site.new.link c.serve_site.new.out) c.serve_site.result)
-    (sym c.if-is_none.true ∙ c.is_none.ensures) (
-      subst (λ s. ServeRuns (files_of s) c.args.own c.args.limits.pace c.args.limits.items
-          (outside g.L.Link.coming g.K.Sink.written g.L.Link.faults g.K.Sink.faults c.args.link.now c.args.out.now)
-          (outside g.L.Link.coming g.K.Sink.written g.L.Link.faults g.K.Sink.faults c.serve_site.new.link c.serve_site.new.out) c.serve_site.result)
-          c.empty.ensures c.serve_site.ensures,
-      record { held = refl; faults = refl },
-    )
+pub returns-in-Ok-clause-runs : goal.returns-in-Ok-clause-runs
+returns-in-Ok-clause-runs g c =
+    inl (record {
+      files = files_of c.in-Ok.site;
+      read = c.in-Ok.ensures.opens.0;
+      shelf = record { held = c.in-Ok.ensures.kept; faults = c.in-Ok.ensures.opens.1 };
+      done = c.serve_site.ensures;
+    })
 
-pub returns-clause-runs : goal.returns-clause-runs
-returns-clause-runs g c =
-    subst (λ none. ServesBy none c.args.name.now c.args.own c.args.limits.pace c.args.limits.items
-    (surroundings g.H.Shelf.held g.L.Link.coming g.K.Sink.written g.H.Shelf.faults g.L.Link.faults g.K.Sink.faults c.args.shelf.now c.args.link.now c.args.out.now)
-    (surroundings g.H.Shelf.held g.L.Link.coming g.K.Sink.written g.H.Shelf.faults g.L.Link.faults g.K.Sink.faults c.serve_loaded.new.shelf c.serve_loaded.new.link c.serve_loaded.new.out) c.serve_loaded.result)
-    (sym c.if-is_none.false ∙ c.is_none.ensures) c.serve_loaded.ensures.runs
+pub returns-in-Err-clause-runs : goal.returns-in-Err-clause-runs
+returns-in-Err-clause-runs g c =
+    inr (record {
+      fault = c.in-Err.fault;
+      told = c.from.ensures;
+      opens = c.in-Err.ensures.opens;
+      held = c.in-Err.ensures.kept;
+      line = refl;
+    })

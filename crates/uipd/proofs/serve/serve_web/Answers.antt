@@ -8,7 +8,7 @@ use Rattle.uipd.proofs.serve.serve_web.Goals as goal
 
 pub returns-in-Ok : goal.returns-in-Ok
 returns-in-Ok g c =
-    rw c.ended.ensures
+    rw c.from.ensures
     (served_pages _ (files_of c.args.web.site) c.args.own c.args.limits.pace c.args.limits.items c.in-Ok.node c.serve.new.node
     (outside g.L.Link.coming g.K.Sink.written g.L.Link.faults g.K.Sink.faults c.args.link.now c.args.out.now)
     (outside g.L.Link.coming g.K.Sink.written g.L.Link.faults g.K.Sink.faults c.serve.new.link c.serve.new.sink)

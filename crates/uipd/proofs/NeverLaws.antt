@@ -1,0 +1,60 @@
+-- Only words without a form are told to have none.
+use Rattle.std.proofs.Common.{◌≡◌, ℕ, List, Option, sym, ◌∙◌, inl, inr}
+use Rattle.uip_edge.specs.Shelving.{Files}
+use Rattle.uip_edge.specs.declared.serve_end.ServeEnd.{ServeEnd}
+use Rattle.uip_edge.specs.declared.serve_end.ServeEnd.TheVariants as serves
+use Rattle.uip_wire.specs.declared.addr.Addr.{Addr}
+use Rattle.file_tree.specs.declared.load_fault.LoadFault.{LoadFault}
+use Rattle.file_tree.specs.declared.load_fault.LoadFault.TheVariants as loads
+use Rattle.site_commands.specs.Due.{Due}
+use Rattle.site_commands.specs.Ending.{Desk}
+use Rattle.site_commands.specs.declared.site_end.SiteEnd.{SiteEnd}
+use Rattle.site_commands.specs.declared.site_end.SiteEnd.TheVariants as ends
+use Rattle.replay_command.specs.declared.replay_end.ReplayEnd.{ReplayEnd}
+use Rattle.replay_command.specs.declared.replay_end.ReplayEnd.TheVariants as replays
+use Rattle.uipd.specs.Running.{SiteRuns}
+use Rattle.uipd.specs.SiteServing.{SiteServes}
+use Rattle.uipd.specs.Statuses.{RunsAs, status_of_fault, status_of_replay, status_of_serving, status_of_site}
+use Rattle.uipd.specs.Surroundings.{Surroundings}
+use Rattle.uipd.specs.declared.status.Status.{Status}
+use Rattle.uipd.specs.declared.status.Status.TheVariants.{BadWords}
+
+serving_has_words : (end : ServeEnd) → status_of_serving end ≡ BadWords → ⊥
+serving_has_words serves.End e = cc
+serving_has_words serves.LinkFault e = cc
+serving_has_words serves.WriteFault e = cc
+serving_has_words serves.Budget e = cc
+
+fault_has_words : (fault : LoadFault) → status_of_fault fault ≡ BadWords → ⊥
+fault_has_words loads.Shelf e = cc
+fault_has_words (loads.Bad error) e = cc
+fault_has_words loads.NoMemory e = cc
+
+site_has_words : (end : SiteEnd) → status_of_site end ≡ BadWords → ⊥
+site_has_words ends.Done e = cc
+site_has_words ends.ShelfFault e = cc
+site_has_words ends.WriteFault e = cc
+site_has_words (ends.Bad error) e = cc
+site_has_words ends.NoMemory e = cc
+
+replay_has_words : (end : ReplayEnd) → status_of_replay end ≡ BadWords → ⊥
+replay_has_words replays.Done e = cc
+replay_has_words replays.ShelfFault e = cc
+replay_has_words replays.WriteFault e = cc
+replay_has_words (replays.BadSite error) e = cc
+replay_has_words (replays.BadSchedule line why) e = cc
+replay_has_words replays.NoMemory e = cc
+
+never : {E : Type 0} (status_of : E → Status) (Ends : E → Type 0) (result : Status) → ((end : E) → status_of end ≡ BadWords → ⊥) → RunsAs status_of Ends result → result ≡ BadWords → ⊥
+never status_of Ends result has run e = has run.0 (sym run.1 ∙ e)
+
+pub site_never : (Ends : SiteEnd → Type 0) (result : Status) → RunsAs status_of_site Ends result → result ≡ BadWords → ⊥
+site_never Ends result run e = never status_of_site Ends result site_has_words run e
+
+pub replay_never : (Ends : ReplayEnd → Type 0) (result : Status) → RunsAs status_of_replay Ends result → result ≡ BadWords → ⊥
+replay_never Ends result run e = never status_of_replay Ends result replay_has_words run e
+
+pub serving_never : (site : List ℕ) (own : Addr) (pace n : ℕ) (old new : Surroundings) (result : Status) → SiteServes site own pace n old new result → result ≡ BadWords → ⊥
+serving_never site own pace n old new result (inr none) e = fault_has_words none.fault (sym none.told ∙ e)
+serving_never site own pace n old new result (inl has) e =
+    elim has.done [ inl run ↦ serving_has_words run.0 (sym run.1 ∙ e) | inr short ↦ (let no = sym short.0 ∙ e in cc) ]
