@@ -1,4 +1,4 @@
-pub mod Kinds
+pub mod Allowed
 pub mod Output
 pub mod Running
 pub mod Serving

@@ -1,8 +1,17 @@
--- What a link over a reader has still to give.
-use Rattle.std.specs.Prelude.{ℕ, if◌then◌else◌, Bool, List, map, Option, None, option_map}
+-- What a link over a reader has still to give, and what a read answers.
+use Rattle.std.specs.Prelude.{◌≡◌, ℕ, suc, zero, if◌then◌else◌, Bool, List, map, Option, None, option_map, Result, Ok, Err, IsErr}
+use Rattle.uip_edge.specs.declared.failed.Failed.{Failed}
+use Rattle.uip_edge.specs.declared.got.Got.{Got}
+use Rattle.uip_edge.specs.declared.got.Got.TheVariants.{Bytes, End, Quiet}
 use Rattle.uip_edge.specs.declared.item.Item.{Item}
 use Rattle.uip_edge.specs.declared.item.Item.TheVariants.{Byte}
 
 -- the bytes that a reader has left, where it tells them; a line from a terminal may fall silent at any time, and tells nothing
 abbrev pub items_left : Bool → Option (List ℕ) → Option (List Item)
 items_left tty told = if tty then None else option_map (map Byte) told
+
+-- a read of nothing is a silence of a terminal, and else the end; a failed read is a failure
+abbrev pub IsGot : {E : Type 0} → Bool → Result ℕ E → Result Got Failed → Type 0
+IsGot tty (Ok zero) got = got ≡ Ok (if tty then Quiet else End)
+IsGot tty (Ok (suc n)) got = got ≡ Ok (Bytes (suc n))
+IsGot tty (Err e) got = IsErr got

@@ -1,5 +1,5 @@
 -- The words of the command line.
-use Rattle.std.specs.Prelude.{ℕ, ◌-◌, ◌^◌, ◌==◌, ◌&&◌, nat_lt, if◌then◌else◌, Bool, true, false, List, [], ◌∷◌, Option, None, Some, codes, length, map, string_bytes}
+use Rattle.std.specs.Prelude.{ℕ, ◌-◌, ◌^◌, ◌==◌, ◌&&◌, nat_lt, if◌then◌else◌, Bool, true, false, List, [], ◌∷◌, Option, None, Some, codes, length, map, slice_get, string_bytes}
 use Rattle.std.specs.Char.{is_ascii_digit}
 use Rattle.std.specs.List.{list_all, list_any, before_first, after_first}
 use Rattle.std.specs.Str.{bytes_eq}
@@ -73,6 +73,15 @@ number_of text = if is_number text && nat_lt (digits_value 10 text) (2 ^ 64) the
 -- the greatest number of items, where the words name none
 abbrev pub all_items : ℕ
 all_items = 2 ^ 64 - 1
+
+-- whether a word is `tty`, which says what a read of nothing means
+abbrev pub is_tty : Option (List ℕ) → Bool
+is_tty None = false
+is_tty (Some word) = bytes_eq word (codes "tty")
+
+-- the last word says it
+abbrev pub says_tty : List (List ℕ) → Bool
+says_tty words = is_tty (slice_get words (length words - 1))
 
 -- no more words, or `tty` alone, which says only what a read of nothing means
 abbrev pub ends_here : List (List ℕ) → Bool

@@ -1,5 +1,12 @@
-ghost use Rattle.uipd.specs.Telling.{items_left};
+//! The program's line and its output, over any reader and any writer.
 
+ghost use Rattle.std.specs.Prelude.{◌≡◌, ◌≢◌, ◌<◌, length, IfOk, true, false};
+ghost use Rattle.uip_edge.specs.Causes.{HasCause};
+ghost use Rattle.uip_edge.specs.Coming.{items_of, CountFits, Consumes, IsAtEnd};
+ghost use Rattle.uip_edge.specs.declared.got.Got.TheVariants.{End, Quiet};
+ghost use Rattle.uipd.specs.Telling.{IsGot, items_left};
+
+use std::io;
 use std::io::{Read, Write};
 use uip_edge::{Failed, Got, Link, Sink};
 
@@ -13,7 +20,10 @@ pub struct ReaderLink<R: Read> {
 }
 
 impl<R: Read> ReaderLink<R> {
-    pub fn new(inner: R, tty: bool) -> ReaderLink<R> {
+    pub fn new(inner: R, tty: bool) -> ReaderLink<R>
+        ensures tty { result.tty ≡ tty }
+        ensures faults { result.faults ≡ 0 }
+    {
         ReaderLink {
             inner,
             tty,
@@ -22,21 +32,40 @@ impl<R: Read> ReaderLink<R> {
     }
 }
 
+/// What a read answers.
+fn got_of(read: io::Result<usize>, tty: bool) -> Result<Got, Failed>
+    ensures { IsGot tty read result }
+{
+    match read {
+        Ok(0) if tty => Ok(Got::Quiet),
+        Ok(0) => Ok(Got::End),
+        Ok(count) => Ok(Got::Bytes(count)),
+        Err(_) => Err(Failed),
+    }
+}
+
 impl<R: Read> Link for ReaderLink<R> {
     ghost coming = { λ link. items_left link.tty (R.remaining link.inner) };
 
     ghost faults = { λ link. link.faults };
 
-    fn next(&mut self, buf: &mut [u8]) -> Result<Got, Failed> {
-        match self.inner.read(buf) {
-            Ok(0) if self.tty => Ok(Got::Quiet),
-            Ok(0) => Ok(Got::End),
-            Ok(count) => Ok(Got::Bytes(count)),
-            Err(_) => {
-                self.faults = self.faults.saturating_add(1);
-                Err(Failed)
-            }
+    fn next(&mut self, buf: &mut [u8]) -> Result<Got, Failed>
+        requires { 0 < length buf.old }
+        ensures count { CountFits result (length buf.new) }
+        ensures items { Consumes (items_left self.old.tty (R.remaining self.old.inner)) (items_left self.new.tty (R.remaining self.new.inner)) (items_of result buf.new) }
+        ensures end { IsAtEnd result (items_left self.old.tty (R.remaining self.old.inner)) }
+        ensures cause { HasCause self.old.faults self.new.faults result }
+
+        // A read of nothing is a silence with `tty`, and else the end.
+        ensures silence { self.old.tty ≡ true → IfOk result (λ got. got ≢ End) }
+        ensures no_silence { self.old.tty ≡ false → IfOk result (λ got. got ≢ Quiet) }
+        ensures kept { self.new.tty ≡ self.old.tty }
+    {
+        let got = got_of(self.inner.read(buf), self.tty);
+        if got.is_err() {
+            self.faults = self.faults.saturating_add(1);
         }
+        got
     }
 }
 

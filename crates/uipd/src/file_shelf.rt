@@ -1,6 +1,8 @@
-ghost use Rattle.std.specs.Prelude.{◌≡◌, ◌≤◌, length, None, IfSome};
+//! The files of the system as a shelf.
 
-use std::alloc::Global;
+ghost use Rattle.std.specs.Prelude.{◌≡◌, ◌≤◌, ◌+◌, ◌-◌, ◌^◌, min, length, None, IfSome, IsSomeAnd};
+
+use arrayvec::ArrayVec;
 use std::fs;
 use std::io::Read;
 use std::rt::Files;
@@ -9,29 +11,31 @@ use uip_edge::{Failed, Shelf};
 /// The size of the block that what stands before a place is read by.
 const BLOCK: usize = 4096;
 
+/// The most bytes of a name: no path of the system is longer (PATH_MAX).
+const LONGEST_NAME: usize = 4096;
+
 /// A file that is being read, and how far.
 #[derive(Drop)]
 struct OpenFile<F> {
-    name: Vec<u8>,
+    name: ArrayVec<u8, LONGEST_NAME>,
     file: F,
     at: u64,
 }
 
 /// The files of the system, by their paths. The last one stays open and goes on where the next call reads on; else the file
-/// is opened anew and read up to the place. A name that is no text is a fault, and so is a file that is not there.
+/// is opened anew and read up to the place. A name that is no text is a fault, and so is a file that is not there. No call takes
+/// memory.
 #[derive(Drop)]
 pub struct FileShelf<'a, R: Files> {
     rt: &'a R,
-    alloc: Global,
     last: Option<OpenFile<R::File>>,
     faults: u64,
 }
 
 impl<'a, R: Files> FileShelf<'a, R> {
-    pub fn new(rt: &'a R, alloc: Global) -> FileShelf<'a, R> {
+    pub fn new(rt: &'a R) -> FileShelf<'a, R> {
         FileShelf {
             rt,
-            alloc,
             last: None,
             faults: 0,
         }
@@ -44,7 +48,7 @@ impl<'a, R: Files> Shelf for FileShelf<'a, R> {
     ghost faults = { λ shelf. shelf.faults };
 
     fn read(&mut self, name: &[u8], at: u64, buf: &mut [u8]) -> Result<usize, Failed> {
-        match read_on(self.rt, self.alloc, &mut self.last, name, at, buf) {
+        match read_on(self.rt, &mut self.last, name, at, buf) {
             Some(count) => Ok(count),
             None => {
                 self.faults = self.faults.saturating_add(1);
@@ -57,17 +61,17 @@ impl<'a, R: Files> Shelf for FileShelf<'a, R> {
 /// Reads on in the last file, if the place is its own, else in the file anew.
 fn read_on<R: Files>(
     rt: &R,
-    alloc: Global,
     last: &mut Option<OpenFile<R::File>>,
     name: &[u8],
     at: u64,
     buf: &mut [u8],
 ) -> Option<usize>
-    ensures { IfSome result (λ count. count ≤ length buf.new) }
+    ensures within { IfSome result (λ count. count ≤ length buf.new) }
+    ensures place { IfSome result (λ count. IsSomeAnd last.new (λ file. (file.name.items ≡ name.now) × (file.at ≡ min (at + count) (2 ^ 64 - 1)))) }
 {
     let mut open = match last.take() {
         Some(open) if open.at == at && open.name.as_slice() == name => open,
-        _ => open_at(rt, alloc, name, at)?,
+        _ => open_at(rt, name, at)?,
     };
     let count = open.file.read(buf).ok()?;
     open.at = at.saturating_add(count as u64);
@@ -76,12 +80,16 @@ fn read_on<R: Files>(
 }
 
 /// Opens a file and reads up to the place.
-fn open_at<R: Files>(rt: &R, alloc: Global, name: &[u8], at: u64) -> Option<OpenFile<R::File>> {
+fn open_at<R: Files>(rt: &R, name: &[u8], at: u64) -> Option<OpenFile<R::File>>
+    ensures { IfSome result (λ file. (file.name.items ≡ name.now) × (file.at ≡ at)) }
+{
+    let mut kept = ArrayVec::new();
+    kept.try_extend_from_slice(name).ok()?;
     let path = str::from_utf8(name).ok()?;
     let mut file = fs::open(rt, path).ok()?;
     pass(&mut file, at)?;
     Some(OpenFile {
-        name: name.to_vec(alloc).ok()?,
+        name: kept,
         file,
         at,
     })

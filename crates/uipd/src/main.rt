@@ -3,6 +3,8 @@
 //! only makes the real adapters and turns the answer of `run` into the process's status.
 #![tactic(auto)]
 
+#[cfg(test)]
+mod adapter_tests;
 mod adapters;
 mod file_shelf;
 mod parts;
@@ -25,6 +27,7 @@ use run::run;
 use status::Status;
 use std::process::ExitCode;
 use std::{env, io};
+use words::says_tty;
 
 /// Reads the words behind the program's name and does what they say. It looks at them only to learn whether the line is a
 /// terminal, which the last word says.
@@ -33,9 +36,8 @@ fn run_words(rt: HostRuntime) -> io::Result<Status> {
     for word in env::args(&rt)?.skip(1) {
         words.push(word)?;
     }
-    let mut shelf = FileShelf::new(&rt, rt.alloc());
-    let tty = words.last().is_some_and(|word| word.as_str() == "tty");
-    let mut link = ReaderLink::new(rt.stdin(), tty);
+    let mut shelf = FileShelf::new(&rt);
+    let mut link = ReaderLink::new(rt.stdin(), says_tty(&words));
     let mut out = WriterSink::new(rt.stdout());
     Ok(run(rt.alloc(), &words, &mut shelf, &mut link, &mut out))
 }

@@ -377,7 +377,7 @@ fn read_at<H: Shelf>(shelf: &mut H, name: &[u8], at: u64, expected: Option<&[u8]
 fn reads_files_of_the_system(rt: HostRuntime) -> Result<(), Fail> {
     let path = "uipd-shelf-test";
     fs::write(&rt, path, b"a file of bytes")?;
-    let mut shelf = FileShelf::new(&rt, rt.alloc());
+    let mut shelf = FileShelf::new(&rt);
     let name = path.as_bytes();
     assert!(rt; read_at(&mut shelf, name, 0, Some(b"a fi")));
     assert!(rt; read_at(&mut shelf, name, 4, Some(b"le o")));

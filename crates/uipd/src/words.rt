@@ -4,8 +4,8 @@ ghost use Rattle.std.specs.List.{list_all};
 ghost use Rattle.uipd.specs.Words.{task_meant, task_of, check_words as words_of_check, pack_words as words_of_pack, serve_words as words_of_serve};
 ghost use Rattle.uipd.specs.Words.{upgrade_words as words_of_upgrade};
 ghost use Rattle.uipd.specs.Words.{page_words as words_of_page, replay_words as words_of_replay};
-ghost use Rattle.uipd.specs.Words.{ends_here as no_more, limited as limits_meant, limits_at as limits_behind, limits_of as limits_spelled};
-ghost use Rattle.uipd.specs.Kinds.{AllowsKinds};
+ghost use Rattle.uipd.specs.Words.{ends_here as no_more, limited as limits_meant, limits_at as limits_behind, limits_of as limits_spelled, says_tty as terminal_told};
+ghost use Rattle.uipd.specs.Allowed.{IsAllowed};
 ghost use Rattle.uipd.specs.Words.{number_of as number_meant, is_number as number_form, leads_badly as bad_lead};
 
 use crate::parts::{are_kind_words, have_parts};
@@ -38,7 +38,7 @@ pub enum Command<'a> {
 /// The command that the words spell, if they have a form.
 pub fn command_of(words: &[String]) -> Option<Command<'_>>
     ensures task { option_map task_meant result ≡ task_of (map string_bytes words.now) }
-    ensures kinds { IfSome result AllowsKinds }
+    ensures allowed { IfSome result IsAllowed }
 {
     match words {
         [] => None,
@@ -102,7 +102,17 @@ fn limited(pace: u64, items: Option<u64>, whole: bool) -> Option<Limits>
     }
 }
 
-/// Whether there are no more words, or `tty` alone, at which `main` looks.
+/// Whether the last word is `tty`: then a read of nothing is a silence.
+pub fn says_tty(words: &[String]) -> bool
+    ensures { result ≡ terminal_told (map string_bytes words.now) }
+{
+    match words.last() {
+        Some(word) => word.as_str() == "tty",
+        None => false,
+    }
+}
+
+/// Whether there are no more words, or `tty` alone.
 fn ends_here(words: &[String]) -> bool
     ensures { result ≡ no_more (map string_bytes words.now) }
 {
@@ -136,7 +146,7 @@ fn pack_words(words: &[String]) -> Option<Command<'_>>
 /// The words behind `upgrade`: the site, and words that each give a file a content type.
 fn upgrade_words(words: &[String]) -> Option<Command<'_>>
     ensures task { option_map task_meant result ≡ words_of_upgrade (map string_bytes words.now) }
-    ensures kinds { IfSome result AllowsKinds }
+    ensures allowed { IfSome result IsAllowed }
 {
     match words {
         [site, kinds @ ..] if are_kind_words(kinds) => Some(Command::Upgrade(site, kinds)),
