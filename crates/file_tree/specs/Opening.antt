@@ -24,9 +24,13 @@ abbrev pub LacksSite : List ℕ → Option Files → Type 0
 LacksSite name None = ⊥
 LacksSite name (Some files) = site_read name files ≡ None
 
--- the site or why there is none, with the count of the shelf's faults before and after
+-- why there is no site, with the count of the shelf's faults before and after
+abbrev pub FailsToOpen : List ℕ → Option Files → ℕ → ℕ → LoadFault → Type 0
+FailsToOpen name held before now (Bad error) = IsSiteRead name held (Err error) × (now ≡ before)
+FailsToOpen name held before now Shelf = (Rose before now ⊎ LacksSite name held) × (before ≤ now)
+FailsToOpen name held before now NoMemory = now ≡ before
+
+-- the site, or why there is none
 abbrev pub Opens : List ℕ → Option Files → ℕ → ℕ → Result SiteContent LoadFault → Type 0
 Opens name held before now (Ok site) = IsSiteRead name held (Ok (files_of site)) × (now ≡ before)
-Opens name held before now (Err (Bad error)) = IsSiteRead name held (Err error) × (now ≡ before)
-Opens name held before now (Err Shelf) = (Rose before now ⊎ LacksSite name held) × (before ≤ now)
-Opens name held before now (Err NoMemory) = now ≡ before
+Opens name held before now (Err fault) = FailsToOpen name held before now fault

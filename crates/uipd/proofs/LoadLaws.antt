@@ -5,7 +5,7 @@ use Rattle.site_image.specs.Files.{File}
 use Rattle.site_image.specs.declared.site_error.SiteError.{SiteError}
 use Rattle.file_tree.specs.declared.load_fault.LoadFault.{LoadFault}
 use Rattle.file_tree.specs.declared.load_fault.LoadFault.TheVariants as loads
-use Rattle.file_tree.specs.Opening.{IsSiteRead, LacksSite, Opens, site_read}
+use Rattle.file_tree.specs.Opening.{FailsToOpen, IsSiteRead, LacksSite, site_read}
 use Rattle.uip_edge.specs.Causes.{Rose}
 use Rattle.uip_edge.specs.Shelving.{Files}
 use Rattle.uip_edge.specs.declared.serve_end.ServeEnd.{ServeEnd}
@@ -59,7 +59,7 @@ with_site site own pace n old new result files read e f calm has =
 
 without_site : (site : List ℕ) (old new : Surroundings) (result : Status) (files : Files) (read : Result (List File) SiteError) (fault : LoadFault)
     → old.held ≡ Some files → site_read site files ≡ Some read → IsUndisturbed old new → result ≡ status_of_fault fault
-    → Opens site old.held old.shelf_faults new.shelf_faults (Err fault) → (result ≡ status.NoMemory) ⊎ AnswersRead read result
+    → FailsToOpen site old.held old.shelf_faults new.shelf_faults fault → (result ≡ status.NoMemory) ⊎ AnswersRead read result
 without_site site old new result files read loads.Shelf e f calm told (inl rose, later) = absurd (stayed old.shelf_faults new.shelf_faults calm.shelf calm.shelf_below rose)
 without_site site old new result files read loads.Shelf e f calm told (inr gone, later) = absurd (not_lacking old.held files site read e f gone)
 without_site site old new result files read (loads.Bad error) e f calm told (is, same) =
@@ -68,4 +68,4 @@ without_site site old new result files read loads.NoMemory e f calm told same = 
 
 pub site_is_told : SiteIsTold
 site_is_told site own pace n old new result files read e f calm (inl has) = with_site site own pace n old new result files read e f calm has
-site_is_told site own pace n old new result files read e f calm (inr none) = without_site site old new result files read none.fault e f calm none.told none.opens
+site_is_told site own pace n old new result files read e f calm (inr none) = without_site site old new result files read none.fault e f calm none.told none.fails

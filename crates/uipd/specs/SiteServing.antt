@@ -3,7 +3,7 @@ use Rattle.std.specs.Prelude.{◌≡◌, ◌<◌, ◌⊎◌, ◌-◌, ◌^◌, �
 use Rattle.site_image.specs.Files.{File}
 use Rattle.site_image.specs.declared.site_error.SiteError.{SiteError}
 use Rattle.file_tree.specs.declared.load_fault.LoadFault.{LoadFault}
-use Rattle.file_tree.specs.Opening.{IsSiteRead, Opens, site_read}
+use Rattle.file_tree.specs.Opening.{FailsToOpen, IsSiteRead, site_read}
 use Rattle.uip_edge.specs.Shelving.{Files}
 use Rattle.uip_wire.specs.declared.addr.Addr.{Addr}
 use Rattle.serve_loop.specs.Outside.{Unfailed}
@@ -24,7 +24,7 @@ pub record WithSite (site : List ℕ) (old new : Surroundings) (Done : List File
 pub record WithoutSite (site : List ℕ) (old new : Surroundings) (result : Status) : Type 0 where
   pub fault : LoadFault
   pub told : result ≡ status_of_fault fault
-  pub opens : Opens site old.held old.shelf_faults new.shelf_faults (Err fault)
+  pub fails : FailsToOpen site old.held old.shelf_faults new.shelf_faults fault
   pub held : new.held ≡ old.held
   pub line : line_of new ≡ line_of old
 

@@ -16,7 +16,7 @@ returns-in-Err-clause-runs g c =
     inr (record {
       fault = c.in-Err.fault;
       told = c.from.ensures;
-      opens = c.in-Err.ensures.opens;
+      fails = c.in-Err.ensures.opens;
       held = c.in-Err.ensures.kept;
       line = refl;
     })
