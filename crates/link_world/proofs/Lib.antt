@@ -44,3 +44,5 @@ pub mod Honest
 pub mod Senders
 pub mod Reading
 pub mod OneMore
+pub mod Growing
+pub mod Accepting

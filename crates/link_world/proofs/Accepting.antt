@@ -1,0 +1,245 @@
+-- Lines that are refused for want of numbers alone, and what they leave.
+use Rattle.std.specs.List.{All, range_with_len}
+use Rattle.std.proofs.Common.{◌≡◌, ℕ, zero, suc, ◌+◌, ◌-◌, ◌<◌, ◌≤◌, ◌%◌, Bool, true, false, List, [], ◌∷◌, ◌++◌, length, map, set, filter, replicate, reverse, Option, Some, None, Result, Ok, Err, slice_get, refl, sym, ap, subst, ◌∙◌, arith, inl, inr, eqb, ltb}
+use Rattle.std.specs.Prelude.{if◌then◌else◌, flat_map, nat_lt, option_map, ⊤}
+use Rattle.std.proofs.lemmas.Option.{slice_get-map}
+use Rattle.uip_wire.specs.declared.addr.Addr.{Addr}
+use Rattle.std.proofs.lemmas.List.Concat.{flat_map-cons}
+use Rattle.std.proofs.lemmas.Bool.{cases_lt}
+use Rattle.std.proofs.lemmas.List.Elements.{All-filter, All-head, All-tail}
+use Rattle.std.proofs.lemmas.List.Sorted.{All-permutation, IsPermutation-reverse}
+use Rattle.app_events.specs.Part.{Meaning}
+use Rattle.link_schedule.specs.declared.event.Event.{Event}
+use Rattle.link_schedule.specs.declared.event.Event.TheVariants.{Opens, Again, Tick, Round, Twice, Reverse, Half, Lose}
+use Rattle.tcp_segment.specs.Segments.{PlainSegment}
+use Rattle.link_client.specs.Client.{AbstractClient, ClientStep, client_opens, opens_by}
+use Rattle.link_client.specs.declared.client_state.ClientState.TheVariants as Is
+use Rattle.link_world.specs.History.{Planned, fresh_side, opening_world}
+use Rattle.link_world.specs.Acts.{acts, and_then, client_acts, does, done_or, fault_of, if_idle, is_idle, most_datagrams, named_fault, needs, no_datagram, or_full, runs, state_at}
+use Rattle.link_world.specs.Schedule.{BadLine, acts_of, goes_on_with, mark_after, numbers_from, past_mark, plays_from, plays_line, with_mark}
+use Rattle.link_world.specs.World.{Sent, Side, World, numbered, posts_of_client, with_client, with_side}
+use Rattle.link_world.specs.declared.act.Act.{Act}
+use Rattle.link_world.specs.declared.step_fault.StepFault.{StepFault}
+use Rattle.link_world.specs.declared.step_fault.StepFault.TheVariants.{AlreadyOpen, Full, NotOpen}
+use Rattle.link_world.proofs.Basics.{choose}
+use Rattle.link_world.proofs.Fits.{all_cons, all_nil}
+use Rattle.link_world.proofs.Tables.{get_set_other, get_set_same}
+use Rattle.link_world.proofs.Growing.{Grows, Spoken, does_grows, grows_not, grows_on}
+
+-- it is refused for want of numbers alone, and leaves what is said
+abbrev pub Fine : (World → Type 0) → Result World StepFault → Type 0
+Fine P (Ok v) = P v
+Fine P (Err fault) = fault ≡ Full
+
+abbrev pub FineLines : Result World BadLine → Type 0
+FineLines (Ok v) = ⊤
+FineLines (Err bad) = bad.why ≡ Full
+
+fine_weaker : (P Q : World → Type 0) (r : Result World StepFault) → ((v : World) → P v → Q v) → Fine P r → Fine Q r
+fine_weaker P Q (Ok v) f p = f v p
+fine_weaker P Q (Err fault) f p = p
+
+fine_mark : (P : World → Type 0) (mark : ℕ) (r : Result World StepFault) → Fine (λ v. P (record v { mark = mark })) r → Fine P (with_mark mark r)
+fine_mark P mark (Ok v) p = p
+fine_mark P mark (Err fault) p = p
+
+pub goes_on_fine : (P : World → Type 0) (place : ℕ) (next : World → Result World BadLine) (r : Result World StepFault) → Fine P r → ((v : World) → P v → FineLines (next v))
+    → FineLines (goes_on_with place next r)
+goes_on_fine P place next (Ok v) p f = f v p
+goes_on_fine P place next (Err fault) p f = p
+
+-- wherever the world has grown to, the act has no fault of its own
+abbrev pub IsFree : World → Act → Type 0
+IsFree w act = (v : World) → Grows w v → named_fault v act ≡ None
+
+abbrev pub AreFree : World → List Act → Type 0
+AreFree w [] = ⊤
+AreFree w (act ∷ more) = IsFree w act × AreFree w more
+
+module _ (m : Meaning) (served : ℕ → Bool) where
+  runs_fine : (all : List Act) (w v : World) → Grows w v → AreFree w all → Fine (Grows w) (runs m served all v)
+  runs_fine [] w v g free = g
+  runs_fine (act ∷ more) w v g free =
+      subst (λ (o : Option StepFault). Fine (Grows w) (and_then (runs m served more) (done_or (does m served v act) (or_full v act o)))) (sym (free.0 v g))
+      (choose (λ (o : Option StepFault). Fine (Grows w) (and_then (runs m served more) (done_or (does m served v act) o))) (nat_lt most_datagrams (length v.sent + needs act)) (Some Full) None
+      (λ e. refl)
+      (λ e. runs_fine more w (does m served v act) (grows_on w v (does m served v act) g (does_grows m served v act)) free.1))
+
+  -- a line whose acts are free
+  pub line_fine : (w : World) (event : Event) → AreFree w (acts_of w event) → Fine (Grows w) (plays_line m served w event)
+  line_fine w event free =
+      fine_mark (Grows w) (mark_after w event) (runs m served (acts_of w event) w)
+      (fine_weaker (Grows w) (λ v. Grows w (record v { mark = mark_after w event })) (runs m served (acts_of w event) w)
+      (λ v g. record { sent = g.sent; spoken = g.spoken }) (runs_fine (acts_of w event) w w (grows_not w) free))
+
+-- ---- which acts are free
+
+ticks_free : (w : World) (n : ℕ) → AreFree w (replicate n Act.Tick)
+ticks_free w zero = tt
+ticks_free w (suc n) = ((λ v g. refl), ticks_free w n)
+
+-- a number from 1 to n
+abbrev pub IsWithin : ℕ → ℕ → Type 0
+IsWithin n k = (1 ≤ k) × (k ≤ n)
+
+there_is : {X : Type 0} (xs : List X) (k : ℕ) → k < length xs → (x : X) × (slice_get xs k ≡ Some x)
+there_is [] k lt = absurd (omega (arith, lt))
+there_is (x ∷ xs) zero lt = (x, refl)
+there_is (x ∷ xs) (suc k) lt = there_is xs k (omega (arith, lt))
+
+give_free : (w : World) (k : ℕ) → IsWithin (length w.sent) k → IsFree w (Act.Give k)
+give_free w zero is = λ v g. absurd (omega (arith, is.0))
+give_free w (suc k) is = λ v g.
+    let le = is.1 in
+    let there = there_is v.sent k (omega (arith, le, g.sent)) in
+    ap no_datagram there.1
+
+gives_free : (w : World) (ks : List ℕ) → All (IsWithin (length w.sent)) ks → AreFree w (map Act.Give ks)
+gives_free w [] all = tt
+gives_free w (k ∷ ks) all = (give_free w k (All-head (IsWithin (length w.sent)) k ks all), gives_free w ks (All-tail (IsWithin (length w.sent)) k ks all))
+
+twice_free : (w : World) (ks : List ℕ) → All (IsWithin (length w.sent)) ks → AreFree w (flat_map (λ k. Act.Give k ∷ Act.Give k ∷ []) ks)
+twice_free w [] all = tt
+twice_free w (k ∷ ks) all =
+    let one = give_free w k (All-head (IsWithin (length w.sent)) k ks all) in
+    subst (AreFree w) (sym (flat_map-cons (λ j. Act.Give j ∷ Act.Give j ∷ []) k ks)) (one, (one, twice_free w ks (All-tail (IsWithin (length w.sent)) k ks all)))
+
+again_free : (w : World) (k : ℕ) → Spoken w.sides k → IsFree w (Act.Again (suc k))
+again_free w k spoken = λ v g. choose (λ (o : Option StepFault). o ≡ None) (is_idle (state_at (slice_get v.sides k))) (Some NotOpen) None
+    (λ e. absurd (let no : true ≡ false = sym e ∙ g.spoken k spoken in cc)) (λ e. refl)
+
+-- ---- the lines of a workload
+
+numbers_within : (n start count : ℕ) → 1 ≤ start → count ≤ n + 1 - start → All (IsWithin n) (numbers_from start count)
+numbers_within n start zero least most = all_nil (IsWithin n)
+numbers_within n start (suc count) least most =
+    all_cons (IsWithin n) start (numbers_from (start + 1) count) (least, omega (arith, most)) (numbers_within n (start + 1) count (omega arith) (omega (arith, most)))
+
+past_within : (w : World) → All (IsWithin (length w.sent)) (past_mark w)
+past_within w = numbers_within (length w.sent) (w.mark + 1) (length w.sent - w.mark) (omega arith) (omega arith)
+
+-- each of the first n clients has spoken
+abbrev pub AllSpoken : ℕ → World → Type 0
+AllSpoken n w = (k : ℕ) → k < n → Spoken w.sides k
+
+module _ (m : Meaning) (served : ℕ → Bool) (n : ℕ) where
+  -- a line that leaves the clients spoken, and is refused for want of numbers alone
+  abbrev pub IsKept : Event → Type 0
+  IsKept event = (w : World) → AllSpoken n w → Fine (AllSpoken n) (plays_line m served w event)
+
+  kept_by : (event : Event) → ((w : World) → AllSpoken n w → AreFree w (acts_of w event)) → IsKept event
+  kept_by event free w spoken =
+      fine_weaker (Grows w) (AllSpoken n) (plays_line m served w event) (λ v g k lt. g.spoken k (spoken k lt)) (line_fine m served w event (free w spoken))
+
+  pub keeps_tick : (count : ℕ) → IsKept (Tick count)
+  keeps_tick count = kept_by (Tick count) (λ w spoken. ticks_free w count)
+
+  pub keeps_round : IsKept Round
+  keeps_round = kept_by Round (λ w spoken. gives_free w (past_mark w) (past_within w))
+
+  pub keeps_twice : IsKept Twice
+  keeps_twice = kept_by Twice (λ w spoken. twice_free w (past_mark w) (past_within w))
+
+  pub keeps_reverse : IsKept Reverse
+  keeps_reverse = kept_by Reverse (λ w spoken.
+      gives_free w (reverse (past_mark w)) (All-permutation (IsWithin (length w.sent)) (past_mark w) (reverse (past_mark w)) (IsPermutation-reverse (past_mark w)) (past_within w)))
+
+  pub keeps_half : IsKept Half
+  keeps_half = kept_by Half (λ w spoken.
+      gives_free w (filter (λ k. eqb (k % 2) 1) (past_mark w)) (All-filter (λ k. eqb (k % 2) 1) (IsWithin (length w.sent)) (past_mark w) (past_within w)))
+
+  pub keeps_lose : IsKept Lose
+  keeps_lose = kept_by Lose (λ w spoken. tt)
+
+  pub keeps_again : (k : ℕ) → k < n → IsKept (Again (suc k))
+  keeps_again k lt = kept_by (Again (suc k)) (λ w spoken. (again_free w k (spoken k lt), tt))
+
+  abbrev pub AreKept : List Event → Type 0
+  AreKept [] = ⊤
+  AreKept (event ∷ more) = IsKept event × AreKept more
+
+  pub kept_append : (xs ys : List Event) → AreKept xs → AreKept ys → AreKept (xs ++ ys)
+  kept_append [] ys a b = b
+  kept_append (x ∷ xs) ys a b = (a.0, kept_append xs ys a.1 b)
+
+  pub kept_replicate : (count : ℕ) (event : Event) → IsKept event → AreKept (replicate count event)
+  kept_replicate zero event k = tt
+  kept_replicate (suc count) event k = (k, kept_replicate count event k)
+
+  pub kept_fine : (events : List Event) (place : ℕ) (w : World) → AreKept events → AllSpoken n w → FineLines (plays_from m served place events w)
+  kept_fine [] place w kept spoken = tt
+  kept_fine (event ∷ more) place w kept spoken =
+      goes_on_fine (AllSpoken n) place (plays_from m served (place + 1) more) (plays_line m served w event) (kept.0 w spoken) (λ v s. kept_fine more (place + 1) v kept.1 s)
+
+-- ---- the clients open in turn
+
+-- the first j clients have spoken, and those behind them, up to n, are idle
+pub record IsOpening (n j : ℕ) (w : World) : Type 0 where
+  pub spoken : (k : ℕ) → k < j → Spoken w.sides k
+  pub idle : (k : ℕ) → j ≤ k → k < n → (side : Side) × (slice_get w.sides k ≡ Some side) × (side.client.state ≡ Is.Idle)
+
+opens_spoken : (c : AbstractClient) → c.state ≡ Is.Idle → (client_opens c).client.state ≡ Is.Opening
+unfolding opens_by
+opens_spoken c idle = ap (λ st. (opens_by st c).client.state) idle
+
+same_sides : (w : World) (number : ℕ) (x : Option PlainSegment) → (posts_of_client w number x).sides ≡ w.sides
+same_sides w number None = refl
+same_sides w number (Some s) = refl
+
+-- what is left when client j + 1 has opened
+opened_one : (n j : ℕ) (w : World) (side : Side) (took : ClientStep) → slice_get w.sides j ≡ Some side → took.client.state ≡ Is.Opening → IsOpening n j w
+    → (v : World) → v.sides ≡ set w.sides j (with_client side took.client) → IsOpening n (j + 1) v
+opened_one n j w side took at state is v sides = record {
+  spoken = λ k lt. subst (λ (l : List Side). Spoken l k) (sym sides) (by_place k lt);
+  idle = λ k ge lt.
+      let was = is.idle k (omega (arith, ge)) lt in
+      (was.0, ap (λ (l : List Side). slice_get l k) sides ∙ get_set_other w.sides j (with_client side took.client) k (λ e. omega (arith, e, ge)) ∙ was.1, was.2);
+}
+  where
+    by_place : (k : ℕ) → k < j + 1 → Spoken (set w.sides j (with_client side took.client)) k
+    by_place k lt = elim (cases_lt k j) [
+      | inl less ↦ ap (λ o. is_idle (state_at o)) (get_set_other w.sides j (with_client side took.client) k (λ e. omega (arith, e, less))) ∙ is.spoken k less
+      | inr more ↦
+          let e : k ≡ j = omega (arith, more, lt) in
+          ap (λ i. is_idle (state_at (slice_get (set w.sides j (with_client side took.client)) i))) e
+          ∙ ap (λ o. is_idle (state_at o)) (get_set_same w.sides j side (with_client side took.client) at) ∙ ap is_idle state
+    ]
+
+-- the world before the first act
+pub opening_ready : (addr : Addr) (numbers : List ℕ) (plan : List Planned) → IsOpening (length plan) 0 (opening_world addr numbers plan)
+opening_ready addr numbers plan = record {
+  spoken = λ k lt. absurd (omega (arith, lt));
+  idle = λ k ge lt.
+      let there = there_is plan k lt in
+      (fresh_side there.0, slice_get-map fresh_side plan k ∙ ap (option_map fresh_side) there.1, refl);
+}
+
+module _ (m : Meaning) (served : ℕ → Bool) (n : ℕ) where
+  opens_line : (j : ℕ) (w : World) → IsOpening n j w → j < n → Fine (IsOpening n (j + 1)) (plays_line m served w (Opens (suc j)))
+  opens_line j w is lt =
+      let P : World → Type 0 = IsOpening n (j + 1) in
+      let was = is.idle j (omega arith) lt in
+      let side = was.0 in
+      let took : ClientStep = client_opens side.client in
+      let free : named_fault w (Act.Opens (suc j)) ≡ None =
+      ap (λ (o : Option Side). if is_idle (state_at o) then None else Some AlreadyOpen) was.1 ∙ ap (λ st. if is_idle st then None else Some AlreadyOpen) was.2 in
+      let sides : (does m served w (Act.Opens (suc j))).sides ≡ set w.sides j (with_client side took.client) =
+      ap (λ (o : Option Side). (client_acts w (suc j) client_opens o).sides) was.1 ∙ same_sides (with_side w (suc j) (with_client side took.client)) (suc j) took.sent in
+      fine_mark P w.mark (runs m served (Act.Opens (suc j) ∷ []) w)
+      (subst (λ (o : Option StepFault). Fine (λ v. P (record v { mark = w.mark })) (and_then (runs m served []) (done_or (does m served w (Act.Opens (suc j))) (or_full w (Act.Opens (suc j)) o)))) (sym free)
+      (choose (λ (o : Option StepFault). Fine (λ v. P (record v { mark = w.mark })) (and_then (runs m served []) (done_or (does m served w (Act.Opens (suc j))) o)))
+      (nat_lt most_datagrams (length w.sent + needs (Act.Opens (suc j)))) (Some Full) None
+      (λ e. refl)
+      (λ e. opened_one n j w side took was.1 (opens_spoken side.client was.2) is (record (does m served w (Act.Opens (suc j))) { mark = w.mark }) sides)))
+
+  -- the clients open in turn, and more lines follow
+  pub opens_fine : (count j place : ℕ) (w : World) (more : List Event) → j + count ≡ n → IsOpening n j w
+      → ((at : ℕ) (v : World) → AllSpoken n v → FineLines (plays_from m served at more v)) → FineLines (plays_from m served place (map (λ k. Opens k) (range_with_len (j + 1) count) ++ more) w)
+  opens_fine zero j place w more e is next = next place w (λ k lt. is.spoken k (omega (arith, e, lt)))
+  opens_fine (suc count) j place w more e is next =
+      let rest = map (λ k. Opens k) (range_with_len (j + 1 + 1) count) ++ more in
+      let number : suc j ≡ j + 1 = omega arith in
+      subst (λ (i : ℕ). FineLines (plays_from m served place (Opens i ∷ rest) w)) number
+      (goes_on_fine (IsOpening n (j + 1)) place (plays_from m served (place + 1) rest) (plays_line m served w (Opens (suc j)))
+      (opens_line j w is (omega (arith, e)))
+      (λ v ready. opens_fine count (j + 1) (place + 1) v more (omega (arith, e)) ready next))

@@ -1,0 +1,262 @@
+-- Acts only add datagrams, and a client that has spoken is never idle again.
+use Rattle.std.proofs.Common.{◌≡◌, ℕ, zero, suc, ◌+◌, ◌≤◌, ◌&&◌, Bool, true, false, not, if◌then◌else◌, List, [], ◌∷◌, ◌++◌, length, map, set, Option, Some, None, slice_get, refl, sym, ap, subst, ◌∙◌, arith, eqb, ltb}
+use Rattle.std.proofs.lemmas.Option.{slice_get-map}
+use Rattle.std.specs.Prelude.{option_map}
+use Rattle.uip_wire.specs.Numbers.{wrap}
+use Rattle.app_events.specs.Part.{Meaning}
+use Rattle.tcp_segment.specs.Segments.{PlainSegment, has_ack, has_fin, has_rst, has_syn}
+use Rattle.tcp_machine.specs.Connection.{Connection, same_sockets}
+use Rattle.tcp_machine.specs.Segments.{has_place}
+use Rattle.uip_node.specs.Counters.{ticks_of}
+use Rattle.uip_node.specs.Events.{Event, Reply, tick}
+use Rattle.uip_node.specs.Edge.{event_of}
+use Rattle.uip_node.specs.Events.Event.{Arrived, EchoAsked}
+use Rattle.uip_node.specs.Events.Reply.{Echo, Tcp}
+use Rattle.uip_node.specs.Node.{NodeStep, step}
+use Rattle.link_client.specs.Client.{AbstractClient, ClientStep, after_fin, again_by, aborts_by, client_takes, closes_by, fin_out, fin_sent, has_outstanding, hears_ack, is_receiving, is_reset_by, keeps, may_finish, next_own, opened_by, opens_by, own_first, sends_next, takes_by, takes_in_order, takes_text, tells_window, client_opens, client_again, client_closes, client_aborts}
+use Rattle.link_client.specs.declared.client_state.ClientState.{ClientState}
+use Rattle.link_client.specs.declared.client_state.ClientState.TheVariants as Is
+use Rattle.link_world.specs.Acts.{client_acts, client_handed, damages_at, does, handed, handles_all, hands_over, is_idle, state_at}
+use Rattle.link_world.specs.Bytes.{changed, hears_datagram, ping_from, sent_bytes}
+use Rattle.link_world.specs.World.{Content, Sent, Side, World, buries, buries_in, client_sockets, client_stepped, delivers, epoch_of, gives_client, gives_node, hands_to, marked, node_handles, node_stepped, numbered, posts, posts_of_client, posts_reply, with_client, with_side}
+use Rattle.link_world.specs.World.Content.{OfSegment, OfPing, OfEcho}
+use Rattle.link_world.specs.declared.act.Act.{Act}
+use Rattle.link_world.specs.declared.who.Who.{Who}
+use Rattle.link_world.specs.declared.who.Who.TheVariants.{FromClient, FromNode, Pinger}
+use Rattle.link_world.proofs.Basics.{choose}
+use Rattle.link_world.proofs.Rounds.{one_longer}
+use Rattle.link_world.proofs.Tables.{get_set_other, get_set_same}
+
+-- the client in a place is not idle
+abbrev pub Spoken : List Side → ℕ → Type 0
+Spoken sides k = is_idle (state_at (slice_get sides k)) ≡ false
+
+pub record Grows (w v : World) : Type 0 where
+  pub sent : length w.sent ≤ length v.sent
+  pub spoken : (k : ℕ) → Spoken w.sides k → Spoken v.sides k
+
+pub grows_not : (w : World) → Grows w w
+grows_not w = record { sent = omega arith; spoken = λ k s. s }
+
+pub grows_on : (w v u : World) → Grows w v → Grows v u → Grows w u
+grows_on w v u g h = record { sent = omega (arith, g.sent, h.sent); spoken = λ k s. h.spoken k (g.spoken k s) }
+
+-- ---- a client
+
+-- it is idle after a step only where it was before
+abbrev pub Stays : AbstractClient → ClientStep → Type 0
+Stays c x = is_idle c.state ≡ false → is_idle x.client.state ≡ false
+
+sends_stays : (owed : Bool) (c : AbstractClient) → Stays c (sends_next owed c)
+unfolding sends_next
+sends_stays owed c =
+    choose (λ x. Stays c x) (not (has_outstanding c) && (is_receiving c.state && ltb c.acked (length c.request))) _ _ (λ e h. h) (λ e.
+    choose (λ x. Stays c x) (not (has_outstanding c) && (may_finish c.state && not (fin_sent c.fin))) _ _ (λ f h. h) (λ f.
+    choose (λ x. Stays c x) owed _ _ (λ g h. h) (λ g h. h)))
+
+ack_stays : (c : AbstractClient) (s : PlainSegment) → (hears_ack c s).state ≡ c.state
+ack_stays c s = choose (λ (x : AbstractClient). x.state ≡ c.state) (has_ack s.flags && (has_outstanding c && eqb s.ack (next_own c))) _ _ (λ e. refl) (λ e. refl)
+
+fin_stays : (st : ClientState) → is_idle st ≡ false → is_idle (after_fin st) ≡ false
+fin_stays Is.Idle h = h
+fin_stays Is.Opening h = refl
+fin_stays Is.Opened h = refl
+fin_stays Is.Closing h = refl
+fin_stays Is.Closed h = refl
+fin_stays Is.Ended h = refl
+fin_stays Is.Reset h = refl
+
+text_stays : (c : AbstractClient) (s : PlainSegment) → is_idle c.state ≡ false → is_idle (takes_text c s).state ≡ false
+text_stays c s h = choose (λ x. is_idle x ≡ false) (has_fin s.flags) (after_fin c.state) c.state (λ e. fin_stays c.state h) (λ e. h)
+
+order_stays : (c : AbstractClient) (s : PlainSegment) → Stays c (takes_in_order c s)
+unfolding takes_in_order
+order_stays c s =
+    choose (λ x. Stays c x) (has_syn s.flags) _ _ (λ e. sends_stays true c) (λ e.
+    choose (λ x. Stays c x) (not (has_place s)) _ _ (λ f. sends_stays false c) (λ f.
+    choose (λ x. Stays c x) (eqb s.seq c.expected && is_receiving c.state) _ _ (λ g h. sends_stays true (takes_text c s) (text_stays c s h)) (λ g. sends_stays true c)))
+
+heard_stays : (c : AbstractClient) (s : PlainSegment) → Stays c (takes_in_order (hears_ack c s) s)
+heard_stays c s h = order_stays (hears_ack c s) s (ap is_idle (ack_stays c s) ∙ h)
+
+by_stays : (st : ClientState) (c : AbstractClient) (s : PlainSegment) → Stays c (takes_by st c s)
+unfolding takes_by
+by_stays Is.Idle c s = λ h. h
+by_stays Is.Reset c s = λ h. h
+by_stays Is.Opening c s =
+    choose (λ x. Stays c x) (has_syn s.flags && (has_ack s.flags && eqb s.ack (wrap (own_first c + 1)))) _ _ (λ e h. sends_stays true (opened_by c s) refl) (λ e h. h)
+by_stays Is.Opened c s = heard_stays c s
+by_stays Is.Closing c s = heard_stays c s
+by_stays Is.Closed c s = heard_stays c s
+by_stays Is.Ended c s = heard_stays c s
+
+takes_stays : (c : AbstractClient) (s : PlainSegment) → Stays c (client_takes c s)
+unfolding client_takes
+takes_stays c s =
+    choose (λ x. Stays c x) (has_rst s.flags) _ _
+    (λ e. choose (λ x. Stays c (keeps x)) (is_reset_by c.state c s) _ _ (λ f h. refl) (λ f h. h))
+    (λ e. by_stays c.state c s)
+
+opens_stays : (st : ClientState) (c : AbstractClient) → Stays c (opens_by st c)
+unfolding opens_by
+opens_stays Is.Idle c = λ h. refl
+opens_stays Is.Opening c = λ h. h
+opens_stays Is.Opened c = λ h. h
+opens_stays Is.Closing c = λ h. h
+opens_stays Is.Closed c = λ h. h
+opens_stays Is.Ended c = λ h. h
+opens_stays Is.Reset c = λ h. h
+
+repeats_stays : (c : AbstractClient) → Stays c (again_by Is.Opened c)
+unfolding again_by
+repeats_stays c =
+    choose (λ x. Stays c x) (ltb 0 c.out) _ _ (λ e h. h) (λ e.
+    choose (λ x. Stays c x) (fin_out c.fin) _ _ (λ f h. h) (λ f h. h))
+
+again_stays : (st : ClientState) (c : AbstractClient) → Stays c (again_by st c)
+unfolding again_by
+again_stays Is.Idle c = λ h. h
+again_stays Is.Reset c = λ h. h
+again_stays Is.Opening c = λ h. h
+again_stays Is.Opened c = repeats_stays c
+again_stays Is.Closing c = repeats_stays c
+again_stays Is.Closed c = repeats_stays c
+again_stays Is.Ended c = repeats_stays c
+
+closes_stays : (st : ClientState) (c : AbstractClient) → Stays c (closes_by st c)
+unfolding closes_by
+closes_stays Is.Opened c = λ h. sends_stays false (record c { state = Is.Closing }) refl
+closes_stays Is.Idle c = λ h. h
+closes_stays Is.Opening c = λ h. h
+closes_stays Is.Closing c = λ h. h
+closes_stays Is.Closed c = λ h. h
+closes_stays Is.Ended c = λ h. h
+closes_stays Is.Reset c = λ h. h
+
+aborts_stays : (st : ClientState) (c : AbstractClient) → Stays c (aborts_by st c)
+unfolding aborts_by
+aborts_stays Is.Opening c = λ h. refl
+aborts_stays Is.Opened c = λ h. refl
+aborts_stays Is.Closing c = λ h. refl
+aborts_stays Is.Idle c = λ h. h
+aborts_stays Is.Closed c = λ h. h
+aborts_stays Is.Ended c = λ h. h
+aborts_stays Is.Reset c = λ h. h
+
+-- ---- the world
+
+pub posts_grows : (w : World) (who : Who) (again : Bool) (content : Content) → Grows w (posts w who again content)
+posts_grows w who again content =
+    let new : Sent = record { who = who; tick = ticks_of w.node.past; epoch = epoch_of who w.sides; again = again; content = content } in
+    record { sent = omega (arith, one_longer w.sent new); spoken = λ k s. s }
+
+reply_grows : (w : World) (r : Option Reply) → Grows w (posts_reply w r)
+reply_grows w None = grows_not w
+reply_grows w (Some (Echo request)) = posts_grows w (FromNode 0) false (OfEcho request)
+reply_grows w (Some (Tcp sockets id again s)) = posts_grows w (FromNode (Rattle.link_world.specs.World.addressed 1 sockets w.sides)) again (OfSegment id s)
+
+buried_state : (gone : Connection) (side : Option Side) → state_at (option_map (buries_in gone) side) ≡ state_at side
+buried_state gone None = refl
+buried_state gone (Some side) = choose (λ (x : Side). x.client.state ≡ side.client.state) (same_sockets gone.sockets (client_sockets side)) _ _ (λ e. refl) (λ e. refl)
+
+buries_spoken : (gone : Option Connection) (sides : List Side) (k : ℕ) → Spoken sides k → Spoken (buries gone sides) k
+buries_spoken None sides k s = s
+buries_spoken (Some g) sides k s = ap (λ o. is_idle (state_at o)) (slice_get-map (buries_in g) sides k) ∙ ap is_idle (buried_state g (slice_get sides k)) ∙ s
+
+stepped_grows : (w : World) (r : NodeStep) → Grows w (node_stepped w r)
+stepped_grows w r =
+    let v : World = record w { node = r.node; sides = buries r.gone w.sides } in
+    grows_on w v (node_stepped w r) (record { sent = omega arith; spoken = buries_spoken r.gone w.sides }) (reply_grows v r.sent)
+
+-- a side is put anew
+put_spoken : (sides : List Side) (n : ℕ) (side new : Side) → slice_get sides n ≡ Some side → (is_idle side.client.state ≡ false → is_idle new.client.state ≡ false)
+    → (k : ℕ) → Spoken sides k → Spoken (set sides n new) k
+put_spoken [] n side new at stays k s = absurd (cc)
+put_spoken (x ∷ sides) zero side new at stays zero s = let e : x ≡ side = cc in stays (ap (λ (y : Side). is_idle y.client.state) (sym e) ∙ s)
+put_spoken (x ∷ sides) zero side new at stays (suc k) s = s
+put_spoken (x ∷ sides) (suc n) side new at stays zero s = s
+put_spoken (x ∷ sides) (suc n) side new at stays (suc k) s = put_spoken sides n side new at stays k s
+
+put_grows : (w : World) (n : ℕ) (side new : Side) → slice_get w.sides n ≡ Some side → (is_idle side.client.state ≡ false → is_idle new.client.state ≡ false) → Grows w (with_side w (suc n) new)
+put_grows w n side new at stays = record { sent = omega arith; spoken = put_spoken w.sides n side new at stays }
+
+posted_grows : (w : World) (number : ℕ) (x : Option PlainSegment) → Grows w (posts_of_client w number x)
+posted_grows w number None = grows_not w
+posted_grows w number (Some s) = posts_grows w (FromClient number) false (OfSegment 0 s)
+
+client_grows : (w : World) (n : ℕ) (side base : Side) (took : ClientStep) → slice_get w.sides n ≡ Some side → base.client.state ≡ side.client.state → Stays base.client took → Grows w (client_stepped w (suc n) base took)
+client_grows w n side base took at same stays =
+    let v = with_side w (suc n) (with_client base took.client) in
+    grows_on w v (client_stepped w (suc n) base took) (put_grows w n side (with_client base took.client) at (λ h. stays (ap is_idle same ∙ h))) (posted_grows v (suc n) took.sent)
+
+module _ (m : Meaning) (served : ℕ → Bool) where
+  handles_grows : (w : World) (event : Event) → Grows w (node_handles m served w event)
+  handles_grows w event = stepped_grows w (step m served w.node event)
+
+  all_grows : (events : List Event) (w : World) → Grows w (handles_all m served events w)
+  all_grows [] w = grows_not w
+  all_grows (e ∷ events) w = grows_on w (node_handles m served w e) (handles_all m served events (node_handles m served w e)) (handles_grows w e) (all_grows events (node_handles m served w e))
+
+  node_grows : (w : World) (n k : ℕ) (e : Sent) (s : PlainSegment) (side : Option Side) → slice_get w.sides n ≡ side → Grows w (gives_node m served w (suc n) k e s side)
+  node_grows w n k e s None at = grows_not w
+  node_grows w n k e s (Some side) at =
+      let v = with_side w (suc n) (marked side k e) in
+      grows_on w v (node_handles m served v (Arrived (client_sockets side) s)) (put_grows w n side (marked side k e) at (λ h. h)) (handles_grows v (Arrived (client_sockets side) s))
+
+  to_client_grows : (w : World) (n k : ℕ) (e : Sent) (s : PlainSegment) (side : Option Side) → slice_get w.sides n ≡ side → Grows w (gives_client w (suc n) k e s side)
+  to_client_grows w n k e s None at = grows_not w
+  to_client_grows w n k e s (Some side) at = client_grows w n side (marked side k e) (client_takes side.client s) at refl (takes_stays side.client s)
+
+  delivers_grows : (w : World) (k : ℕ) (e : Sent) (who : Who) (content : Content) → Grows w (delivers m served w k e who content)
+  delivers_grows w k e (FromClient zero) (OfSegment id s) = grows_not w
+  delivers_grows w k e (FromClient (suc n)) (OfSegment id s) = node_grows w n k e s (slice_get w.sides n) refl
+  delivers_grows w k e (FromNode zero) (OfSegment id s) = grows_not w
+  delivers_grows w k e (FromNode (suc n)) (OfSegment id s) = to_client_grows w n k e s (slice_get w.sides n) refl
+  delivers_grows w k e Pinger (OfPing datagram) = handles_grows w (EchoAsked datagram)
+  delivers_grows w k e (FromClient n) (OfPing datagram) = grows_not w
+  delivers_grows w k e (FromClient n) (OfEcho request) = grows_not w
+  delivers_grows w k e (FromNode n) (OfPing datagram) = grows_not w
+  delivers_grows w k e (FromNode n) (OfEcho request) = grows_not w
+  delivers_grows w k e Pinger (OfSegment id s) = grows_not w
+  delivers_grows w k e Pinger (OfEcho request) = grows_not w
+
+  hands_grows : (w : World) (k : ℕ) (e : Option Sent) → Grows w (hands_to m served w k e)
+  hands_grows w k None = grows_not w
+  hands_grows w k (Some e) = delivers_grows w k e e.who e.content
+
+  own_grows : (w : World) (n : ℕ) (act : AbstractClient → ClientStep) (side : Option Side) → slice_get w.sides n ≡ side → ((c : AbstractClient) → Stays c (act c)) → Grows w (client_acts w (suc n) act side)
+  own_grows w n act None at stays = grows_not w
+  own_grows w n act (Some side) at stays = client_grows w n side side (act side.client) at refl (stays side.client)
+
+  acts_grows : (w : World) (number : ℕ) (act : AbstractClient → ClientStep) → ((c : AbstractClient) → Stays c (act c)) → Grows w (client_acts w number act (numbered w.sides number))
+  acts_grows w zero act stays = grows_not w
+  acts_grows w (suc n) act stays = own_grows w n act (slice_get w.sides n) refl stays
+
+  heard_grows : (w : World) (n : ℕ) (side : Side) (s : Option PlainSegment) → slice_get w.sides n ≡ Some side → Grows w (client_handed w (suc n) side s)
+  heard_grows w n side None at = grows_not w
+  heard_grows w n side (Some s) at = client_grows w n side side (client_takes side.client s) at refl (takes_stays side.client s)
+
+  handed_grows : (w : World) (n : ℕ) (bytes : List ℕ) (side : Option Side) → slice_get w.sides n ≡ side → Grows w (handed w (suc n) bytes side)
+  handed_grows w n bytes None at = grows_not w
+  handed_grows w n bytes (Some side) at = heard_grows w n side (hears_datagram side.client.setup bytes) at
+
+  over_grows : (w : World) (bytes : List ℕ) (who : Who) → Grows w (hands_over m served w bytes who)
+  over_grows w bytes (FromClient number) = handles_grows w (event_of w.node.addr bytes)
+  over_grows w bytes Pinger = handles_grows w (event_of w.node.addr bytes)
+  over_grows w bytes (FromNode zero) = grows_not w
+  over_grows w bytes (FromNode (suc n)) = handed_grows w n bytes (slice_get w.sides n) refl
+
+  damages_grows : (w : World) (at mask : ℕ) (e : Option Sent) → Grows w (damages_at m served w at mask e)
+  damages_grows w at mask None = grows_not w
+  damages_grows w at mask (Some e) = over_grows w (changed (sent_bytes w e) at mask) e.who
+
+  pub does_grows : (w : World) (act : Act) → Grows w (does m served w act)
+  does_grows w (Act.Opens n) = acts_grows w n client_opens (λ c. opens_stays c.state c)
+  does_grows w (Act.Again n) = acts_grows w n client_again (λ c. again_stays c.state c)
+  does_grows w (Act.Closes n) = acts_grows w n client_closes (λ c. closes_stays c.state c)
+  does_grows w (Act.Aborts n) = acts_grows w n client_aborts (λ c. aborts_stays c.state c)
+  does_grows w (Act.Window n x) = acts_grows w n (tells_window x) (λ c h. h)
+  does_grows w (Act.Ping source) = posts_grows w Pinger false (OfPing (ping_from source w.node.addr))
+  does_grows w (Act.Give k) = hands_grows w k (numbered w.sent k)
+  does_grows w (Act.Damage k at mask) = damages_grows w at mask (numbered w.sent k)
+  does_grows w Act.Tick = all_grows tick w
