@@ -11,3 +11,4 @@ pub mod Counting
 pub mod Answering
 pub mod Web
 pub mod Worked
+pub mod MadeLaws

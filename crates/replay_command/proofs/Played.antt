@@ -9,9 +9,10 @@ use Rattle.site_image.specs.Files.{File}
 use Rattle.web_pages.specs.Pages.{pages_of}
 use Rattle.web_pages.specs.WebMeaning.{web_meaning}
 use Rattle.web_pages.proofs.PageLaws.{keeps_page_laws}
+use Rattle.link_schedule.specs.Answer.{ReadsSchedule}
 use Rattle.link_schedule.specs.Reading.{SchedulePlan, read_text}
 use Rattle.link_schedule.specs.declared.read_schedule.ReadSchedule.{ReadSchedule}
-use Rattle.link_schedule.specs.declared.read_schedule.ReadSchedule.TheVariants.{Bad}
+use Rattle.link_schedule.specs.declared.read_schedule.ReadSchedule.TheVariants.{Bad, NoMemory}
 use Rattle.link_schedule.specs.declared.why.Why.{Why}
 use Rattle.link_world.specs.Headline.{HasBytes}
 use Rattle.link_world.specs.Schedule.{BadLine, plays}
@@ -19,12 +20,13 @@ use Rattle.link_world.specs.World.{World}
 use Rattle.link_replay.specs.Opening.{opening_for}
 use Rattle.link_replay.specs.Playing.{Plays, Reaches, Refuses, event_at}
 use Rattle.link_replay.specs.Reaching.{IsAt}
-use Rattle.link_replay.specs.Report.{report}
 use Rattle.replay_command.specs.Playing.{bad_schedule}
 use Rattle.web_pages.specs.Serving.{is_served, no_hits}
-use Rattle.replay_command.specs.Telling.{Answers, IsPlayDue, Tells, Writes}
+use Rattle.replay_command.specs.Telling.{Answers, IsPlayDue, IsTextDue, TellsFault, Writes, told_of}
 use Rattle.replay_command.specs.declared.replay_end.ReplayEnd.{ReplayEnd}
 use Rattle.replay_command.specs.declared.replay_end.ReplayEnd.TheVariants as ends
+use Rattle.replay_command.specs.declared.telling.Telling.{Telling}
+use Rattle.replay_command.specs.declared.telling.Telling.TheVariants.{Report}
 use Rattle.replay_command.proofs.Kept.{has_bytes, keeps_promises}
 
 -- what the lines reach from the opening world on, where the files were asked for so often
@@ -42,37 +44,61 @@ module _ (site : SiteContent) (loaded : IsLoaded site) (bytes : All IsByte site.
       for (pages_of (files_of site)) (keeps_page_laws site loaded) (has_bytes site bytes)
       (subst (All IsWord) (sym none) (All-replicate IsWord (length (files_of site)) 0 (lit< tt)))
 
-  module _ (text : List ℕ) (content : SchedulePlan) (reads : read_text text ≡ Ok content) (show : Bool) (old new : Option (List ℕ)) (before now : ℕ) (result : ReplayEnd) where
-    -- the schedule was played to its end, and its world reported
+  module _ (content : SchedulePlan) (telling : Telling) (old new : Option (List ℕ)) (before now : ℕ) (result : ReplayEnd) where
+    -- the schedule was played to its end, and its world told
     pub played_due : (Now : World → Type 0)
         → ForPages (files_of site) hits (Reaches (web_meaning (files_of site)) is_served Now (outcome_from hits (files_of site) content))
-        → ((m : Meaning) (served : ℕ → Bool) (w : World) → Now w → IsAt m served w → Writes (report show w) ends.Done old new before now result)
-        → Answers (IsPlayDue (files_of site) text show) old new before now result
+        → ((m : Meaning) (served : ℕ → Bool) (w : World) → Now w → IsAt m served w → Writes (told_of telling w) ends.Done old new before now result)
+        → Answers (IsPlayDue (files_of site) content telling) old new before now result
     played_due Now plays_for wrote =
         let reach = web_has (Reaches (web_meaning (files_of site)) is_served Now (outcome_from hits (files_of site) content)) plays_for in
-        let due : IsPlayDue (files_of site) text show (report show reach.world) ends.Done = record {
+        let due : IsPlayDue (files_of site) content telling (told_of telling reach.world) ends.Done = record {
           world = reach.world;
-          played = record { content = content; reads = reads; plays = ap (λ (h : List ℕ). outcome_from h (files_of site) content) (sym none) ∙ reach.meant_so };
+          plays = ap (λ (h : List ℕ). outcome_from h (files_of site) content) (sym none) ∙ reach.meant_so;
           told = refl;
           promises = keeps_promises site loaded bytes is_served reach.world reach.at;
         } in
-        inl (report show reach.world, ends.Done, due, wrote (web_meaning (files_of site)) is_served reach.world reach.now reach.at)
+        inl (told_of telling reach.world, ends.Done, due, wrote (web_meaning (files_of site)) is_served reach.world reach.now reach.at)
 
     -- a line of it was refused, and is told
-    pub refused_due : {X : Type 0} (Now : X → World → Type 0) (fault : ReadSchedule) (line : ℕ) (why : Why) → fault ≡ Bad line why
+    pub refused_due : {X : Type 0} (Now : X → World → Type 0) (fault : ReadSchedule)
         → ForPages (files_of site) hits (Plays (web_meaning (files_of site)) is_served hits content Now (Err fault))
-        → Tells (bad_schedule line why) (ends.BadSchedule line why) old new before now result → Answers (IsPlayDue (files_of site) text show) old new before now result
-    refused_due Now fault line why is plays_for (inr short) = inr short
-    refused_due Now fault line why is plays_for (inl wrote) =
-        let ended = web_has (Plays (web_meaning (files_of site)) is_served hits content Now (Err fault)) plays_for in
+        → TellsFault fault old new before now result → Answers (IsPlayDue (files_of site) content telling) old new before now result
+    refused_due Now NoMemory plays_for short = inr short
+    refused_due Now (Bad line why) plays_for (inr short) = inr short
+    refused_due Now (Bad line why) plays_for (inl wrote) =
         let refuses : Refuses content.lines (outcome_from hits (files_of site) content) line why =
-        subst (λ (f : ReadSchedule). Plays (web_meaning (files_of site)) is_served hits content Now (Err f)) is ended in
-        let due : IsPlayDue (files_of site) text show (bad_schedule line why) (ends.BadSchedule line why) = (
-          inr (record {
-            content = content;
-            reads = reads;
-            refuses = subst (λ (h : List ℕ). Refuses content.lines (outcome_from h (files_of site) content) line why) none refuses;
-          }),
-          refl,
-        ) in
+        web_has (Plays (web_meaning (files_of site)) is_served hits content Now (Err (Bad line why))) plays_for in
+        let due : IsPlayDue (files_of site) content telling (bad_schedule line why) (ends.BadSchedule line why) =
+        (subst (λ (h : List ℕ). Refuses content.lines (outcome_from h (files_of site) content) line why) none refuses, refl) in
         inl (bad_schedule line why, ends.BadSchedule line why, due, wrote)
+
+-- what is due for the schedule that a text spells is due for the text
+text_due : (files : List File) (bytes : List ℕ) (content : SchedulePlan) (show : Bool) → read_text bytes ≡ Ok content → (text : List ℕ) (end : ReplayEnd)
+    → IsPlayDue files content (Report show) text end → IsTextDue files bytes show text end
+text_due files bytes content show reads text ends.Done due = record {
+  world = due.world;
+  played = record { content = content; reads = reads; plays = due.plays };
+  told = due.told;
+  promises = due.promises;
+}
+text_due files bytes content show reads text (ends.BadSchedule line why) due = (inr (record { content = content; reads = reads; refuses = due.0 }), due.1)
+text_due files bytes content show reads text (ends.BadSite error) due = absurd due
+text_due files bytes content show reads text ends.ShelfFault due = absurd due
+text_due files bytes content show reads text ends.WriteFault due = absurd due
+text_due files bytes content show reads text ends.NoMemory due = absurd due
+
+pub text_answers : (files : List File) (bytes : List ℕ) (content : SchedulePlan) (show : Bool) → read_text bytes ≡ Ok content
+    → (old new : Option (List ℕ)) (before now : ℕ) (result : ReplayEnd) → Answers (IsPlayDue files content (Report show)) old new before now result
+    → Answers (IsTextDue files bytes show) old new before now result
+text_answers files bytes content show reads old new before now result (inl told) = inl (told.0, told.1, text_due files bytes content show reads told.0 told.1 told.2, told.3)
+text_answers files bytes content show reads old new before now result (inr short) = inr short
+
+-- the text does not read, and its first bad line is told
+pub text_refused : (files : List File) (bytes : List ℕ) (show : Bool) (fault : ReadSchedule) → ReadsSchedule (Err fault) (read_text bytes)
+    → (old new : Option (List ℕ)) (before now : ℕ) (result : ReplayEnd) → TellsFault fault old new before now result
+    → Answers (IsTextDue files bytes show) old new before now result
+text_refused files bytes show NoMemory reads old new before now result short = inr short
+text_refused files bytes show (Bad line why) reads old new before now result (inr short) = inr short
+text_refused files bytes show (Bad line why) reads old new before now result (inl wrote) =
+    inl (bad_schedule line why, ends.BadSchedule line why, (inl reads, refl), wrote)

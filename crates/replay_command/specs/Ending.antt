@@ -1,4 +1,4 @@
--- How a replay ends, and what is written then.
+-- How a replay and a load end, and what is written then.
 use Rattle.std.specs.Prelude.{◌≡◌, ◌≤◌, ◌⊎◌, ℕ, Bool, List, Option, Ok, Err, ⊤}
 use Rattle.std.specs.Io.KnownBytes.{Appends}
 use Rattle.file_tree.specs.Loading.{HoldsFile}
@@ -13,8 +13,44 @@ use Rattle.link_world.specs.World.{World}
 use Rattle.link_replay.specs.Report.{report}
 use Rattle.replay_command.specs.Playing.{IsFirstBad, IsPlayed, bad_schedule}
 use Rattle.replay_command.specs.Promises.{KeepsPromises}
+use Rattle.replay_command.specs.Telling.{IsPlayDue}
 use Rattle.replay_command.specs.declared.replay_end.ReplayEnd.{ReplayEnd}
 use Rattle.replay_command.specs.declared.replay_end.ReplayEnd.TheVariants as ends
+use Rattle.replay_command.specs.declared.telling.Telling.TheVariants.{Summary}
+use Rattle.workload.specs.Workload.{workload_of}
+
+-- the whole text was written, and no count rose
+pub record Told (Is : List ℕ → ReplayEnd → Type 0) (old new : Desk) (end : ReplayEnd) : Type 0 where
+  pub text : List ℕ
+  pub is : Is text end
+  pub written : Appends old.written new.written text
+  pub shelf : new.shelf_faults ≡ old.shelf_faults
+  pub sink : new.sink_faults ≡ old.sink_faults
+
+-- the sink failed: a front of the text was written
+pub record BrokeOff (Is : List ℕ → ReplayEnd → Type 0) (old new : Desk) : Type 0 where
+  pub text : List ℕ
+  pub end : ReplayEnd
+  pub is : Is text end
+  pub written : AppendsPrefix old.written new.written text
+  pub shelf : new.shelf_faults ≡ old.shelf_faults
+  pub sink : Rose old.sink_faults new.sink_faults
+
+-- the shelf failed, or lacks a file: nothing was written
+pub record Lacks (Missing : Type 0) (old new : Desk) : Type 0 where
+  pub cause : Rose old.shelf_faults new.shelf_faults ⊎ Missing
+  pub later : old.shelf_faults ≤ new.shelf_faults
+  pub written : new.written ≡ old.written
+  pub sink : new.sink_faults ≡ old.sink_faults
+
+-- how a command ends, by the text that is due with an end, and by when a file is missing
+abbrev pub EndsWith : (Option Files → List ℕ → ReplayEnd → Type 0) → (Option Files → Type 0) → Desk → Desk → ReplayEnd → Type 0
+EndsWith Is Missing old new ends.Done = Told (Is old.held) old new ends.Done
+EndsWith Is Missing old new (ends.BadSite error) = Told (Is old.held) old new (ends.BadSite error)
+EndsWith Is Missing old new (ends.BadSchedule line why) = Told (Is old.held) old new (ends.BadSchedule line why)
+EndsWith Is Missing old new ends.WriteFault = BrokeOff (Is old.held) old new
+EndsWith Is Missing old new ends.ShelfFault = Lacks (Missing old.held) old new
+EndsWith Is Missing old new ends.NoMemory = new ≡ old
 
 -- The text that is due for these files, with the end that goes with it. For a schedule that is played to its end it is the report of the
 -- world that is reached, of which the promises are kept.
@@ -35,34 +71,19 @@ IsText site schedule show held text ends.ShelfFault = ⊥
 IsText site schedule show held text ends.WriteFault = ⊥
 IsText site schedule show held text ends.NoMemory = ⊥
 
--- the whole text was written, and no count rose
-pub record Told (site schedule : List ℕ) (show : Bool) (old new : Desk) (end : ReplayEnd) : Type 0 where
-  pub text : List ℕ
-  pub is : IsText site schedule show old.held text end
-  pub written : Appends old.written new.written text
-  pub shelf : new.shelf_faults ≡ old.shelf_faults
-  pub sink : new.sink_faults ≡ old.sink_faults
-
--- the sink failed: a front of the text was written
-pub record BrokeOff (site schedule : List ℕ) (show : Bool) (old new : Desk) : Type 0 where
-  pub text : List ℕ
-  pub end : ReplayEnd
-  pub is : IsText site schedule show old.held text end
-  pub written : AppendsPrefix old.written new.written text
-  pub shelf : new.shelf_faults ≡ old.shelf_faults
-  pub sink : Rose old.sink_faults new.sink_faults
-
--- the shelf failed, or lacks one of the two files: nothing was written
-pub record Lacks (site schedule : List ℕ) (old new : Desk) : Type 0 where
-  pub cause : Rose old.shelf_faults new.shelf_faults ⊎ (LacksSite site old.held ⊎ IsMissing old.held schedule)
-  pub later : old.shelf_faults ≤ new.shelf_faults
-  pub written : new.written ≡ old.written
-  pub sink : new.sink_faults ≡ old.sink_faults
+-- the shelf tells its files, and lacks the site or the schedule
+abbrev pub LacksEither : List ℕ → List ℕ → Option Files → Type 0
+LacksEither site schedule held = LacksSite site held ⊎ IsMissing held schedule
 
 abbrev pub ReplayEnds : List ℕ → List ℕ → Bool → Desk → Desk → ReplayEnd → Type 0
-ReplayEnds site schedule show old new ends.Done = Told site schedule show old new ends.Done
-ReplayEnds site schedule show old new (ends.BadSite error) = Told site schedule show old new (ends.BadSite error)
-ReplayEnds site schedule show old new (ends.BadSchedule line why) = Told site schedule show old new (ends.BadSchedule line why)
-ReplayEnds site schedule show old new ends.WriteFault = BrokeOff site schedule show old new
-ReplayEnds site schedule show old new ends.ShelfFault = Lacks site schedule old new
-ReplayEnds site schedule show old new ends.NoMemory = new ≡ old
+ReplayEnds site schedule show old new end = EndsWith (IsText site schedule show) (LacksEither site schedule) old new end
+
+-- The text that is due for these files and the schedule that a number makes, with the end that goes with it. For a schedule that is
+-- played to its end it is the summary of the world that is reached, of which the promises are kept.
+abbrev pub IsLoadText : List ℕ → ℕ → ℕ → Option Files → List ℕ → ReplayEnd → Type 0
+IsLoadText site seed clients held text (ends.BadSite error) = IsSiteRead site held (Err error) × (text ≡ bad_line error)
+IsLoadText site seed clients held text end =
+    (files : List File) × IsSiteRead site held (Ok files) × IsPlayDue files (workload_of seed clients) Summary text end
+
+abbrev pub LoadEnds : List ℕ → ℕ → ℕ → Desk → Desk → ReplayEnd → Type 0
+LoadEnds site seed clients old new end = EndsWith (IsLoadText site seed clients) (LacksSite site) old new end

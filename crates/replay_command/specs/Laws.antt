@@ -1,11 +1,10 @@
--- What a replay comes to where nothing disturbs its shelf, its sink or its link.
-use Rattle.std.specs.Prelude.{◌≡◌, ◌≢◌, ◌<◌, ◌+◌, ◌*◌, ◌⊎◌, ℕ, Bool, List, [], ◌∷◌, map, replicate, Option, Ok}
+-- What a replay or a load comes to where nothing disturbs its shelf, its sink or its link, and which line of a made schedule is refused.
+use Rattle.std.specs.Prelude.{◌≡◌, ◌≢◌, ◌<◌, ◌≤◌, ◌+◌, ◌*◌, ◌⊎◌, ℕ, Bool, List, [], ◌∷◌, map, replicate, Ok}
 use Rattle.std.specs.Io.KnownBytes.{Appends}
 use Rattle.file_tree.specs.Site.{SiteContent, IsLoaded, files_of}
 use Rattle.site_image.specs.Files.{File}
-use Rattle.site_commands.specs.Ending.{Desk, IsCalm}
 use Rattle.file_tree.specs.Opening.{LacksSite}
-use Rattle.uip_edge.specs.Shelving.{Files, IsMissing}
+use Rattle.site_commands.specs.Ending.{Desk, IsCalm}
 use Rattle.web_pages.specs.Pages.{pages_of}
 use Rattle.web_pages.specs.Requests.{wanted}
 use Rattle.web_pages.specs.Requests.Wanted.{NotYet}
@@ -16,26 +15,30 @@ use Rattle.link_schedule.specs.Clients.{Plan}
 use Rattle.link_schedule.specs.Reading.{SchedulePlan, read_text}
 use Rattle.link_world.specs.Honest.{IsServedWhole}
 use Rattle.link_replay.specs.Opening.{planned}
-use Rattle.link_replay.specs.Playing.{event_at}
-use Rattle.replay_command.specs.Ending.{IsText, ReplayEnds}
-use Rattle.replay_command.specs.Playing.{IsPlayed}
+use Rattle.link_replay.specs.Playing.{Refuses, event_at}
+use Rattle.link_schedule.specs.declared.why.Why.{Why}
+use Rattle.link_schedule.specs.declared.why.Why.TheVariants.{Full}
+use Rattle.workload.specs.Workload.{workload_of}
+use Rattle.replay_command.specs.Ending.{IsLoadText, IsText, LacksEither, LoadEnds, ReplayEnds}
+use Rattle.replay_command.specs.Playing.{IsPlayed, outcome}
 use Rattle.replay_command.specs.declared.replay_end.ReplayEnd.{ReplayEnd}
 use Rattle.replay_command.specs.declared.replay_end.ReplayEnd.TheVariants as ends
 
--- the shelf tells its files, and lacks the site or the schedule
-abbrev pub LacksEither : List ℕ → List ℕ → Option Files → Type 0
-LacksEither site schedule held = LacksSite site held ⊎ IsMissing held schedule
-
 -- the whole text that is due with the end was written, or memory was short
-abbrev pub EndsAsDue : List ℕ → List ℕ → Bool → Desk → Desk → ReplayEnd → Type 0
-EndsAsDue site schedule show old new end =
-    (end ≡ ends.NoMemory) ⊎ ((text : List ℕ) × IsText site schedule show old.held text end × Appends old.written new.written text)
+abbrev pub EndsAsDue : (List ℕ → ReplayEnd → Type 0) → Desk → Desk → ReplayEnd → Type 0
+EndsAsDue Is old new end = (end ≡ ends.NoMemory) ⊎ ((text : List ℕ) × Is text end × Appends old.written new.written text)
 
 -- Where no count rose and no file is missing, a replay ends as is due.
 abbrev pub ReplayIsTold : Type 0
 ReplayIsTold =
     (site schedule : List ℕ) (show : Bool) (old new : Desk) (end : ReplayEnd) → ReplayEnds site schedule show old new end → IsCalm old new
-    → ¬ (LacksEither site schedule old.held) → EndsAsDue site schedule show old new end
+    → ¬ (LacksEither site schedule old.held) → EndsAsDue (IsText site schedule show old.held) old new end
+
+-- Where no count rose and the site is not missing, a load ends as is due.
+abbrev pub LoadIsTold : Type 0
+LoadIsTold =
+    (site : List ℕ) (seed clients : ℕ) (old new : Desk) (end : ReplayEnd) → LoadEnds site seed clients old new end → IsCalm old new
+    → ¬ (LacksSite site old.held) → EndsAsDue (IsLoadText site seed clients old.held) old new end
 
 -- two rounds for each part of the request of the first client, two for each text of its page, and six more
 abbrev pub rounds_for : List File → Plan → ℕ
@@ -53,3 +56,9 @@ abbrev pub HonestReplay : Type 0
 HonestReplay =
     (site : SiteContent) → IsLoaded site → (text : List ℕ) (content : SchedulePlan) → read_text text ≡ Ok content → (plan : Plan)
     → IsHonest (files_of site) content plan → (w : World) × IsPlayed (files_of site) text w × IsServedWhole (pages_of (files_of site)) w
+
+-- A line of a schedule that a seed makes is refused for want of numbers alone.
+abbrev pub OnlyFull : Type 0
+OnlyFull =
+    (files : List File) (seed clients line : ℕ) (reason : Why) → 1 ≤ clients
+    → Refuses (workload_of seed clients).lines (outcome files (workload_of seed clients)) line reason → reason ≡ Full

@@ -1,15 +1,41 @@
 -- What the sink gets of a text, and how a replay ends with it.
-use Rattle.std.specs.Prelude.{◌≡◌, ◌⊎◌, ℕ, Bool, List, Option}
+use Rattle.std.specs.Prelude.{◌≡◌, ◌⊎◌, ℕ, Bool, List, Option, Ok}
 use Rattle.std.specs.Io.KnownBytes.{Appends}
 use Rattle.site_image.specs.Files.{File}
 use Rattle.uip_edge.specs.Causes.{Rose}
 use Rattle.uip_edge.specs.Writing.{AppendsPrefix}
 use Rattle.link_world.specs.World.{World}
+use Rattle.link_schedule.specs.Reading.{SchedulePlan}
+use Rattle.link_schedule.specs.declared.read_schedule.ReadSchedule.{ReadSchedule}
+use Rattle.link_schedule.specs.declared.read_schedule.ReadSchedule.TheVariants.{Bad, NoMemory}
+use Rattle.link_replay.specs.Playing.{Refuses}
 use Rattle.link_replay.specs.Report.{report}
-use Rattle.replay_command.specs.Playing.{IsFirstBad, IsPlayed, bad_schedule}
+use Rattle.link_replay.specs.Summary.{summary_of}
+use Rattle.replay_command.specs.Playing.{IsFirstBad, IsPlayed, bad_schedule, outcome}
 use Rattle.replay_command.specs.Promises.{KeepsPromises}
 use Rattle.replay_command.specs.declared.replay_end.ReplayEnd.{ReplayEnd}
 use Rattle.replay_command.specs.declared.replay_end.ReplayEnd.TheVariants as ends
+use Rattle.replay_command.specs.declared.telling.Telling.{Telling}
+use Rattle.replay_command.specs.declared.telling.Telling.TheVariants.{Report, Summary}
+
+-- what is told of a world
+abbrev pub told_of : Telling → World → List ℕ
+told_of (Report show) w = report show w
+told_of Summary w = summary_of w
+
+-- The schedule is played to its end by the server of these files, and this tells the world that is reached, of which the promises are
+-- kept.
+pub record TellsWorld (files : List File) (content : SchedulePlan) (telling : Telling) (text : List ℕ) : Type 0 where
+  pub world : World
+  pub plays : outcome files content ≡ Ok world
+  pub told : text ≡ told_of telling world
+  pub promises : KeepsPromises files world
+
+-- the text that is due with an end, for the files of a site and a schedule
+abbrev pub IsPlayDue : List File → SchedulePlan → Telling → List ℕ → ReplayEnd → Type 0
+IsPlayDue files content telling text ends.Done = TellsWorld files content telling text
+IsPlayDue files content telling text (ends.BadSchedule line why) = Refuses content.lines (outcome files content) line why × (text ≡ bad_schedule line why)
+IsPlayDue files content telling text _ = ⊥
 
 -- the schedule's text is played to its end by the server of these files, and this reports the world that is reached
 pub record IsPlayReport (files : List File) (bytes : List ℕ) (show : Bool) (text : List ℕ) : Type 0 where
@@ -19,13 +45,10 @@ pub record IsPlayReport (files : List File) (bytes : List ℕ) (show : Bool) (te
   pub promises : KeepsPromises files world
 
 -- the text that is due with an end, for the files of a site and the text of a schedule
-abbrev pub IsPlayDue : List File → List ℕ → Bool → List ℕ → ReplayEnd → Type 0
-IsPlayDue files bytes show text ends.Done = IsPlayReport files bytes show text
-IsPlayDue files bytes show text (ends.BadSchedule line why) = IsFirstBad files bytes line why × (text ≡ bad_schedule line why)
-IsPlayDue files bytes show text (ends.BadSite error) = ⊥
-IsPlayDue files bytes show text ends.ShelfFault = ⊥
-IsPlayDue files bytes show text ends.WriteFault = ⊥
-IsPlayDue files bytes show text ends.NoMemory = ⊥
+abbrev pub IsTextDue : List File → List ℕ → Bool → List ℕ → ReplayEnd → Type 0
+IsTextDue files bytes show text ends.Done = IsPlayReport files bytes show text
+IsTextDue files bytes show text (ends.BadSchedule line why) = IsFirstBad files bytes line why × (text ≡ bad_schedule line why)
+IsTextDue files bytes show text _ = ⊥
 
 -- The text was written whole, which ends so, or the sink failed behind a front of it.
 abbrev pub Writes : List ℕ → ReplayEnd → Option (List ℕ) → Option (List ℕ) → ℕ → ℕ → ReplayEnd → Type 0
@@ -45,3 +68,8 @@ Tells text end old new before now result = Writes text end old new before now re
 abbrev pub Answers : (List ℕ → ReplayEnd → Type 0) → Option (List ℕ) → Option (List ℕ) → ℕ → ℕ → ReplayEnd → Type 0
 Answers Due old new before now result =
     ((text : List ℕ) × (end : ReplayEnd) × Due text end × Writes text end old new before now result) ⊎ IsShort old new before now result
+
+-- the line of a bad schedule was written, or memory was wanting
+abbrev pub TellsFault : ReadSchedule → Option (List ℕ) → Option (List ℕ) → ℕ → ℕ → ReplayEnd → Type 0
+TellsFault (Bad line why) old new before now result = Tells (bad_schedule line why) (ends.BadSchedule line why) old new before now result
+TellsFault NoMemory old new before now result = IsShort old new before now result

@@ -1,14 +1,24 @@
 //! What a replay comes to where nothing disturbs. Each law is the clause of a function without parameters.
 
-ghost use Rattle.replay_command.specs.Laws.{HonestReplay, ReplayIsTold};
+ghost use Rattle.replay_command.specs.Laws.{HonestReplay, LoadIsTold, OnlyFull, ReplayIsTold};
 
 /// Where no count rose and no file is missing, a replay ends as is due for the shelf's files, or memory was short.
 pub fn replay_is_told()
     ensures { ReplayIsTold }
 {}
 
+/// Where no count rose and the site is not missing, a load ends as is due for the shelf's files, or memory was short.
+pub fn load_is_told()
+    ensures { LoadIsTold }
+{}
+
 /// Over a link that loses nothing a schedule's client gets its whole page: two rounds for each part of its request, two for each
 /// text of its page, and six more suffice.
 pub fn honest_replay()
     ensures { HonestReplay }
+{}
+
+/// A line of a schedule that a seed makes is refused only where more datagrams would be sent than there are numbers for.
+pub fn only_full()
+    ensures { OnlyFull }
 {}

@@ -5,14 +5,17 @@
 mod headline;
 mod laws;
 mod lines;
+mod loading;
 mod playing;
 mod replay_end;
 mod replaying;
 mod seeing;
+mod telling;
 
 pub use file_tree::{SiteError, SiteWhy};
 pub use headline::{honest_pages, pages_are_received, worked_replays};
-pub use laws::{honest_replay, replay_is_told};
+pub use laws::{honest_replay, load_is_told, only_full, replay_is_told};
 pub use link_schedule::Why;
+pub use loading::load;
 pub use replay_end::ReplayEnd;
 pub use replaying::replay;

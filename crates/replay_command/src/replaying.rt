@@ -84,7 +84,7 @@ fn refuse_site<H: Shelf, K: Sink>(
 }
 
 /// Writes the line of a bad image.
-fn tell_site<K: Sink>(alloc: Global, error: SiteError, out: &mut K) -> ReplayEnd
+pub(crate) fn tell_site<K: Sink>(alloc: Global, error: SiteError, out: &mut K) -> ReplayEnd
     ensures { Tells (line_of error) (ends.BadSite error) (K.written out.old) (K.written out.new) (K.faults out.old) (K.faults out.new) result }
 {
     match bad_line(alloc, error) {

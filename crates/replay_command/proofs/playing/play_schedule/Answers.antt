@@ -1,5 +1,5 @@
-use Rattle.std.specs.List.{All}
 use Rattle.std.specs.Prelude.{⊤}
+use Rattle.std.specs.List.{All}
 use Rattle.std.proofs.Common.{sym, subst, ap, ◌∙◌}
 use Rattle.app_events.specs.Pages.{IsByte}
 use Rattle.file_tree.specs.Site.{SiteContent, IsLoaded, files_of}
@@ -11,28 +11,27 @@ use Rattle.replay_command.proofs.Played.{played_due, refused_due}
 use Rattle.replay_command.proofs.playing.play_schedule.Goals as goal
 
 pub returns-in-Ok-play : goal.returns-in-Ok-play
-returns-in-Ok-play g c = λ text reads.
+returns-in-Ok-play g c =
     let site = c.in-Ok.web.site in
     let same = c.in-Ok.ensures.site in
     subst
-    (λ (s : SiteContent). Answers (IsPlayDue (files_of s) text c.args.show) (g.K.Sink.written c.args.out.now) (g.K.Sink.written c.tell.new.out) (g.K.Sink.faults c.args.out.now)
+    (λ (s : SiteContent). Answers (IsPlayDue (files_of s) (content_at c.args.schedule.now) c.args.telling) (g.K.Sink.written c.args.out.now) (g.K.Sink.written c.tell.new.out) (g.K.Sink.faults c.args.out.now)
     (g.K.Sink.faults c.tell.new.out) c.tell.result)
     same
     (played_due site (subst IsLoaded (sym same) c.see_loaded.ensures.loaded) (subst (λ (s : SiteContent). All IsByte s.image) (sym same) c.see_loaded.ensures.bytes) c.in-Ok.web.hits
-    (c.in-Ok.ensures.hits ∙ ap (λ (s : SiteContent). no_hits (files_of s)) (sym same)) text (content_at c.args.schedule.now) reads c.args.show
+    (c.in-Ok.ensures.hits ∙ ap (λ (s : SiteContent). no_hits (files_of s)) (sym same)) (content_at c.args.schedule.now) c.args.telling
     (g.K.Sink.written c.args.out.now) (g.K.Sink.written c.tell.new.out) (g.K.Sink.faults c.args.out.now) (g.K.Sink.faults c.tell.new.out) c.tell.result
     (WorldStands _ c.in-Ok-play.world) c.in-Ok-play.ensures.plays c.tell.ensures)
 
-pub returns-in-Err-Bad : goal.returns-in-Err-Bad
-returns-in-Err-Bad g c = λ text reads.
+pub returns-in-Err : goal.returns-in-Err
+returns-in-Err g c =
     let site = c.in-Ok.web.site in
     let same = c.in-Ok.ensures.site in
     subst
-    (λ (s : SiteContent). Answers (IsPlayDue (files_of s) text c.args.show) (g.K.Sink.written c.args.out.now) (g.K.Sink.written c.refuse.new.out) (g.K.Sink.faults c.args.out.now)
+    (λ (s : SiteContent). Answers (IsPlayDue (files_of s) (content_at c.args.schedule.now) c.args.telling) (g.K.Sink.written c.args.out.now) (g.K.Sink.written c.refuse.new.out) (g.K.Sink.faults c.args.out.now)
     (g.K.Sink.faults c.refuse.new.out) c.refuse.result)
     same
     (refused_due site (subst IsLoaded (sym same) c.see_loaded.ensures.loaded) (subst (λ (s : SiteContent). All IsByte s.image) (sym same) c.see_loaded.ensures.bytes) c.in-Ok.web.hits
-    (c.in-Ok.ensures.hits ∙ ap (λ (s : SiteContent). no_hits (files_of s)) (sym same)) text (content_at c.args.schedule.now) reads c.args.show
+    (c.in-Ok.ensures.hits ∙ ap (λ (s : SiteContent). no_hits (files_of s)) (sym same)) (content_at c.args.schedule.now) c.args.telling
     (g.K.Sink.written c.args.out.now) (g.K.Sink.written c.refuse.new.out) (g.K.Sink.faults c.args.out.now) (g.K.Sink.faults c.refuse.new.out) c.refuse.result
-    (λ (x : ⊤) w. ⊤) c.in-Err-Bad.field-0 c.in-Err-Bad.line c.in-Err-Bad.why c.in-Err-Bad.field-0-is
-    c.in-Err-Bad.ensures.plays c.refuse.ensures)
+    (λ (x : ⊤) w. ⊤) c.in-Err.fault c.in-Err.ensures.plays c.refuse.ensures)

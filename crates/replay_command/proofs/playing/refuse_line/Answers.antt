@@ -1,7 +1,7 @@
 use Rattle.std.proofs.Common.{ℕ, List, subst, inl, ◌∙◌}
 use Rattle.replay_command.specs.Telling.{Writes}
 use Rattle.replay_command.specs.declared.replay_end.ReplayEnd.TheVariants as ends
-use Rattle.replay_command.proofs.playing.refuse.Goals as goal
+use Rattle.replay_command.proofs.playing.refuse_line.Goals as goal
 
 pub returns-in-Ok : goal.returns-in-Ok
 returns-in-Ok g c =

@@ -1,0 +1,54 @@
+//! The schedule that a number makes, played by the web server of a site.
+
+ghost use Rattle.std.specs.Prelude.{◌≡◌, ◌≤◌};
+ghost use Rattle.file_tree.specs.Site.{files_of};
+ghost use Rattle.site_commands.specs.Ending.{desk};
+ghost use Rattle.workload.specs.Workload.{workload_of};
+ghost use Rattle.replay_command.specs.Ending.{LoadEnds};
+ghost use Rattle.replay_command.specs.Telling.{Answers, IsPlayDue};
+ghost use Rattle.replay_command.specs.declared.telling.Telling.TheVariants as tellings;
+
+use crate::playing::play_schedule;
+use crate::replay_end::ReplayEnd;
+use crate::replaying::tell_site;
+use crate::telling::Telling;
+use file_tree::{LoadFault, Site};
+use std::alloc::Global;
+use uip_edge::{Shelf, Sink};
+use workload::make;
+
+/// Plays the schedule that a seed makes for 1 to 64 clients, by the web server of the site whose image the shelf holds under a name,
+/// and writes in one line what it came to; `-` is the site without files. Where the image is bad, one line tells it.
+pub fn load<H: Shelf, K: Sink>(
+    alloc: Global,
+    site: &[u8],
+    seed: u64,
+    clients: u8,
+    shelf: &mut H,
+    out: &mut K,
+) -> ReplayEnd
+    requires some { 1 ≤ clients }
+    requires few { clients ≤ 64 }
+    ensures ends { LoadEnds site.now seed clients (desk H.held K.written H.faults K.faults shelf.old out.old)
+        (desk H.held K.written H.faults K.faults shelf.new out.new) result }
+    ensures kept { H.held shelf.new ≡ H.held shelf.old }
+{
+    match Site::open(alloc, shelf, site) {
+        Ok(site) => load_site(alloc, site, seed, clients, out),
+        Err(LoadFault::Bad(error)) => tell_site(alloc, error, out),
+        Err(LoadFault::Shelf) => ReplayEnd::ShelfFault,
+        Err(LoadFault::NoMemory) => ReplayEnd::NoMemory,
+    }
+}
+
+/// Plays the schedule that a seed makes, by the web server of a site.
+fn load_site<K: Sink>(alloc: Global, site: Site, seed: u64, clients: u8, out: &mut K) -> ReplayEnd
+    requires some { 1 ≤ clients }
+    requires few { clients ≤ 64 }
+    ensures { Answers (IsPlayDue (files_of site) (workload_of seed clients) tellings.Summary) (K.written out.old) (K.written out.new) (K.faults out.old) (K.faults out.new) result }
+{
+    match make(alloc, seed, clients) {
+        Ok(schedule) => play_schedule(alloc, site, &schedule, Telling::Summary, out),
+        Err(_) => ReplayEnd::NoMemory,
+    }
+}
