@@ -3,13 +3,13 @@ use Rattle.std.specs.Prelude.{◌≡◌, ℕ, List, Option, None, Some}
 use Rattle.uip_edge.specs.Shelving.{Files}
 use Rattle.site_commands.specs.Due.{Due, check_due, page_due, pack_due, upgrade_due}
 use Rattle.site_commands.specs.Ending.{Desk, Ends}
-use Rattle.replay_command.specs.Ending.{ReplayEnds}
+use Rattle.replay_command.specs.Ending.{LoadEnds, ReplayEnds}
 use Rattle.uipd.specs.declared.status.Status.{Status}
 use Rattle.uipd.specs.declared.status.Status.TheVariants.{BadWords}
 use Rattle.uipd.specs.SiteServing.{SiteServes}
 use Rattle.uipd.specs.Statuses.{RunsAs, status_of_replay, status_of_site}
 use Rattle.uipd.specs.Surroundings.{Surroundings, LeavesLine, desk_of}
-use Rattle.uipd.specs.Words.{Task, Serves, Checks, Pages, Packs, Upgrades, Replays, task_of}
+use Rattle.uipd.specs.Words.{Task, Serves, Checks, Pages, Packs, Upgrades, Replays, Loads, task_of}
 
 -- a run of work on an image ends as the work does
 abbrev pub SiteRuns : (Files → Option Due) → Desk → Desk → Status → Type 0
@@ -29,6 +29,8 @@ TaskRuns (Some (Upgrades site kinds)) old new result = SiteWorks (upgrade_due si
 TaskRuns (Some (Pages site target)) old new result = SiteWorks (page_due site target) old new result
 TaskRuns (Some (Replays site schedule show)) old new result =
     RunsAs status_of_replay (ReplayEnds site schedule show (desk_of old) (desk_of new)) result × LeavesLine old new
+TaskRuns (Some (Loads site seed clients)) old new result =
+    RunsAs status_of_replay (LoadEnds site seed clients (desk_of old) (desk_of new)) result × LeavesLine old new
 
 -- the headline of a run
 abbrev pub Runs : List (List ℕ) → Surroundings → Surroundings → Status → Type 0

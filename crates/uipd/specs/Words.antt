@@ -1,5 +1,5 @@
 -- The words of the command line.
-use Rattle.std.specs.Prelude.{ℕ, ◌-◌, ◌^◌, ◌==◌, ◌&&◌, nat_lt, if◌then◌else◌, Bool, true, false, List, [], ◌∷◌, Option, None, Some, codes, length, map, slice_get, string_bytes}
+use Rattle.std.specs.Prelude.{ℕ, ◌-◌, ◌^◌, ◌==◌, ◌&&◌, nat_le, nat_lt, if◌then◌else◌, Bool, true, false, List, [], ◌∷◌, Option, None, Some, codes, length, map, slice_get, string_bytes}
 use Rattle.std.specs.Char.{is_ascii_digit}
 use Rattle.std.specs.List.{list_all, list_any, before_first, after_first}
 use Rattle.std.specs.Str.{bytes_eq}
@@ -10,11 +10,12 @@ use Rattle.site_image.specs.Names.{is_kind}
 use Rattle.file_tree.specs.Upgrading.{KindContent}
 use Rattle.site_commands.specs.Gathering.{NamedContent}
 use Rattle.uipd.specs.declared.words.Command.{Command}
-use Rattle.uipd.specs.declared.words.Command.TheVariants.{Serve, Check, Page, Pack, Upgrade, Replay}
+use Rattle.uipd.specs.declared.words.Command.TheVariants.{Serve, Check, Page, Pack, Upgrade, Replay, Load}
 use Rattle.uipd.specs.declared.words.Limits.{Limits}
 
 -- what the words ask for: to serve a line with a site, at an address and a pace, up to so many items; to look at the image of
--- a site, or at a page of it, to pack files into one, and to upgrade one; to play a schedule by a site, and to show its datagrams
+-- a site, or at a page of it, to pack files into one, and to upgrade one; to play a schedule by a site, and to show its datagrams; to play
+-- the schedule that a seed makes for so many clients
 pub data Task : Type 0 where
   Serves : (site : List ℕ) (own : Addr) (pace items : ℕ) → Task
   Checks : (site : List ℕ) → Task
@@ -22,6 +23,7 @@ pub data Task : Type 0 where
   Packs : (files : List NamedContent) → Task
   Upgrades : (site : List ℕ) (kinds : List KindContent) → Task
   Replays : (site schedule : List ℕ) (show : Bool) → Task
+  Loads : (site : List ℕ) (seed clients : ℕ) → Task
 
 -- a word of two parts, around its first `=`
 abbrev pub is_equals : ℕ → Bool
@@ -55,6 +57,7 @@ task_meant (Pack words) = Packs (map named_file (map string_bytes words.now))
 task_meant (Upgrade site words) = Upgrades site.now (map kind_word (map string_bytes words.now))
 task_meant (Page site target) = Pages site.now target.now
 task_meant (Replay site schedule show) = Replays site.now schedule.now show
+task_meant (Load site seed clients) = Loads site.now seed clients
 
 -- nothing, or a zero in front of something
 abbrev pub leads_badly : List ℕ → Bool
@@ -146,6 +149,22 @@ replay_words (site ∷ schedule ∷ []) = Some (Replays site schedule false)
 replay_words (site ∷ schedule ∷ word ∷ []) = if bytes_eq word (codes "show") then Some (Replays site schedule true) else None
 replay_words words = None
 
+-- a schedule is made for 1 to 64 clients
+abbrev pub load_at : List ℕ → ℕ → Option ℕ → Option Task
+load_at site seed (Some clients) = if nat_le 1 clients && nat_le clients 64 then Some (Loads site seed clients) else None
+load_at site seed None = None
+
+-- `CLIENTS`, behind the seed
+abbrev pub load_with : List ℕ → Option ℕ → List (List ℕ) → Option Task
+load_with site (Some seed) (clients ∷ []) = load_at site seed (number_of clients)
+load_with site (Some seed) words = None
+load_with site None words = None
+
+-- `SITE SEED CLIENTS`
+abbrev pub load_words : List (List ℕ) → Option Task
+load_words (site ∷ seed ∷ words) = load_with site (number_of seed) words
+load_words words = None
+
 -- by the command in front
 abbrev pub task_of : List (List ℕ) → Option Task
 task_of [] = None
@@ -156,4 +175,5 @@ task_of (command ∷ words) =
     else if bytes_eq command (codes "upgrade") then upgrade_words words
     else if bytes_eq command (codes "page") then page_words words
     else if bytes_eq command (codes "replay") then replay_words words
+    else if bytes_eq command (codes "load") then load_words words
     else None

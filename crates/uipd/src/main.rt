@@ -7,6 +7,8 @@
 mod adapter_tests;
 mod adapters;
 mod file_shelf;
+#[cfg(test)]
+mod load_tests;
 mod parts;
 #[cfg(test)]
 mod replay_tests;

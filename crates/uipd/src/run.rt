@@ -8,7 +8,7 @@ ghost use Rattle.uipd.specs.Surroundings.{surroundings};
 ghost use Rattle.uipd.specs.declared.status.Status.TheVariants.{BadWords, NoMemory};
 ghost use Rattle.uipd.specs.declared.status.Status.{Status as Answer};
 
-use crate::replay_work::replay_site;
+use crate::replay_work::{load_site, replay_site};
 use crate::serve::serve;
 use crate::site_work::{check_site, pack_site, page_site, upgrade_site};
 use crate::status::Status;
@@ -41,6 +41,9 @@ pub fn run<H: Shelf, L: Link, K: Sink>(
         Some(Command::Page(site, target)) => page_site(alloc, site, target, shelf, out),
         Some(Command::Replay(site, schedule, show)) => {
             replay_site(alloc, site, schedule, show, shelf, out)
+        }
+        Some(Command::Load(site, seed, clients)) => {
+            load_site(alloc, site, seed, clients, shelf, out)
         }
     }
 }

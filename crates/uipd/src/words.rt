@@ -1,9 +1,9 @@
-ghost use Rattle.std.specs.Prelude.{◌≡◌, Option, ℕ, map, option_map, string_bytes, IfSome};
+ghost use Rattle.std.specs.Prelude.{◌≡◌, Option, ℕ, Some, map, option_map, string_bytes, IfSome};
 ghost use Rattle.std.specs.Char.{is_ascii_digit};
 ghost use Rattle.std.specs.List.{list_all};
 ghost use Rattle.uipd.specs.Words.{task_meant, task_of, check_words as words_of_check, pack_words as words_of_pack, serve_words as words_of_serve};
 ghost use Rattle.uipd.specs.Words.{upgrade_words as words_of_upgrade};
-ghost use Rattle.uipd.specs.Words.{page_words as words_of_page, replay_words as words_of_replay};
+ghost use Rattle.uipd.specs.Words.{load_at as counted, load_with as words_with, load_words as words_of_load, page_words as words_of_page, replay_words as words_of_replay};
 ghost use Rattle.uipd.specs.Words.{ends_here as no_more, limited as limits_meant, limits_at as limits_behind, limits_of as limits_spelled, says_tty as terminal_told};
 ghost use Rattle.uipd.specs.Allowed.{IsAllowed};
 ghost use Rattle.uipd.specs.Words.{number_of as number_meant, is_number as number_form, leads_badly as bad_lead};
@@ -33,6 +33,9 @@ pub enum Command<'a> {
     Page(&'a str, &'a str),
     /// `replay SITE SCHEDULE`, and optionally `show`: a schedule is played by the web server of a site, and the report is written.
     Replay(&'a str, &'a str, bool),
+    /// `load SITE SEED CLIENTS`: the schedule that a seed makes for 1 to 64 clients is played by the web server of a site, and what it
+    /// came to is written in one line.
+    Load(&'a str, u64, u8),
 }
 
 /// The command that the words spell, if they have a form.
@@ -48,6 +51,7 @@ pub fn command_of(words: &[String]) -> Option<Command<'_>>
         [command, words @ ..] if command.as_str() == "upgrade" => upgrade_words(words),
         [command, words @ ..] if command.as_str() == "page" => page_words(words),
         [command, words @ ..] if command.as_str() == "replay" => replay_words(words),
+        [command, words @ ..] if command.as_str() == "load" => load_words(words),
         _ => None,
     }
 }
@@ -175,6 +179,39 @@ fn replay_words(words: &[String]) -> Option<Command<'_>>
         }
         _ => None,
     }
+}
+
+/// The words behind `load`: the site, the seed, and the number of clients.
+fn load_words(words: &[String]) -> Option<Command<'_>>
+    ensures task { option_map task_meant result ≡ words_of_load (map string_bytes words.now) }
+    ensures allowed { IfSome result IsAllowed }
+{
+    match words {
+        [site, seed, words @ ..] => load_with(site, number_of(seed)?, words),
+        _ => None,
+    }
+}
+
+/// The words behind the seed: the number of clients.
+fn load_with<'a>(site: &'a str, seed: u64, words: &[String]) -> Option<Command<'a>>
+    ensures task { option_map task_meant result ≡ words_with site.now (Some seed) (map string_bytes words.now) }
+    ensures allowed { IfSome result IsAllowed }
+{
+    match words {
+        [clients] => load_at(site, seed, number_of(clients)?),
+        _ => None,
+    }
+}
+
+/// A seed, and a number of clients from 1 to 64.
+fn load_at(site: &str, seed: u64, clients: u64) -> Option<Command<'_>>
+    ensures task { option_map task_meant result ≡ counted site.now seed (Some clients) }
+    ensures allowed { IfSome result IsAllowed }
+{
+    if 1 <= clients && clients <= 64 {
+        return Some(Command::Load(site, seed, clients as u8));
+    }
+    None
 }
 
 /// A number below 2^64 in decimal digits, without a leading zero.

@@ -18,3 +18,6 @@ returns-in-Some-Page-clause-untouched g c = λ e. absurd (site_never _ _ c.page_
 
 pub returns-in-Some-Replay-clause-untouched : goal.returns-in-Some-Replay-clause-untouched
 returns-in-Some-Replay-clause-untouched g c = λ e. absurd (replay_never _ _ c.replay_site.ensures.runs e)
+
+pub returns-in-Some-Load-clause-untouched : goal.returns-in-Some-Load-clause-untouched
+returns-in-Some-Load-clause-untouched g c = λ e. absurd (replay_never _ _ c.load_site.ensures.runs e)
