@@ -1,0 +1,5 @@
+mod FrontLaws
+mod Rows
+mod SeenLaws
+mod TellLaws
+mod TextLaws

@@ -1,0 +1,123 @@
+-- The frames that items bring behind others, and what is written of them.
+use Rattle.std.proofs.Common.{◌≡◌, ℕ, ◌+◌, true, false, List, [], ◌∷◌, ◌++◌, if◌then◌else◌, eqb, length, map, refl, sym, ap, ◌∙◌, append-nil, append_assoc, arith, length-append, subst}
+use Rattle.std.specs.List.{enumerate_from, flat_map}
+use Rattle.std.proofs.lemmas.List.{length-map, map-append}
+use Rattle.std.proofs.lemmas.List.Concat.{flat_map-append}
+use Rattle.uip_edge.specs.declared.item.Item.{Item}
+use Rattle.uip_edge.specs.declared.item.Item.TheVariants.{Byte, Quiet}
+use Rattle.uip_slip.specs.Frames.{Frame, frame_of, frames, open_part, unescaped}
+use Rattle.uip_slip.proofs.PartLaws.{frames-end, frames-plain, parts-byte}
+use Rattle.serve_loop.specs.LineEvents.{bytes_of, completed}
+use Rattle.serve_loop.proofs.EventLaws.{bytes_of-append, bytes_of-map}
+use Rattle.trace.specs.Seen.{Seen, seen_at, seen_behind, seen_on, silences_of}
+use Rattle.trace.specs.Watching.{frame_text, text_behind, texts_from}
+use Rattle.trace.specs.declared.form.Form.{Form}
+
+-- the frames that bytes complete behind others
+abbrev pub completed_by : List ℕ → List ℕ → List Frame
+completed_by before [] = []
+completed_by before (b ∷ bytes) = completed before b ++ completed_by (before ++ b ∷ []) bytes
+
+frames-byte : (before : List ℕ) (b : ℕ) → frames (before ++ b ∷ []) ≡ frames before ++ completed before b
+frames-byte before b =
+    elim (eqb b 192) as (λ v. eqb b 192 ≡ v → frames (before ++ b ∷ []) ≡ frames before ++ (if v then frame_of (unescaped (open_part before)) else [])) [
+      | true ↦ λ e. frames-end before b e
+      | false ↦ λ e. frames-plain before (b ∷ []) (parts-byte b e)
+    ] refl
+
+pub frames-then : (before bytes : List ℕ) → frames (before ++ bytes) ≡ frames before ++ completed_by before bytes
+frames-then before [] = ap (λ l. frames l) (append-nil before) ∙ sym (append-nil (frames before))
+frames-then before (b ∷ bytes) =
+    ap (λ l. frames l) (sym (append_assoc before (b ∷ []) bytes))
+    ∙ frames-then (before ++ b ∷ []) bytes
+    ∙ ap (λ l. l ++ completed_by (before ++ b ∷ []) bytes) (frames-byte before b)
+    ∙ append_assoc (frames before) (completed before b) (completed_by (before ++ b ∷ []) bytes)
+
+same_rest : (xs ys zs : List Frame) → xs ++ ys ≡ xs ++ zs → ys ≡ zs
+same_rest [] ys zs e = e
+same_rest (x ∷ xs) ys zs e = same_rest xs ys zs cc
+
+-- bytes bring the frames that they complete
+seen-bytes : (before : List ℕ) (silences : ℕ) (bytes : List ℕ) → seen_behind before silences (map Byte bytes) ≡ map (seen_at silences) (completed_by before bytes)
+seen-bytes before silences [] = refl
+seen-bytes before silences (b ∷ bytes) =
+    ap (λ l. map (seen_at silences) (completed before b) ++ l) (seen-bytes (before ++ b ∷ []) silences bytes)
+    ∙ sym (map-append (seen_at silences) (completed before b) (completed_by (before ++ b ∷ []) bytes))
+
+-- and these are what a decoder tells
+pub seen-told : (before : List ℕ) (silences : ℕ) (bytes : List ℕ) (told : List Frame) → frames (before ++ bytes) ≡ frames before ++ told
+    → seen_behind before silences (map Byte bytes) ≡ map (seen_at silences) told
+seen-told before silences bytes told e =
+    seen-bytes before silences bytes
+    ∙ ap (λ l. map (seen_at silences) l) (same_rest (frames before) (completed_by before bytes) told (sym (frames-then before bytes) ∙ e))
+
+frames_seen_at : (silences : ℕ) (told : List Frame) → map (λ seen. seen.frame) (map (seen_at silences) told) ≡ told
+frames_seen_at silences [] = refl
+frames_seen_at silences (frame ∷ told) = ap (λ l. frame ∷ l) (frames_seen_at silences told)
+
+abbrev pub frame_in : Seen → Frame
+frame_in seen = seen.frame
+
+seen-frames : (before : List ℕ) (silences : ℕ) (items : List Item) → map frame_in (seen_behind before silences items) ≡ completed_by before (bytes_of items)
+seen-frames before silences [] = refl
+seen-frames before silences (Byte b ∷ items) =
+    map-append frame_in (map (seen_at silences) (completed before b)) (seen_behind (before ++ b ∷ []) silences items)
+    ∙ ap (λ l. l ++ map frame_in (seen_behind (before ++ b ∷ []) silences items)) (frames_seen_at silences (completed before b))
+    ∙ ap (λ l. completed before b ++ l) (seen-frames (before ++ b ∷ []) silences items)
+seen-frames before silences (Quiet ∷ items) = seen-frames before (silences + 1) items
+
+-- the frames of a line are those that were seen on it
+pub frames_seen : (items : List Item) → map frame_in (seen_on items) ≡ frames (bytes_of items)
+frames_seen items = seen-frames [] 0 items ∙ sym (frames-then [] (bytes_of items))
+
+-- further items follow
+pub seen-then : (before : List ℕ) (silences : ℕ) (xs ys : List Item)
+    → seen_behind before silences (xs ++ ys) ≡ seen_behind before silences xs ++ seen_behind (before ++ bytes_of xs) (silences + silences_of xs) ys
+seen-then before silences [] ys = ap (λ l. seen_behind l silences ys) (sym (append-nil before)) ∙ ap (λ n. seen_behind (before ++ []) n ys) (omega arith)
+seen-then before silences (Byte b ∷ xs) ys =
+    let here = map (seen_at silences) (completed before b) in
+    let behind = before ++ b ∷ [] in
+    ap (λ l. here ++ l) (seen-then behind silences xs ys)
+    ∙ ap (λ l. here ++ (seen_behind behind silences xs ++ seen_behind l (silences + silences_of xs) ys)) (append_assoc before (b ∷ []) (bytes_of xs))
+    ∙ sym (append_assoc here (seen_behind behind silences xs) (seen_behind (before ++ b ∷ bytes_of xs) (silences + silences_of xs) ys))
+seen-then before silences (Quiet ∷ xs) ys =
+    seen-then before (silences + 1) xs ys
+    ∙ ap (λ n. seen_behind before (silences + 1) xs ++ seen_behind (before ++ bytes_of xs) n ys) (omega arith)
+
+pub silences-append : (xs ys : List Item) → silences_of (xs ++ ys) ≡ silences_of xs + silences_of ys
+silences-append [] ys = omega arith
+silences-append (Byte b ∷ xs) ys = silences-append xs ys
+silences-append (Quiet ∷ xs) ys = let rest = silences-append xs ys in omega arith
+
+pub silences-bytes : (bytes : List ℕ) → silences_of (map Byte bytes) ≡ 0
+silences-bytes [] = refl
+silences-bytes (b ∷ bytes) = silences-bytes bytes
+
+enumerate-append : {X : Type 0} (n : ℕ) (xs ys : List X) → enumerate_from n (xs ++ ys) ≡ enumerate_from n xs ++ enumerate_from (n + length xs) ys
+enumerate-append n [] ys = ap (λ k. enumerate_from k ys) (omega arith)
+enumerate-append n (x ∷ xs) ys =
+    ap (λ l. (n, x) ∷ l) (enumerate-append (n + 1) xs ys ∙ ap (λ k. enumerate_from (n + 1) xs ++ enumerate_from k ys) (omega arith))
+
+texts-append : (form : Form) (n : ℕ) (xs ys : List Seen) → texts_from form n (xs ++ ys) ≡ texts_from form n xs ++ texts_from form (n + length xs) ys
+texts-append form n xs ys =
+    ap (λ l. flat_map (frame_text form) l) (enumerate-append n xs ys)
+    ∙ flat_map-append (frame_text form) (enumerate_from n xs) (enumerate_from (n + length xs) ys)
+
+-- what was seen of items behind others
+pub seen_on-append : (xs ys : List Item) → seen_on (xs ++ ys) ≡ seen_on xs ++ seen_behind (bytes_of xs) (silences_of xs) ys
+seen_on-append xs ys = seen-then [] 0 xs ys ∙ ap (λ n. seen_on xs ++ seen_behind (bytes_of xs) n ys) (omega arith)
+
+-- the text of items, and then that of further ones
+pub text-then : (form : Form) (before xs ys : List Item) → text_behind form before (xs ++ ys) ≡ text_behind form before xs ++ text_behind form (before ++ xs) ys
+text-then form before xs ys =
+    let bytes = bytes_of before in
+    let silences = silences_of before in
+    let first = seen_behind bytes silences xs in
+    let more = seen_behind (bytes ++ bytes_of xs) (silences + silences_of xs) ys in
+    let number = length (seen_on before) + 1 in
+    ap (λ l. texts_from form number l) (seen-then bytes silences xs ys)
+    ∙ texts-append form number first more
+    ∙ ap (λ l. texts_from form number first ++ texts_from form (number + length first) (seen_behind l (silences + silences_of xs) ys)) (sym (bytes_of-append before xs))
+    ∙ ap (λ n. texts_from form number first ++ texts_from form (number + length first) (seen_behind (bytes_of (before ++ xs)) n ys)) (sym (silences-append before xs))
+    ∙ ap (λ n. texts_from form number first ++ texts_from form n (seen_behind (bytes_of (before ++ xs)) (silences_of (before ++ xs)) ys))
+        (let size = ap (λ l. length l) (seen_on-append before xs) in omega (arith, size, length-append (seen_on before) first))

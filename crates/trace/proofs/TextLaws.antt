@@ -1,0 +1,26 @@
+-- The texts of a dump and of a capture file are what is written frame by frame.
+use Rattle.std.proofs.Common.{◌≡◌, ℕ, ◌+◌, List, [], ◌∷◌, ◌++◌, map, refl, sym, ap, ◌∙◌, append-nil}
+use Rattle.std.specs.List.{enumerate_from, flat_map}
+use Rattle.uip_edge.specs.declared.item.Item.{Item}
+use Rattle.uip_slip.specs.Frames.{Frame, frames}
+use Rattle.serve_loop.specs.LineEvents.{bytes_of}
+use Rattle.trace.specs.CaptureText.{capture_header, capture_text, seen_record}
+use Rattle.trace.specs.DumpText.{dump_line, dump_text, numbered_line}
+use Rattle.trace.specs.Seen.{Seen, seen_on}
+use Rattle.trace.specs.Watching.{frame_text, text_behind, texts_from}
+use Rattle.trace.specs.declared.form.Form.TheVariants.{Capture, Dump}
+use Rattle.trace.proofs.SeenLaws.{frame_in, frames_seen}
+
+lines_of : (n : ℕ) (seen : List Seen) → flat_map numbered_line (enumerate_from n (map frame_in seen)) ≡ texts_from Dump n seen
+lines_of n [] = refl
+lines_of n (s ∷ seen) = ap (λ l. dump_line n s.frame ++ l) (lines_of (n + 1) seen)
+
+pub dump_is : (items : List Item) → dump_text items ≡ text_behind Dump [] items
+dump_is items = ap (λ l. flat_map numbered_line (enumerate_from 1 l)) (sym (frames_seen items)) ∙ lines_of 1 (seen_on items)
+
+records_of : (n : ℕ) (seen : List Seen) → flat_map seen_record seen ≡ texts_from Capture n seen
+records_of n [] = refl
+records_of n (s ∷ seen) = ap (λ l. seen_record s ++ l) (records_of (n + 1) seen)
+
+pub capture_is : (items : List Item) → capture_text items ≡ capture_header ++ text_behind Capture [] items
+capture_is items = ap (λ l. capture_header ++ l) (records_of 1 (seen_on items))

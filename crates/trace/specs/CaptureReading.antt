@@ -1,0 +1,96 @@
+-- What a capture file holds: its grammar in either byte order, and where its bytes end.
+use Rattle.std.specs.Prelude.{◌≡◌, ◌<◌, ◌≤◌, ◌+◌, ◌*◌, ◌&&◌, ⊤, ℕ, Bool, List, [], ◌∷◌, ◌++◌, length, take, drop, slice_index, Option, Some, None, if◌then◌else◌}
+use Rattle.std.specs.List.{AllByRecursion, flat_map}
+use Rattle.std.specs.Str.{bytes_eq}
+use Rattle.uip_slip.specs.Text.{slip_text}
+use Rattle.uip_wire.specs.Fields.{long_at}
+use Rattle.uip_wire.specs.declared.sizes.TheConstants.{LARGEST_DATAGRAM}
+use Rattle.trace.specs.CaptureText.{link_type, signature}
+use Rattle.trace.specs.declared.byte_order.ByteOrder.{ByteOrder}
+use Rattle.trace.specs.declared.byte_order.ByteOrder.TheVariants.{Big, Little}
+
+-- the field of four bytes at a place, in a byte order
+abbrev pub field_at : ByteOrder → List ℕ → ℕ → ℕ
+field_at Big bytes at = long_at bytes at
+field_at Little bytes at =
+    slice_index bytes at + 256 * slice_index bytes (at + 1) + 65536 * slice_index bytes (at + 2) + 16777216 * slice_index bytes (at + 3)
+
+-- a header has the signature and the link type; what stands between them is free
+abbrev pub is_header : ByteOrder → List ℕ → Bool
+is_header order header = bytes_eq (take 8 header) (signature order) && bytes_eq (drop 20 header) (link_type order)
+
+-- the byte order of the file with this header, if it is a good one
+abbrev pub order_of : List ℕ → Option ByteOrder
+order_of header = if is_header Big header then Some Big else if is_header Little header then Some Little else None
+
+-- a record: the sixteen bytes of its times and lengths, and its data
+pub record Entry : Type 0 where
+  pub head : List ℕ
+  pub body : List ℕ
+
+abbrev pub entry_bytes : Entry → List ℕ
+entry_bytes entry = entry.head ++ entry.body
+
+-- the length of a record's data stands third among its four numbers; the times and the second length are free
+abbrev pub length_in : ByteOrder → List ℕ → ℕ
+length_in order head = field_at order head 8
+
+pub record IsEntry (order : ByteOrder) (entry : Entry) : Type 0 where
+  pub head : length entry.head ≡ 16
+  pub body : length entry.body ≡ length_in order entry.head
+  pub fits : length entry.body ≤ LARGEST_DATAGRAM
+
+-- a header and whole records, and the bytes behind them
+pub record BeginsWith (order : ByteOrder) (entries : List Entry) (rest bytes : List ℕ) : Type 0 where
+  pub header : List ℕ
+  pub size : length header ≡ 24
+  pub order : order_of header ≡ Some order
+  pub sound : AllByRecursion (IsEntry order) entries
+  pub spelled : bytes ≡ header ++ flat_map entry_bytes entries ++ rest
+
+-- these bytes are less than a record, and none of its four numbers is at fault yet
+pub record IsPart (order : ByteOrder) (rest : List ℕ) : Type 0 where
+  pub fits : 16 ≤ length rest → length_in order rest ≤ LARGEST_DATAGRAM
+  pub short : 16 ≤ length rest → length rest < 16 + length_in order rest
+
+-- the record that these bytes begin tells a length that no datagram has
+pub record IsTooLong (order : ByteOrder) (rest : List ℕ) : Type 0 where
+  pub head : 16 ≤ length rest
+  pub long : LARGEST_DATAGRAM < length_in order rest
+
+-- where the bytes of a capture end
+pub data Reading : Type 0 where
+  InHeader : Reading
+  BadHeader : Reading
+  Whole : List Entry → Reading
+  InEntry : List Entry → Reading
+  BadLength : List Entry → Reading
+
+-- the bytes are read so
+abbrev pub IsReadAs : List ℕ → Reading → Type 0
+IsReadAs bytes InHeader = length bytes < 24
+IsReadAs bytes BadHeader = (24 ≤ length bytes) × (order_of (take 24 bytes) ≡ None)
+IsReadAs bytes (Whole entries) = (order : ByteOrder) × BeginsWith order entries [] bytes
+IsReadAs bytes (InEntry entries) =
+    (order : ByteOrder) × (rest : List ℕ) × BeginsWith order entries rest bytes × (0 < length rest) × IsPart order rest
+IsReadAs bytes (BadLength entries) = (order : ByteOrder) × (rest : List ℕ) × BeginsWith order entries rest bytes × IsTooLong order rest
+
+-- the whole records
+abbrev pub entries_of : Reading → List Entry
+entries_of InHeader = []
+entries_of BadHeader = []
+entries_of (Whole entries) = entries
+entries_of (InEntry entries) = entries
+entries_of (BadLength entries) = entries
+
+-- a datagram of no bytes has no frame
+abbrev pub line_text : List ℕ → List ℕ
+line_text [] = []
+line_text (b ∷ datagram) = slip_text (b ∷ datagram)
+
+abbrev pub entry_line : Entry → List ℕ
+entry_line entry = line_text entry.body
+
+-- the serial line of the whole records
+abbrev pub slip_of : Reading → List ℕ
+slip_of reading = flat_map entry_line (entries_of reading)

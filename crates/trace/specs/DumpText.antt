@@ -1,0 +1,110 @@
+-- The text of a dump: one line for each frame of a serial line.
+use Rattle.std.specs.Prelude.{ℕ, List, [], ◌∷◌, ◌++◌, length, slice_index, Option, Some, None, Result, Ok, Err, Bool, if◌then◌else◌, codes, decimal}
+use Rattle.std.specs.List.{enumerate_from, flat_map}
+use Rattle.uip_wire.specs.Addr.{address_at}
+use Rattle.uip_ipv4.specs.Head.{head_or_fate, payload_of}
+use Rattle.uip_ipv4.specs.declared.fate.IpFate.{IpFate}
+use Rattle.uip_ipv4.specs.declared.fate.IpFate.TheVariants as ip
+use Rattle.uip_ipv4.specs.declared.head.IpHead.{IpHead}
+use Rattle.uip_ipv4.specs.declared.proto.Proto.{Proto}
+use Rattle.uip_ipv4.specs.declared.proto.Proto.TheVariants.{Icmp, Tcp}
+use Rattle.icmp_echo.specs.Echo.{echo_fate}
+use Rattle.icmp_echo.specs.declared.fate.IcmpFate.{IcmpFate}
+use Rattle.icmp_echo.specs.declared.fate.IcmpFate.TheVariants as icmp
+use Rattle.tcp_segment.specs.Received.{segment_or_fate}
+use Rattle.tcp_segment.specs.Segments.{has_ack, has_fin, has_psh, has_rst, has_syn}
+use Rattle.tcp_segment.specs.declared.fate.TcpFate.{TcpFate}
+use Rattle.tcp_segment.specs.declared.fate.TcpFate.TheVariants as tcp
+use Rattle.tcp_segment.specs.declared.segment.Segment.{Segment}
+use Rattle.uip_edge.specs.declared.item.Item.{Item}
+use Rattle.uip_slip.specs.Frames.{Frame, Datagram, Overlong, frames}
+use Rattle.serve_loop.specs.LineEvents.{bytes_of}
+
+-- an address as a dotted quad
+abbrev pub quad_text : List ℕ → List ℕ
+quad_text address =
+    decimal (slice_index address 0) ++ codes "." ++ decimal (slice_index address 1) ++ codes "."
+    ++ decimal (slice_index address 2) ++ codes "." ++ decimal (slice_index address 3)
+
+abbrev pub letter_if : Bool → List ℕ → List ℕ
+letter_if set letter = if set then letter else []
+
+-- the letters of the flags that are set (RFC 793, section 3.1), URG left out
+abbrev pub letters_of : ℕ → List ℕ
+letters_of flags =
+    letter_if (has_syn flags) (codes "S") ++ letter_if (has_ack flags) (codes "A") ++ letter_if (has_psh flags) (codes "P")
+    ++ letter_if (has_fin flags) (codes "F") ++ letter_if (has_rst flags) (codes "R")
+
+-- a dash stands for none
+abbrev pub letters_or_dash : List ℕ → List ℕ
+letters_or_dash [] = codes "-"
+letters_or_dash (letter ∷ letters) = letter ∷ letters
+
+-- why a datagram is dropped; that it is for another node is never told, since its own destination is taken for the node
+abbrev pub ip_word : IpFate → List ℕ
+ip_word ip.Short = codes "short"
+ip_word ip.Version = codes "version"
+ip_word ip.Length = codes "length"
+ip_word ip.Fragment = codes "fragment"
+ip_word ip.Checksum = codes "checksum"
+ip_word ip.NotOurs = []
+ip_word ip.Protocol = codes "protocol"
+
+abbrev pub tcp_word : TcpFate → List ℕ
+tcp_word tcp.Short = codes "short"
+tcp_word tcp.Offset = codes "offset"
+tcp_word tcp.Checksum = codes "checksum"
+
+-- a sound message: the two addresses, its type and its code (RFC 792)
+abbrev pub message_words : IpHead → List ℕ → List ℕ
+message_words head message =
+    quad_text head.source.0 ++ codes " " ++ quad_text head.target.0 ++ codes " "
+    ++ decimal (slice_index message 0) ++ codes " " ++ decimal (slice_index message 1)
+
+-- what is told of a message: it need be no echo request
+abbrev pub icmp_words : IpHead → List ℕ → Option IcmpFate → List ℕ
+icmp_words head message (Some icmp.Short) = codes "short"
+icmp_words head message (Some icmp.Checksum) = codes "checksum"
+icmp_words head message (Some icmp.NotEcho) = message_words head message
+icmp_words head message None = message_words head message
+
+-- an address and a port
+abbrev pub socket_text : List ℕ → ℕ → List ℕ
+socket_text address port = quad_text address ++ codes ":" ++ decimal port
+
+-- sequence number, acknowledgement number, and the length of the text
+abbrev pub numbers_text : Segment → List ℕ
+numbers_text s = decimal s.seq.0 ++ codes " " ++ decimal s.ack.0 ++ codes " " ++ decimal s.text_len
+
+-- a sound segment: the two sockets, its flags and its numbers
+abbrev pub segment_words : IpHead → Segment → List ℕ
+segment_words head s =
+    socket_text head.source.0 s.from.0 ++ codes " " ++ socket_text head.target.0 s.to.0 ++ codes " "
+    ++ letters_or_dash (letters_of s.flags) ++ codes " " ++ numbers_text s
+
+abbrev pub tcp_words : IpHead → Result Segment TcpFate → List ℕ
+tcp_words head (Err fate) = tcp_word fate
+tcp_words head (Ok s) = segment_words head s
+
+-- what is told of a datagram whose header is sound
+abbrev pub payload_words : Proto → IpHead → List ℕ → List ℕ
+payload_words Icmp head bytes = codes " icmp " ++ icmp_words head (payload_of head bytes) (echo_fate (payload_of head bytes))
+payload_words Tcp head bytes = codes " tcp " ++ tcp_words head (segment_or_fate head bytes)
+
+abbrev pub datagram_words : Result IpHead IpFate → List ℕ → List ℕ
+datagram_words (Err fate) bytes = codes " ip " ++ ip_word fate
+datagram_words (Ok head) bytes = payload_words head.proto head bytes
+
+-- the line of a frame with its number: a datagram's has its length, and the first check that it fails or what it says, with
+-- its own destination taken for the node's address
+abbrev pub dump_line : ℕ → Frame → List ℕ
+dump_line number Overlong = decimal number ++ codes " overlong\n"
+dump_line number (Datagram bytes) =
+    decimal number ++ codes " " ++ decimal (length bytes) ++ datagram_words (head_or_fate bytes (address_at bytes 16)) bytes ++ codes "\n"
+
+abbrev pub numbered_line : ℕ × Frame → List ℕ
+numbered_line numbered = dump_line numbered.0 numbered.1
+
+-- the lines of the frames, numbered from 1
+abbrev pub dump_text : List Item → List ℕ
+dump_text items = flat_map numbered_line (enumerate_from 1 (frames (bytes_of items)))

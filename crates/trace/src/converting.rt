@@ -1,0 +1,19 @@
+use crate::reader::{Reader, Turn};
+use crate::slip_end::SlipEnd;
+use crate::telling::BLOCK;
+use uip_edge::{Link, Sink};
+
+/// Reads a capture file and writes its datagrams as a serial line, up to so many items.
+pub fn slip<L: Link, K: Sink>(link: &mut L, sink: &mut K, items: u64) -> SlipEnd {
+    let mut reader = Reader::new();
+    let mut buf = [0; BLOCK];
+    let mut left = items;
+    while left > 0 {
+        let room = left.min(BLOCK as u64) as usize;
+        match reader.turn(&mut buf[..room], link, sink) {
+            Turn::Went(count) => left -= count,
+            Turn::Stopped(end) => return end,
+        }
+    }
+    SlipEnd::Budget
+}

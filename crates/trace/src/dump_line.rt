@@ -1,0 +1,209 @@
+//! The line of a frame.
+
+ghost use Rattle.std.specs.Prelude.{◌≡◌, ◌+◌, ◌≤◌, ◌++◌, [], IfOk, length};
+ghost use Rattle.uip_slip.specs.Frames.{Datagram, Overlong};
+ghost use Rattle.uip_ipv4.specs.Head.{IsHeadOf, head_or_fate};
+ghost use Rattle.uip_wire.specs.Addr.{address_at};
+ghost use Rattle.icmp_echo.specs.Echo.{echo_fate};
+ghost use Rattle.trace.specs.DumpText.{datagram_words, dump_line, icmp_words, ip_word, letters_of, letters_or_dash, numbers_text, payload_words, quad_text, segment_words, socket_text, tcp_word, tcp_words};
+
+use crate::area::Area;
+use tcp_segment::{Segment, TcpFate, check as check_segment};
+use uip_ipv4::{IpFate, IpHead, Proto, check as check_head};
+use uip_wire::{Addr, LARGEST_DATAGRAM, Port, checksum};
+
+/// The line of an overlong frame.
+pub(crate) fn put_overlong_line(area: &mut Area, number: u64)
+    requires { area.old ≡ [] }
+    ensures { area.new ≡ dump_line number Overlong }
+{
+    area.put_number(number);
+    area.put(b" overlong\n");
+}
+
+/// The line of a datagram.
+pub(crate) fn put_datagram_line(area: &mut Area, number: u64, datagram: &[u8])
+    requires empty { area.old ≡ [] }
+    requires most { length datagram.now ≤ LARGEST_DATAGRAM }
+    ensures { area.new ≡ dump_line number (Datagram datagram.now) }
+{
+    area.put_number(number);
+    area.put(b" ");
+    area.put_number(datagram.len() as u64);
+    put_datagram_words(area, datagram);
+    area.put(b"\n");
+}
+
+/// The line goes on with the first check that a datagram fails, or with what it says.
+fn put_datagram_words(area: &mut Area, datagram: &[u8])
+    requires room { length area.old ≤ 900 }
+    requires most { length datagram.now ≤ LARGEST_DATAGRAM }
+    ensures text { area.new ≡ area.old ++ datagram_words (head_or_fate datagram.now (address_at datagram.now 16)) datagram.now }
+    ensures len { length area.new ≤ length area.old + 300 }
+{
+    match head_of(datagram) {
+        Ok(head) => put_payload(area, &head, datagram),
+        Err(fate) => {
+            area.put(b" ip ");
+            area.put(ip_text(fate));
+        }
+    }
+}
+
+/// The header of a datagram at its own destination, or the first check that fails.
+#[tactic(auto, unfolding(uip_ipv4::specs::Head::head_or_fate))]
+fn head_of(datagram: &[u8]) -> Result<IpHead, IpFate>
+    ensures exact { result ≡ head_or_fate datagram.now (address_at datagram.now 16) }
+    ensures checked { IfOk result (λ head. IsHeadOf head datagram.now) }
+    ensures least { IfOk result (λ head. 20 ≤ head.total) }
+    ensures most { IfOk result (λ head. head.total ≤ length datagram.now) }
+{
+    if datagram.len() < 20 {
+        return Err(IpFate::Short);
+    }
+    check_head(datagram, Addr::get(datagram, 16))
+}
+
+/// The word of a fate.
+fn ip_text(fate: IpFate) -> &'static [u8]
+    ensures text { result.now ≡ ip_word fate }
+    ensures short { length result.now ≤ 8 }
+{
+    match fate {
+        IpFate::Short => b"short",
+        IpFate::Version => b"version",
+        IpFate::Length => b"length",
+        IpFate::Fragment => b"fragment",
+        IpFate::Checksum => b"checksum",
+        IpFate::NotOurs => b"",
+        IpFate::Protocol => b"protocol",
+    }
+}
+
+/// The line goes on with what a datagram carries.
+fn put_payload(area: &mut Area, head: &IpHead, datagram: &[u8])
+    requires room { length area.old ≤ 900 }
+    requires head { IsHeadOf head.now datagram.now }
+    requires least { 20 ≤ head.now.total }
+    requires most { head.now.total ≤ length datagram.now }
+    ensures text { area.new ≡ area.old ++ payload_words head.now.proto head.now datagram.now }
+    ensures len { length area.new ≤ length area.old + 300 }
+{
+    match head.proto {
+        Proto::Icmp => {
+            area.put(b" icmp ");
+            put_message(area, head, &datagram[20..usize::from(head.total)]);
+        }
+        Proto::Tcp => {
+            area.put(b" tcp ");
+            put_segment(area, head, check_segment(datagram, head));
+        }
+    }
+}
+
+/// The line goes on with the first check that a message fails, or with what it says. It need be no echo request.
+fn put_message(area: &mut Area, head: &IpHead, message: &[u8])
+    requires room { length area.old ≤ 1000 }
+    ensures text { area.new ≡ area.old ++ icmp_words head.now message.now (echo_fate message.now) }
+    ensures len { length area.new ≤ length area.old + 290 }
+{
+    if message.len() < 8 {
+        return area.put(b"short");
+    }
+    if checksum(message) != 0 {
+        return area.put(b"checksum");
+    }
+    put_quad(area, head.source);
+    area.put(b" ");
+    put_quad(area, head.target);
+    area.put(b" ");
+    area.put_number(u64::from(message[0]));
+    area.put(b" ");
+    area.put_number(u64::from(message[1]));
+}
+
+/// The line goes on with the first check that a segment fails, or with what it says.
+fn put_segment(area: &mut Area, head: &IpHead, read: Result<Segment, TcpFate>)
+    requires room { length area.old ≤ 1000 }
+    ensures text { area.new ≡ area.old ++ tcp_words head.now read }
+    ensures len { length area.new ≤ length area.old + 290 }
+{
+    match read {
+        Ok(segment) => put_segment_words(area, head, &segment),
+        Err(TcpFate::Short) => area.put(b"short"),
+        Err(TcpFate::Offset) => area.put(b"offset"),
+        Err(TcpFate::Checksum) => area.put(b"checksum"),
+    }
+}
+
+/// The line goes on with what a segment says.
+fn put_segment_words(area: &mut Area, head: &IpHead, segment: &Segment)
+    requires room { length area.old ≤ 1000 }
+    ensures text { area.new ≡ area.old ++ segment_words head.now segment.now }
+    ensures len { length area.new ≤ length area.old + 290 }
+{
+    put_socket(area, head.source, segment.from);
+    area.put(b" ");
+    put_socket(area, head.target, segment.to);
+    area.put(b" ");
+    put_flags(area, segment);
+    area.put(b" ");
+    put_numbers(area, segment);
+}
+
+/// The line goes on with a segment's numbers and the length of its text.
+fn put_numbers(area: &mut Area, segment: &Segment)
+    requires room { length area.old ≤ 1300 }
+    ensures text { area.new ≡ area.old ++ numbers_text segment.now }
+    ensures len { length area.new ≤ length area.old + 62 }
+{
+    area.put_number(u64::from(segment.seq.0));
+    area.put(b" ");
+    area.put_number(u64::from(segment.ack.0));
+    area.put(b" ");
+    area.put_number(segment.text_len as u64);
+}
+
+/// The line goes on with an address and a port.
+fn put_socket(area: &mut Area, address: Addr, port: Port)
+    requires room { length area.old ≤ 1300 }
+    ensures text { area.new ≡ area.old ++ socket_text address.0 port.0 }
+    ensures len { length area.new ≤ length area.old + 104 }
+{
+    put_quad(area, address);
+    area.put(b":");
+    area.put_number(u64::from(port.0));
+}
+
+/// The line goes on with an address as a dotted quad.
+fn put_quad(area: &mut Area, address: Addr)
+    requires room { length area.old ≤ 1300 }
+    ensures text { area.new ≡ area.old ++ quad_text address.0 }
+    ensures len { length area.new ≤ length area.old + 83 }
+{
+    let [first, second, third, fourth] = address.0;
+    area.put_number(u64::from(first));
+    area.put(b".");
+    area.put_number(u64::from(second));
+    area.put(b".");
+    area.put_number(u64::from(third));
+    area.put(b".");
+    area.put_number(u64::from(fourth));
+}
+
+/// The line goes on with the letters of a segment's flags, or with a dash where there are none.
+fn put_flags(area: &mut Area, segment: &Segment)
+    requires room { length area.old ≤ 1300 }
+    ensures text { area.new ≡ area.old ++ letters_or_dash (letters_of segment.now.flags) }
+    ensures len { length area.new ≤ length area.old + 5 }
+{
+    let before = area.len();
+    area.put_if(segment.has_syn(), b"S");
+    area.put_if(segment.has_ack(), b"A");
+    area.put_if(segment.has_psh(), b"P");
+    area.put_if(segment.has_fin(), b"F");
+    area.put_if(segment.has_rst(), b"R");
+    if area.len() == before {
+        area.put(b"-");
+    }
+}

@@ -1,0 +1,19 @@
+//! Serial lines that can be read: `dump` writes a line of text for each frame, `pcap` a capture file of the datagrams, and `slip`
+//! makes a capture file a serial line again. What is written is told of the whole list of items that were taken, however the link
+//! cut them. No call is given an allocator.
+#![tactic(auto)]
+
+mod area;
+mod byte_order;
+mod converting;
+mod dump_line;
+mod form;
+mod reader;
+mod record;
+mod slip_end;
+mod telling;
+mod watch;
+
+pub use converting::slip;
+pub use slip_end::{CaptureWhy, SlipEnd};
+pub use telling::{dump, pcap};

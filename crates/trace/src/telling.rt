@@ -1,0 +1,56 @@
+ghost use Rattle.std.specs.Prelude.{◌≡◌, ◌+◌, ◌<◌, ◌++◌, ◌^◌, [], List, ℕ, Some, length};
+ghost use Rattle.std.specs.Io.KnownBytes.{Appends};
+ghost use Rattle.uip_edge.specs.declared.item.Item.{Item};
+ghost use Rattle.serve_loop.specs.Outside.{outside};
+ghost use Rattle.trace.specs.CaptureText.{capture_text};
+ghost use Rattle.trace.specs.DumpText.{dump_text};
+ghost use Rattle.trace.specs.Telling.{Tells};
+ghost use Rattle.trace.specs.Watching.{text_behind};
+
+use crate::form::Form;
+use crate::record::HEADER;
+use crate::watch::{Turn, Watch};
+use uip_edge::{Link, ServeEnd, Sink};
+
+/// The most bytes that are asked of a link at once.
+pub(crate) const BLOCK: usize = 4096;
+
+/// Writes a line of text for each frame of a serial line, up to so many items.
+pub fn dump<L: Link, K: Sink>(link: &mut L, sink: &mut K, items: u64) -> ServeEnd
+    ensures { Tells dump_text items
+        (outside L.coming K.written L.faults K.faults link.old sink.old)
+        (outside L.coming K.written L.faults K.faults link.new sink.new) result }
+{
+    watch_line(Form::Dump, link, sink, items)
+}
+
+/// Writes a capture file of the datagrams of a serial line, up to so many items.
+pub fn pcap<L: Link, K: Sink>(link: &mut L, sink: &mut K, items: u64) -> ServeEnd
+    ensures { Tells capture_text items
+        (outside L.coming K.written L.faults K.faults link.old sink.old)
+        (outside L.coming K.written L.faults K.faults link.new sink.new) result }
+{
+    match sink.write_whole(&HEADER) {
+        Ok(()) => watch_line(Form::Capture, link, sink, items),
+        Err(_) => ServeEnd::WriteFault,
+    }
+}
+
+/// Takes items of a line, until so many were taken.
+fn watch_line<L: Link, K: Sink>(form: Form, link: &mut L, sink: &mut K, items: u64) -> ServeEnd
+    ensures { Tells (text_behind form []) items
+        (outside L.coming K.written L.faults K.faults link.old sink.old)
+        (outside L.coming K.written L.faults K.faults link.new sink.new) result }
+{
+    let mut watch = Watch::new(form);
+    let mut buf = [0; BLOCK];
+    let mut left = items;
+    while left > 0 {
+        let room = left.min(BLOCK as u64) as usize;
+        match watch.turn(&mut buf[..room], link, sink) {
+            Turn::Went(count) => left -= count,
+            Turn::Stopped(end) => return end,
+        }
+    }
+    ServeEnd::Budget
+}
