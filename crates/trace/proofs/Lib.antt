@@ -1,4 +1,6 @@
+mod EntryLaws
 mod FrontLaws
+mod ReadLaws
 mod Rows
 mod SeenLaws
 mod TellLaws

@@ -14,8 +14,10 @@ use Rattle.trace.specs.DumpText.{dump_text}
 -- an echo request of 10.0.0.2, its reply, and a SYN to a port where nobody listens
 request : List ℕ
 request = 0x45 ∷ 0 ∷ 0 ∷ 0x1C ∷ 0 ∷ 1 ∷ 0 ∷ 0 ∷ 0x40 ∷ 1 ∷ 0x66 ∷ 0xDE ∷ 0x0A ∷ 0 ∷ 0 ∷ 2 ∷ 0x0A ∷ 0 ∷ 0 ∷ 1 ∷ 8 ∷ 0 ∷ 0xF7 ∷ 0xFD ∷ 0 ∷ 1 ∷ 0 ∷ 1 ∷ []
+
 reply : List ℕ
 reply = 0x45 ∷ 0 ∷ 0 ∷ 0x1C ∷ 0 ∷ 1 ∷ 0 ∷ 0 ∷ 0x40 ∷ 1 ∷ 0x66 ∷ 0xDE ∷ 0x0A ∷ 0 ∷ 0 ∷ 1 ∷ 0x0A ∷ 0 ∷ 0 ∷ 2 ∷ 0 ∷ 0 ∷ 0xFF ∷ 0xFD ∷ 0 ∷ 1 ∷ 0 ∷ 1 ∷ []
+
 syn : List ℕ
 syn = 0x45 ∷ 0 ∷ 0 ∷ 0x28 ∷ 0 ∷ 1 ∷ 0 ∷ 0 ∷ 0x40 ∷ 6 ∷ 0x66 ∷ 0xCD ∷ 0x0A ∷ 0 ∷ 0 ∷ 2 ∷ 0x0A ∷ 0 ∷ 0 ∷ 1 ∷ 4 ∷ 1 ∷ 0 ∷ 0x51 ∷ 0 ∷ 0 ∷ 3 ∷ 0xE8
     ∷ 0 ∷ 0 ∷ 0 ∷ 0 ∷ 0x50 ∷ 2 ∷ 0x20 ∷ 0 ∷ 0x73 ∷ 0xA6 ∷ 0 ∷ 0 ∷ []

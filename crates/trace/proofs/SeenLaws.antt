@@ -120,4 +120,4 @@ text-then form before xs ys =
     ∙ ap (λ l. texts_from form number first ++ texts_from form (number + length first) (seen_behind l (silences + silences_of xs) ys)) (sym (bytes_of-append before xs))
     ∙ ap (λ n. texts_from form number first ++ texts_from form (number + length first) (seen_behind (bytes_of (before ++ xs)) n ys)) (sym (silences-append before xs))
     ∙ ap (λ n. texts_from form number first ++ texts_from form n (seen_behind (bytes_of (before ++ xs)) (silences_of (before ++ xs)) ys))
-        (let size = ap (λ l. length l) (seen_on-append before xs) in omega (arith, size, length-append (seen_on before) first))
+    (let size = ap (λ l. length l) (seen_on-append before xs) in omega (arith, size, length-append (seen_on before) first))

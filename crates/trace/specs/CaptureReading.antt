@@ -8,6 +8,8 @@ use Rattle.uip_wire.specs.declared.sizes.TheConstants.{LARGEST_DATAGRAM}
 use Rattle.trace.specs.CaptureText.{link_type, signature}
 use Rattle.trace.specs.declared.byte_order.ByteOrder.{ByteOrder}
 use Rattle.trace.specs.declared.byte_order.ByteOrder.TheVariants.{Big, Little}
+use Rattle.trace.specs.declared.slip_end.CaptureWhy.{CaptureWhy}
+use Rattle.trace.specs.declared.slip_end.CaptureWhy.TheVariants.{Head, Length}
 
 -- the field of four bytes at a place, in a byte order
 abbrev pub field_at : ByteOrder → List ℕ → ℕ → ℕ
@@ -44,7 +46,7 @@ pub record IsEntry (order : ByteOrder) (entry : Entry) : Type 0 where
 pub record BeginsWith (order : ByteOrder) (entries : List Entry) (rest bytes : List ℕ) : Type 0 where
   pub header : List ℕ
   pub size : length header ≡ 24
-  pub order : order_of header ≡ Some order
+  pub good : order_of header ≡ Some order
   pub sound : AllByRecursion (IsEntry order) entries
   pub spelled : bytes ≡ header ++ flat_map entry_bytes entries ++ rest
 
@@ -75,6 +77,22 @@ IsReadAs bytes (InEntry entries) =
     (order : ByteOrder) × (rest : List ℕ) × BeginsWith order entries rest bytes × (0 < length rest) × IsPart order rest
 IsReadAs bytes (BadLength entries) = (order : ByteOrder) × (rest : List ℕ) × BeginsWith order entries rest bytes × IsTooLong order rest
 
+-- what is wrong with the bytes so far, and in which record: the header has number 0
+abbrev pub fault_of : Reading → Option (ℕ × CaptureWhy)
+fault_of InHeader = None
+fault_of BadHeader = Some (0, Head)
+fault_of (Whole entries) = None
+fault_of (InEntry entries) = None
+fault_of (BadLength entries) = Some (length entries + 1, Length)
+
+-- the record that an end of the bytes cuts
+abbrev pub cut_of : Reading → Option ℕ
+cut_of InHeader = Some 0
+cut_of BadHeader = None
+cut_of (Whole entries) = None
+cut_of (InEntry entries) = Some (length entries + 1)
+cut_of (BadLength entries) = None
+
 -- the whole records
 abbrev pub entries_of : Reading → List Entry
 entries_of InHeader = []
@@ -91,6 +109,6 @@ line_text (b ∷ datagram) = slip_text (b ∷ datagram)
 abbrev pub entry_line : Entry → List ℕ
 entry_line entry = line_text entry.body
 
--- the serial line of the whole records
-abbrev pub slip_of : Reading → List ℕ
-slip_of reading = flat_map entry_line (entries_of reading)
+-- the serial line of records
+abbrev pub lines_of : List Entry → List ℕ
+lines_of entries = flat_map entry_line entries

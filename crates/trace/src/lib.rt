@@ -7,10 +7,12 @@ mod area;
 mod byte_order;
 mod converting;
 mod dump_line;
+mod fields;
 mod form;
 mod reader;
 mod record;
 mod slip_end;
+mod stage;
 mod telling;
 mod watch;
 

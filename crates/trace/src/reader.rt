@@ -1,9 +1,21 @@
+ghost use Rattle.std.specs.Prelude.{◌≡◌, ◌<◌, ◌≤◌, ◌+◌, ◌^◌, ◌++◌, [], List, ℕ, Option, length, take, IfErr, IfOk, OnErr, OnOk};
+ghost use Rattle.uip_edge.specs.Causes.{HasCause};
+ghost use Rattle.uip_edge.specs.declared.item.Item.{Item};
+ghost use Rattle.serve_loop.specs.LineEvents.{bytes_of};
+ghost use Rattle.serve_loop.specs.Outside.{outside};
+ghost use Rattle.trace.specs.Gathering.{BrokeOff, CountFits, IsAt, IsAtFault, IsFull, IsOpen, OpenOn, SinkBy, StopsAt, Turns, end_at};
+ghost use Rattle.trace.specs.declared.reader.Stop.TheVariants.{Bad as BadStop, WriteFault};
+ghost use Rattle.trace.specs.declared.slip_end.SlipEnd.TheVariants.{Bad as BadEnd};
+ghost use Rattle.trace.specs.declared.stage.Stage.TheVariants as stages;
+
 use crate::area::Area;
 use crate::byte_order::ByteOrder;
+use crate::fields::{field, order_of};
 use crate::slip_end::{CaptureWhy, SlipEnd};
+use crate::stage::Stage;
 use uip_edge::{Failed, Got, Link, Sink};
 use uip_slip::Encoder;
-use uip_wire::{LARGEST_DATAGRAM, get32};
+use uip_wire::LARGEST_DATAGRAM;
 
 /// The bytes of a capture file's header.
 const HEADER_LEN: usize = 24;
@@ -24,8 +36,18 @@ pub(crate) enum Stop {
     Bad(CaptureWhy),
 }
 
+impl From<CaptureWhy> for Stop {
+    ghost from_gives = { λ why stop. stop ≡ BadStop why };
+
+    fn from(why: CaptureWhy) -> Stop {
+        Stop::Bad(why)
+    }
+}
+
 impl From<Failed> for Stop {
-    fn from(_: Failed) -> Stop {
+    ghost from_gives = { λ _ stop. stop ≡ WriteFault };
+
+    fn from(_failed: Failed) -> Stop {
         Stop::WriteFault
     }
 }
@@ -33,23 +55,26 @@ impl From<Failed> for Stop {
 /// A capture file, as far as it was read.
 #[derive(Drop)]
 pub(crate) struct Reader {
-    /// Known behind the header.
-    order: Option<ByteOrder>,
-    /// How many records were whole.
-    pub records: u64,
+    pub stage: Stage,
+    /// The number of the record that is read next, counted from 1; the header has number 0.
+    pub number: u64,
     /// What was read of the header or of a record.
-    part: Area,
+    pub part: Area,
     /// How long the part has to be before it is looked at.
-    want: usize,
+    pub want: usize,
     encoder: Encoder,
 }
 
 impl Reader {
     /// A file of which nothing was read.
-    pub fn new() -> Reader {
+    pub fn new() -> Reader
+        ensures open { IsOpen result.stage result.part result.want }
+        ensures number { result.number ≡ 0 }
+        ensures at { (start : Option (List ℕ)) → IsAt start start [] result.stage result.number result.part }
+    {
         Reader {
-            order: None,
-            records: 0,
+            stage: Stage::Header,
+            number: 0,
             part: Area::new(),
             want: HEADER_LEN,
             encoder: Encoder::new(),
@@ -57,7 +82,18 @@ impl Reader {
     }
 
     /// Takes what the link gives next. A silence says nothing.
-    pub fn turn<L: Link, K: Sink>(&mut self, buf: &mut [u8], link: &mut L, sink: &mut K) -> Turn {
+    pub fn turn<L: Link, K: Sink>(&mut self, buf: &mut [u8], link: &mut L, sink: &mut K) -> Turn
+        requires room { 0 < length buf.old }
+        requires open { IsOpen self.old.stage self.old.part self.old.want }
+        requires number { self.old.number + length buf.old < 2 ^ 64 }
+        ensures open { OpenOn result self.new.stage self.new.part self.new.want }
+        ensures fits { CountFits result (length buf.old) self.old.number self.new.number }
+        ensures turns { (start : Option (List ℕ)) (before : List Item)
+            → IsAt start (K.written sink.old) (bytes_of before) self.old.stage self.old.number self.old.part
+            → Turns start before (outside L.coming K.written L.faults K.faults link.old sink.old)
+            (outside L.coming K.written L.faults K.faults link.new sink.new)
+            self.new.stage self.new.number self.new.part (length buf.old) result }
+    {
         match link.next(buf) {
             Err(Failed) => Turn::Stopped(SlipEnd::LinkFault),
             Ok(Got::End) => Turn::Stopped(self.end()),
@@ -71,24 +107,38 @@ impl Reader {
     }
 
     /// The answer where the link answers its end.
-    fn end(&self) -> SlipEnd {
-        if self.order.is_some() && self.part.len() == 0 {
-            return SlipEnd::End;
+    fn end(&self) -> SlipEnd
+        ensures { result ≡ end_at self.now.stage self.now.part self.now.number }
+    {
+        match self.stage {
+            Stage::Head(_) if self.part.len() == 0 => SlipEnd::End,
+            _ => self.bad(CaptureWhy::Cut),
         }
-        self.bad(CaptureWhy::Cut)
     }
 
     /// The answer where the header or the record that is being read is at fault.
-    fn bad(&self, why: CaptureWhy) -> SlipEnd {
-        let number = match self.order {
-            None => 0,
-            Some(_) => self.records + 1,
-        };
-        SlipEnd::Bad { number, why }
+    fn bad(&self, why: CaptureWhy) -> SlipEnd
+        ensures { result ≡ BadEnd self.now.number why }
+    {
+        SlipEnd::Bad {
+            number: self.number,
+            why,
+        }
     }
 
     /// Takes bytes, and writes the datagrams that they complete.
-    fn take<K: Sink>(&mut self, bytes: &[u8], sink: &mut K) -> Result<(), Stop> {
+    fn take<K: Sink>(&mut self, bytes: &[u8], sink: &mut K) -> Result<(), Stop>
+        requires open { IsOpen self.old.stage self.old.part self.old.want }
+        requires number { self.old.number + length bytes.now < 2 ^ 64 }
+        ensures open { OnOk result (IsOpen self.new.stage self.new.part self.new.want) }
+        ensures number { OnOk result (self.new.number ≤ self.old.number + length bytes.now) }
+        ensures at { OnOk result ((start : Option (List ℕ)) (before : List ℕ) → IsAt start (K.written sink.old) before self.old.stage self.old.number self.old.part
+            → IsAt start (K.written sink.new) (before ++ bytes.now) self.new.stage self.new.number self.new.part) }
+        ensures stop { IfErr result (λ stop. (start : Option (List ℕ)) (before : List ℕ)
+            → IsAt start (K.written sink.old) before self.old.stage self.old.number self.old.part
+            → StopsAt stop start (K.written sink.new) (before ++ bytes.now) self.new.number) }
+        ensures cause { SinkBy (K.faults sink.old) (K.faults sink.new) result }
+    {
         let mut rest = bytes;
         while !rest.is_empty() {
             let count = self.take_front(rest, sink)?;
@@ -98,7 +148,21 @@ impl Reader {
     }
 
     /// Takes as many bytes as the part still wants.
-    fn take_front<K: Sink>(&mut self, bytes: &[u8], sink: &mut K) -> Result<usize, Stop> {
+    fn take_front<K: Sink>(&mut self, bytes: &[u8], sink: &mut K) -> Result<usize, Stop>
+        requires some { 0 < length bytes.now }
+        requires open { IsOpen self.old.stage self.old.part self.old.want }
+        requires number { self.old.number + 1 < 2 ^ 64 }
+        ensures open { OnOk result (IsOpen self.new.stage self.new.part self.new.want) }
+        ensures number { self.new.number ≤ self.old.number + 1 }
+        ensures count { IfOk result (λ n. (0 < n) × (n ≤ length bytes.now)) }
+        ensures at { IfOk result (λ n. (start : Option (List ℕ)) (before : List ℕ)
+            → IsAt start (K.written sink.old) before self.old.stage self.old.number self.old.part
+            → IsAt start (K.written sink.new) (before ++ take n bytes.now) self.new.stage self.new.number self.new.part) }
+        ensures stop { IfErr result (λ stop. (start : Option (List ℕ)) (before : List ℕ)
+            → IsAt start (K.written sink.old) before self.old.stage self.old.number self.old.part
+            → StopsAt stop start (K.written sink.new) (before ++ bytes.now) self.new.number) }
+        ensures cause { SinkBy (K.faults sink.old) (K.faults sink.new) result }
+    {
         let count = bytes.len().min(self.want - self.part.len());
         self.part.put(&bytes[..count]);
         if self.part.len() == self.want {
@@ -108,89 +172,100 @@ impl Reader {
     }
 
     /// The part is as long as was wanted.
-    fn look<K: Sink>(&mut self, sink: &mut K) -> Result<(), Stop> {
-        match self.order {
-            None => self.look_at_header(),
-            Some(order) => {
-                if self.want == HEAD_LEN {
-                    self.look_at_head(order)?;
-                }
-                if self.part.len() == self.want {
-                    self.finish(sink)?;
-                }
-                Ok(())
-            }
+    fn look<K: Sink>(&mut self, sink: &mut K) -> Result<(), Stop>
+        requires full { IsFull self.old.stage self.old.part self.old.want }
+        requires number { self.old.number + 1 < 2 ^ 64 }
+        ensures open { OnOk result (IsOpen self.new.stage self.new.part self.new.want) }
+        ensures number { self.new.number ≤ self.old.number + 1 }
+        ensures at { OnOk result ((start : Option (List ℕ)) (bytes : List ℕ) → IsAt start (K.written sink.old) bytes self.old.stage self.old.number self.old.part
+            → IsAt start (K.written sink.new) bytes self.new.stage self.new.number self.new.part) }
+        ensures stop { IfErr result (λ stop. (start : Option (List ℕ)) (bytes more : List ℕ)
+            → IsAt start (K.written sink.old) bytes self.old.stage self.old.number self.old.part
+            → StopsAt stop start (K.written sink.new) (bytes ++ more) self.new.number) }
+        ensures cause { SinkBy (K.faults sink.old) (K.faults sink.new) result }
+    {
+        match self.stage {
+            Stage::Header => Ok(self.look_at_header()?),
+            Stage::Head(order) => Ok(self.look_at_head(order)?),
+            Stage::Body(order) => Ok(self.look_at_body(order, sink)?),
         }
     }
 
     /// The header is whole.
-    fn look_at_header(&mut self) -> Result<(), Stop> {
+    fn look_at_header(&mut self) -> Result<(), CaptureWhy>
+        requires full { IsFull self.old.stage self.old.part self.old.want }
+        requires number { self.old.number + 1 < 2 ^ 64 }
+        requires stage { self.old.stage ≡ stages.Header }
+        ensures open { OnOk result (IsOpen self.new.stage self.new.part self.new.want) }
+        ensures number { self.new.number ≤ self.old.number + 1 }
+        ensures at { OnOk result ((start now : Option (List ℕ)) (bytes : List ℕ) → IsAt start now bytes self.old.stage self.old.number self.old.part
+            → IsAt start now bytes self.new.stage self.new.number self.new.part) }
+        ensures fault { IfErr result (λ why. (start now : Option (List ℕ)) (bytes more : List ℕ)
+            → IsAt start now bytes self.old.stage self.old.number self.old.part
+            → IsAtFault why start now (bytes ++ more) self.new.number) }
+    {
         match order_of(self.part.bytes()) {
-            None => Err(Stop::Bad(CaptureWhy::Head)),
+            None => Err(CaptureWhy::Head),
             Some(order) => {
-                self.order = Some(order);
-                self.start_record();
+                self.start_record(order);
                 Ok(())
             }
         }
     }
 
-    /// The four numbers of a record are whole.
-    fn look_at_head(&mut self, order: ByteOrder) -> Result<(), Stop> {
-        let len = field(order, self.part.bytes(), 8);
-        if len > LARGEST_DATAGRAM as u32 {
-            return Err(Stop::Bad(CaptureWhy::Length));
+    /// The times and lengths of a record are whole.
+    fn look_at_head(&mut self, order: ByteOrder) -> Result<(), CaptureWhy>
+        requires full { IsFull self.old.stage self.old.part self.old.want }
+        requires number { self.old.number + 1 < 2 ^ 64 }
+        requires stage { self.old.stage ≡ stages.Head order }
+        ensures open { OnOk result (IsOpen self.new.stage self.new.part self.new.want) }
+        ensures number { self.new.number ≤ self.old.number + 1 }
+        ensures at { OnOk result ((start now : Option (List ℕ)) (bytes : List ℕ) → IsAt start now bytes self.old.stage self.old.number self.old.part
+            → IsAt start now bytes self.new.stage self.new.number self.new.part) }
+        ensures fault { IfErr result (λ why. (start now : Option (List ℕ)) (bytes more : List ℕ)
+            → IsAt start now bytes self.old.stage self.old.number self.old.part
+            → IsAtFault why start now (bytes ++ more) self.new.number) }
+    {
+        let len = field(order, self.part.bytes(), 8) as usize;
+        if len > LARGEST_DATAGRAM {
+            return Err(CaptureWhy::Length);
         }
-        self.want = HEAD_LEN + len as usize;
+        if len == 0 {
+            self.start_record(order);
+            return Ok(());
+        }
+        self.want = HEAD_LEN + len;
+        self.stage = Stage::Body(order);
         Ok(())
     }
 
-    /// A record is whole.
-    fn finish<K: Sink>(&mut self, sink: &mut K) -> Result<(), Failed> {
-        if self.want > HEAD_LEN {
-            self.encoder.encode(&self.part.bytes()[HEAD_LEN..], sink)?;
-        }
-        self.records += 1;
-        self.start_record();
+    /// The datagram of a record is whole.
+    fn look_at_body<K: Sink>(&mut self, order: ByteOrder, sink: &mut K) -> Result<(), Failed>
+        requires full { IsFull self.old.stage self.old.part self.old.want }
+        requires number { self.old.number + 1 < 2 ^ 64 }
+        requires stage { self.old.stage ≡ stages.Body order }
+        ensures open { OnOk result (IsOpen self.new.stage self.new.part self.new.want) }
+        ensures number { self.new.number ≤ self.old.number + 1 }
+        ensures at { OnOk result ((start : Option (List ℕ)) (bytes : List ℕ) → IsAt start (K.written sink.old) bytes self.old.stage self.old.number self.old.part
+            → IsAt start (K.written sink.new) bytes self.new.stage self.new.number self.new.part) }
+        ensures broke { OnErr result ((start : Option (List ℕ)) (bytes more : List ℕ)
+            → IsAt start (K.written sink.old) bytes self.old.stage self.old.number self.old.part
+            → BrokeOff start (K.written sink.new) (bytes ++ more)) }
+        ensures cause { HasCause (K.faults sink.old) (K.faults sink.new) result }
+    {
+        self.encoder.encode(&self.part.bytes()[HEAD_LEN..], sink)?;
+        self.start_record(order);
         Ok(())
     }
 
     /// A record follows.
-    fn start_record(&mut self) {
+    fn start_record(&mut self, order: ByteOrder)
+        requires { self.old.number + 1 < 2 ^ 64 }
+        ensures { self.new ≡ record self.old { stage = stages.Head order; number = self.old.number + 1; part = []; want = 16 } }
+    {
+        self.number += 1;
         self.part.clear();
         self.want = HEAD_LEN;
-    }
-}
-
-/// The byte order of the file with this header, if it is a good one.
-fn order_of(header: &[u8]) -> Option<ByteOrder> {
-    if is_header(
-        header,
-        &[0xA1, 0xB2, 0xC3, 0xD4, 0, 2, 0, 4],
-        &[0, 0, 0, 101],
-    ) {
-        Some(ByteOrder::Big)
-    } else if is_header(
-        header,
-        &[0xD4, 0xC3, 0xB2, 0xA1, 2, 0, 4, 0],
-        &[101, 0, 0, 0],
-    ) {
-        Some(ByteOrder::Little)
-    } else {
-        None
-    }
-}
-
-/// A header has this signature and this link type.
-fn is_header(header: &[u8], signature: &[u8], link_type: &[u8]) -> bool {
-    &header[..8] == signature && &header[20..] == link_type
-}
-
-/// The field of four bytes at a place.
-fn field(order: ByteOrder, bytes: &[u8], at: usize) -> u32 {
-    let value = get32(bytes, at);
-    match order {
-        ByteOrder::Big => value,
-        ByteOrder::Little => value.swap_bytes(),
+        self.stage = Stage::Head(order);
     }
 }

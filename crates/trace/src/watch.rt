@@ -130,8 +130,8 @@ impl Watch {
         requires empty { self.old.area ≡ [] }
         requires leaves { Leaves fed self.old.decoder }
         ensures { self.new ≡ record self.old {
-            frames = self.old.frames + length (told_by fed self.old.decoder);
-            area = texts_from self.old.form (self.old.frames + 1) (map (seen_at self.old.silences) (told_by fed self.old.decoder));
+          frames = self.old.frames + length (told_by fed self.old.decoder);
+          area = texts_from self.old.form (self.old.frames + 1) (map (seen_at self.old.silences) (told_by fed self.old.decoder));
         } }
     {
         match fed {
@@ -146,8 +146,8 @@ impl Watch {
         requires frames { self.old.frames + 1 < 2 ^ 64 }
         requires empty { self.old.area ≡ [] }
         ensures { self.new ≡ record self.old {
-            frames = self.old.frames + 1;
-            area = frame_text self.old.form (self.old.frames + 1, seen_at self.old.silences Overlong);
+          frames = self.old.frames + 1;
+          area = frame_text self.old.form (self.old.frames + 1, seen_at self.old.silences Overlong);
         } }
     {
         self.frames += 1;
@@ -165,8 +165,8 @@ impl Watch {
         requires count { count ≡ length self.old.decoder.bytes }
         requires most { count ≤ LARGEST_DATAGRAM }
         ensures { self.new ≡ record self.old {
-            frames = self.old.frames + 1;
-            area = frame_text self.old.form (self.old.frames + 1, seen_at self.old.silences (Datagram self.old.decoder.bytes));
+          frames = self.old.frames + 1;
+          area = frame_text self.old.form (self.old.frames + 1, seen_at self.old.silences (Datagram self.old.decoder.bytes));
         } }
     {
         self.frames += 1;

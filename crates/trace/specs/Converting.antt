@@ -1,0 +1,63 @@
+-- What a call that makes a capture file a serial line has taken and written, and how it ends.
+use Rattle.std.specs.Prelude.{◌≡◌, ◌<◌, ◌≤◌, ℕ, List, ◌++◌, Option, Some, None, length}
+use Rattle.std.specs.Io.KnownBytes.{Appends}
+use Rattle.uip_edge.specs.Causes.{Rose}
+use Rattle.uip_edge.specs.Coming.{Consumes}
+use Rattle.uip_edge.specs.Writing.{AppendsPrefix}
+use Rattle.uip_edge.specs.declared.item.Item.{Item}
+use Rattle.serve_loop.specs.LineEvents.{bytes_of}
+use Rattle.serve_loop.specs.Outside.{Outside, TookAll}
+use Rattle.trace.specs.CaptureReading.{IsReadAs, Reading, cut_of, entries_of, fault_of, lines_of}
+use Rattle.trace.specs.declared.telling.TheConstants.{BLOCK}
+use Rattle.trace.specs.declared.slip_end.CaptureWhy.TheVariants as whys
+use Rattle.trace.specs.declared.slip_end.SlipEnd.{SlipEnd}
+use Rattle.trace.specs.declared.slip_end.SlipEnd.TheVariants as ends
+
+-- no call failed
+pub record Calm (old new : Outside) : Type 0 where
+  pub link : new.link_faults ≡ old.link_faults
+  pub sink : new.sink_faults ≡ old.sink_faults
+
+-- the last call of the link brought the fault: what was taken before has none
+pub record IsFresh (taken : List Item) : Type 0 where
+  pub front : List Item
+  pub last : List Item
+  pub pieces : taken ≡ front ++ last
+  pub within : length last ≤ BLOCK
+  pub reading : Reading
+  pub read : IsReadAs (bytes_of front) reading
+  pub sound : fault_of reading ≡ None
+
+-- the cause of each end of a call that took these items, of which there were to be n at most, and read them so
+abbrev pub SlipEndsBy : ℕ → Outside → Outside → List Item → Reading → SlipEnd → Type 0
+SlipEndsBy n old new taken reading ends.End =
+    TookAll old.coming taken × (length taken < n) × Calm old new × (fault_of reading ≡ None) × (cut_of reading ≡ None)
+SlipEndsBy n old new taken reading ends.Budget = (length taken ≡ n) × Calm old new × (fault_of reading ≡ None)
+SlipEndsBy n old new taken reading ends.LinkFault =
+    (length taken < n) × Rose old.link_faults new.link_faults × (new.sink_faults ≡ old.sink_faults) × (fault_of reading ≡ None)
+SlipEndsBy n old new taken reading ends.WriteFault =
+    (length taken ≤ n) × (new.link_faults ≡ old.link_faults) × Rose old.sink_faults new.sink_faults
+SlipEndsBy n old new taken reading (ends.Bad number whys.Cut) =
+    TookAll old.coming taken × (length taken < n) × Calm old new × (fault_of reading ≡ None) × (cut_of reading ≡ Some number)
+SlipEndsBy n old new taken reading (ends.Bad number whys.Head) =
+    (length taken ≤ n) × Calm old new × (fault_of reading ≡ Some (number, whys.Head)) × IsFresh taken
+SlipEndsBy n old new taken reading (ends.Bad number whys.Length) =
+    (length taken ≤ n) × Calm old new × (fault_of reading ≡ Some (number, whys.Length)) × IsFresh taken
+
+-- the text was written whole, or a front of it where a write failed
+abbrev pub WroteLine : SlipEnd → Option (List ℕ) → Option (List ℕ) → List ℕ → Type 0
+WroteLine ends.End old new text = Appends old new text
+WroteLine ends.Budget old new text = Appends old new text
+WroteLine ends.LinkFault old new text = Appends old new text
+WroteLine ends.WriteFault old new text = AppendsPrefix old new text
+WroteLine (ends.Bad number why) old new text = Appends old new text
+
+-- A capture file was made a serial line, up to n items: there are items that the link told and lost, their bytes are read in
+-- one way, the end has its cause, and the line of the whole records was written.
+pub record Converts (n : ℕ) (old new : Outside) (result : SlipEnd) : Type 0 where
+  pub taken : List Item
+  pub consumed : Consumes old.coming new.coming taken
+  pub reading : Reading
+  pub read : IsReadAs (bytes_of taken) reading
+  pub ends : SlipEndsBy n old new taken reading result
+  pub wrote : WroteLine result old.written new.written (lines_of (entries_of reading))
