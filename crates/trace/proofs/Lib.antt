@@ -1,3 +1,4 @@
+mod ConvertLaws
 mod EntryLaws
 mod FrontLaws
 mod ReadLaws
@@ -5,3 +6,4 @@ mod Rows
 mod SeenLaws
 mod TellLaws
 mod TextLaws
+mod TurnLaws

@@ -21,7 +21,7 @@ took_all None mid taken c d = tt
 took_all (Some xs) None taken c d = absurd c
 took_all (Some xs) (Some ys) taken c d = c ∙ rw d (append-nil taken)
 
-none_more : (taken items : List Item) → items ≡ [] → taken ++ items ≡ taken
+pub none_more : (taken items : List Item) → items ≡ [] → taken ++ items ≡ taken
 none_more taken items none = ap (λ l. taken ++ l) none ∙ append-nil taken
 
 -- the cause of the end that a turn tells
