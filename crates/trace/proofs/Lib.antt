@@ -1,7 +1,9 @@
 mod ConvertLaws
 mod EntryLaws
 mod FrontLaws
+mod OneReading
 mod ReadLaws
+mod RoundTrip
 mod Rows
 mod SeenLaws
 mod TellLaws

@@ -67,7 +67,7 @@ module _ (start now : Option (List ℕ)) (bytes : List ℕ) (number : ℕ) (part
           written = appends_by _ _ _ _ (lines-more at.entries entry ∙ append-nil (lines_of at.entries)) at.written;
         }
 
-line_some : (datagram : List ℕ) → 0 < length datagram → line_text datagram ≡ slip_text datagram
+pub line_some : (datagram : List ℕ) → 0 < length datagram → line_text datagram ≡ slip_text datagram
 line_some [] some = absurd (omega arith)
 line_some (b ∷ datagram) some = refl
 

@@ -1,5 +1,5 @@
 -- What a capture file holds: its grammar in either byte order, and where its bytes end.
-use Rattle.std.specs.Prelude.{◌≡◌, ◌<◌, ◌≤◌, ◌+◌, ◌*◌, ◌&&◌, ⊤, ℕ, Bool, List, [], ◌∷◌, ◌++◌, length, take, drop, slice_index, Option, Some, None, if◌then◌else◌}
+use Rattle.std.specs.Prelude.{◌≡◌, ◌<◌, ◌≤◌, ◌+◌, ◌*◌, ◌&&◌, ⊤, ℕ, Bool, List, [], ◌∷◌, ◌++◌, length, map, take, drop, slice_index, Option, Some, None, if◌then◌else◌}
 use Rattle.std.specs.List.{AllByRecursion, flat_map}
 use Rattle.std.specs.Str.{bytes_eq}
 use Rattle.uip_slip.specs.Text.{slip_text}
@@ -112,3 +112,9 @@ entry_line entry = line_text entry.body
 -- the serial line of records
 abbrev pub lines_of : List Entry → List ℕ
 lines_of entries = flat_map entry_line entries
+
+-- a capture file of just these datagrams
+pub record HoldsJust (datagrams : List (List ℕ)) (bytes : List ℕ) : Type 0 where
+  pub entries : List Entry
+  pub read : IsReadAs bytes (Whole entries)
+  pub bodies : map (λ entry. entry.body) entries ≡ datagrams

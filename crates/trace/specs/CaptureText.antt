@@ -2,7 +2,8 @@
 use Rattle.std.specs.Prelude.{ℕ, ◌*◌, ◌/◌, ◌%◌, List, [], ◌∷◌, ◌++◌, length}
 use Rattle.std.specs.List.{flat_map}
 use Rattle.uip_edge.specs.declared.item.Item.{Item}
-use Rattle.uip_slip.specs.Frames.{Frame, Datagram, Overlong}
+use Rattle.uip_slip.specs.Frames.{Frame, Datagram, Overlong, frames}
+use Rattle.serve_loop.specs.LineEvents.{bytes_of}
 use Rattle.uip_wire.specs.Fields.{long_bytes}
 use Rattle.trace.specs.Seen.{Seen, seen_on}
 use Rattle.trace.specs.declared.byte_order.ByteOrder.{ByteOrder}
@@ -39,3 +40,11 @@ seen_record seen = frame_record seen.silences seen.frame
 -- the header and the records
 abbrev pub capture_text : List Item → List ℕ
 capture_text items = capture_header ++ flat_map seen_record (seen_on items)
+
+-- the datagrams of a line, in order
+abbrev pub datagram_in : Frame → List (List ℕ)
+datagram_in (Datagram bytes) = bytes ∷ []
+datagram_in Overlong = []
+
+abbrev pub datagrams_on : List Item → List (List ℕ)
+datagrams_on items = flat_map datagram_in (frames (bytes_of items))

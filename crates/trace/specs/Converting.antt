@@ -9,6 +9,7 @@ use Rattle.serve_loop.specs.LineEvents.{bytes_of}
 use Rattle.serve_loop.specs.Outside.{Outside, TookAll}
 use Rattle.trace.specs.CaptureReading.{IsReadAs, Reading, cut_of, entries_of, fault_of, lines_of}
 use Rattle.trace.specs.declared.telling.TheConstants.{BLOCK}
+use Rattle.trace.specs.declared.slip_end.CaptureWhy.{CaptureWhy}
 use Rattle.trace.specs.declared.slip_end.CaptureWhy.TheVariants as whys
 use Rattle.trace.specs.declared.slip_end.SlipEnd.{SlipEnd}
 use Rattle.trace.specs.declared.slip_end.SlipEnd.TheVariants as ends
@@ -61,3 +62,16 @@ pub record Converts (n : ℕ) (old new : Outside) (result : SlipEnd) : Type 0 wh
   pub read : IsReadAs (bytes_of taken) reading
   pub ends : SlipEndsBy n old new taken reading result
   pub wrote : WroteLine result old.written new.written (lines_of (entries_of reading))
+
+-- the answer to the end of the link, where the bytes are read so
+abbrev pub end_by_cut : Option ℕ → SlipEnd
+end_by_cut None = ends.End
+end_by_cut (Some number) = ends.Bad number whys.Cut
+
+-- The answer that must come where nothing failed: the fault, wherever the bytes have one; else the budget at so many items; and
+-- else, where the link tells fewer items than are allowed, what the end of these bytes says.
+pub record IsSurely (n : ℕ) (old new : Outside) (taken : List Item) (reading : Reading) (end : SlipEnd) : Type 0 where
+  pub bad : (number : ℕ) (why : CaptureWhy) → fault_of reading ≡ Some (number, why) → end ≡ ends.Bad number why
+  pub budget : fault_of reading ≡ None → length taken ≡ n → end ≡ ends.Budget
+  pub over : (all : List Item) → fault_of reading ≡ None → old.coming ≡ Some all → length all < n → Consumes old.coming new.coming taken
+      → end ≡ end_by_cut (cut_of reading)

@@ -9,6 +9,7 @@ mod converting;
 mod dump_line;
 mod fields;
 mod form;
+mod laws;
 mod reader;
 mod record;
 mod slip_end;
@@ -17,5 +18,6 @@ mod telling;
 mod watch;
 
 pub use converting::slip;
+pub use laws::{lines_come_back, read_in_one_way, records_are_datagrams, slip_end_is_told};
 pub use slip_end::{CaptureWhy, SlipEnd};
 pub use telling::{dump, pcap};

@@ -1,0 +1,37 @@
+//! What the definitions of a capture file say, and what must be answered.
+
+ghost use Rattle.std.specs.Prelude.{◌≡◌, ◌<◌, List, ℕ, Some, length, map};
+ghost use Rattle.std.specs.Io.KnownBytes.{Appends};
+ghost use Rattle.std.specs.List.{flat_map};
+ghost use Rattle.uip_edge.specs.declared.item.Item.{Item};
+ghost use Rattle.uip_edge.specs.declared.item.Item.TheVariants.{Byte};
+ghost use Rattle.uip_slip.specs.Text.{slip_text};
+ghost use Rattle.serve_loop.specs.Outside.{Outside, Unfailed};
+ghost use Rattle.trace.specs.CaptureReading.{HoldsJust, IsReadAs, Reading};
+ghost use Rattle.trace.specs.CaptureText.{capture_text, datagrams_on};
+ghost use Rattle.trace.specs.Converting.{Converts, IsSurely, SlipEndsBy};
+ghost use Rattle.trace.specs.declared.slip_end.SlipEnd.{SlipEnd as AnyEnd};
+ghost use Rattle.trace.specs.declared.slip_end.SlipEnd.TheVariants.{End};
+
+/// The bytes of a capture file are read in one way alone.
+pub fn read_in_one_way()
+    ensures { (bytes : List ℕ) (one other : Reading) → IsReadAs bytes one → IsReadAs bytes other → one ≡ other }
+{}
+
+/// The records of the capture file of a line are the line's datagrams, in order.
+pub fn records_are_datagrams()
+    ensures { (items : List Item) → HoldsJust (datagrams_on items) (capture_text items) }
+{}
+
+/// What `pcap` wrote of a line, `slip` writes as the SLIP texts of the line's datagrams, and answers the end.
+pub fn lines_come_back()
+    ensures { (items : List Item) (n : ℕ) (old new : Outside) (end : AnyEnd) → old.coming ≡ Some (map Byte (capture_text items))
+        → length (capture_text items) < n → Converts n old new end → Unfailed old new
+        → (end ≡ End) × Appends old.written new.written (flat_map slip_text (datagrams_on items)) }
+{}
+
+/// Where nothing failed, `slip` answers a fault of the file wherever there is one, else the budget, and else the end or a cut.
+pub fn slip_end_is_told()
+    ensures { (n : ℕ) (old new : Outside) (taken : List Item) (reading : Reading) (end : AnyEnd) → SlipEndsBy n old new taken reading end
+        → Unfailed old new → IsSurely n old new taken reading end }
+{}
