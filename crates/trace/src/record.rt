@@ -20,11 +20,12 @@ pub(crate) fn put_record(area: &mut Area, silences: u64, datagram: &[u8])
     requires most { length datagram.now ≤ LARGEST_DATAGRAM }
     ensures { area.new ≡ record_bytes silences datagram.now }
 {
-    let len = datagram.len() as u32;
+    let captured = datagram.len() as u32;
+    let original = captured;
     put_long(area, (silences / 2 % 0x1_0000_0000) as u32);
     put_long(area, 500_000 * (silences % 2) as u32);
-    put_long(area, len);
-    put_long(area, len);
+    put_long(area, captured);
+    put_long(area, original);
     area.put(datagram);
 }
 
