@@ -5,9 +5,9 @@ use Rattle.uip_edge.proofs.Told.{Consumes-then}
 use Rattle.uip_edge.specs.declared.item.Item.{Item}
 use Rattle.serve_loop.specs.LineEvents.{bytes_of}
 use Rattle.serve_loop.specs.Outside.{Outside}
-use Rattle.trace.specs.CaptureReading.{IsReadAs, Reading, cut_of, fault_of}
-use Rattle.trace.specs.Converting.{Calm, Converts, IsFresh, SlipEndsBy}
-use Rattle.trace.specs.Gathering.{IsAt, IsOpen, StopsBy, Turns, end_at}
+use Rattle.trace.specs.CaptureReading.{IsReadAs, Reading, cut_in, fault_in}
+use Rattle.trace.specs.Converting.{Calm, Converts, HasNewFault, SlipEndsBy}
+use Rattle.trace.specs.Gathering.{IsReadTo, IsOpen, StopsBy, Reads, end_at}
 use Rattle.trace.specs.declared.reader.Turn.TheVariants.{Stopped}
 use Rattle.trace.specs.declared.telling.TheConstants.{BLOCK}
 use Rattle.trace.specs.declared.slip_end.CaptureWhy.TheVariants as whys
@@ -22,7 +22,7 @@ calm_on old mid new l k c = record { link = c.link ∙ l; sink = c.sink ∙ k }
 
 module _ (n : ℕ) (taken items : List Item) (old mid new : Outside) (reading : Reading)
     (c : Consumes old.coming mid.coming taken) (below : length taken < n) (fits : length items + length taken ≤ n)
-    (l : mid.link_faults ≡ old.link_faults) (k : mid.sink_faults ≡ old.sink_faults) (fresh : IsFresh (taken ++ items)) where
+    (l : mid.link_faults ≡ old.link_faults) (k : mid.sink_faults ≡ old.sink_faults) (fresh : HasNewFault (taken ++ items)) where
   ends_by : (end : SlipEnd) → StopsBy mid new items reading end → SlipEndsBy n old new (taken ++ items) reading end
   ends_by ends.End t = rw (none_more taken items t.0) (took_all _ _ taken c t.1, below, calm_on old mid new l k t.2, t.3, t.4)
   ends_by ends.LinkFault t = rw (none_more taken items t.0) (below, rw l at t.1, t.2 ∙ k, t.3)
@@ -36,12 +36,12 @@ module _ (n : ℕ) (taken items : List Item) (old mid new : Outside) (reading : 
 pub stopped : (n : ℕ) (taken : List Item) (old mid new : Outside) (stage stage' : Stage) (number number' : ℕ) (part part' : List ℕ) (want room : ℕ) (end : SlipEnd)
     → Consumes old.coming mid.coming taken → length taken < n → room + length taken ≤ n → room ≤ BLOCK
     → mid.link_faults ≡ old.link_faults → mid.sink_faults ≡ old.sink_faults
-    → IsAt old.written mid.written (bytes_of taken) stage number part → IsOpen stage part want
-    → Turns old.written taken mid new stage' number' part' room (Stopped end) → Converts n old new end
+    → IsReadTo old.written mid.written (bytes_of taken) stage number part → IsOpen stage part want
+    → Reads old.written taken mid new stage' number' part' room (Stopped end) → Converts n old new end
 stopped n taken old mid new stage stage' number number' part part' want room end c below fits block l k at is t =
     let s = sound_at old.written mid.written (bytes_of taken) stage number part want at is in
     let within = t.within in
-    let fresh : IsFresh (taken ++ t.items) =
+    let fresh : HasNewFault (taken ++ t.items) =
     record { front = taken; last = t.items; pieces = refl; within = omega arith; reading = s.reading; read = s.read; sound = s.sound } in
     record {
       taken = taken ++ t.items;
@@ -55,7 +55,7 @@ stopped n taken old mid new stage stage' number number' part part' want room end
 -- and one that took all that it might
 pub spent : (n : ℕ) (taken : List Item) (old new : Outside) (stage : Stage) (number : ℕ) (part : List ℕ) (want : ℕ)
     → Consumes old.coming new.coming taken → length taken ≡ n → new.link_faults ≡ old.link_faults → new.sink_faults ≡ old.sink_faults
-    → IsAt old.written new.written (bytes_of taken) stage number part → IsOpen stage part want → Converts n old new ends.Budget
+    → IsReadTo old.written new.written (bytes_of taken) stage number part → IsOpen stage part want → Converts n old new ends.Budget
 spent n taken old new stage number part want c all l k at is =
     let s = sound_at old.written new.written (bytes_of taken) stage number part want at is in
     record {

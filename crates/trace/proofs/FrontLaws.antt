@@ -11,7 +11,7 @@ use Rattle.uip_slip.specs.Frames.{Frame, frames}
 use Rattle.serve_loop.specs.LineEvents.{bytes_of}
 use Rattle.serve_loop.proofs.EventLaws.{bytes_of-append, bytes_of-map}
 use Rattle.trace.specs.Seen.{Seen, seen_at, seen_behind, seen_on, silences_of}
-use Rattle.trace.specs.Watching.{HasSeen, text_behind, texts_from}
+use Rattle.trace.specs.Watching.{HasSeen, text_after, texts_from}
 use Rattle.trace.specs.declared.form.Form.{Form}
 use Rattle.trace.proofs.SeenLaws.{seen-told, seen_on-append, silences-append, silences-bytes, text-then}
 
@@ -39,34 +39,34 @@ module _ (decoder decoder' : State) (count silences : ℕ) (bytes : List ℕ) (t
       }
 
   pub front_text : (form : Form) (before : List Item) → HasSeen before decoder count silences
-      → text_behind form before (map Byte bytes) ≡ texts_from form (count + 1) (map (seen_at silences) told)
+      → text_after form before (map Byte bytes) ≡ texts_from form (count + 1) (map (seen_at silences) told)
   front_text form before h =
       ap (λ l. texts_from form (length (seen_on before) + 1) l) (brought before h)
       ∙ ap (λ n. texts_from form (n + 1) (map (seen_at silences) told)) (sym h.numbered)
 
 -- a front of the text of bytes is a front of the text of more bytes
 pub front_of_more : (form : Form) (before : List Item) (n : ℕ) (bytes : List ℕ) (a b : Option (List ℕ))
-    → AppendsPrefix a b (text_behind form before (map Byte (take n bytes))) → AppendsPrefix a b (text_behind form before (map Byte bytes))
+    → AppendsPrefix a b (text_after form before (map Byte (take n bytes))) → AppendsPrefix a b (text_after form before (map Byte bytes))
 front_of_more form before n bytes a b p =
     let first = map Byte (take n bytes) in
     let rest = map Byte (drop n bytes) in
     let whole : map Byte bytes ≡ first ++ rest = ap (λ l. map Byte l) (sym (take-append-drop n bytes)) ∙ map-append Byte (take n bytes) (drop n bytes) in
-    prefix_more a b (text_behind form before first) (text_behind form (before ++ first) rest) (text_behind form before (map Byte bytes))
-    (sym (ap (λ l. text_behind form before l) whole ∙ text-then form before first rest)) p
+    prefix_more a b (text_after form before first) (text_after form (before ++ first) rest) (text_after form before (map Byte bytes))
+    (sym (ap (λ l. text_after form before l) whole ∙ text-then form before first rest)) p
 
 -- what was written of a frame broke off
 pub front_broke : (decoder decoder' : State) (count silences n : ℕ) (bytes : List ℕ) (told : List Frame) → Told decoder decoder' (take n bytes) told
     → (form : Form) (area : List ℕ) (a b : Option (List ℕ)) → area ≡ texts_from form (count + 1) (map (seen_at silences) told) → AppendsPrefix a b area
-    → (before : List Item) → HasSeen before decoder count silences → AppendsPrefix a b (text_behind form before (map Byte bytes))
+    → (before : List Item) → HasSeen before decoder count silences → AppendsPrefix a b (text_after form before (map Byte bytes))
 front_broke decoder decoder' count silences n bytes told fed form area a b e p = λ before h.
     front_of_more form before n bytes a b
-    (prefix_by a b area (text_behind form before (map Byte (take n bytes)))
+    (prefix_by a b area (text_after form before (map Byte (take n bytes)))
     (front_text decoder decoder' count silences (take n bytes) told fed form before h ∙ sym e) p)
 
 module _ (form form' : Form) (same : form' ≡ form) (decoder decoder' : State) (count count' silences silences' : ℕ) (front : List ℕ)
     (seen : (before : List Item) → HasSeen before decoder count silences → HasSeen (before ++ map Byte front) decoder' count' silences')
     (a b : Option (List ℕ))
-    (written : (before : List Item) → HasSeen before decoder count silences → Appends a b (text_behind form before (map Byte front))) where
+    (written : (before : List Item) → HasSeen before decoder count silences → Appends a b (text_after form before (map Byte front))) where
   -- what was seen goes on
   pub seen_on_both : (decoder″ : State) (count″ silences″ : ℕ) (bytes : List ℕ)
       → ((before : List Item) → HasSeen before decoder' count' silences' → HasSeen (before ++ map Byte bytes) decoder″ count″ silences″)
@@ -77,24 +77,24 @@ module _ (form form' : Form) (same : form' ≡ form) (decoder decoder' : State) 
       (more (before ++ map Byte front) (seen before h))
 
   both_text : (before : List Item) (bytes : List ℕ)
-      → text_behind form before (map Byte (front ++ bytes)) ≡ text_behind form before (map Byte front) ++ text_behind form' (before ++ map Byte front) (map Byte bytes)
+      → text_after form before (map Byte (front ++ bytes)) ≡ text_after form before (map Byte front) ++ text_after form' (before ++ map Byte front) (map Byte bytes)
   both_text before bytes =
-      ap (λ l. text_behind form before l) (map-append Byte front bytes) ∙ text-then form before (map Byte front) (map Byte bytes)
-      ∙ ap (λ f. text_behind form before (map Byte front) ++ text_behind f (before ++ map Byte front) (map Byte bytes)) (sym same)
+      ap (λ l. text_after form before l) (map-append Byte front bytes) ∙ text-then form before (map Byte front) (map Byte bytes)
+      ∙ ap (λ f. text_after form before (map Byte front) ++ text_after f (before ++ map Byte front) (map Byte bytes)) (sym same)
 
   -- and what was written
   pub wrote_both : (c : Option (List ℕ)) (bytes : List ℕ)
-      → ((before : List Item) → HasSeen before decoder' count' silences' → Appends b c (text_behind form' before (map Byte bytes)))
-      → (before : List Item) → HasSeen before decoder count silences → Appends a c (text_behind form before (map Byte (front ++ bytes)))
+      → ((before : List Item) → HasSeen before decoder' count' silences' → Appends b c (text_after form' before (map Byte bytes)))
+      → (before : List Item) → HasSeen before decoder count silences → Appends a c (text_after form before (map Byte (front ++ bytes)))
   wrote_both c bytes more before h =
       appends_by a c _ _ (both_text before bytes) (Appends-then a b c _ _ (written before h) (more (before ++ map Byte front) (seen before h)))
 
   -- or it broke off
   pub broke_both : (c : Option (List ℕ)) (bytes whole : List ℕ) → whole ≡ front ++ bytes
-      → ((before : List Item) → HasSeen before decoder' count' silences' → AppendsPrefix b c (text_behind form' before (map Byte bytes)))
-      → (before : List Item) → HasSeen before decoder count silences → AppendsPrefix a c (text_behind form before (map Byte whole))
+      → ((before : List Item) → HasSeen before decoder' count' silences' → AppendsPrefix b c (text_after form' before (map Byte bytes)))
+      → (before : List Item) → HasSeen before decoder count silences → AppendsPrefix a c (text_after form before (map Byte whole))
   broke_both c bytes whole e more = λ before h.
-      prefix_by a c _ _ (ap (λ l. text_behind form before (map Byte l)) e ∙ both_text before bytes)
+      prefix_by a c _ _ (ap (λ l. text_after form before (map Byte l)) e ∙ both_text before bytes)
       (prefix_then a b c _ _ (written before h) (more (before ++ map Byte front) (seen before h)))
 
 -- a silence brings no frame

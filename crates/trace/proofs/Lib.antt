@@ -1,5 +1,5 @@
+mod CaptureLaws
 mod ConvertLaws
-mod EntryLaws
 mod FrontLaws
 mod OneReading
 mod ReadLaws

@@ -4,10 +4,10 @@ use Rattle.std.proofs.lemmas.Bool.{le-leb, leb-true, lt-ltb, ltb-true}
 use Rattle.std.proofs.Math.Seq.{drop-append_seam}
 use Rattle.std.specs.List.{AllByRecursion, flat_map}
 use Rattle.uip_wire.specs.declared.sizes.TheConstants.{LARGEST_DATAGRAM}
-use Rattle.trace.specs.CaptureReading.{BeginsWith, Entry, IsEntry, IsPart, IsReadAs, IsTooLong, Reading, entry_bytes, length_in, order_of}
-use Rattle.trace.specs.CaptureReading.Reading.{BadHeader, BadLength, InEntry, InHeader, Whole}
+use Rattle.trace.specs.CaptureReading.{BeginsWith, Captured, IsCaptured, IsCutRecord, IsReadAs, HasLongRecord, Reading, captured_bytes, length_in, order_of}
+use Rattle.trace.specs.CaptureReading.Reading.{BadHeader, BadLength, InRecord, InHeader, Whole}
 use Rattle.trace.specs.declared.byte_order.ByteOrder.{ByteOrder}
-use Rattle.trace.proofs.EntryLaws.{front_of, length_in-append}
+use Rattle.trace.proofs.CaptureLaws.{front_of, length_in-append}
 
 -- two fronts of one length
 same_front : {X : Type 0} (xs xs' ys ys' : List X) → length xs ≡ length xs' → xs ++ ys ≡ xs' ++ ys' → (xs ≡ xs') × (ys ≡ ys')
@@ -18,82 +18,82 @@ same_front xs xs' ys ys' size e = (
 
 -- the bytes do not begin with a record
 abbrev pub HasNone : ByteOrder → List ℕ → Type 0
-HasNone order rest = (entry : Entry) (more : List ℕ) → IsEntry order entry → rest ≡ entry_bytes entry ++ more → ⊥
+HasNone order rest = (captured : Captured) (more : List ℕ) → IsCaptured order captured → rest ≡ captured_bytes captured ++ more → ⊥
 
 -- a record at the front of bytes
-front_size : (order : ByteOrder) (rest : List ℕ) (entry : Entry) (more : List ℕ) → IsEntry order entry → rest ≡ entry_bytes entry ++ more
-    → length rest ≡ 16 + length entry.body + length more
-front_size order rest entry more is e =
+front_size : (order : ByteOrder) (rest : List ℕ) (captured : Captured) (more : List ℕ) → IsCaptured order captured → rest ≡ captured_bytes captured ++ more
+    → length rest ≡ 16 + length captured.body + length more
+front_size order rest captured more is e =
     let h = is.head in
     let size = ap (λ l. length l) e in
-    omega (arith, size, length-append (entry_bytes entry) more, length-append entry.head entry.body)
+    omega (arith, size, length-append (captured_bytes captured) more, length-append captured.head captured.body)
 
-front_length : (order : ByteOrder) (rest : List ℕ) (entry : Entry) (more : List ℕ) → IsEntry order entry → rest ≡ entry_bytes entry ++ more
-    → length_in order rest ≡ length entry.body
-front_length order rest entry more is e =
+front_length : (order : ByteOrder) (rest : List ℕ) (captured : Captured) (more : List ℕ) → IsCaptured order captured → rest ≡ captured_bytes captured ++ more
+    → length_in order rest ≡ length captured.body
+front_length order rest captured more is e =
     let h = is.head in
-    ap (λ l. length_in order l) (e ∙ append_assoc entry.head entry.body more)
-    ∙ length_in-append order entry.head (entry.body ++ more) (omega arith) ∙ sym is.body
+    ap (λ l. length_in order l) (e ∙ append_assoc captured.head captured.body more)
+    ∙ length_in-append order captured.head (captured.body ++ more) (omega arith) ∙ sym is.body
 
 none_in_nothing : (order : ByteOrder) → HasNone order []
-none_in_nothing order entry more is e = let size = front_size order [] entry more is e in absurd (omega arith)
+none_in_nothing order captured more is e = let size = front_size order [] captured more is e in absurd (omega arith)
 
-none_in_part : (order : ByteOrder) (rest : List ℕ) → IsPart order rest → HasNone order rest
-none_in_part order rest part entry more is e =
-    let size = front_size order rest entry more is e in
-    let tells = front_length order rest entry more is e in
+none_in_part : (order : ByteOrder) (rest : List ℕ) → IsCutRecord order rest → HasNone order rest
+none_in_part order rest part captured more is e =
+    let size = front_size order rest captured more is e in
+    let tells = front_length order rest captured more is e in
     let short = part.short (omega arith) in
     absurd (omega arith)
 
-none_in_long : (order : ByteOrder) (rest : List ℕ) → IsTooLong order rest → HasNone order rest
-none_in_long order rest long entry more is e =
-    let tells = front_length order rest entry more is e in
+none_in_long : (order : ByteOrder) (rest : List ℕ) → HasLongRecord order rest → HasNone order rest
+none_in_long order rest long captured more is e =
+    let tells = front_length order rest captured more is e in
     let fits = is.fits in
     let more_than = long.long in
     absurd (omega arith)
 
-same_entry : (e f : Entry) → e.head ≡ f.head → e.body ≡ f.body → e ≡ f
-same_entry e f h b = ap (λ l. record { head = l; body = e.body }) h ∙ ap (λ l. record { head = f.head; body = l }) b
+same_captured : (e f : Captured) → e.head ≡ f.head → e.body ≡ f.body → e ≡ f
+same_captured e f h b = ap (λ l. record { head = l; body = e.body }) h ∙ ap (λ l. record { head = f.head; body = l }) b
 
 -- the records are the same, and so is what stands behind them
-pub same_entries : (order : ByteOrder) (es fs : List Entry) (rest rest' : List ℕ) → AllByRecursion (IsEntry order) es → AllByRecursion (IsEntry order) fs
-    → HasNone order rest → HasNone order rest' → flat_map entry_bytes es ++ rest ≡ flat_map entry_bytes fs ++ rest' → (es ≡ fs) × (rest ≡ rest')
-same_entries order [] [] rest rest' a b n m e = (refl, e)
-same_entries order [] (f ∷ fs) rest rest' a b n m e =
-    absurd (n f (flat_map entry_bytes fs ++ rest') b.0 (e ∙ append_assoc (entry_bytes f) (flat_map entry_bytes fs) rest'))
-same_entries order (x ∷ es) [] rest rest' a b n m e =
-    absurd (m x (flat_map entry_bytes es ++ rest) a.0 (sym e ∙ append_assoc (entry_bytes x) (flat_map entry_bytes es) rest))
-same_entries order (x ∷ es) (f ∷ fs) rest rest' a b n m e =
-    let xs = flat_map entry_bytes es ++ rest in
-    let ys = flat_map entry_bytes fs ++ rest' in
-    let whole : entry_bytes x ++ xs ≡ entry_bytes f ++ ys =
-    sym (append_assoc (entry_bytes x) (flat_map entry_bytes es) rest) ∙ e ∙ append_assoc (entry_bytes f) (flat_map entry_bytes fs) rest' in
+pub same_records : (order : ByteOrder) (es fs : List Captured) (rest rest' : List ℕ) → AllByRecursion (IsCaptured order) es → AllByRecursion (IsCaptured order) fs
+    → HasNone order rest → HasNone order rest' → flat_map captured_bytes es ++ rest ≡ flat_map captured_bytes fs ++ rest' → (es ≡ fs) × (rest ≡ rest')
+same_records order [] [] rest rest' a b n m e = (refl, e)
+same_records order [] (f ∷ fs) rest rest' a b n m e =
+    absurd (n f (flat_map captured_bytes fs ++ rest') b.0 (e ∙ append_assoc (captured_bytes f) (flat_map captured_bytes fs) rest'))
+same_records order (x ∷ es) [] rest rest' a b n m e =
+    absurd (m x (flat_map captured_bytes es ++ rest) a.0 (sym e ∙ append_assoc (captured_bytes x) (flat_map captured_bytes es) rest))
+same_records order (x ∷ es) (f ∷ fs) rest rest' a b n m e =
+    let xs = flat_map captured_bytes es ++ rest in
+    let ys = flat_map captured_bytes fs ++ rest' in
+    let whole : captured_bytes x ++ xs ≡ captured_bytes f ++ ys =
+    sym (append_assoc (captured_bytes x) (flat_map captured_bytes es) rest) ∙ e ∙ append_assoc (captured_bytes f) (flat_map captured_bytes fs) rest' in
     let heads = same_front x.head f.head (x.body ++ xs) (f.body ++ ys) (a.0.head ∙ sym b.0.head)
     (sym (append_assoc x.head x.body xs) ∙ whole ∙ append_assoc f.head f.body ys) in
     let bodies = same_front x.body f.body xs ys (a.0.body ∙ ap (λ l. length_in order l) heads.0 ∙ sym b.0.body) heads.1 in
-    let on = same_entries order es fs rest rest' a.1 b.1 n m bodies.1 in
-    (ap (λ l. l ∷ es) (same_entry x f heads.0 bodies.0) ∙ ap (λ l. f ∷ l) on.0, on.1)
+    let on = same_records order es fs rest rest' a.1 b.1 n m bodies.1 in
+    (ap (λ l. l ∷ es) (same_captured x f heads.0 bodies.0) ∙ ap (λ l. f ∷ l) on.0, on.1)
 
 -- how the bytes behind whole records are read
-abbrev pub kind_of : ByteOrder → List Entry → List ℕ → Reading
-kind_of order entries [] = Whole entries
-kind_of order entries (b ∷ rest) =
-    if leb 16 (length (b ∷ rest)) && ltb LARGEST_DATAGRAM (length_in order (b ∷ rest)) then BadLength entries else InEntry entries
+abbrev pub kind_of : ByteOrder → List Captured → List ℕ → Reading
+kind_of order records [] = Whole records
+kind_of order records (b ∷ rest) =
+    if leb 16 (length (b ∷ rest)) && ltb LARGEST_DATAGRAM (length_in order (b ∷ rest)) then BadLength records else InRecord records
 
 -- bytes with a good header
 pub record Standing (bytes : List ℕ) (reading : Reading) : Type 0 where
   pub order : ByteOrder
-  pub entries : List Entry
+  pub records : List Captured
   pub rest : List ℕ
-  pub begins : BeginsWith order entries rest bytes
+  pub begins : BeginsWith order records rest bytes
   pub none : HasNone order rest
-  pub kind : reading ≡ kind_of order entries rest
+  pub kind : reading ≡ kind_of order records rest
 
 module _ (bytes : List ℕ) where
-  header_in : (order : ByteOrder) (entries : List Entry) (rest : List ℕ) → BeginsWith order entries rest bytes → (24 ≤ length bytes) × (order_of (take 24 bytes) ≡ Some order)
-  header_in order entries rest b =
-      let all = flat_map entry_bytes entries ++ rest in
-      let same : bytes ≡ b.header ++ all = b.spelled ∙ append_assoc b.header (flat_map entry_bytes entries) rest in
+  header_in : (order : ByteOrder) (records : List Captured) (rest : List ℕ) → BeginsWith order records rest bytes → (24 ≤ length bytes) × (order_of (take 24 bytes) ≡ Some order)
+  header_in order records rest b =
+      let all = flat_map captured_bytes records ++ rest in
+      let same : bytes ≡ b.header ++ all = b.spelled ∙ append_assoc b.header (flat_map captured_bytes records) rest in
       let size = ap (λ l. length l) same in
       let h = b.size in (
         omega (arith, length-append b.header all),
@@ -104,15 +104,15 @@ module _ (bytes : List ℕ) where
   one_standing one other s t =
       let a = s.begins in
       let b = t.begins in
-      let orders : s.order ≡ t.order = (let p = (header_in s.order s.entries s.rest a).1 in let q = (header_in t.order t.entries t.rest b).1 in cc) in
-      let all = flat_map entry_bytes s.entries ++ s.rest in
-      let all' = flat_map entry_bytes t.entries ++ t.rest in
+      let orders : s.order ≡ t.order = (let p = (header_in s.order s.records s.rest a).1 in let q = (header_in t.order t.records t.rest b).1 in cc) in
+      let all = flat_map captured_bytes s.records ++ s.rest in
+      let all' = flat_map captured_bytes t.records ++ t.rest in
       let rests = same_front a.header b.header all all' (a.size ∙ sym b.size)
-      (sym (append_assoc a.header (flat_map entry_bytes s.entries) s.rest) ∙ sym a.spelled ∙ b.spelled ∙ append_assoc b.header (flat_map entry_bytes t.entries) t.rest) in
-      let same = same_entries t.order s.entries t.entries s.rest t.rest
-      (subst (λ (o : ByteOrder). AllByRecursion (IsEntry o) s.entries) orders a.sound) b.sound
+      (sym (append_assoc a.header (flat_map captured_bytes s.records) s.rest) ∙ sym a.spelled ∙ b.spelled ∙ append_assoc b.header (flat_map captured_bytes t.records) t.rest) in
+      let same = same_records t.order s.records t.records s.rest t.rest
+      (subst (λ (o : ByteOrder). AllByRecursion (IsCaptured o) s.records) orders a.sound) b.sound
       (subst (λ (o : ByteOrder). HasNone o s.rest) orders s.none) t.none rests.1 in
-      s.kind ∙ ap (λ o. kind_of o s.entries s.rest) orders ∙ ap (λ l. kind_of t.order l s.rest) same.0 ∙ ap (λ l. kind_of t.order t.entries l) same.1 ∙ sym t.kind
+      s.kind ∙ ap (λ o. kind_of o s.records s.rest) orders ∙ ap (λ l. kind_of t.order l s.rest) same.0 ∙ ap (λ l. kind_of t.order t.records l) same.1 ∙ sym t.kind
 
 and_true : (a b : Bool) → (a && b) ≡ true → (a ≡ true) × (b ≡ true)
 and_true true b e = (refl, e)
@@ -122,20 +122,20 @@ if_not : (b : Bool) (x y : Reading) → (b ≡ true → ⊥) → y ≡ (if b the
 if_not true x y never = absurd (never refl)
 if_not false x y never = refl
 
-in_entry : (order : ByteOrder) (entries : List Entry) (rest : List ℕ) → 0 < length rest → IsPart order rest → InEntry entries ≡ kind_of order entries rest
-in_entry order entries [] some part = absurd (omega arith)
-in_entry order entries (b ∷ rest) some part =
+in_record : (order : ByteOrder) (records : List Captured) (rest : List ℕ) → 0 < length rest → IsCutRecord order rest → InRecord records ≡ kind_of order records rest
+in_record order records [] some part = absurd (omega arith)
+in_record order records (b ∷ rest) some part =
     let all = b ∷ rest in
-    if_not (leb 16 (length all) && ltb LARGEST_DATAGRAM (length_in order all)) (BadLength entries) (InEntry entries) (λ e.
+    if_not (leb 16 (length all) && ltb LARGEST_DATAGRAM (length_in order all)) (BadLength records) (InRecord records) (λ e.
     let each = and_true (leb 16 (length all)) (ltb LARGEST_DATAGRAM (length_in order all)) e in
     let head : 16 ≤ length all = leb-true 16 (length all) each.0 in
     let long : LARGEST_DATAGRAM < length_in order all = ltb-true LARGEST_DATAGRAM (length_in order all) each.1 in
     let fits = part.fits head in
     omega arith)
 
-bad_length : (order : ByteOrder) (entries : List Entry) (rest : List ℕ) → IsTooLong order rest → BadLength entries ≡ kind_of order entries rest
-bad_length order entries [] long = (let head = long.head in absurd (omega arith))
-bad_length order entries (b ∷ rest) long =
+bad_length : (order : ByteOrder) (records : List Captured) (rest : List ℕ) → HasLongRecord order rest → BadLength records ≡ kind_of order records rest
+bad_length order records [] long = (let head = long.head in absurd (omega arith))
+bad_length order records (b ∷ rest) long =
     let all = b ∷ rest in
     let p : leb 16 (length all) ≡ true = le-leb 16 (length all) long.head in
     let q : ltb LARGEST_DATAGRAM (length_in order all) ≡ true = lt-ltb LARGEST_DATAGRAM (length_in order all) long.long in
@@ -149,36 +149,36 @@ data Case (bytes : List ℕ) (reading : Reading) : Type 0 where
 case_of : (bytes : List ℕ) (reading : Reading) → IsReadAs bytes reading → Case bytes reading
 case_of bytes InHeader read = Short read refl
 case_of bytes BadHeader read = Bad read.0 read.1 refl
-case_of bytes (Whole entries) read =
-    Good (record { order = read.0; entries = entries; rest = []; begins = read.1; none = none_in_nothing read.0; kind = refl })
-case_of bytes (InEntry entries) read =
+case_of bytes (Whole records) read =
+    Good (record { order = read.0; records = records; rest = []; begins = read.1; none = none_in_nothing read.0; kind = refl })
+case_of bytes (InRecord records) read =
     Good (record {
       order = read.0;
-      entries = entries;
+      records = records;
       rest = read.1;
       begins = read.2;
       none = none_in_part read.0 read.1 read.4;
-      kind = in_entry read.0 entries read.1 read.3 read.4;
+      kind = in_record read.0 records read.1 read.3 read.4;
     })
-case_of bytes (BadLength entries) read =
+case_of bytes (BadLength records) read =
     Good (record {
       order = read.0;
-      entries = entries;
+      records = records;
       rest = read.1;
       begins = read.2;
       none = none_in_long read.0 read.1 read.3;
-      kind = bad_length read.0 entries read.1 read.3;
+      kind = bad_length read.0 records read.1 read.3;
     })
 
 same_case : (bytes : List ℕ) (one other : Reading) → Case bytes one → Case bytes other → one ≡ other
 same_case bytes one other (Short s e) (Short t f) = e ∙ sym f
 same_case bytes one other (Short s e) (Bad t never f) = absurd (omega arith)
-same_case bytes one other (Short s e) (Good t) = let size = (header_in bytes t.order t.entries t.rest t.begins).0 in absurd (omega arith)
+same_case bytes one other (Short s e) (Good t) = let size = (header_in bytes t.order t.records t.rest t.begins).0 in absurd (omega arith)
 same_case bytes one other (Bad s never e) (Short t f) = absurd (omega arith)
 same_case bytes one other (Bad s none e) (Bad t never f) = e ∙ sym f
-same_case bytes one other (Bad s never e) (Good t) = let good = (header_in bytes t.order t.entries t.rest t.begins).1 in absurd cc
-same_case bytes one other (Good s) (Short t f) = let size = (header_in bytes s.order s.entries s.rest s.begins).0 in absurd (omega arith)
-same_case bytes one other (Good s) (Bad t never f) = let good = (header_in bytes s.order s.entries s.rest s.begins).1 in absurd cc
+same_case bytes one other (Bad s never e) (Good t) = let good = (header_in bytes t.order t.records t.rest t.begins).1 in absurd cc
+same_case bytes one other (Good s) (Short t f) = let size = (header_in bytes s.order s.records s.rest s.begins).0 in absurd (omega arith)
+same_case bytes one other (Good s) (Bad t never f) = let good = (header_in bytes s.order s.records s.rest s.begins).1 in absurd cc
 same_case bytes one other (Good s) (Good t) = one_standing bytes one other s t
 
 pub one_reading : (bytes : List ℕ) (one other : Reading) → IsReadAs bytes one → IsReadAs bytes other → one ≡ other

@@ -7,9 +7,9 @@ use Rattle.uip_edge.proofs.Told.{Appends-none, Appends-then, appends_by, prefix_
 use Rattle.uip_edge.specs.Writing.{AppendsPrefix}
 use Rattle.uip_slip.specs.Text.{slip_text}
 use Rattle.uip_wire.specs.declared.sizes.TheConstants.{LARGEST_DATAGRAM}
-use Rattle.trace.specs.CaptureReading.{BeginsWith, Entry, IsEntry, IsReadAs, Reading, cut_of, entries_of, entry_bytes, entry_line, fault_of, length_in, line_text, lines_of, order_of}
-use Rattle.trace.specs.CaptureReading.Reading.{BadHeader, BadLength, InEntry, InHeader, Whole}
-use Rattle.trace.specs.Gathering.{BrokeOff, HasRead, IsAt, IsAtFault, IsFull, IsOpen, StopsAt, end_at}
+use Rattle.trace.specs.CaptureReading.{BeginsWith, Captured, IsCaptured, IsReadAs, Reading, cut_in, captured_in, captured_bytes, captured_line, fault_in, length_in, line_text, lines_of, order_of}
+use Rattle.trace.specs.CaptureReading.Reading.{BadHeader, BadLength, InRecord, InHeader, Whole}
+use Rattle.trace.specs.Gathering.{BrokeOff, HasRead, IsReadTo, IsAtFault, IsFull, IsOpen, StopsAt, end_at}
 use Rattle.trace.specs.declared.byte_order.ByteOrder.{ByteOrder}
 use Rattle.trace.specs.declared.reader.Stop.{Stop}
 use Rattle.trace.specs.declared.reader.Stop.TheVariants as stops
@@ -17,11 +17,11 @@ use Rattle.trace.specs.declared.slip_end.CaptureWhy.{CaptureWhy}
 use Rattle.trace.specs.declared.slip_end.CaptureWhy.TheVariants as whys
 use Rattle.trace.specs.declared.stage.Stage.{Stage}
 use Rattle.trace.specs.declared.stage.Stage.TheVariants as stages
-use Rattle.trace.proofs.EntryLaws.{front_of, length_in-append, lines-more, more_rest, one_more, reads_on}
+use Rattle.trace.proofs.CaptureLaws.{front_of, length_in-append, lines-more, more_rest, one_more, reads_on}
 
 module _ (start now : Option (List ℕ)) (bytes : List ℕ) (number : ℕ) (part : List ℕ) where
   -- the header is none that is read
-  pub header_fault : (more : List ℕ) → length part ≡ 24 → order_of part ≡ None → IsAt start now bytes stages.Header number part
+  pub header_fault : (more : List ℕ) → length part ≡ 24 → order_of part ≡ None → IsReadTo start now bytes stages.Header number part
       → IsAtFault whys.Head start now (bytes ++ more) number
   header_fault more size none at =
       let same : take 24 (bytes ++ more) ≡ part = ap (λ l. take 24 (l ++ more)) (sym at.read.2) ∙ front_of 24 part more size in
@@ -30,19 +30,19 @@ module _ (start now : Option (List ℕ)) (bytes : List ℕ) (number : ℕ) (part
         reading = BadHeader;
         read = (omega (arith, size, count, length-append bytes more), ap (λ l. order_of l) same ∙ none);
         fault = ap (λ n. Some (n, whys.Head)) (sym at.read.0);
-        written = subst (λ (l : List Entry). Appends start now (lines_of l)) at.read.1 at.written;
+        written = subst (λ (l : List Captured). Appends start now (lines_of l)) at.read.1 at.written;
       }
 
   module _ (order : ByteOrder) where
     -- a record tells too long a length
-    pub length_fault : (more : List ℕ) → length part ≡ 16 → LARGEST_DATAGRAM < length_in order part → IsAt start now bytes (stages.Head order) number part
+    pub length_fault : (more : List ℕ) → length part ≡ 16 → LARGEST_DATAGRAM < length_in order part → IsReadTo start now bytes (stages.Head order) number part
         → IsAtFault whys.Length start now (bytes ++ more) number
     length_fault more size long at = record {
-      reading = BadLength at.entries;
+      reading = BadLength at.records;
       read = (
         order,
         part ++ more,
-        more_rest order at.entries part bytes more at.read.1,
+        more_rest order at.records part bytes more at.read.1,
         record {
           head = omega (arith, size, length-append part more);
           long = subst (λ (n : ℕ). LARGEST_DATAGRAM < n) (sym (length_in-append order part more (omega (arith, size)))) long;
@@ -53,18 +53,18 @@ module _ (start now : Option (List ℕ)) (bytes : List ℕ) (number : ℕ) (part
     }
 
     -- a record without a byte
-    pub empty_entry : length part ≡ 16 → length_in order part ≡ 0 → IsAt start now bytes (stages.Head order) number part
-        → IsAt start now bytes (stages.Head order) (number + 1) []
-    empty_entry size none at =
-        let entry : Entry = record { head = part; body = [] } in
-        let is : IsEntry order entry = record { head = size; body = sym none; fits = omega arith } in
+    pub empty_captured : length part ≡ 16 → length_in order part ≡ 0 → IsReadTo start now bytes (stages.Head order) number part
+        → IsReadTo start now bytes (stages.Head order) (number + 1) []
+    empty_captured size none at =
+        let captured : Captured = record { head = part; body = [] } in
+        let is : IsCaptured order captured = record { head = size; body = sym none; fits = omega arith } in
         record {
-          entries = at.entries ++ entry ∷ [];
+          records = at.records ++ captured ∷ [];
           read = (
-            omega (arith, at.read.0, length-append at.entries (entry ∷ [])),
-            one_more order at.entries part [] bytes entry at.read.1 is (sym (append-nil (part ++ []) ∙ append-nil part)),
+            omega (arith, at.read.0, length-append at.records (captured ∷ [])),
+            one_more order at.records part [] bytes captured at.read.1 is (sym (append-nil (part ++ []) ∙ append-nil part)),
           );
-          written = appends_by _ _ _ _ (lines-more at.entries entry ∙ append-nil (lines_of at.entries)) at.written;
+          written = appends_by _ _ _ _ (lines-more at.records captured ∙ append-nil (lines_of at.records)) at.written;
         }
 
 pub line_some : (datagram : List ℕ) → 0 < length datagram → line_text datagram ≡ slip_text datagram
@@ -82,12 +82,12 @@ pub record IsBody (order : ByteOrder) (part : List ℕ) : Type 0 where
   pub fits : length_in order part ≤ LARGEST_DATAGRAM
 
 module _ (start old new : Option (List ℕ)) (bytes : List ℕ) (number : ℕ) (part : List ℕ) (order : ByteOrder) (is : IsBody order part)
-    (at : IsAt start old bytes (stages.Body order) number part) where
-  abbrev entry : Entry
-  entry = record { head = take 16 part; body = drop 16 part }
+    (at : IsReadTo start old bytes (stages.Body order) number part) where
+  abbrev captured : Captured
+  captured = record { head = take 16 part; body = drop 16 part }
 
-  entry_is : IsEntry order entry
-  entry_is =
+  captured_is : IsCaptured order captured
+  captured_is =
       let least : 16 ≤ length part = let s = is.some in omega arith in
       let head : length (take 16 part) ≡ 16 = length-take-le 16 part least in
       let body : length (drop 16 part) ≡ length_in order part = let s = is.size in omega (arith, length-drop 16 part) in
@@ -95,76 +95,76 @@ module _ (start old new : Option (List ℕ)) (bytes : List ℕ) (number : ℕ) (
       sym (length_in-append order (take 16 part) (drop 16 part) (omega (arith, head))) ∙ ap (λ l. length_in order l) (take-append-drop 16 part) in
       record { head = head; body = body ∙ sym same; fits = subst (λ (n : ℕ). n ≤ LARGEST_DATAGRAM) (sym body) is.fits }
 
-  whole : BeginsWith order (at.entries ++ entry ∷ []) [] bytes
-  whole = one_more order at.entries part [] bytes entry at.read.1 entry_is (sym (append-nil (take 16 part ++ drop 16 part) ∙ take-append-drop 16 part))
+  whole : BeginsWith order (at.records ++ captured ∷ []) [] bytes
+  whole = one_more order at.records part [] bytes captured at.read.1 captured_is (sym (append-nil (take 16 part ++ drop 16 part) ∙ take-append-drop 16 part))
 
-  text : lines_of (at.entries ++ entry ∷ []) ≡ lines_of at.entries ++ slip_text (drop 16 part)
-  text = lines-more at.entries entry
-      ∙ ap (λ l. lines_of at.entries ++ l) (line_some (drop 16 part) (let s = is.some in omega (arith, length-drop 16 part)))
+  text : lines_of (at.records ++ captured ∷ []) ≡ lines_of at.records ++ slip_text (drop 16 part)
+  text = lines-more at.records captured
+      ∙ ap (λ l. lines_of at.records ++ l) (line_some (drop 16 part) (let s = is.some in omega (arith, length-drop 16 part)))
 
   -- its line was written
-  pub body_done : Appends old new (slip_text (drop 16 part)) → IsAt start new bytes (stages.Head order) (number + 1) []
+  pub body_done : Appends old new (slip_text (drop 16 part)) → IsReadTo start new bytes (stages.Head order) (number + 1) []
   body_done w = record {
-    entries = at.entries ++ entry ∷ [];
-    read = (omega (arith, at.read.0, length-append at.entries (entry ∷ [])), whole);
+    records = at.records ++ captured ∷ [];
+    read = (omega (arith, at.read.0, length-append at.records (captured ∷ [])), whole);
     written = appends_by _ _ _ _ text (Appends-then start old new _ _ at.written w);
   }
 
   -- the writing of its line broke off
   pub body_broke : (more : List ℕ) → AppendsPrefix old new (slip_text (drop 16 part)) → BrokeOff start new (bytes ++ more)
   body_broke more w =
-      let on = reads_on (length more + 1) order (at.entries ++ entry ∷ []) more (bytes ++ more) (omega arith)
-      (more_rest order (at.entries ++ entry ∷ []) [] bytes more whole) in
+      let on = reads_on (length more + 1) order (at.records ++ captured ∷ []) more (bytes ++ more) (omega arith)
+      (more_rest order (at.records ++ captured ∷ []) [] bytes more whole) in
       record {
         reading = on.reading;
         read = on.read;
-        written = prefix_more start new (lines_of (at.entries ++ entry ∷ [])) (lines_of on.more) (lines_of (entries_of on.reading))
-            (sym (ap (λ l. lines_of l) on.first ∙ flat_map-append entry_line (at.entries ++ entry ∷ []) on.more))
+        written = prefix_more start new (lines_of (at.records ++ captured ∷ [])) (lines_of on.more) (lines_of (captured_in on.reading))
+            (sym (ap (λ l. lines_of l) on.first ∙ flat_map-append captured_line (at.records ++ captured ∷ []) on.more))
             (prefix_by start new _ _ text (prefix_then start old new _ _ at.written w));
       }
 
 -- the writing of its line broke off, whatever was read before
 pub broke_all : (old new : Option (List ℕ)) (stage : Stage) (number : ℕ) (part text : List ℕ) (order : ByteOrder) → IsBody order part → stage ≡ stages.Body order
     → text ≡ slip_text (drop 16 part) → AppendsPrefix old new text
-    → (start : Option (List ℕ)) (bytes more : List ℕ) → IsAt start old bytes stage number part → BrokeOff start new (bytes ++ more)
+    → (start : Option (List ℕ)) (bytes more : List ℕ) → IsReadTo start old bytes stage number part → BrokeOff start new (bytes ++ more)
 broke_all old new stage number part text order is here e w = λ start bytes more at.
-    body_broke start old new bytes number part order is (subst (λ (s : Stage). IsAt start old bytes s number part) here at) more
+    body_broke start old new bytes number part order is (subst (λ (s : Stage). IsReadTo start old bytes s number part) here at) more
     (prefix_by old new text (slip_text (drop 16 part)) (sym e) w)
 
 -- more of the part was read
-pub part_grows : (start now : Option (List ℕ)) (bytes more : List ℕ) (stage : Stage) (number : ℕ) (part : List ℕ) → IsAt start now bytes stage number part
-    → IsAt start now (bytes ++ more) stage number (part ++ more)
+pub part_grows : (start now : Option (List ℕ)) (bytes more : List ℕ) (stage : Stage) (number : ℕ) (part : List ℕ) → IsReadTo start now bytes stage number part
+    → IsReadTo start now (bytes ++ more) stage number (part ++ more)
 part_grows start now bytes more stages.Header number part at =
-    record { entries = at.entries; read = (at.read.0, at.read.1, ap (λ l. l ++ more) at.read.2); written = at.written }
+    record { records = at.records; read = (at.read.0, at.read.1, ap (λ l. l ++ more) at.read.2); written = at.written }
 part_grows start now bytes more (stages.Head order) number part at =
-    record { entries = at.entries; read = (at.read.0, more_rest order at.entries part bytes more at.read.1); written = at.written }
+    record { records = at.records; read = (at.read.0, more_rest order at.records part bytes more at.read.1); written = at.written }
 part_grows start now bytes more (stages.Body order) number part at =
-    record { entries = at.entries; read = (at.read.0, more_rest order at.entries part bytes more at.read.1); written = at.written }
+    record { records = at.records; read = (at.read.0, more_rest order at.records part bytes more at.read.1); written = at.written }
 
 -- what a whole part stopped at is what the bytes stopped at that it was read from
 pub stops_front : (stop : Stop) (old new : Option (List ℕ)) (n : ℕ) (bytes : List ℕ) (stage : Stage) (number number' : ℕ) (part part' : List ℕ)
     → part' ≡ part ++ take n bytes
-    → ((start : Option (List ℕ)) (fed more : List ℕ) → IsAt start old fed stage number part' → StopsAt stop start new (fed ++ more) number')
-    → (start : Option (List ℕ)) (before : List ℕ) → IsAt start old before stage number part → StopsAt stop start new (before ++ bytes) number'
+    → ((start : Option (List ℕ)) (fed more : List ℕ) → IsReadTo start old fed stage number part' → StopsAt stop start new (fed ++ more) number')
+    → (start : Option (List ℕ)) (before : List ℕ) → IsReadTo start old before stage number part → StopsAt stop start new (before ++ bytes) number'
 stops_front stop old new n bytes stage number number' part part' e f = λ start before at.
     subst (λ (l : List ℕ). StopsAt stop start new l number')
     (append_assoc before (take n bytes) (drop n bytes) ∙ ap (λ l. before ++ l) (take-append-drop n bytes))
     (f start (before ++ take n bytes) (drop n bytes)
-    (subst (λ (l : List ℕ). IsAt start old (before ++ take n bytes) stage number l) (sym e) (part_grows start old before (take n bytes) stage number part at)))
+    (subst (λ (l : List ℕ). IsReadTo start old (before ++ take n bytes) stage number l) (sym e) (part_grows start old before (take n bytes) stage number part at)))
 
 module _ (begun old : Option (List ℕ)) (stage stage' : Stage) (number number' : ℕ) (part part' front : List ℕ)
-    (at : (start : Option (List ℕ)) (before : List ℕ) → IsAt start begun before stage number part → IsAt start old (before ++ front) stage' number' part') where
+    (at : (start : Option (List ℕ)) (before : List ℕ) → IsReadTo start begun before stage number part → IsReadTo start old (before ++ front) stage' number' part') where
   -- the reading went on
   pub at_both : (new : Option (List ℕ)) (bytes : List ℕ) (stage″ : Stage) (number″ : ℕ) (part″ : List ℕ)
-      → ((start : Option (List ℕ)) (before : List ℕ) → IsAt start old before stage' number' part' → IsAt start new (before ++ bytes) stage″ number″ part″)
-      → (start : Option (List ℕ)) (before : List ℕ) → IsAt start begun before stage number part → IsAt start new (before ++ (front ++ bytes)) stage″ number″ part″
+      → ((start : Option (List ℕ)) (before : List ℕ) → IsReadTo start old before stage' number' part' → IsReadTo start new (before ++ bytes) stage″ number″ part″)
+      → (start : Option (List ℕ)) (before : List ℕ) → IsReadTo start begun before stage number part → IsReadTo start new (before ++ (front ++ bytes)) stage″ number″ part″
   at_both new bytes stage″ number″ part″ more start before h =
-      subst (λ (l : List ℕ). IsAt start new l stage″ number″ part″) (append_assoc before front bytes) (more start (before ++ front) (at start before h))
+      subst (λ (l : List ℕ). IsReadTo start new l stage″ number″ part″) (append_assoc before front bytes) (more start (before ++ front) (at start before h))
 
   -- or it stopped
   pub stops_both : (stop : Stop) (new : Option (List ℕ)) (bytes whole : List ℕ) (number″ : ℕ) → whole ≡ front ++ bytes
-      → ((start : Option (List ℕ)) (before : List ℕ) → IsAt start old before stage' number' part' → StopsAt stop start new (before ++ bytes) number″)
-      → (start : Option (List ℕ)) (before : List ℕ) → IsAt start begun before stage number part → StopsAt stop start new (before ++ whole) number″
+      → ((start : Option (List ℕ)) (before : List ℕ) → IsReadTo start old before stage' number' part' → StopsAt stop start new (before ++ bytes) number″)
+      → (start : Option (List ℕ)) (before : List ℕ) → IsReadTo start begun before stage number part → StopsAt stop start new (before ++ whole) number″
   stops_both stop new bytes whole number″ e more = λ start before h.
       subst (λ (l : List ℕ). StopsAt stop start new l number″) (append_assoc before front bytes ∙ ap (λ l. before ++ l) (sym e))
       (more start (before ++ front) (at start before h))

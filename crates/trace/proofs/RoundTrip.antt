@@ -17,12 +17,12 @@ use Rattle.serve_loop.specs.LineEvents.{bytes_of}
 use Rattle.serve_loop.specs.Outside.{Outside, TookAll, Unfailed}
 use Rattle.serve_loop.proofs.EventLaws.{bytes_of-append, bytes_of-map}
 use Rattle.uip_edge.proofs.Told.{appends_by}
-use Rattle.trace.specs.CaptureReading.{BeginsWith, Entry, HoldsJust, IsEntry, IsReadAs, Reading, cut_of, entries_of, entry_bytes, entry_line, fault_of, length_in, lines_of, order_of}
-use Rattle.trace.specs.CaptureReading.Reading.{BadHeader, BadLength, InEntry, InHeader, Whole}
-use Rattle.trace.specs.CaptureText.{capture_header, capture_text, datagram_in, datagrams_on, frame_record, record_bytes, seen_record}
+use Rattle.trace.specs.CaptureReading.{BeginsWith, Captured, HoldsJust, IsCaptured, IsReadAs, Reading, cut_in, captured_in, captured_bytes, captured_line, fault_in, length_in, lines_of, order_of}
+use Rattle.trace.specs.CaptureReading.Reading.{BadHeader, BadLength, InRecord, InHeader, Whole}
+use Rattle.trace.specs.CaptureText.{capture_header, capture_file, datagrams_in, datagrams_on, frame_record, record_bytes, seen_record}
 use Rattle.trace.specs.Converting.{Converts, IsSurely, SlipEndsBy, end_by_cut}
 use Rattle.trace.specs.Seen.{Seen, seen_on}
-use Rattle.trace.proofs.EntryLaws.{length_in-append, more_rest}
+use Rattle.trace.proofs.CaptureLaws.{length_in-append, more_rest}
 use Rattle.trace.proofs.OneReading.{one_reading}
 use Rattle.trace.proofs.ReadLaws.{line_some}
 use Rattle.trace.proofs.SeenLaws.{frame_in, frames_seen}
@@ -63,7 +63,7 @@ taken_within (Some told) (Some left) all taken e c =
 
 -- the answer that must come where nothing failed
 module _ (n : ℕ) (old new : Outside) (taken : List Item) (reading : Reading) (calm : Unfailed old new) where
-  told_bad : (end : SlipEnd) → SlipEndsBy n old new taken reading end → (number : ℕ) (why : CaptureWhy) → fault_of reading ≡ Some (number, why) → end ≡ ends.Bad number why
+  told_bad : (end : SlipEnd) → SlipEndsBy n old new taken reading end → (number : ℕ) (why : CaptureWhy) → fault_in reading ≡ Some (number, why) → end ≡ ends.Bad number why
   told_bad ends.End by number why f = absurd (none_is_not _ by.3 f)
   told_bad ends.Budget by number why f = absurd (none_is_not _ by.2 f)
   told_bad ends.LinkFault by number why f = absurd (none_is_not _ by.3 f)
@@ -72,7 +72,7 @@ module _ (n : ℕ) (old new : Outside) (taken : List Item) (reading : Reading) (
   told_bad (ends.Bad m whys.Head) by number why f = same_bad _ (m, whys.Head) (number, why) by.2 f
   told_bad (ends.Bad m whys.Length) by number why f = same_bad _ (m, whys.Length) (number, why) by.2 f
 
-  told_budget : (end : SlipEnd) → SlipEndsBy n old new taken reading end → fault_of reading ≡ None → length taken ≡ n → end ≡ ends.Budget
+  told_budget : (end : SlipEnd) → SlipEndsBy n old new taken reading end → fault_in reading ≡ None → length taken ≡ n → end ≡ ends.Budget
   told_budget ends.End by none all = absurd (omega (arith, by.1))
   told_budget ends.Budget by none all = refl
   told_budget ends.LinkFault by none all = absurd (omega (arith, by.0))
@@ -81,8 +81,8 @@ module _ (n : ℕ) (old new : Outside) (taken : List Item) (reading : Reading) (
   told_budget (ends.Bad m whys.Head) by none all = absurd (none_is_not _ none by.2)
   told_budget (ends.Bad m whys.Length) by none all = absurd (none_is_not _ none by.2)
 
-  told_over : (end : SlipEnd) → SlipEndsBy n old new taken reading end → (all : List Item) → fault_of reading ≡ None → old.coming ≡ Some all → length all < n
-      → Consumes old.coming new.coming taken → end ≡ end_by_cut (cut_of reading)
+  told_over : (end : SlipEnd) → SlipEndsBy n old new taken reading end → (all : List Item) → fault_in reading ≡ None → old.coming ≡ Some all → length all < n
+      → Consumes old.coming new.coming taken → end ≡ end_by_cut (cut_in reading)
   told_over ends.End by all none told short c = ap (λ o. end_by_cut o) (sym by.4)
   told_over ends.Budget by all none told short c = absurd (omega (arith, taken_within old.coming new.coming all taken told c, by.0))
   told_over ends.LinkFault by all none told short c = absurd (omega (arith, by.1, calm.link, calm.link_below))
@@ -130,12 +130,12 @@ abbrev head_bytes : ℕ → List ℕ → List ℕ
 head_bytes silences datagram =
     long_bytes (silences / 2 % 4294967296) ++ long_bytes (500000 * (silences % 2)) ++ long_bytes (length datagram) ++ long_bytes (length datagram)
 
-abbrev frame_entry : ℕ → Frame → List Entry
-frame_entry silences (Datagram bytes) = record { head = head_bytes silences bytes; body = bytes } ∷ []
-frame_entry silences Overlong = []
+abbrev frame_captured : ℕ → Frame → List Captured
+frame_captured silences (Datagram bytes) = record { head = head_bytes silences bytes; body = bytes } ∷ []
+frame_captured silences Overlong = []
 
-abbrev seen_entry : Seen → List Entry
-seen_entry s = frame_entry s.silences s.frame
+abbrev seen_captured : Seen → List Captured
+seen_captured s = frame_captured s.silences s.frame
 
 length_back : (n : ℕ) → 65536 * (256 * (n / 65536 / 256) + n / 65536 % 256) + (256 * (n % 65536 / 256) + n % 65536 % 256) ≡ n
 length_back n =
@@ -143,95 +143,95 @@ length_back n =
     ∙ ap (λ k. 65536 * (n / 65536) + k) (div-add-mod (n % 65536) 256)
     ∙ div-add-mod n 65536
 
-frame_sound : (silences : ℕ) (frame : Frame) → Fits frame → AllByRecursion (IsEntry Big) (frame_entry silences frame)
+frame_sound : (silences : ℕ) (frame : Frame) → Fits frame → AllByRecursion (IsCaptured Big) (frame_captured silences frame)
 frame_sound silences (Datagram bytes) fits = (record { head = refl; body = sym (length_back (length bytes)); fits = fits.1 }, tt)
 frame_sound silences Overlong fits = tt
 
-entries_sound : (seen : List Seen) → AllByRecursion Fits (map frame_in seen) → AllByRecursion (IsEntry Big) (flat_map seen_entry seen)
-entries_sound [] all = tt
-entries_sound (s ∷ seen) all = all_append (IsEntry Big) (seen_entry s) (flat_map seen_entry seen) (frame_sound s.silences s.frame all.0) (entries_sound seen all.1)
+records_sound : (seen : List Seen) → AllByRecursion Fits (map frame_in seen) → AllByRecursion (IsCaptured Big) (flat_map seen_captured seen)
+records_sound [] all = tt
+records_sound (s ∷ seen) all = all_append (IsCaptured Big) (seen_captured s) (flat_map seen_captured seen) (frame_sound s.silences s.frame all.0) (records_sound seen all.1)
 
-frame_spelled : (silences : ℕ) (frame : Frame) → frame_record silences frame ≡ flat_map entry_bytes (frame_entry silences frame)
+frame_spelled : (silences : ℕ) (frame : Frame) → frame_record silences frame ≡ flat_map captured_bytes (frame_captured silences frame)
 frame_spelled silences (Datagram bytes) = sym (append-nil (head_bytes silences bytes ++ bytes))
 frame_spelled silences Overlong = refl
 
-records_spelled : (seen : List Seen) → flat_map seen_record seen ≡ flat_map entry_bytes (flat_map seen_entry seen)
+records_spelled : (seen : List Seen) → flat_map seen_record seen ≡ flat_map captured_bytes (flat_map seen_captured seen)
 records_spelled [] = refl
 records_spelled (s ∷ seen) =
     ap (λ l. seen_record s ++ l) (records_spelled seen)
-    ∙ ap (λ l. l ++ flat_map entry_bytes (flat_map seen_entry seen)) (frame_spelled s.silences s.frame)
-    ∙ sym (flat_map-append entry_bytes (seen_entry s) (flat_map seen_entry seen))
+    ∙ ap (λ l. l ++ flat_map captured_bytes (flat_map seen_captured seen)) (frame_spelled s.silences s.frame)
+    ∙ sym (flat_map-append captured_bytes (seen_captured s) (flat_map seen_captured seen))
 
-abbrev body_of : Entry → List ℕ
-body_of entry = entry.body
+abbrev body_of : Captured → List ℕ
+body_of captured = captured.body
 
-frame_body : (silences : ℕ) (frame : Frame) → map body_of (frame_entry silences frame) ≡ datagram_in frame
+frame_body : (silences : ℕ) (frame : Frame) → map body_of (frame_captured silences frame) ≡ datagrams_in frame
 frame_body silences (Datagram bytes) = refl
 frame_body silences Overlong = refl
 
-bodies_of : (seen : List Seen) → map body_of (flat_map seen_entry seen) ≡ flat_map datagram_in (map frame_in seen)
+bodies_of : (seen : List Seen) → map body_of (flat_map seen_captured seen) ≡ flat_map datagrams_in (map frame_in seen)
 bodies_of [] = refl
 bodies_of (s ∷ seen) =
-    map-append body_of (seen_entry s) (flat_map seen_entry seen)
-    ∙ ap (λ l. l ++ map body_of (flat_map seen_entry seen)) (frame_body s.silences s.frame)
-    ∙ ap (λ l. datagram_in s.frame ++ l) (bodies_of seen)
+    map-append body_of (seen_captured s) (flat_map seen_captured seen)
+    ∙ ap (λ l. l ++ map body_of (flat_map seen_captured seen)) (frame_body s.silences s.frame)
+    ∙ ap (λ l. datagrams_in s.frame ++ l) (bodies_of seen)
 
-frame_line : (silences : ℕ) (frame : Frame) → Fits frame → flat_map entry_line (frame_entry silences frame) ≡ flat_map slip_text (datagram_in frame)
+frame_line : (silences : ℕ) (frame : Frame) → Fits frame → flat_map captured_line (frame_captured silences frame) ≡ flat_map slip_text (datagrams_in frame)
 frame_line silences (Datagram bytes) fits = ap (λ l. l ++ []) (line_some bytes fits.0)
 frame_line silences Overlong fits = refl
 
-lines_are : (seen : List Seen) → AllByRecursion Fits (map frame_in seen) → lines_of (flat_map seen_entry seen) ≡ flat_map slip_text (flat_map datagram_in (map frame_in seen))
+lines_are : (seen : List Seen) → AllByRecursion Fits (map frame_in seen) → lines_of (flat_map seen_captured seen) ≡ flat_map slip_text (flat_map datagrams_in (map frame_in seen))
 lines_are [] all = refl
 lines_are (s ∷ seen) all =
-    flat_map-append entry_line (seen_entry s) (flat_map seen_entry seen)
-    ∙ ap (λ l. l ++ lines_of (flat_map seen_entry seen)) (frame_line s.silences s.frame all.0)
-    ∙ ap (λ l. flat_map slip_text (datagram_in s.frame) ++ l) (lines_are seen all.1)
-    ∙ sym (flat_map-append slip_text (datagram_in s.frame) (flat_map datagram_in (map frame_in seen)))
+    flat_map-append captured_line (seen_captured s) (flat_map seen_captured seen)
+    ∙ ap (λ l. l ++ lines_of (flat_map seen_captured seen)) (frame_line s.silences s.frame all.0)
+    ∙ ap (λ l. flat_map slip_text (datagrams_in s.frame) ++ l) (lines_are seen all.1)
+    ∙ sym (flat_map-append slip_text (datagrams_in s.frame) (flat_map datagrams_in (map frame_in seen)))
 
 -- the capture file of a line
 module _ (items : List Item) where
-  abbrev entries : List Entry
-  entries = flat_map seen_entry (seen_on items)
+  abbrev records : List Captured
+  records = flat_map seen_captured (seen_on items)
 
   all_fit : AllByRecursion Fits (map frame_in (seen_on items))
   all_fit = subst (λ (l : List Frame). AllByRecursion Fits l) (sym (frames_seen items)) (frames_fit (bytes_of items))
 
-  read_whole : IsReadAs (capture_text items) (Whole entries)
+  read_whole : IsReadAs (capture_file items) (Whole records)
   read_whole = (
     Big,
     record {
       header = capture_header;
       size = refl;
       good = refl;
-      sound = entries_sound (seen_on items) all_fit;
-      spelled = ap (λ l. capture_header ++ l) (records_spelled (seen_on items)) ∙ sym (append-nil (capture_header ++ flat_map entry_bytes entries));
+      sound = records_sound (seen_on items) all_fit;
+      spelled = ap (λ l. capture_header ++ l) (records_spelled (seen_on items)) ∙ sym (append-nil (capture_header ++ flat_map captured_bytes records));
     },
   )
 
-  datagrams : flat_map datagram_in (map frame_in (seen_on items)) ≡ datagrams_on items
-  datagrams = ap (λ l. flat_map datagram_in l) (frames_seen items)
+  datagrams : flat_map datagrams_in (map frame_in (seen_on items)) ≡ datagrams_on items
+  datagrams = ap (λ l. flat_map datagrams_in l) (frames_seen items)
 
-  pub holds_just : HoldsJust (datagrams_on items) (capture_text items)
-  holds_just = record { entries = entries; read = read_whole; bodies = bodies_of (seen_on items) ∙ datagrams }
+  pub holds_just : HoldsJust (datagrams_on items) (capture_file items)
+  holds_just = record { records = records; read = read_whole; bodies = bodies_of (seen_on items) ∙ datagrams }
 
-  line_is : lines_of entries ≡ flat_map slip_text (datagrams_on items)
+  line_is : lines_of records ≡ flat_map slip_text (datagrams_on items)
   line_is = lines_are (seen_on items) all_fit ∙ ap (λ l. flat_map slip_text l) datagrams
 
 -- a fault stays whatever follows
-fault_stays : (bytes more : List ℕ) (reading : Reading) (fault : ℕ × CaptureWhy) → IsReadAs bytes reading → fault_of reading ≡ Some fault → IsReadAs (bytes ++ more) reading
+fault_stays : (bytes more : List ℕ) (reading : Reading) (fault : ℕ × CaptureWhy) → IsReadAs bytes reading → fault_in reading ≡ Some fault → IsReadAs (bytes ++ more) reading
 fault_stays bytes more InHeader fault read e = absurd cc
 fault_stays bytes more BadHeader fault read e =
     (omega (arith, read.0, length-append bytes more), ap (λ l. order_of l) (take-append-le 24 bytes more read.0) ∙ read.1)
-fault_stays bytes more (Whole entries) fault read e = absurd cc
-fault_stays bytes more (InEntry entries) fault read e = absurd cc
-fault_stays bytes more (BadLength entries) fault read e =
+fault_stays bytes more (Whole records) fault read e = absurd cc
+fault_stays bytes more (InRecord records) fault read e = absurd cc
+fault_stays bytes more (BadLength records) fault read e =
     let order = read.0 in
     let rest = read.1 in
     let head = read.3.head in
     let long = read.3.long in (
       order,
       rest ++ more,
-      more_rest order entries rest bytes more read.2,
+      more_rest order records rest bytes more read.2,
       record {
         head = omega (arith, length-append rest more);
         long = subst (λ (k : ℕ). LARGEST_DATAGRAM < k) (sym (length_in-append order rest more head)) long;
@@ -253,42 +253,42 @@ told_all (Some all) text taken e t =
     let same : all ≡ map Byte text = cc in
     ap (λ l. bytes_of l) (sym t ∙ same) ∙ bytes_of-map text
 
-module _ (items : List Item) (n : ℕ) (old new : Outside) (told : old.coming ≡ Some (map Byte (capture_text items))) (short : length (capture_text items) < n)
+module _ (items : List Item) (n : ℕ) (old new : Outside) (told : old.coming ≡ Some (map Byte (capture_file items))) (short : length (capture_file items) < n)
     (calm : Unfailed old new) where
   abbrev Back : SlipEnd → Type 0
   Back end = (end ≡ ends.End) × Appends old.written new.written (flat_map slip_text (datagrams_on items))
 
-  whole_size : length (map Byte (capture_text items)) ≡ length (capture_text items)
+  whole_size : length (map Byte (capture_file items)) ≡ length (capture_file items)
   whole_size = rw length-map refl
 
-  read_all : (reading : Reading) (taken : List Item) → IsReadAs (bytes_of taken) reading → TookAll old.coming taken → reading ≡ Whole (entries items)
+  read_all : (reading : Reading) (taken : List Item) → IsReadAs (bytes_of taken) reading → TookAll old.coming taken → reading ≡ Whole (records items)
   read_all reading taken read all =
-      one_reading (capture_text items) reading (Whole (entries items))
-      (subst (λ (l : List ℕ). IsReadAs l reading) (told_all old.coming (capture_text items) taken told all) read) (read_whole items)
+      one_reading (capture_file items) reading (Whole (records items))
+      (subst (λ (l : List ℕ). IsReadAs l reading) (told_all old.coming (capture_file items) taken told all) read) (read_whole items)
 
   no_fault : (reading : Reading) (taken : List Item) (fault : ℕ × CaptureWhy) → IsReadAs (bytes_of taken) reading → Consumes old.coming new.coming taken
-      → fault_of reading ≡ Some fault → ⊥
+      → fault_in reading ≡ Some fault → ⊥
   no_fault reading taken fault read c e =
-      let rest = told_rest old.coming new.coming (capture_text items) taken told c in
-      let same : reading ≡ Whole (entries items) =
-      one_reading (capture_text items) reading (Whole (entries items))
+      let rest = told_rest old.coming new.coming (capture_file items) taken told c in
+      let same : reading ≡ Whole (records items) =
+      one_reading (capture_file items) reading (Whole (records items))
       (subst (λ (l : List ℕ). IsReadAs l reading) (sym rest.1) (fault_stays (bytes_of taken) (bytes_of rest.0) reading fault read e)) (read_whole items) in
-      none_is_not (fault_of reading) (ap (λ r. fault_of r) same) e
+      none_is_not (fault_in reading) (ap (λ r. fault_in r) same) e
 
   back : (end : SlipEnd) → Converts n old new end → Back end
   back ends.End c =
       let same = read_all c.reading c.taken c.read c.ends.0 in
-      (refl, appends_by _ _ _ _ (sym (ap (λ r. lines_of (entries_of r)) same ∙ line_is items)) c.wrote)
+      (refl, appends_by _ _ _ _ (sym (ap (λ r. lines_of (captured_in r)) same ∙ line_is items)) c.wrote)
   back ends.Budget c =
-      absurd (omega (arith, taken_within old.coming new.coming (map Byte (capture_text items)) c.taken told c.consumed, c.ends.0, whole_size))
+      absurd (omega (arith, taken_within old.coming new.coming (map Byte (capture_file items)) c.taken told c.consumed, c.ends.0, whole_size))
   back ends.LinkFault c = absurd (omega (arith, c.ends.1, calm.link, calm.link_below))
   back ends.WriteFault c = absurd (omega (arith, c.ends.2, calm.sink, calm.sink_below))
   back (ends.Bad m whys.Cut) c =
-      let same = read_all c.reading c.taken c.read c.ends.0 in absurd (uncut (cut_of c.reading) (ap (λ r. cut_of r) same) c.ends.4)
+      let same = read_all c.reading c.taken c.read c.ends.0 in absurd (uncut (cut_in c.reading) (ap (λ r. cut_in r) same) c.ends.4)
   back (ends.Bad m whys.Head) c = absurd (no_fault c.reading c.taken (m, whys.Head) c.read c.consumed c.ends.2)
   back (ends.Bad m whys.Length) c = absurd (no_fault c.reading c.taken (m, whys.Length) c.read c.consumed c.ends.2)
 
-pub comes_back : (items : List Item) (n : ℕ) (old new : Outside) (end : SlipEnd) → old.coming ≡ Some (map Byte (capture_text items))
-    → length (capture_text items) < n → Converts n old new end → Unfailed old new
+pub comes_back : (items : List Item) (n : ℕ) (old new : Outside) (end : SlipEnd) → old.coming ≡ Some (map Byte (capture_file items))
+    → length (capture_file items) < n → Converts n old new end → Unfailed old new
     → (end ≡ ends.End) × Appends old.written new.written (flat_map slip_text (datagrams_on items))
 comes_back items n old new end told short c calm = back items n old new told short calm end c

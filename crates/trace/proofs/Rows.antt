@@ -8,7 +8,7 @@ use Rattle.uip_ipv4.specs.Head.{head_or_fate}
 use Rattle.tcp_segment.specs.Received.{segment_in}
 use Rattle.uip_slip.specs.Text.{slip_text}
 use Rattle.uip_wire.specs.Checksum.{folded}
-use Rattle.trace.specs.CaptureText.{capture_text}
+use Rattle.trace.specs.CaptureText.{capture_file}
 use Rattle.trace.specs.DumpText.{dump_text}
 
 -- an echo request of 10.0.0.2, its reply, and a SYN to a port where nobody listens

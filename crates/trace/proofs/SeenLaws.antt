@@ -10,7 +10,7 @@ use Rattle.uip_slip.proofs.PartLaws.{frames-end, frames-plain, parts-byte}
 use Rattle.serve_loop.specs.LineEvents.{bytes_of, completed}
 use Rattle.serve_loop.proofs.EventLaws.{bytes_of-append, bytes_of-map}
 use Rattle.trace.specs.Seen.{Seen, seen_at, seen_behind, seen_on, silences_of}
-use Rattle.trace.specs.Watching.{frame_text, text_behind, texts_from}
+use Rattle.trace.specs.Watching.{frame_text, text_after, texts_from}
 use Rattle.trace.specs.declared.form.Form.{Form}
 
 -- the frames that bytes complete behind others
@@ -108,7 +108,7 @@ pub seen_on-append : (xs ys : List Item) → seen_on (xs ++ ys) ≡ seen_on xs +
 seen_on-append xs ys = seen-then [] 0 xs ys ∙ ap (λ n. seen_on xs ++ seen_behind (bytes_of xs) n ys) (omega arith)
 
 -- the text of items, and then that of further ones
-pub text-then : (form : Form) (before xs ys : List Item) → text_behind form before (xs ++ ys) ≡ text_behind form before xs ++ text_behind form (before ++ xs) ys
+pub text-then : (form : Form) (before xs ys : List Item) → text_after form before (xs ++ ys) ≡ text_after form before xs ++ text_after form (before ++ xs) ys
 text-then form before xs ys =
     let bytes = bytes_of before in
     let silences = silences_of before in

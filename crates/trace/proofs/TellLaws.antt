@@ -10,8 +10,8 @@ use Rattle.uip_edge.specs.declared.serve_end.ServeEnd.TheVariants as ends
 use Rattle.uip_slip.specs.Decoding.{State}
 use Rattle.serve_loop.specs.Outside.{IsDry, Outside, TookAll}
 use Rattle.serve_loop.specs.Serving.{EndsBy}
-use Rattle.trace.specs.Telling.{Tells, WroteAll}
-use Rattle.trace.specs.Watching.{Turns, TurnsBy, WritesOn, text_behind}
+use Rattle.trace.specs.Telling.{TellsLine, WroteAll}
+use Rattle.trace.specs.Watching.{Watches, WatchBy, TellsOn, text_after}
 use Rattle.trace.specs.declared.form.Form.{Form}
 use Rattle.trace.specs.declared.watch.Turn.TheVariants.{Stopped}
 use Rattle.trace.proofs.SeenLaws.{text-then}
@@ -28,7 +28,7 @@ none_more taken items none = ap (λ l. taken ++ l) none ∙ append-nil taken
 ends_by : (n : ℕ) (taken items : List Item) (old mid new : Outside) (end : ServeEnd)
     → Consumes old.coming mid.coming taken → length taken < n → length items + length taken ≤ n
     → mid.link_faults ≡ old.link_faults → mid.sink_faults ≡ old.sink_faults
-    → TurnsBy mid new items (Stopped end) → EndsBy n old new (taken ++ items) end
+    → WatchBy mid new items (Stopped end) → EndsBy n old new (taken ++ items) end
 ends_by n taken items old mid new ends.End c below fits l k t =
     rw (none_more taken items t.0) (took_all _ _ taken c t.1, below, t.2 ∙ l, t.3 ∙ k)
 ends_by n taken items old mid new ends.LinkFault c below fits l k t = rw (none_more taken items t.0) (below, rw l at t.1, t.2 ∙ k)
@@ -37,7 +37,7 @@ ends_by n taken items old mid new ends.Budget c below fits l k t = absurd t
 
 -- what was written up to such an end
 wrote_by : (first more whole : List ℕ) (a b c : Option (List ℕ)) (end : ServeEnd) → whole ≡ first ++ more
-    → Appends a b first → WritesOn (Stopped end) b c more → WroteAll end a c whole
+    → Appends a b first → TellsOn (Stopped end) b c more → WroteAll end a c whole
 wrote_by first more whole a b c ends.End e v w = appends_by a c _ _ e (Appends-then a b c first more v w)
 wrote_by first more whole a b c ends.LinkFault e v w = appends_by a c _ _ e (Appends-then a b c first more v w)
 wrote_by first more whole a b c ends.WriteFault e v w = prefix_by a c _ _ e (prefix_then a b c first more v w)
@@ -46,19 +46,19 @@ wrote_by first more whole a b c ends.Budget e v w = absurd w
 -- a reading that ends in a turn
 pub stopped : (form form' : Form) (n : ℕ) (taken : List Item) (old mid new : Outside) (decoder : State) (frames silences room : ℕ) (end : ServeEnd) → form' ≡ form
     → Consumes old.coming mid.coming taken → length taken < n → room + length taken ≤ n → mid.link_faults ≡ old.link_faults → mid.sink_faults ≡ old.sink_faults
-    → Appends old.written mid.written (text_behind form [] taken) → Turns form' taken mid new decoder frames silences room (Stopped end)
-    → Tells (text_behind form []) n old new end
+    → Appends old.written mid.written (text_after form [] taken) → Watches form' taken mid new decoder frames silences room (Stopped end)
+    → TellsLine (text_after form []) n old new end
 stopped form form' n taken old mid new decoder frames silences room end same c below fits l k w t = record {
   taken = taken ++ t.items;
   consumed = Consumes-then _ _ _ taken t.items c t.consumed;
   ends = ends_by n taken t.items old mid new end c below (let within = t.within in omega arith) l k t.cause;
   wrote = wrote_by _ _ _ _ _ _ end
-      (text-then form [] taken t.items ∙ ap (λ f. text_behind form [] taken ++ text_behind f taken t.items) (sym same)) w t.wrote;
+      (text-then form [] taken t.items ∙ ap (λ f. text_after form [] taken ++ text_after f taken t.items) (sym same)) w t.wrote;
 }
 
 -- the same text under another name
 pub told_by_name : (text text' : List Item → List ℕ) (n : ℕ) (old new : Outside) (end : ServeEnd) → ((items : List Item) → text' items ≡ text items)
-    → Tells text n old new end → Tells text' n old new end
+    → TellsLine text n old new end → TellsLine text' n old new end
 told_by_name text text' n old new end same t =
     record { taken = t.taken; consumed = t.consumed; ends = t.ends; wrote = subst (λ (l : List ℕ). WroteAll end old.written new.written l) (sym (same t.taken)) t.wrote }
 
@@ -78,7 +78,7 @@ ends_as n taken old mid new ends.WriteFault i l k t = (t.0, t.1 ∙ l, rw k at t
 -- a head was written before
 pub told_behind : (head : List ℕ) (text text' : List Item → List ℕ) (n : ℕ) (old mid new : Outside) (end : ServeEnd) → ((items : List Item) → text' items ≡ head ++ text items)
     → mid.coming ≡ old.coming → mid.link_faults ≡ old.link_faults → mid.sink_faults ≡ old.sink_faults → Appends old.written mid.written head
-    → Tells text n mid new end → Tells text' n old new end
+    → TellsLine text n mid new end → TellsLine text' n old new end
 told_behind head text text' n old mid new end same i l k w t = record {
   taken = t.taken;
   consumed = subst (λ (o : Option (List Item)). Consumes o new.coming t.taken) i t.consumed;

@@ -4,10 +4,10 @@ use Rattle.std.specs.List.{enumerate_from, flat_map}
 use Rattle.uip_edge.specs.declared.item.Item.{Item}
 use Rattle.uip_slip.specs.Frames.{Frame, frames}
 use Rattle.serve_loop.specs.LineEvents.{bytes_of}
-use Rattle.trace.specs.CaptureText.{capture_header, capture_text, seen_record}
+use Rattle.trace.specs.CaptureText.{capture_header, capture_file, seen_record}
 use Rattle.trace.specs.DumpText.{dump_line, dump_text, numbered_line}
 use Rattle.trace.specs.Seen.{Seen, seen_on}
-use Rattle.trace.specs.Watching.{frame_text, text_behind, texts_from}
+use Rattle.trace.specs.Watching.{frame_text, text_after, texts_from}
 use Rattle.trace.specs.declared.form.Form.TheVariants.{Capture, Dump}
 use Rattle.trace.proofs.SeenLaws.{frame_in, frames_seen}
 
@@ -15,12 +15,12 @@ lines_of : (n : ℕ) (seen : List Seen) → flat_map numbered_line (enumerate_fr
 lines_of n [] = refl
 lines_of n (s ∷ seen) = ap (λ l. dump_line n s.frame ++ l) (lines_of (n + 1) seen)
 
-pub dump_is : (items : List Item) → dump_text items ≡ text_behind Dump [] items
+pub dump_is : (items : List Item) → dump_text items ≡ text_after Dump [] items
 dump_is items = ap (λ l. flat_map numbered_line (enumerate_from 1 l)) (sym (frames_seen items)) ∙ lines_of 1 (seen_on items)
 
 records_of : (n : ℕ) (seen : List Seen) → flat_map seen_record seen ≡ texts_from Capture n seen
 records_of n [] = refl
 records_of n (s ∷ seen) = ap (λ l. seen_record s ++ l) (records_of (n + 1) seen)
 
-pub capture_is : (items : List Item) → capture_text items ≡ capture_header ++ text_behind Capture [] items
+pub capture_is : (items : List Item) → capture_file items ≡ capture_header ++ text_after Capture [] items
 capture_is items = ap (λ l. capture_header ++ l) (records_of 1 (seen_on items))

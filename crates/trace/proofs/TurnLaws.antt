@@ -9,10 +9,10 @@ use Rattle.uip_edge.specs.declared.item.Item.TheVariants.{Byte, Quiet}
 use Rattle.serve_loop.specs.LineEvents.{bytes_of}
 use Rattle.serve_loop.specs.Outside.{IsDry, Outside}
 use Rattle.serve_loop.proofs.EventLaws.{bytes_of-append, bytes_of-map}
-use Rattle.trace.specs.CaptureReading.{Entry, IsPart, IsReadAs, Reading, cut_of, entries_of, fault_of, length_in, lines_of}
-use Rattle.trace.specs.CaptureReading.Reading.{BadHeader, BadLength, InEntry, InHeader, Whole}
+use Rattle.trace.specs.CaptureReading.{Captured, IsCutRecord, IsReadAs, Reading, cut_in, captured_in, fault_in, length_in, lines_of}
+use Rattle.trace.specs.CaptureReading.Reading.{BadHeader, BadLength, InRecord, InHeader, Whole}
 use Rattle.trace.specs.Converting.{Calm, WroteLine}
-use Rattle.trace.specs.Gathering.{BrokeOff, IsAt, IsAtFault, IsOpen, StopsBy, StopsIn, end_at}
+use Rattle.trace.specs.Gathering.{BrokeOff, IsReadTo, IsAtFault, IsOpen, StopsBy, EndsIn, end_at}
 use Rattle.trace.specs.declared.slip_end.CaptureWhy.{CaptureWhy}
 use Rattle.trace.specs.declared.slip_end.CaptureWhy.TheVariants as whys
 use Rattle.trace.specs.declared.slip_end.SlipEnd.{SlipEnd}
@@ -22,11 +22,11 @@ use Rattle.trace.specs.declared.stage.Stage.TheVariants as stages
 
 -- the answer to the end of the link, where the bytes are read so
 abbrev pub EndIs : Reading → SlipEnd → Type 0
-EndIs reading ends.End = cut_of reading ≡ None
+EndIs reading ends.End = cut_in reading ≡ None
 EndIs reading ends.LinkFault = ⊥
 EndIs reading ends.WriteFault = ⊥
 EndIs reading ends.Budget = ⊥
-EndIs reading (ends.Bad number whys.Cut) = cut_of reading ≡ Some number
+EndIs reading (ends.Bad number whys.Cut) = cut_in reading ≡ Some number
 EndIs reading (ends.Bad number whys.Head) = ⊥
 EndIs reading (ends.Bad number whys.Length) = ⊥
 
@@ -34,27 +34,27 @@ EndIs reading (ends.Bad number whys.Length) = ⊥
 pub record IsSoundAt (start now : Option (List ℕ)) (bytes : List ℕ) (end : SlipEnd) : Type 0 where
   pub reading : Reading
   pub read : IsReadAs bytes reading
-  pub sound : fault_of reading ≡ None
-  pub written : Appends start now (lines_of (entries_of reading))
+  pub sound : fault_in reading ≡ None
+  pub written : Appends start now (lines_of (captured_in reading))
   pub cut : EndIs reading end
 
 pub sound_at : (start now : Option (List ℕ)) (bytes : List ℕ) (stage : Stage) (number : ℕ) (part : List ℕ) (want : ℕ)
-    → IsAt start now bytes stage number part → IsOpen stage part want → IsSoundAt start now bytes (end_at stage part number)
+    → IsReadTo start now bytes stage number part → IsOpen stage part want → IsSoundAt start now bytes (end_at stage part number)
 sound_at start now bytes stages.Header number part want at is =
     let size = ap (λ l. length l) at.read.2 in
     record {
       reading = InHeader;
       read = (let s = is.short in let w = is.wants in omega (arith, size));
       sound = refl;
-      written = subst (λ (l : List Entry). Appends start now (lines_of l)) at.read.1 at.written;
+      written = subst (λ (l : List Captured). Appends start now (lines_of l)) at.read.1 at.written;
       cut = ap (λ n. Some n) (sym at.read.0);
     }
 sound_at start now bytes (stages.Head order) number [] want at is =
-    record { reading = Whole at.entries; read = (order, at.read.1); sound = refl; written = at.written; cut = refl }
+    record { reading = Whole at.records; read = (order, at.read.1); sound = refl; written = at.written; cut = refl }
 sound_at start now bytes (stages.Head order) number (b ∷ part) want at is =
     let short : length (b ∷ part) < 16 = (let s = is.short in let w = is.wants in omega arith) in
     record {
-      reading = InEntry at.entries;
+      reading = InRecord at.records;
       read = (order, b ∷ part, at.read.1, omega arith, record { fits = λ k. absurd (omega arith); short = λ k. absurd (omega arith) });
       sound = refl;
       written = at.written;
@@ -64,7 +64,7 @@ sound_at start now bytes (stages.Body order) number part want at is =
     let s = is.short in
     let w = is.wants in
     record {
-      reading = InEntry at.entries;
+      reading = InRecord at.records;
       read = (order, part, at.read.1, omega (arith, w.2), record { fits = λ k. omega (arith, w.1, w.3); short = λ k. omega (arith, w.3) });
       sound = refl;
       written = at.written;
@@ -77,27 +77,27 @@ none_more before reading read = subst (λ (l : List Item). IsReadAs (bytes_of l)
 module _ (start : Option (List ℕ)) (before : List Item) (old new : Outside) (same : new.written ≡ old.written) where
   -- the link failed
   pub link_failed : (end : SlipEnd) → IsSoundAt start old.written (bytes_of before) end → Rose old.link_faults new.link_faults → new.sink_faults ≡ old.sink_faults
-      → StopsIn start before [] old new ends.LinkFault
+      → EndsIn start before [] old new ends.LinkFault
   link_failed end s rose calm = record {
     reading = s.reading;
     read = none_more before s.reading s.read;
     cause = (refl, rose, calm, s.sound);
-    wrote = subst (λ (o : Option (List ℕ)). Appends start o (lines_of (entries_of s.reading))) (sym same) s.written;
+    wrote = subst (λ (o : Option (List ℕ)). Appends start o (lines_of (captured_in s.reading))) (sym same) s.written;
   }
 
   -- it answered its end
-  pub link_ended : (end : SlipEnd) → IsSoundAt start old.written (bytes_of before) end → IsDry old.coming → Calm old new → StopsIn start before [] old new end
+  pub link_ended : (end : SlipEnd) → IsSoundAt start old.written (bytes_of before) end → IsDry old.coming → Calm old new → EndsIn start before [] old new end
   link_ended ends.End s dry calm = record {
     reading = s.reading;
     read = none_more before s.reading s.read;
     cause = (refl, dry, calm, s.sound, s.cut);
-    wrote = subst (λ (o : Option (List ℕ)). Appends start o (lines_of (entries_of s.reading))) (sym same) s.written;
+    wrote = subst (λ (o : Option (List ℕ)). Appends start o (lines_of (captured_in s.reading))) (sym same) s.written;
   }
   link_ended (ends.Bad number whys.Cut) s dry calm = record {
     reading = s.reading;
     read = none_more before s.reading s.read;
     cause = (refl, dry, calm, s.sound, s.cut);
-    wrote = subst (λ (o : Option (List ℕ)). Appends start o (lines_of (entries_of s.reading))) (sym same) s.written;
+    wrote = subst (λ (o : Option (List ℕ)). Appends start o (lines_of (captured_in s.reading))) (sym same) s.written;
   }
   link_ended ends.LinkFault s dry calm = absurd s.cut
   link_ended ends.WriteFault s dry calm = absurd s.cut
@@ -106,10 +106,10 @@ module _ (start : Option (List ℕ)) (before : List Item) (old new : Outside) (s
   link_ended (ends.Bad number whys.Length) s dry calm = absurd s.cut
 
 -- a silence says nothing
-pub silence_read : (start now : Option (List ℕ)) (before : List Item) (stage : Stage) (number : ℕ) (part : List ℕ) → IsAt start now (bytes_of before) stage number part
-    → IsAt start now (bytes_of (before ++ Quiet ∷ [])) stage number part
+pub silence_read : (start now : Option (List ℕ)) (before : List Item) (stage : Stage) (number : ℕ) (part : List ℕ) → IsReadTo start now (bytes_of before) stage number part
+    → IsReadTo start now (bytes_of (before ++ Quiet ∷ [])) stage number part
 silence_read start now before stage number part at =
-    subst (λ (l : List ℕ). IsAt start now l stage number part) (sym (bytes_of-append before (Quiet ∷ []) ∙ append-nil (bytes_of before))) at
+    subst (λ (l : List ℕ). IsReadTo start now l stage number part) (sym (bytes_of-append before (Quiet ∷ []) ∙ append-nil (bytes_of before))) at
 
 -- the bytes of a line go on
 pub bytes_on : (before : List Item) (bytes : List ℕ) → bytes_of before ++ bytes ≡ bytes_of (before ++ map Byte bytes)
@@ -117,7 +117,7 @@ bytes_on before bytes = ap (λ l. bytes_of before ++ l) (sym (bytes_of-map bytes
 
 -- a write failed
 pub write_failed : (start : Option (List ℕ)) (before : List Item) (bytes : List ℕ) (old new : Outside) → BrokeOff start new.written (bytes_of before ++ bytes)
-    → new.link_faults ≡ old.link_faults → Rose old.sink_faults new.sink_faults → StopsIn start before (map Byte bytes) old new ends.WriteFault
+    → new.link_faults ≡ old.link_faults → Rose old.sink_faults new.sink_faults → EndsIn start before (map Byte bytes) old new ends.WriteFault
 write_failed start before bytes old new b calm rose = record {
   reading = b.reading;
   read = subst (λ (l : List ℕ). IsReadAs l b.reading) (bytes_on before bytes) b.read;
@@ -129,13 +129,13 @@ why_of : Option (ℕ × CaptureWhy) → CaptureWhy
 why_of None = whys.Head
 why_of (Some fault) = fault.1
 
-never_cut : (reading : Reading) (number : ℕ) → fault_of reading ≡ Some (number, whys.Cut) → ⊥
+never_cut : (reading : Reading) (number : ℕ) → fault_in reading ≡ Some (number, whys.Cut) → ⊥
 unfolding why_of
 never_cut InHeader number e = absurd cc
 never_cut BadHeader number e = let w : whys.Head ≡ whys.Cut = ap why_of e in absurd cc
-never_cut (Whole entries) number e = absurd cc
-never_cut (InEntry entries) number e = absurd cc
-never_cut (BadLength entries) number e = let w : whys.Length ≡ whys.Cut = ap why_of e in absurd cc
+never_cut (Whole records) number e = absurd cc
+never_cut (InRecord records) number e = absurd cc
+never_cut (BadLength records) number e = let w : whys.Length ≡ whys.Cut = ap why_of e in absurd cc
 
 -- no item is left where the link answers its end
 pub is_dry : (told : Option (List Item)) → IsAtEnd (Ok End) told → IsDry told
@@ -144,7 +144,7 @@ is_dry (Some all) e = e
 
 -- the file is at fault
 pub file_fault : (why : CaptureWhy) (start : Option (List ℕ)) (before : List Item) (bytes : List ℕ) (old new : Outside) (number : ℕ)
-    → IsAtFault why start new.written (bytes_of before ++ bytes) number → Calm old new → StopsIn start before (map Byte bytes) old new (ends.Bad number why)
+    → IsAtFault why start new.written (bytes_of before ++ bytes) number → Calm old new → EndsIn start before (map Byte bytes) old new (ends.Bad number why)
 file_fault whys.Head start before bytes old new number f calm = record {
   reading = f.reading;
   read = subst (λ (l : List ℕ). IsReadAs l f.reading) (bytes_on before bytes) f.read;

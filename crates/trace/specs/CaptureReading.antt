@@ -26,37 +26,37 @@ abbrev pub order_of : List ℕ → Option ByteOrder
 order_of header = if is_header Big header then Some Big else if is_header Little header then Some Little else None
 
 -- a record: the sixteen bytes of its times and lengths, and its data
-pub record Entry : Type 0 where
+pub record Captured : Type 0 where
   pub head : List ℕ
   pub body : List ℕ
 
-abbrev pub entry_bytes : Entry → List ℕ
-entry_bytes entry = entry.head ++ entry.body
+abbrev pub captured_bytes : Captured → List ℕ
+captured_bytes captured = captured.head ++ captured.body
 
 -- the length of a record's data stands third among its four numbers; the times and the second length are free
 abbrev pub length_in : ByteOrder → List ℕ → ℕ
 length_in order head = field_at order head 8
 
-pub record IsEntry (order : ByteOrder) (entry : Entry) : Type 0 where
-  pub head : length entry.head ≡ 16
-  pub body : length entry.body ≡ length_in order entry.head
-  pub fits : length entry.body ≤ LARGEST_DATAGRAM
+pub record IsCaptured (order : ByteOrder) (captured : Captured) : Type 0 where
+  pub head : length captured.head ≡ 16
+  pub body : length captured.body ≡ length_in order captured.head
+  pub fits : length captured.body ≤ LARGEST_DATAGRAM
 
 -- a header and whole records, and the bytes behind them
-pub record BeginsWith (order : ByteOrder) (entries : List Entry) (rest bytes : List ℕ) : Type 0 where
+pub record BeginsWith (order : ByteOrder) (records : List Captured) (rest bytes : List ℕ) : Type 0 where
   pub header : List ℕ
   pub size : length header ≡ 24
   pub good : order_of header ≡ Some order
-  pub sound : AllByRecursion (IsEntry order) entries
-  pub spelled : bytes ≡ header ++ flat_map entry_bytes entries ++ rest
+  pub sound : AllByRecursion (IsCaptured order) records
+  pub spelled : bytes ≡ header ++ flat_map captured_bytes records ++ rest
 
 -- these bytes are less than a record, and none of its four numbers is at fault yet
-pub record IsPart (order : ByteOrder) (rest : List ℕ) : Type 0 where
+pub record IsCutRecord (order : ByteOrder) (rest : List ℕ) : Type 0 where
   pub fits : 16 ≤ length rest → length_in order rest ≤ LARGEST_DATAGRAM
   pub short : 16 ≤ length rest → length rest < 16 + length_in order rest
 
 -- the record that these bytes begin tells a length that no datagram has
-pub record IsTooLong (order : ByteOrder) (rest : List ℕ) : Type 0 where
+pub record HasLongRecord (order : ByteOrder) (rest : List ℕ) : Type 0 where
   pub head : 16 ≤ length rest
   pub long : LARGEST_DATAGRAM < length_in order rest
 
@@ -64,57 +64,57 @@ pub record IsTooLong (order : ByteOrder) (rest : List ℕ) : Type 0 where
 pub data Reading : Type 0 where
   InHeader : Reading
   BadHeader : Reading
-  Whole : List Entry → Reading
-  InEntry : List Entry → Reading
-  BadLength : List Entry → Reading
+  Whole : List Captured → Reading
+  InRecord : List Captured → Reading
+  BadLength : List Captured → Reading
 
 -- the bytes are read so
 abbrev pub IsReadAs : List ℕ → Reading → Type 0
 IsReadAs bytes InHeader = length bytes < 24
 IsReadAs bytes BadHeader = (24 ≤ length bytes) × (order_of (take 24 bytes) ≡ None)
-IsReadAs bytes (Whole entries) = (order : ByteOrder) × BeginsWith order entries [] bytes
-IsReadAs bytes (InEntry entries) =
-    (order : ByteOrder) × (rest : List ℕ) × BeginsWith order entries rest bytes × (0 < length rest) × IsPart order rest
-IsReadAs bytes (BadLength entries) = (order : ByteOrder) × (rest : List ℕ) × BeginsWith order entries rest bytes × IsTooLong order rest
+IsReadAs bytes (Whole records) = (order : ByteOrder) × BeginsWith order records [] bytes
+IsReadAs bytes (InRecord records) =
+    (order : ByteOrder) × (rest : List ℕ) × BeginsWith order records rest bytes × (0 < length rest) × IsCutRecord order rest
+IsReadAs bytes (BadLength records) = (order : ByteOrder) × (rest : List ℕ) × BeginsWith order records rest bytes × HasLongRecord order rest
 
 -- what is wrong with the bytes so far, and in which record: the header has number 0
-abbrev pub fault_of : Reading → Option (ℕ × CaptureWhy)
-fault_of InHeader = None
-fault_of BadHeader = Some (0, Head)
-fault_of (Whole entries) = None
-fault_of (InEntry entries) = None
-fault_of (BadLength entries) = Some (length entries + 1, Length)
+abbrev pub fault_in : Reading → Option (ℕ × CaptureWhy)
+fault_in InHeader = None
+fault_in BadHeader = Some (0, Head)
+fault_in (Whole records) = None
+fault_in (InRecord records) = None
+fault_in (BadLength records) = Some (length records + 1, Length)
 
 -- the record that an end of the bytes cuts
-abbrev pub cut_of : Reading → Option ℕ
-cut_of InHeader = Some 0
-cut_of BadHeader = None
-cut_of (Whole entries) = None
-cut_of (InEntry entries) = Some (length entries + 1)
-cut_of (BadLength entries) = None
+abbrev pub cut_in : Reading → Option ℕ
+cut_in InHeader = Some 0
+cut_in BadHeader = None
+cut_in (Whole records) = None
+cut_in (InRecord records) = Some (length records + 1)
+cut_in (BadLength records) = None
 
 -- the whole records
-abbrev pub entries_of : Reading → List Entry
-entries_of InHeader = []
-entries_of BadHeader = []
-entries_of (Whole entries) = entries
-entries_of (InEntry entries) = entries
-entries_of (BadLength entries) = entries
+abbrev pub captured_in : Reading → List Captured
+captured_in InHeader = []
+captured_in BadHeader = []
+captured_in (Whole records) = records
+captured_in (InRecord records) = records
+captured_in (BadLength records) = records
 
 -- a datagram of no bytes has no frame
 abbrev pub line_text : List ℕ → List ℕ
 line_text [] = []
 line_text (b ∷ datagram) = slip_text (b ∷ datagram)
 
-abbrev pub entry_line : Entry → List ℕ
-entry_line entry = line_text entry.body
+abbrev pub captured_line : Captured → List ℕ
+captured_line captured = line_text captured.body
 
 -- the serial line of records
-abbrev pub lines_of : List Entry → List ℕ
-lines_of entries = flat_map entry_line entries
+abbrev pub lines_of : List Captured → List ℕ
+lines_of records = flat_map captured_line records
 
 -- a capture file of just these datagrams
 pub record HoldsJust (datagrams : List (List ℕ)) (bytes : List ℕ) : Type 0 where
-  pub entries : List Entry
-  pub read : IsReadAs bytes (Whole entries)
-  pub bodies : map (λ entry. entry.body) entries ≡ datagrams
+  pub records : List Captured
+  pub read : IsReadAs bytes (Whole records)
+  pub bodies : map (λ captured. captured.body) records ≡ datagrams

@@ -38,13 +38,13 @@ abbrev pub seen_record : Seen → List ℕ
 seen_record seen = frame_record seen.silences seen.frame
 
 -- the header and the records
-abbrev pub capture_text : List Item → List ℕ
-capture_text items = capture_header ++ flat_map seen_record (seen_on items)
+abbrev pub capture_file : List Item → List ℕ
+capture_file items = capture_header ++ flat_map seen_record (seen_on items)
 
 -- the datagrams of a line, in order
-abbrev pub datagram_in : Frame → List (List ℕ)
-datagram_in (Datagram bytes) = bytes ∷ []
-datagram_in Overlong = []
+abbrev pub datagrams_in : Frame → List (List ℕ)
+datagrams_in (Datagram bytes) = bytes ∷ []
+datagrams_in Overlong = []
 
 abbrev pub datagrams_on : List Item → List (List ℕ)
-datagrams_on items = flat_map datagram_in (frames (bytes_of items))
+datagrams_on items = flat_map datagrams_in (frames (bytes_of items))

@@ -7,7 +7,7 @@ use Rattle.uip_edge.specs.Writing.{AppendsPrefix}
 use Rattle.uip_edge.specs.declared.item.Item.{Item}
 use Rattle.serve_loop.specs.LineEvents.{bytes_of}
 use Rattle.serve_loop.specs.Outside.{Outside, TookAll}
-use Rattle.trace.specs.CaptureReading.{IsReadAs, Reading, cut_of, entries_of, fault_of, lines_of}
+use Rattle.trace.specs.CaptureReading.{IsReadAs, Reading, cut_in, captured_in, fault_in, lines_of}
 use Rattle.trace.specs.declared.telling.TheConstants.{BLOCK}
 use Rattle.trace.specs.declared.slip_end.CaptureWhy.{CaptureWhy}
 use Rattle.trace.specs.declared.slip_end.CaptureWhy.TheVariants as whys
@@ -20,30 +20,30 @@ pub record Calm (old new : Outside) : Type 0 where
   pub sink : new.sink_faults ≡ old.sink_faults
 
 -- the last call of the link brought the fault: what was taken before has none
-pub record IsFresh (taken : List Item) : Type 0 where
+pub record HasNewFault (taken : List Item) : Type 0 where
   pub front : List Item
   pub last : List Item
   pub pieces : taken ≡ front ++ last
   pub within : length last ≤ BLOCK
   pub reading : Reading
   pub read : IsReadAs (bytes_of front) reading
-  pub sound : fault_of reading ≡ None
+  pub sound : fault_in reading ≡ None
 
 -- the cause of each end of a call that took these items, of which there were to be n at most, and read them so
 abbrev pub SlipEndsBy : ℕ → Outside → Outside → List Item → Reading → SlipEnd → Type 0
 SlipEndsBy n old new taken reading ends.End =
-    TookAll old.coming taken × (length taken < n) × Calm old new × (fault_of reading ≡ None) × (cut_of reading ≡ None)
-SlipEndsBy n old new taken reading ends.Budget = (length taken ≡ n) × Calm old new × (fault_of reading ≡ None)
+    TookAll old.coming taken × (length taken < n) × Calm old new × (fault_in reading ≡ None) × (cut_in reading ≡ None)
+SlipEndsBy n old new taken reading ends.Budget = (length taken ≡ n) × Calm old new × (fault_in reading ≡ None)
 SlipEndsBy n old new taken reading ends.LinkFault =
-    (length taken < n) × Rose old.link_faults new.link_faults × (new.sink_faults ≡ old.sink_faults) × (fault_of reading ≡ None)
+    (length taken < n) × Rose old.link_faults new.link_faults × (new.sink_faults ≡ old.sink_faults) × (fault_in reading ≡ None)
 SlipEndsBy n old new taken reading ends.WriteFault =
     (length taken ≤ n) × (new.link_faults ≡ old.link_faults) × Rose old.sink_faults new.sink_faults
 SlipEndsBy n old new taken reading (ends.Bad number whys.Cut) =
-    TookAll old.coming taken × (length taken < n) × Calm old new × (fault_of reading ≡ None) × (cut_of reading ≡ Some number)
+    TookAll old.coming taken × (length taken < n) × Calm old new × (fault_in reading ≡ None) × (cut_in reading ≡ Some number)
 SlipEndsBy n old new taken reading (ends.Bad number whys.Head) =
-    (length taken ≤ n) × Calm old new × (fault_of reading ≡ Some (number, whys.Head)) × IsFresh taken
+    (length taken ≤ n) × Calm old new × (fault_in reading ≡ Some (number, whys.Head)) × HasNewFault taken
 SlipEndsBy n old new taken reading (ends.Bad number whys.Length) =
-    (length taken ≤ n) × Calm old new × (fault_of reading ≡ Some (number, whys.Length)) × IsFresh taken
+    (length taken ≤ n) × Calm old new × (fault_in reading ≡ Some (number, whys.Length)) × HasNewFault taken
 
 -- the text was written whole, or a front of it where a write failed
 abbrev pub WroteLine : SlipEnd → Option (List ℕ) → Option (List ℕ) → List ℕ → Type 0
@@ -61,7 +61,7 @@ pub record Converts (n : ℕ) (old new : Outside) (result : SlipEnd) : Type 0 wh
   pub reading : Reading
   pub read : IsReadAs (bytes_of taken) reading
   pub ends : SlipEndsBy n old new taken reading result
-  pub wrote : WroteLine result old.written new.written (lines_of (entries_of reading))
+  pub wrote : WroteLine result old.written new.written (lines_of (captured_in reading))
 
 -- the answer to the end of the link, where the bytes are read so
 abbrev pub end_by_cut : Option ℕ → SlipEnd
@@ -71,7 +71,7 @@ end_by_cut (Some number) = ends.Bad number whys.Cut
 -- The answer that must come where nothing failed: the fault, wherever the bytes have one; else the budget at so many items; and
 -- else, where the link tells fewer items than are allowed, what the end of these bytes says.
 pub record IsSurely (n : ℕ) (old new : Outside) (taken : List Item) (reading : Reading) (end : SlipEnd) : Type 0 where
-  pub bad : (number : ℕ) (why : CaptureWhy) → fault_of reading ≡ Some (number, why) → end ≡ ends.Bad number why
-  pub budget : fault_of reading ≡ None → length taken ≡ n → end ≡ ends.Budget
-  pub over : (all : List Item) → fault_of reading ≡ None → old.coming ≡ Some all → length all < n → Consumes old.coming new.coming taken
-      → end ≡ end_by_cut (cut_of reading)
+  pub bad : (number : ℕ) (why : CaptureWhy) → fault_in reading ≡ Some (number, why) → end ≡ ends.Bad number why
+  pub budget : fault_in reading ≡ None → length taken ≡ n → end ≡ ends.Budget
+  pub over : (all : List Item) → fault_in reading ≡ None → old.coming ≡ Some all → length all < n → Consumes old.coming new.coming taken
+      → end ≡ end_by_cut (cut_in reading)

@@ -7,7 +7,7 @@ use Rattle.uip_edge.specs.Writing.{AppendsPrefix}
 use Rattle.uip_edge.specs.declared.item.Item.{Item}
 use Rattle.serve_loop.specs.LineEvents.{bytes_of}
 use Rattle.serve_loop.specs.Outside.{IsDry, Outside}
-use Rattle.trace.specs.CaptureReading.{BeginsWith, Entry, IsReadAs, Reading, cut_of, entries_of, fault_of, length_in, lines_of}
+use Rattle.trace.specs.CaptureReading.{BeginsWith, Captured, IsReadAs, Reading, cut_in, captured_in, fault_in, length_in, lines_of}
 use Rattle.trace.specs.Converting.{Calm, WroteLine}
 use Rattle.trace.specs.declared.area.TheConstants.{LONGEST_RECORD}
 use Rattle.trace.specs.declared.reader.Stop.{Stop}
@@ -39,29 +39,29 @@ pub record IsFull (stage : Stage) (part : List ℕ) (want : ℕ) : Type 0 where
 
 -- The bytes are a header and these records, and the part behind them. The record that is read next has this number; the
 -- header has number 0.
-abbrev pub HasRead : List ℕ → List Entry → Stage → ℕ → List ℕ → Type 0
-HasRead bytes entries stages.Header number part = (number ≡ 0) × (entries ≡ []) × (part ≡ bytes)
-HasRead bytes entries (stages.Head order) number part = (number ≡ length entries + 1) × BeginsWith order entries part bytes
-HasRead bytes entries (stages.Body order) number part = (number ≡ length entries + 1) × BeginsWith order entries part bytes
+abbrev pub HasRead : List ℕ → List Captured → Stage → ℕ → List ℕ → Type 0
+HasRead bytes records stages.Header number part = (number ≡ 0) × (records ≡ []) × (part ≡ bytes)
+HasRead bytes records (stages.Head order) number part = (number ≡ length records + 1) × BeginsWith order records part bytes
+HasRead bytes records (stages.Body order) number part = (number ≡ length records + 1) × BeginsWith order records part bytes
 
 -- and the line of the records was written, from where the sink stood at the start
-pub record IsAt (start now : Option (List ℕ)) (bytes : List ℕ) (stage : Stage) (number : ℕ) (part : List ℕ) : Type 0 where
-  pub entries : List Entry
-  pub read : HasRead bytes entries stage number part
-  pub written : Appends start now (lines_of entries)
+pub record IsReadTo (start now : Option (List ℕ)) (bytes : List ℕ) (stage : Stage) (number : ℕ) (part : List ℕ) : Type 0 where
+  pub records : List Captured
+  pub read : HasRead bytes records stage number part
+  pub written : Appends start now (lines_of records)
 
 -- the writing of a line broke off: these bytes are read so, and a front of their records' line was written
 pub record BrokeOff (start now : Option (List ℕ)) (bytes : List ℕ) : Type 0 where
   pub reading : Reading
   pub read : IsReadAs bytes reading
-  pub written : AppendsPrefix start now (lines_of (entries_of reading))
+  pub written : AppendsPrefix start now (lines_of (captured_in reading))
 
 -- the file is at fault: these bytes are read so, and the line of the records before the fault was written
 pub record IsAtFault (why : CaptureWhy) (start now : Option (List ℕ)) (bytes : List ℕ) (number : ℕ) : Type 0 where
   pub reading : Reading
   pub read : IsReadAs bytes reading
-  pub fault : fault_of reading ≡ Some (number, why)
-  pub written : Appends start now (lines_of (entries_of reading))
+  pub fault : fault_in reading ≡ Some (number, why)
+  pub written : Appends start now (lines_of (captured_in reading))
 
 -- why the reading of these bytes stopped
 abbrev pub StopsAt : Stop → Option (List ℕ) → Option (List ℕ) → List ℕ → ℕ → Type 0
@@ -82,9 +82,9 @@ end_at (stages.Body order) part number = ends.Bad number whys.Cut
 end_at stages.Header part number = ends.Bad number whys.Cut
 
 -- a turn takes at least one item and no more than there is room for, and numbers no more records than it takes items
-abbrev pub CountFits : Turn → ℕ → ℕ → ℕ → Type 0
-CountFits (turns.Went n) room number number' = (0 < n) × (n ≤ room) × (number' ≤ number + n)
-CountFits (turns.Stopped end) room number number' = ⊤
+abbrev pub ReadFits : Turn → ℕ → ℕ → ℕ → Type 0
+ReadFits (turns.Went n) room number number' = (0 < n) × (n ≤ room) × (number' ≤ number + n)
+ReadFits (turns.Stopped end) room number number' = ⊤
 
 -- a turn that went on leaves the part open
 abbrev pub OpenOn : Turn → Stage → List ℕ → ℕ → Type 0
@@ -93,31 +93,31 @@ OpenOn (turns.Stopped end) stage part want = ⊤
 
 -- the cause of an end that a turn tells which took these items
 abbrev pub StopsBy : Outside → Outside → List Item → Reading → SlipEnd → Type 0
-StopsBy old new items reading ends.End = (items ≡ []) × IsDry old.coming × Calm old new × (fault_of reading ≡ None) × (cut_of reading ≡ None)
+StopsBy old new items reading ends.End = (items ≡ []) × IsDry old.coming × Calm old new × (fault_in reading ≡ None) × (cut_in reading ≡ None)
 StopsBy old new items reading ends.Budget = ⊥
 StopsBy old new items reading ends.LinkFault =
-    (items ≡ []) × Rose old.link_faults new.link_faults × (new.sink_faults ≡ old.sink_faults) × (fault_of reading ≡ None)
+    (items ≡ []) × Rose old.link_faults new.link_faults × (new.sink_faults ≡ old.sink_faults) × (fault_in reading ≡ None)
 StopsBy old new items reading ends.WriteFault = (new.link_faults ≡ old.link_faults) × Rose old.sink_faults new.sink_faults
 StopsBy old new items reading (ends.Bad number whys.Cut) =
-    (items ≡ []) × IsDry old.coming × Calm old new × (fault_of reading ≡ None) × (cut_of reading ≡ Some number)
-StopsBy old new items reading (ends.Bad number whys.Head) = Calm old new × (fault_of reading ≡ Some (number, whys.Head))
-StopsBy old new items reading (ends.Bad number whys.Length) = Calm old new × (fault_of reading ≡ Some (number, whys.Length))
+    (items ≡ []) × IsDry old.coming × Calm old new × (fault_in reading ≡ None) × (cut_in reading ≡ Some number)
+StopsBy old new items reading (ends.Bad number whys.Head) = Calm old new × (fault_in reading ≡ Some (number, whys.Head))
+StopsBy old new items reading (ends.Bad number whys.Length) = Calm old new × (fault_in reading ≡ Some (number, whys.Length))
 
 -- the reading stopped in a turn
-pub record StopsIn (start : Option (List ℕ)) (before items : List Item) (old new : Outside) (end : SlipEnd) : Type 0 where
+pub record EndsIn (start : Option (List ℕ)) (before items : List Item) (old new : Outside) (end : SlipEnd) : Type 0 where
   pub reading : Reading
   pub read : IsReadAs (bytes_of (before ++ items)) reading
   pub cause : StopsBy old new items reading end
-  pub wrote : WroteLine end start new.written (lines_of (entries_of reading))
+  pub wrote : WroteLine end start new.written (lines_of (captured_in reading))
 
-abbrev pub TurnsBy : Option (List ℕ) → List Item → List Item → Outside → Outside → Stage → ℕ → List ℕ → Turn → Type 0
-TurnsBy start before items old new stage number part (turns.Went n) =
-    (length items ≡ n) × Calm old new × IsAt start new.written (bytes_of (before ++ items)) stage number part
-TurnsBy start before items old new stage number part (turns.Stopped end) = StopsIn start before items old new end
+abbrev pub ReadBy : Option (List ℕ) → List Item → List Item → Outside → Outside → Stage → ℕ → List ℕ → Turn → Type 0
+ReadBy start before items old new stage number part (turns.Went n) =
+    (length items ≡ n) × Calm old new × IsReadTo start new.written (bytes_of (before ++ items)) stage number part
+ReadBy start before items old new stage number part (turns.Stopped end) = EndsIn start before items old new end
 
 -- a turn, behind the items before it
-pub record Turns (start : Option (List ℕ)) (before : List Item) (old new : Outside) (stage : Stage) (number : ℕ) (part : List ℕ) (room : ℕ) (turn : Turn) : Type 0 where
+pub record Reads (start : Option (List ℕ)) (before : List Item) (old new : Outside) (stage : Stage) (number : ℕ) (part : List ℕ) (room : ℕ) (turn : Turn) : Type 0 where
   pub items : List Item
   pub consumed : Consumes old.coming new.coming items
   pub within : length items ≤ room
-  pub by : TurnsBy start before items old new stage number part turn
+  pub by : ReadBy start before items old new stage number part turn

@@ -18,7 +18,7 @@ WroteAll WriteFault old new text = AppendsPrefix old new text
 
 -- A line was told, up to n items: there are items that the link told and lost, the end has its cause, and the text of these
 -- items was written.
-pub record Tells (text : List Item → List ℕ) (n : ℕ) (old new : Outside) (result : ServeEnd) : Type 0 where
+pub record TellsLine (text : List Item → List ℕ) (n : ℕ) (old new : Outside) (result : ServeEnd) : Type 0 where
   pub taken : List Item
   pub consumed : Consumes old.coming new.coming taken
   pub ends : EndsBy n old new taken result

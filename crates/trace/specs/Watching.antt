@@ -10,7 +10,7 @@ use Rattle.uip_edge.specs.declared.serve_end.ServeEnd.TheVariants as ends
 use Rattle.uip_slip.specs.Decoding.{State, WasFed}
 use Rattle.serve_loop.specs.LineEvents.{bytes_of}
 use Rattle.serve_loop.specs.Outside.{IsDry, Outside}
-use Rattle.trace.specs.CaptureText.{capture_text, seen_record}
+use Rattle.trace.specs.CaptureText.{capture_file, seen_record}
 use Rattle.trace.specs.DumpText.{dump_line, dump_text}
 use Rattle.trace.specs.Seen.{Seen, seen_behind, seen_on, silences_of}
 use Rattle.trace.specs.declared.form.Form.{Form}
@@ -28,8 +28,8 @@ abbrev pub texts_from : Form → ℕ → List Seen → List ℕ
 texts_from form number seen = flat_map (frame_text form) (enumerate_from number seen)
 
 -- what is written of items behind others
-abbrev pub text_behind : Form → List Item → List Item → List ℕ
-text_behind form before items = texts_from form (length (seen_on before) + 1) (seen_behind (bytes_of before) (silences_of before) items)
+abbrev pub text_after : Form → List Item → List Item → List ℕ
+text_after form before items = texts_from form (length (seen_on before) + 1) (seen_behind (bytes_of before) (silences_of before) items)
 
 -- these items were read
 pub record HasSeen (before : List Item) (decoder : State) (frames silences : ℕ) : Type 0 where
@@ -38,19 +38,19 @@ pub record HasSeen (before : List Item) (decoder : State) (frames silences : ℕ
   pub waited : silences ≡ silences_of before
 
 -- a turn takes at least one item and no more than there is room for, and counts no more than it takes
-abbrev pub CountFits : Turn → ℕ → ℕ → ℕ → ℕ → ℕ → Type 0
-CountFits (turns.Went n) room frames silences frames' silences' =
+abbrev pub WatchFits : Turn → ℕ → ℕ → ℕ → ℕ → ℕ → Type 0
+WatchFits (turns.Went n) room frames silences frames' silences' =
     (0 < n) × (n ≤ room) × (frames' ≤ frames + n) × (silences' ≤ silences + n)
-CountFits (turns.Stopped s) room frames silences frames' silences' = ⊤
+WatchFits (turns.Stopped s) room frames silences frames' silences' = ⊤
 
 -- the cause of what a turn tells that took these items
-abbrev pub TurnsBy : Outside → Outside → List Item → Turn → Type 0
-TurnsBy old new items (turns.Went n) = (length items ≡ n) × (new.link_faults ≡ old.link_faults) × (new.sink_faults ≡ old.sink_faults)
-TurnsBy old new items (turns.Stopped ends.End) =
+abbrev pub WatchBy : Outside → Outside → List Item → Turn → Type 0
+WatchBy old new items (turns.Went n) = (length items ≡ n) × (new.link_faults ≡ old.link_faults) × (new.sink_faults ≡ old.sink_faults)
+WatchBy old new items (turns.Stopped ends.End) =
     (items ≡ []) × IsDry old.coming × (new.link_faults ≡ old.link_faults) × (new.sink_faults ≡ old.sink_faults)
-TurnsBy old new items (turns.Stopped ends.LinkFault) = (items ≡ []) × Rose old.link_faults new.link_faults × (new.sink_faults ≡ old.sink_faults)
-TurnsBy old new items (turns.Stopped ends.WriteFault) = (new.link_faults ≡ old.link_faults) × Rose old.sink_faults new.sink_faults
-TurnsBy old new items (turns.Stopped ends.Budget) = ⊥
+WatchBy old new items (turns.Stopped ends.LinkFault) = (items ≡ []) × Rose old.link_faults new.link_faults × (new.sink_faults ≡ old.sink_faults)
+WatchBy old new items (turns.Stopped ends.WriteFault) = (new.link_faults ≡ old.link_faults) × Rose old.sink_faults new.sink_faults
+WatchBy old new items (turns.Stopped ends.Budget) = ⊥
 
 -- a turn that went on has read the items
 abbrev pub ReadsOn : Turn → List Item → State → ℕ → ℕ → Type 0
@@ -58,18 +58,18 @@ ReadsOn (turns.Went n) items decoder frames silences = HasSeen items decoder fra
 ReadsOn (turns.Stopped end) items decoder frames silences = ⊤
 
 -- what a turn wrote of this text
-abbrev pub WritesOn : Turn → Option (List ℕ) → Option (List ℕ) → List ℕ → Type 0
-WritesOn (turns.Went n) old new text = Appends old new text
-WritesOn (turns.Stopped ends.End) old new text = Appends old new text
-WritesOn (turns.Stopped ends.LinkFault) old new text = Appends old new text
-WritesOn (turns.Stopped ends.WriteFault) old new text = AppendsPrefix old new text
-WritesOn (turns.Stopped ends.Budget) old new text = ⊥
+abbrev pub TellsOn : Turn → Option (List ℕ) → Option (List ℕ) → List ℕ → Type 0
+TellsOn (turns.Went n) old new text = Appends old new text
+TellsOn (turns.Stopped ends.End) old new text = Appends old new text
+TellsOn (turns.Stopped ends.LinkFault) old new text = Appends old new text
+TellsOn (turns.Stopped ends.WriteFault) old new text = AppendsPrefix old new text
+TellsOn (turns.Stopped ends.Budget) old new text = ⊥
 
 -- a turn, behind the items before it
-pub record Turns (form : Form) (before : List Item) (old new : Outside) (decoder : State) (frames silences : ℕ) (room : ℕ) (turn : Turn) : Type 0 where
+pub record Watches (form : Form) (before : List Item) (old new : Outside) (decoder : State) (frames silences : ℕ) (room : ℕ) (turn : Turn) : Type 0 where
   pub items : List Item
   pub consumed : Consumes old.coming new.coming items
   pub within : length items ≤ room
-  pub cause : TurnsBy old new items turn
+  pub cause : WatchBy old new items turn
   pub on : ReadsOn turn (before ++ items) decoder frames silences
-  pub wrote : WritesOn turn old.written new.written (text_behind form before items)
+  pub wrote : TellsOn turn old.written new.written (text_after form before items)

@@ -8,7 +8,7 @@ ghost use Rattle.uip_edge.specs.declared.item.Item.TheVariants.{Byte};
 ghost use Rattle.uip_slip.specs.Text.{slip_text};
 ghost use Rattle.serve_loop.specs.Outside.{Outside, Unfailed};
 ghost use Rattle.trace.specs.CaptureReading.{HoldsJust, IsReadAs, Reading};
-ghost use Rattle.trace.specs.CaptureText.{capture_text, datagrams_on};
+ghost use Rattle.trace.specs.CaptureText.{capture_file, datagrams_on};
 ghost use Rattle.trace.specs.Converting.{Converts, IsSurely, SlipEndsBy};
 ghost use Rattle.trace.specs.declared.slip_end.SlipEnd.{SlipEnd as AnyEnd};
 ghost use Rattle.trace.specs.declared.slip_end.SlipEnd.TheVariants.{End};
@@ -20,13 +20,13 @@ pub fn read_in_one_way()
 
 /// The records of the capture file of a line are the line's datagrams, in order.
 pub fn records_are_datagrams()
-    ensures { (items : List Item) → HoldsJust (datagrams_on items) (capture_text items) }
+    ensures { (items : List Item) → HoldsJust (datagrams_on items) (capture_file items) }
 {}
 
 /// What `pcap` wrote of a line, `slip` writes as the SLIP texts of the line's datagrams, and answers the end.
 pub fn lines_come_back()
-    ensures { (items : List Item) (n : ℕ) (old new : Outside) (end : AnyEnd) → old.coming ≡ Some (map Byte (capture_text items))
-        → length (capture_text items) < n → Converts n old new end → Unfailed old new
+    ensures { (items : List Item) (n : ℕ) (old new : Outside) (end : AnyEnd) → old.coming ≡ Some (map Byte (capture_file items))
+        → length (capture_file items) < n → Converts n old new end → Unfailed old new
         → (end ≡ End) × Appends old.written new.written (flat_map slip_text (datagrams_on items)) }
 {}
 

@@ -3,7 +3,7 @@ ghost use Rattle.uip_edge.specs.Causes.{HasCause};
 ghost use Rattle.uip_edge.specs.declared.item.Item.{Item};
 ghost use Rattle.serve_loop.specs.LineEvents.{bytes_of};
 ghost use Rattle.serve_loop.specs.Outside.{outside};
-ghost use Rattle.trace.specs.Gathering.{BrokeOff, CountFits, IsAt, IsAtFault, IsFull, IsOpen, OpenOn, SinkBy, StopsAt, Turns, end_at};
+ghost use Rattle.trace.specs.Gathering.{BrokeOff, ReadFits, IsReadTo, IsAtFault, IsFull, IsOpen, OpenOn, SinkBy, StopsAt, Reads, end_at};
 ghost use Rattle.trace.specs.declared.reader.Stop.TheVariants.{Bad as BadStop, WriteFault};
 ghost use Rattle.trace.specs.declared.slip_end.SlipEnd.TheVariants.{Bad as BadEnd};
 ghost use Rattle.trace.specs.declared.stage.Stage.TheVariants as stages;
@@ -70,7 +70,7 @@ impl Reader {
     pub fn new() -> Reader
         ensures open { IsOpen result.stage result.part result.want }
         ensures number { result.number ≡ 0 }
-        ensures at { (start : Option (List ℕ)) → IsAt start start [] result.stage result.number result.part }
+        ensures at { (start : Option (List ℕ)) → IsReadTo start start [] result.stage result.number result.part }
     {
         Reader {
             stage: Stage::Header,
@@ -87,10 +87,10 @@ impl Reader {
         requires open { IsOpen self.old.stage self.old.part self.old.want }
         requires number { self.old.number + length buf.old < 2 ^ 64 }
         ensures open { OpenOn result self.new.stage self.new.part self.new.want }
-        ensures fits { CountFits result (length buf.old) self.old.number self.new.number }
+        ensures fits { ReadFits result (length buf.old) self.old.number self.new.number }
         ensures turns { (start : Option (List ℕ)) (before : List Item)
-            → IsAt start (K.written sink.old) (bytes_of before) self.old.stage self.old.number self.old.part
-            → Turns start before (outside L.coming K.written L.faults K.faults link.old sink.old)
+            → IsReadTo start (K.written sink.old) (bytes_of before) self.old.stage self.old.number self.old.part
+            → Reads start before (outside L.coming K.written L.faults K.faults link.old sink.old)
             (outside L.coming K.written L.faults K.faults link.new sink.new)
             self.new.stage self.new.number self.new.part (length buf.old) result }
     {
@@ -132,10 +132,10 @@ impl Reader {
         requires number { self.old.number + length bytes.now < 2 ^ 64 }
         ensures open { OnOk result (IsOpen self.new.stage self.new.part self.new.want) }
         ensures number { OnOk result (self.new.number ≤ self.old.number + length bytes.now) }
-        ensures at { OnOk result ((start : Option (List ℕ)) (before : List ℕ) → IsAt start (K.written sink.old) before self.old.stage self.old.number self.old.part
-            → IsAt start (K.written sink.new) (before ++ bytes.now) self.new.stage self.new.number self.new.part) }
+        ensures at { OnOk result ((start : Option (List ℕ)) (before : List ℕ) → IsReadTo start (K.written sink.old) before self.old.stage self.old.number self.old.part
+            → IsReadTo start (K.written sink.new) (before ++ bytes.now) self.new.stage self.new.number self.new.part) }
         ensures stop { IfErr result (λ stop. (start : Option (List ℕ)) (before : List ℕ)
-            → IsAt start (K.written sink.old) before self.old.stage self.old.number self.old.part
+            → IsReadTo start (K.written sink.old) before self.old.stage self.old.number self.old.part
             → StopsAt stop start (K.written sink.new) (before ++ bytes.now) self.new.number) }
         ensures cause { SinkBy (K.faults sink.old) (K.faults sink.new) result }
     {
@@ -156,10 +156,10 @@ impl Reader {
         ensures number { self.new.number ≤ self.old.number + 1 }
         ensures count { IfOk result (λ n. (0 < n) × (n ≤ length bytes.now)) }
         ensures at { IfOk result (λ n. (start : Option (List ℕ)) (before : List ℕ)
-            → IsAt start (K.written sink.old) before self.old.stage self.old.number self.old.part
-            → IsAt start (K.written sink.new) (before ++ take n bytes.now) self.new.stage self.new.number self.new.part) }
+            → IsReadTo start (K.written sink.old) before self.old.stage self.old.number self.old.part
+            → IsReadTo start (K.written sink.new) (before ++ take n bytes.now) self.new.stage self.new.number self.new.part) }
         ensures stop { IfErr result (λ stop. (start : Option (List ℕ)) (before : List ℕ)
-            → IsAt start (K.written sink.old) before self.old.stage self.old.number self.old.part
+            → IsReadTo start (K.written sink.old) before self.old.stage self.old.number self.old.part
             → StopsAt stop start (K.written sink.new) (before ++ bytes.now) self.new.number) }
         ensures cause { SinkBy (K.faults sink.old) (K.faults sink.new) result }
     {
@@ -177,10 +177,10 @@ impl Reader {
         requires number { self.old.number + 1 < 2 ^ 64 }
         ensures open { OnOk result (IsOpen self.new.stage self.new.part self.new.want) }
         ensures number { self.new.number ≤ self.old.number + 1 }
-        ensures at { OnOk result ((start : Option (List ℕ)) (bytes : List ℕ) → IsAt start (K.written sink.old) bytes self.old.stage self.old.number self.old.part
-            → IsAt start (K.written sink.new) bytes self.new.stage self.new.number self.new.part) }
+        ensures at { OnOk result ((start : Option (List ℕ)) (bytes : List ℕ) → IsReadTo start (K.written sink.old) bytes self.old.stage self.old.number self.old.part
+            → IsReadTo start (K.written sink.new) bytes self.new.stage self.new.number self.new.part) }
         ensures stop { IfErr result (λ stop. (start : Option (List ℕ)) (bytes more : List ℕ)
-            → IsAt start (K.written sink.old) bytes self.old.stage self.old.number self.old.part
+            → IsReadTo start (K.written sink.old) bytes self.old.stage self.old.number self.old.part
             → StopsAt stop start (K.written sink.new) (bytes ++ more) self.new.number) }
         ensures cause { SinkBy (K.faults sink.old) (K.faults sink.new) result }
     {
@@ -198,10 +198,10 @@ impl Reader {
         requires stage { self.old.stage ≡ stages.Header }
         ensures open { OnOk result (IsOpen self.new.stage self.new.part self.new.want) }
         ensures number { self.new.number ≤ self.old.number + 1 }
-        ensures at { OnOk result ((start now : Option (List ℕ)) (bytes : List ℕ) → IsAt start now bytes self.old.stage self.old.number self.old.part
-            → IsAt start now bytes self.new.stage self.new.number self.new.part) }
+        ensures at { OnOk result ((start now : Option (List ℕ)) (bytes : List ℕ) → IsReadTo start now bytes self.old.stage self.old.number self.old.part
+            → IsReadTo start now bytes self.new.stage self.new.number self.new.part) }
         ensures fault { IfErr result (λ why. (start now : Option (List ℕ)) (bytes more : List ℕ)
-            → IsAt start now bytes self.old.stage self.old.number self.old.part
+            → IsReadTo start now bytes self.old.stage self.old.number self.old.part
             → IsAtFault why start now (bytes ++ more) self.new.number) }
     {
         match order_of(self.part.bytes()) {
@@ -220,10 +220,10 @@ impl Reader {
         requires stage { self.old.stage ≡ stages.Head order }
         ensures open { OnOk result (IsOpen self.new.stage self.new.part self.new.want) }
         ensures number { self.new.number ≤ self.old.number + 1 }
-        ensures at { OnOk result ((start now : Option (List ℕ)) (bytes : List ℕ) → IsAt start now bytes self.old.stage self.old.number self.old.part
-            → IsAt start now bytes self.new.stage self.new.number self.new.part) }
+        ensures at { OnOk result ((start now : Option (List ℕ)) (bytes : List ℕ) → IsReadTo start now bytes self.old.stage self.old.number self.old.part
+            → IsReadTo start now bytes self.new.stage self.new.number self.new.part) }
         ensures fault { IfErr result (λ why. (start now : Option (List ℕ)) (bytes more : List ℕ)
-            → IsAt start now bytes self.old.stage self.old.number self.old.part
+            → IsReadTo start now bytes self.old.stage self.old.number self.old.part
             → IsAtFault why start now (bytes ++ more) self.new.number) }
     {
         let len = field(order, self.part.bytes(), 8) as usize;
@@ -246,10 +246,10 @@ impl Reader {
         requires stage { self.old.stage ≡ stages.Body order }
         ensures open { OnOk result (IsOpen self.new.stage self.new.part self.new.want) }
         ensures number { self.new.number ≤ self.old.number + 1 }
-        ensures at { OnOk result ((start : Option (List ℕ)) (bytes : List ℕ) → IsAt start (K.written sink.old) bytes self.old.stage self.old.number self.old.part
-            → IsAt start (K.written sink.new) bytes self.new.stage self.new.number self.new.part) }
+        ensures at { OnOk result ((start : Option (List ℕ)) (bytes : List ℕ) → IsReadTo start (K.written sink.old) bytes self.old.stage self.old.number self.old.part
+            → IsReadTo start (K.written sink.new) bytes self.new.stage self.new.number self.new.part) }
         ensures broke { OnErr result ((start : Option (List ℕ)) (bytes more : List ℕ)
-            → IsAt start (K.written sink.old) bytes self.old.stage self.old.number self.old.part
+            → IsReadTo start (K.written sink.old) bytes self.old.stage self.old.number self.old.part
             → BrokeOff start (K.written sink.new) (bytes ++ more)) }
         ensures cause { HasCause (K.faults sink.old) (K.faults sink.new) result }
     {

@@ -2,10 +2,10 @@ ghost use Rattle.std.specs.Prelude.{◌≡◌, ◌+◌, ◌<◌, ◌++◌, ◌^�
 ghost use Rattle.std.specs.Io.KnownBytes.{Appends};
 ghost use Rattle.uip_edge.specs.declared.item.Item.{Item};
 ghost use Rattle.serve_loop.specs.Outside.{outside};
-ghost use Rattle.trace.specs.CaptureText.{capture_text};
+ghost use Rattle.trace.specs.CaptureText.{capture_file};
 ghost use Rattle.trace.specs.DumpText.{dump_text};
-ghost use Rattle.trace.specs.Telling.{Tells};
-ghost use Rattle.trace.specs.Watching.{text_behind};
+ghost use Rattle.trace.specs.Telling.{TellsLine};
+ghost use Rattle.trace.specs.Watching.{text_after};
 
 use crate::form::Form;
 use crate::record::HEADER;
@@ -17,7 +17,7 @@ pub(crate) const BLOCK: usize = 4096;
 
 /// Writes a line of text for each frame of a serial line, up to so many items.
 pub fn dump<L: Link, K: Sink>(link: &mut L, sink: &mut K, items: u64) -> ServeEnd
-    ensures { Tells dump_text items
+    ensures { TellsLine dump_text items
         (outside L.coming K.written L.faults K.faults link.old sink.old)
         (outside L.coming K.written L.faults K.faults link.new sink.new) result }
 {
@@ -26,7 +26,7 @@ pub fn dump<L: Link, K: Sink>(link: &mut L, sink: &mut K, items: u64) -> ServeEn
 
 /// Writes a capture file of the datagrams of a serial line, up to so many items.
 pub fn pcap<L: Link, K: Sink>(link: &mut L, sink: &mut K, items: u64) -> ServeEnd
-    ensures { Tells capture_text items
+    ensures { TellsLine capture_file items
         (outside L.coming K.written L.faults K.faults link.old sink.old)
         (outside L.coming K.written L.faults K.faults link.new sink.new) result }
 {
@@ -38,7 +38,7 @@ pub fn pcap<L: Link, K: Sink>(link: &mut L, sink: &mut K, items: u64) -> ServeEn
 
 /// Takes items of a line, until so many were taken.
 fn watch_line<L: Link, K: Sink>(form: Form, link: &mut L, sink: &mut K, items: u64) -> ServeEnd
-    ensures { Tells (text_behind form []) items
+    ensures { TellsLine (text_after form []) items
         (outside L.coming K.written L.faults K.faults link.old sink.old)
         (outside L.coming K.written L.faults K.faults link.new sink.new) result }
 {

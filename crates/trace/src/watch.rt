@@ -8,7 +8,7 @@ ghost use Rattle.uip_slip.specs.Decoding.{Leaves, told_by};
 ghost use Rattle.uip_slip.specs.Frames.{Datagram, Overlong};
 ghost use Rattle.serve_loop.specs.Outside.{outside};
 ghost use Rattle.trace.specs.Seen.{seen_at};
-ghost use Rattle.trace.specs.Watching.{CountFits, HasSeen, Turns, frame_text, text_behind, texts_from};
+ghost use Rattle.trace.specs.Watching.{WatchFits, HasSeen, Watches, frame_text, text_after, texts_from};
 
 use crate::area::Area;
 use crate::dump_line::{put_datagram_line, put_overlong_line};
@@ -59,9 +59,9 @@ impl Watch {
         requires frames { self.old.frames + length buf.old < 2 ^ 64 }
         requires silences { self.old.silences + length buf.old < 2 ^ 64 }
         ensures form { self.new.form ≡ self.old.form }
-        ensures fits { CountFits result (length buf.old) self.old.frames self.old.silences self.new.frames self.new.silences }
+        ensures fits { WatchFits result (length buf.old) self.old.frames self.old.silences self.new.frames self.new.silences }
         ensures turns { (before : List Item) → HasSeen before self.old.decoder self.old.frames self.old.silences
-            → Turns self.old.form before (outside L.coming K.written L.faults K.faults link.old sink.old)
+            → Watches self.old.form before (outside L.coming K.written L.faults K.faults link.old sink.old)
             (outside L.coming K.written L.faults K.faults link.new sink.new)
             self.new.decoder self.new.frames self.new.silences (length buf.old) result }
     {
@@ -88,9 +88,9 @@ impl Watch {
         ensures seen { OnOk result ((before : List Item) → HasSeen before self.old.decoder self.old.frames self.old.silences
             → HasSeen (before ++ map Byte bytes.now) self.new.decoder self.new.frames self.new.silences) }
         ensures ok { OnOk result ((before : List Item) → HasSeen before self.old.decoder self.old.frames self.old.silences
-            → Appends (K.written sink.old) (K.written sink.new) (text_behind self.old.form before (map Byte bytes.now))) }
+            → Appends (K.written sink.old) (K.written sink.new) (text_after self.old.form before (map Byte bytes.now))) }
         ensures err { OnErr result ((before : List Item) → HasSeen before self.old.decoder self.old.frames self.old.silences
-            → AppendsPrefix (K.written sink.old) (K.written sink.new) (text_behind self.old.form before (map Byte bytes.now))) }
+            → AppendsPrefix (K.written sink.old) (K.written sink.new) (text_after self.old.form before (map Byte bytes.now))) }
         ensures cause { HasCause (K.faults sink.old) (K.faults sink.new) result }
     {
         let mut rest = bytes;
@@ -112,9 +112,9 @@ impl Watch {
         ensures seen { IfOk result (λ n. (before : List Item) → HasSeen before self.old.decoder self.old.frames self.old.silences
             → HasSeen (before ++ map Byte (take n bytes.now)) self.new.decoder self.new.frames self.new.silences) }
         ensures ok { IfOk result (λ n. (before : List Item) → HasSeen before self.old.decoder self.old.frames self.old.silences
-            → Appends (K.written sink.old) (K.written sink.new) (text_behind self.old.form before (map Byte (take n bytes.now)))) }
+            → Appends (K.written sink.old) (K.written sink.new) (text_after self.old.form before (map Byte (take n bytes.now)))) }
         ensures err { OnErr result ((before : List Item) → HasSeen before self.old.decoder self.old.frames self.old.silences
-            → AppendsPrefix (K.written sink.old) (K.written sink.new) (text_behind self.old.form before (map Byte bytes.now))) }
+            → AppendsPrefix (K.written sink.old) (K.written sink.new) (text_after self.old.form before (map Byte bytes.now))) }
         ensures cause { HasCause (K.faults sink.old) (K.faults sink.new) result }
     {
         let run = self.decoder.feed_run(bytes);

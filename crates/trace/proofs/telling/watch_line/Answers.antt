@@ -1,7 +1,7 @@
 use Rattle.std.proofs.Common.{◌≡◌, ◌++◌, [], refl, arith, ◌∙◌, ap, sym, length-take, length-append}
 use Rattle.uip_edge.proofs.Told.{Appends-none, Appends-then, Consumes-none, Consumes-then, appends_by}
 use Rattle.serve_loop.specs.Outside.{outside}
-use Rattle.trace.specs.Watching.{text_behind}
+use Rattle.trace.specs.Watching.{text_after}
 use Rattle.trace.proofs.SeenLaws.{text-then}
 use Rattle.trace.proofs.TellLaws.{stopped}
 use Rattle.trace.proofs.telling.watch_line.Goals as goal
@@ -35,7 +35,7 @@ loop-left-preserved g c =
       silences = omega (arith, inv.silences, fits.3, fits.1, room);
       seen = turn.on;
       wrote = appends_by _ _ _ _
-          (text-then c.args.form [] inv.taken turn.items ∙ ap (λ f. text_behind c.args.form [] inv.taken ++ text_behind f inv.taken turn.items) (sym inv.form))
+          (text-then c.args.form [] inv.taken turn.items ∙ ap (λ f. text_after c.args.form [] inv.taken ++ text_after f inv.taken turn.items) (sym inv.form))
           (Appends-then (g.K.Sink.written c.args.sink.now) (g.K.Sink.written c.loop-left.sink) (g.K.Sink.written c.turn.new.sink) _ _ inv.wrote turn.wrote);
       link_same = turn.cause.1 ∙ inv.link_same;
       sink_same = turn.cause.2 ∙ inv.sink_same;

@@ -2,7 +2,7 @@ use Rattle.std.proofs.Common.{◌≡◌, ◌≤◌, ◌+◌, [], List, length}
 use Rattle.std.specs.Io.KnownBytes.{Appends}
 use Rattle.uip_edge.specs.Coming.{Consumes}
 use Rattle.uip_edge.specs.declared.item.Item.{Item}
-use Rattle.trace.specs.Watching.{HasSeen, text_behind}
+use Rattle.trace.specs.Watching.{HasSeen, text_after}
 use Rattle.trace.proofs.telling.watch_line.Given as goal
 
 abbrev pub invariant-loop-left : goal.invariant-loop-left
@@ -14,7 +14,7 @@ invariant-loop-left g l = record {
   frames : l.watch.frames + l.left ≤ l.items;
   silences : l.watch.silences + l.left ≤ l.items;
   seen : HasSeen taken l.watch.decoder l.watch.frames l.watch.silences;
-  wrote : Appends (g.K.Sink.written l.fn.sink) (g.K.Sink.written l.sink) (text_behind l.fn.form [] taken);
+  wrote : Appends (g.K.Sink.written l.fn.sink) (g.K.Sink.written l.sink) (text_after l.fn.form [] taken);
   link_same : g.L.Link.faults l.link ≡ g.L.Link.faults l.fn.link;
   sink_same : g.K.Sink.faults l.sink ≡ g.K.Sink.faults l.fn.sink;
 }

@@ -1,7 +1,7 @@
 use Rattle.std.proofs.Common.{◌≡◌, ◌<◌, ◌∙◌, ℕ, ap, sym, subst}
 use Rattle.trace.specs.CaptureReading.{length_in}
 use Rattle.uip_wire.specs.declared.sizes.TheConstants.{LARGEST_DATAGRAM}
-use Rattle.trace.proofs.ReadLaws.{empty_entry, length_fault}
+use Rattle.trace.proofs.ReadLaws.{empty_captured, length_fault}
 use Rattle.trace.proofs.reader.Reader.look_at_head.Goals as goal
 
 pub returns-then-len-gt-LARGEST_DATAGRAM-clause-fault : goal.returns-then-len-gt-LARGEST_DATAGRAM-clause-fault
@@ -15,5 +15,5 @@ pub returns-then-len-eq0-clause-at : goal.returns-then-len-eq0-clause-at
 returns-then-len-eq0-clause-at c = λ start now bytes at.
     let size = rw c.requires.stage at c.requires.full.wants in
     rw c.start_record.ensures
-    (empty_entry start now bytes c.args.self.now.number c.args.self.now.part c.args.order (c.requires.full.full ∙ size)
+    (empty_captured start now bytes c.args.self.now.number c.args.self.now.part c.args.order (c.requires.full.full ∙ size)
     (ap (λ l. length_in c.args.order l) (sym c.bytes.ensures) ∙ sym c.field-len.ensures ∙ c.if-len-eq0.true) (rw c.requires.stage at at))

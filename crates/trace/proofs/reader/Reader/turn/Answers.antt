@@ -2,7 +2,7 @@ use Rattle.std.proofs.Common.{◌≡◌, [], ◌∷◌, List, ℕ, length, map, 
 use Rattle.uip_edge.specs.declared.item.Item.TheVariants.{Byte, Quiet}
 use Rattle.serve_loop.specs.LineEvents.{bytes_of}
 use Rattle.serve_loop.proofs.EventLaws.{counted}
-use Rattle.trace.specs.Gathering.{IsAt}
+use Rattle.trace.specs.Gathering.{IsReadTo}
 use Rattle.trace.proofs.TurnLaws.{bytes_on, file_fault, is_dry, link_ended, link_failed, silence_read, sound_at, write_failed}
 use Rattle.trace.proofs.reader.Reader.turn.Goals as goal
 
@@ -49,7 +49,7 @@ returns-in-Ok-clause-turns g c = λ start before at.
       by = (
         count,
         record { link = told.cause.same; sink = done.cause },
-        subst (λ (l : List ℕ). IsAt start (g.K.Sink.written c.take.new.sink) l c.take.new.self.stage c.take.new.self.number c.take.new.self.part)
+        subst (λ (l : List ℕ). IsReadTo start (g.K.Sink.written c.take.new.sink) l c.take.new.self.stage c.take.new.self.number c.take.new.self.part)
             (bytes_on before (take n buf)) (done.at start (bytes_of before) at),
       );
     }

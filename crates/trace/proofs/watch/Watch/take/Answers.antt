@@ -5,7 +5,7 @@ use Rattle.std.specs.Io.KnownBytes.{Appends}
 use Rattle.uip_edge.proofs.Told.{Appends-none, moved_on, on_err}
 use Rattle.uip_edge.specs.declared.item.Item.{Item}
 use Rattle.uip_edge.specs.declared.item.Item.TheVariants.{Byte}
-use Rattle.trace.specs.Watching.{HasSeen, text_behind}
+use Rattle.trace.specs.Watching.{HasSeen, text_after}
 use Rattle.trace.proofs.FrontLaws.{broke_both, seen_on_both, wrote_both}
 use Rattle.trace.proofs.watch.Watch.take.Goals as goal
 

@@ -2,7 +2,7 @@ use Rattle.std.proofs.Common.{◌≡◌, ◌≤◌, ◌+◌, ◌++◌, List, ℕ
 use Rattle.std.specs.Io.KnownBytes.{Appends}
 use Rattle.uip_edge.specs.declared.item.Item.{Item}
 use Rattle.uip_edge.specs.declared.item.Item.TheVariants.{Byte}
-use Rattle.trace.specs.Watching.{HasSeen, text_behind}
+use Rattle.trace.specs.Watching.{HasSeen, text_after}
 use Rattle.trace.proofs.watch.Watch.take.Given as goal
 
 abbrev pub invariant-loop-rest : goal.invariant-loop-rest
@@ -15,7 +15,7 @@ invariant-loop-rest g l = record {
   seen : (before : List Item) → HasSeen before l.fn.self.decoder l.fn.self.frames l.fn.self.silences
       → HasSeen (before ++ map Byte front) l.self.decoder l.self.frames l.self.silences;
   written : (before : List Item) → HasSeen before l.fn.self.decoder l.fn.self.frames l.fn.self.silences
-      → Appends (g.K.Sink.written l.fn.sink) (g.K.Sink.written l.sink) (text_behind l.fn.self.form before (map Byte front));
+      → Appends (g.K.Sink.written l.fn.sink) (g.K.Sink.written l.sink) (text_after l.fn.self.form before (map Byte front));
   calm : g.K.Sink.faults l.sink ≡ g.K.Sink.faults l.fn.sink;
 }
 

@@ -6,8 +6,8 @@ use Rattle.std.proofs.lemmas.Bool.{cases_lt}
 use Rattle.std.proofs.Math.Seq.{take-length}
 use Rattle.std.specs.List.{AllByRecursion, flat_map}
 use Rattle.uip_wire.specs.declared.sizes.TheConstants.{LARGEST_DATAGRAM}
-use Rattle.trace.specs.CaptureReading.{BeginsWith, Entry, IsEntry, IsPart, IsReadAs, IsTooLong, Reading, entries_of, entry_bytes, entry_line, field_at, length_in, lines_of, order_of}
-use Rattle.trace.specs.CaptureReading.Reading.{BadHeader, BadLength, InEntry, Whole}
+use Rattle.trace.specs.CaptureReading.{BeginsWith, Captured, IsCaptured, IsCutRecord, IsReadAs, HasLongRecord, Reading, captured_in, captured_bytes, captured_line, field_at, length_in, lines_of, order_of}
+use Rattle.trace.specs.CaptureReading.Reading.{BadHeader, BadLength, InRecord, Whole}
 use Rattle.trace.specs.declared.byte_order.ByteOrder.{ByteOrder}
 use Rattle.trace.specs.declared.byte_order.ByteOrder.TheVariants.{Big, Little}
 
@@ -37,41 +37,41 @@ all_more P [] x all p = (p, tt)
 all_more P (y ∷ xs) x all p = (all.0, all_more P xs x all.1 p)
 
 -- further bytes
-pub more_rest : (order : ByteOrder) (entries : List Entry) (rest bytes more : List ℕ) → BeginsWith order entries rest bytes → BeginsWith order entries (rest ++ more) (bytes ++ more)
-more_rest order entries rest bytes more b = record {
+pub more_rest : (order : ByteOrder) (records : List Captured) (rest bytes more : List ℕ) → BeginsWith order records rest bytes → BeginsWith order records (rest ++ more) (bytes ++ more)
+more_rest order records rest bytes more b = record {
   header = b.header;
   size = b.size;
   good = b.good;
   sound = b.sound;
-  spelled = ap (λ l. l ++ more) b.spelled ∙ append_assoc (b.header ++ flat_map entry_bytes entries) rest more;
+  spelled = ap (λ l. l ++ more) b.spelled ∙ append_assoc (b.header ++ flat_map captured_bytes records) rest more;
 }
 
 -- a further record
-pub one_more : (order : ByteOrder) (entries : List Entry) (rest rest' bytes : List ℕ) (entry : Entry) → BeginsWith order entries rest bytes → IsEntry order entry
-    → rest ≡ entry_bytes entry ++ rest' → BeginsWith order (entries ++ entry ∷ []) rest' bytes
-one_more order entries rest rest' bytes entry b is e =
-    let all = flat_map entry_bytes entries in
-    let one : flat_map entry_bytes (entries ++ entry ∷ []) ≡ all ++ entry_bytes entry =
-    flat_map-append entry_bytes entries (entry ∷ []) ∙ ap (λ l. all ++ l) (append-nil (entry_bytes entry)) in
+pub one_more : (order : ByteOrder) (records : List Captured) (rest rest' bytes : List ℕ) (captured : Captured) → BeginsWith order records rest bytes → IsCaptured order captured
+    → rest ≡ captured_bytes captured ++ rest' → BeginsWith order (records ++ captured ∷ []) rest' bytes
+one_more order records rest rest' bytes captured b is e =
+    let all = flat_map captured_bytes records in
+    let one : flat_map captured_bytes (records ++ captured ∷ []) ≡ all ++ captured_bytes captured =
+    flat_map-append captured_bytes records (captured ∷ []) ∙ ap (λ l. all ++ l) (append-nil (captured_bytes captured)) in
     record {
       header = b.header;
       size = b.size;
       good = b.good;
-      sound = all_more (IsEntry order) entries entry b.sound is;
+      sound = all_more (IsCaptured order) records captured b.sound is;
       spelled = b.spelled ∙ ap (λ l. (b.header ++ all) ++ l) e
-          ∙ sym (append_assoc (b.header ++ all) (entry_bytes entry) rest')
-          ∙ ap (λ l. l ++ rest') (append_assoc b.header all (entry_bytes entry) ∙ ap (λ l. b.header ++ l) (sym one));
+          ∙ sym (append_assoc (b.header ++ all) (captured_bytes captured) rest')
+          ∙ ap (λ l. l ++ rest') (append_assoc b.header all (captured_bytes captured) ∙ ap (λ l. b.header ++ l) (sym one));
     }
 
-pub lines-more : (entries : List Entry) (entry : Entry) → lines_of (entries ++ entry ∷ []) ≡ lines_of entries ++ entry_line entry
-lines-more entries entry = flat_map-append entry_line entries (entry ∷ []) ∙ ap (λ l. lines_of entries ++ l) (append-nil (entry_line entry))
+pub lines-more : (records : List Captured) (captured : Captured) → lines_of (records ++ captured ∷ []) ≡ lines_of records ++ captured_line captured
+lines-more records captured = flat_map-append captured_line records (captured ∷ []) ∙ ap (λ l. lines_of records ++ l) (append-nil (captured_line captured))
 
 -- the record that these bytes begin with
-abbrev pub first_entry : ℕ → List ℕ → Entry
-first_entry size rest = record { head = take 16 rest; body = take size (drop 16 rest) }
+abbrev pub first_captured : ℕ → List ℕ → Captured
+first_captured size rest = record { head = take 16 rest; body = take size (drop 16 rest) }
 
 pub first_is : (order : ByteOrder) (rest : List ℕ) → 16 + length_in order rest ≤ length rest → length_in order rest ≤ LARGEST_DATAGRAM
-    → IsEntry order (first_entry (length_in order rest) rest)
+    → IsCaptured order (first_captured (length_in order rest) rest)
 first_is order rest whole fits =
     let size = length_in order rest in
     let head : length (take 16 rest) ≡ 16 = length-take-le 16 rest (omega arith) in
@@ -80,49 +80,49 @@ first_is order rest whole fits =
     sym (length_in-append order (take 16 rest) (drop 16 rest) (omega (arith, head))) ∙ ap (λ l. length_in order l) (take-append-drop 16 rest) in
     record { head = head; body = body ∙ sym same; fits = omega (arith, body) }
 
-pub first_spelled : (size : ℕ) (rest : List ℕ) → rest ≡ entry_bytes (first_entry size rest) ++ drop size (drop 16 rest)
+pub first_spelled : (size : ℕ) (rest : List ℕ) → rest ≡ captured_bytes (first_captured size rest) ++ drop size (drop 16 rest)
 first_spelled size rest =
     sym (take-append-drop 16 rest) ∙ ap (λ l. take 16 rest ++ l) (sym (take-append-drop size (drop 16 rest)))
     ∙ sym (append_assoc (take 16 rest) (take size (drop 16 rest)) (drop size (drop 16 rest)))
 
 -- bytes are read so, and these records stand first
-pub record ReadsOn (entries : List Entry) (bytes : List ℕ) : Type 0 where
+pub record ReadsOn (records : List Captured) (bytes : List ℕ) : Type 0 where
   pub reading : Reading
   pub read : IsReadAs bytes reading
-  pub more : List Entry
-  pub first : entries_of reading ≡ entries ++ more
+  pub more : List Captured
+  pub first : captured_in reading ≡ records ++ more
 
 -- all bytes behind records are read in some way
-pub reads_on : (fuel : ℕ) (order : ByteOrder) (entries : List Entry) (rest bytes : List ℕ) → length rest < fuel → BeginsWith order entries rest bytes → ReadsOn entries bytes
-reads_on zero order entries rest bytes h b = absurd (omega arith)
-reads_on (suc fuel) order entries [] bytes h b =
-    record { reading = Whole entries; read = (order, b); more = []; first = sym (append-nil entries) }
-reads_on (suc fuel) order entries (r ∷ rest) bytes h b =
+pub reads_on : (fuel : ℕ) (order : ByteOrder) (records : List Captured) (rest bytes : List ℕ) → length rest < fuel → BeginsWith order records rest bytes → ReadsOn records bytes
+reads_on zero order records rest bytes h b = absurd (omega arith)
+reads_on (suc fuel) order records [] bytes h b =
+    record { reading = Whole records; read = (order, b); more = []; first = sym (append-nil records) }
+reads_on (suc fuel) order records (r ∷ rest) bytes h b =
     let all = r ∷ rest in
     let size = length_in order all in
-    elim (cases_lt (length all) 16) as (λ _. ReadsOn entries bytes) [
+    elim (cases_lt (length all) 16) as (λ _. ReadsOn records bytes) [
       | inl short ↦ record {
-        reading = InEntry entries;
+        reading = InRecord records;
         read = (order, all, b, omega arith, record { fits = λ k. absurd (omega arith); short = λ k. absurd (omega arith) });
         more = [];
-        first = sym (append-nil entries);
+        first = sym (append-nil records);
       }
-      | inr head ↦ elim (cases_lt LARGEST_DATAGRAM size) as (λ _. ReadsOn entries bytes) [
-        | inl long ↦ record { reading = BadLength entries; read = (order, all, b, record { head = head; long = long }); more = []; first = sym (append-nil entries) }
-        | inr fits ↦ elim (cases_lt (length all) (16 + size)) as (λ _. ReadsOn entries bytes) [
+      | inr head ↦ elim (cases_lt LARGEST_DATAGRAM size) as (λ _. ReadsOn records bytes) [
+        | inl long ↦ record { reading = BadLength records; read = (order, all, b, record { head = head; long = long }); more = []; first = sym (append-nil records) }
+        | inr fits ↦ elim (cases_lt (length all) (16 + size)) as (λ _. ReadsOn records bytes) [
           | inl short ↦ record {
-            reading = InEntry entries;
+            reading = InRecord records;
             read = (order, all, b, omega arith, record { fits = λ k. fits; short = λ k. short });
             more = [];
-            first = sym (append-nil entries);
+            first = sym (append-nil records);
           }
           | inr whole ↦
-              let entry = first_entry size all in
+              let captured = first_captured size all in
               let rest' = drop size (drop 16 all) in
               let less : length rest' < fuel = omega (arith, length-drop 16 all, length-drop size (drop 16 all)) in
-              let on = reads_on fuel order (entries ++ entry ∷ []) rest' bytes less
-              (one_more order entries all rest' bytes entry b (first_is order all whole fits) (first_spelled size all)) in
-              record { reading = on.reading; read = on.read; more = entry ∷ on.more; first = on.first ∙ append_assoc entries (entry ∷ []) on.more }
+              let on = reads_on fuel order (records ++ captured ∷ []) rest' bytes less
+              (one_more order records all rest' bytes captured b (first_is order all whole fits) (first_spelled size all)) in
+              record { reading = on.reading; read = on.read; more = captured ∷ on.more; first = on.first ∙ append_assoc records (captured ∷ []) on.more }
         ]
       ]
     ]
