@@ -1,13 +1,13 @@
 -- A capture file goes on: with further bytes, and with a further record.
-use Rattle.std.proofs.Common.{◌≡◌, ℕ, zero, suc, ◌+◌, ◌-◌, ◌*◌, ◌<◌, ◌≤◌, List, [], ◌∷◌, ◌++◌, Option, Some, None, length, take, drop, refl, sym, ap, ◌∙◌, append-nil, append_assoc, arith, length-append, length-drop, subst, get_or, ◌⊎◌, inl, inr}
-use Rattle.std.proofs.lemmas.List.{drop-drop, get_or_append_left, length-take-le, take-append-drop, take-append-le}
+use Rattle.std.proofs.Common.{◌≡◌, ℕ, zero, suc, ◌+◌, ◌<◌, ◌≤◌, List, [], ◌∷◌, ◌++◌, length, take, drop, refl, sym, ap, ◌∙◌, append-nil, append_assoc, arith, length-drop, inl, inr}
+use Rattle.std.proofs.lemmas.List.{get_or_append_left, length-take-le, take-append-drop, take-append-le}
 use Rattle.std.proofs.lemmas.List.Concat.{flat_map-append}
 use Rattle.std.proofs.lemmas.Bool.{cases_lt}
 use Rattle.std.proofs.Math.Seq.{take-length}
 use Rattle.std.specs.List.{AllByRecursion, flat_map}
 use Rattle.uip_wire.specs.declared.sizes.TheConstants.{LARGEST_DATAGRAM}
-use Rattle.trace.specs.CaptureReading.{BeginsWith, Captured, IsCaptured, IsCutRecord, IsReadAs, HasLongRecord, Reading, captured_in, captured_bytes, captured_line, field_at, length_in, lines_of, order_of}
-use Rattle.trace.specs.CaptureReading.Reading.{BadHeader, BadLength, InRecord, Whole}
+use Rattle.trace.specs.CaptureReading.{BeginsWith, Captured, IsCaptured, IsReadAs, Reading, captured_in, captured_bytes, captured_line, length_in, lines_of}
+use Rattle.trace.specs.CaptureReading.Reading.{BadLength, InRecord, Whole}
 use Rattle.trace.specs.declared.byte_order.ByteOrder.{ByteOrder}
 use Rattle.trace.specs.declared.byte_order.ByteOrder.TheVariants.{Big, Little}
 

@@ -5,9 +5,9 @@ use Rattle.uip_edge.proofs.Told.{Consumes-then}
 use Rattle.uip_edge.specs.declared.item.Item.{Item}
 use Rattle.serve_loop.specs.LineEvents.{bytes_of}
 use Rattle.serve_loop.specs.Outside.{Outside}
-use Rattle.trace.specs.CaptureReading.{IsReadAs, Reading, cut_in, fault_in}
+use Rattle.trace.specs.CaptureReading.{Reading}
 use Rattle.trace.specs.Converting.{Calm, Converts, HasNewFault, SlipEndsBy}
-use Rattle.trace.specs.Gathering.{IsReadTo, IsOpen, StopsBy, Reads, end_at}
+use Rattle.trace.specs.Gathering.{IsReadTo, IsOpen, StopsBy, Reads}
 use Rattle.trace.specs.declared.reader.Turn.TheVariants.{Stopped}
 use Rattle.trace.specs.declared.telling.TheConstants.{BLOCK}
 use Rattle.trace.specs.declared.slip_end.CaptureWhy.TheVariants as whys
@@ -15,7 +15,7 @@ use Rattle.trace.specs.declared.slip_end.SlipEnd.{SlipEnd}
 use Rattle.trace.specs.declared.slip_end.SlipEnd.TheVariants as ends
 use Rattle.trace.specs.declared.stage.Stage.{Stage}
 use Rattle.trace.proofs.TellLaws.{none_more, took_all}
-use Rattle.trace.proofs.TurnLaws.{IsSoundAt, sound_at}
+use Rattle.trace.proofs.TurnLaws.{sound_at}
 
 calm_on : (old mid new : Outside) → mid.link_faults ≡ old.link_faults → mid.sink_faults ≡ old.sink_faults → Calm mid new → Calm old new
 calm_on old mid new l k c = record { link = c.link ∙ l; sink = c.sink ∙ k }

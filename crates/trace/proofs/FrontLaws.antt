@@ -1,5 +1,5 @@
 -- What bytes bring that a decoder took, and what is written of it.
-use Rattle.std.proofs.Common.{◌≡◌, ℕ, ◌+◌, ◌<◌, ◌≤◌, List, [], ◌∷◌, ◌++◌, Option, length, map, take, drop, refl, sym, ap, ◌∙◌, append-nil, append_assoc, arith, length-append, subst}
+use Rattle.std.proofs.Common.{◌≡◌, ℕ, ◌+◌, List, [], ◌∷◌, ◌++◌, Option, length, map, take, drop, refl, sym, ap, ◌∙◌, append-nil, append_assoc, arith, length-append, subst}
 use Rattle.std.proofs.lemmas.List.{length-map, map-append, take-append-drop}
 use Rattle.std.specs.Io.KnownBytes.{Appends}
 use Rattle.uip_edge.specs.Writing.{AppendsPrefix}
@@ -10,7 +10,7 @@ use Rattle.uip_slip.specs.Decoding.{State, WasFed}
 use Rattle.uip_slip.specs.Frames.{Frame, frames}
 use Rattle.serve_loop.specs.LineEvents.{bytes_of}
 use Rattle.serve_loop.proofs.EventLaws.{bytes_of-append, bytes_of-map}
-use Rattle.trace.specs.Seen.{Seen, seen_at, seen_behind, seen_on, silences_of}
+use Rattle.trace.specs.Seen.{seen_at, seen_behind, seen_on, silences_of}
 use Rattle.trace.specs.Watching.{HasSeen, text_after, texts_from}
 use Rattle.trace.specs.declared.form.Form.{Form}
 use Rattle.trace.proofs.SeenLaws.{seen-told, seen_on-append, silences-append, silences-bytes, text-then}

@@ -1,5 +1,5 @@
 -- A capture file that was written of a line is read as the line's datagrams.
-use Rattle.std.proofs.Common.{◌≡◌, ℕ, Bool, true, false, leb, if◌then◌else◌, ◌+◌, ◌-◌, ◌*◌, ◌/◌, ◌%◌, ◌<◌, ◌≤◌, List, [], ◌∷◌, ◌++◌, Option, Some, None, length, map, take, refl, sym, ap, ◌∙◌, append-nil, append_assoc, arith, length-append, subst}
+use Rattle.std.proofs.Common.{◌≡◌, ℕ, Bool, true, false, leb, if◌then◌else◌, ◌+◌, ◌*◌, ◌/◌, ◌%◌, ◌<◌, ◌≤◌, List, [], ◌∷◌, ◌++◌, Option, Some, None, length, map, refl, sym, ap, ◌∙◌, append-nil, arith, length-append, subst}
 use Rattle.std.specs.Io.KnownBytes.{Appends}
 use Rattle.std.specs.List.{AllByRecursion, flat_map}
 use Rattle.std.proofs.lemmas.Bool.{leb-true}
@@ -11,15 +11,15 @@ use Rattle.uip_edge.specs.declared.item.Item.{Item}
 use Rattle.uip_edge.specs.declared.item.Item.TheVariants.{Byte}
 use Rattle.uip_slip.specs.Frames.{Frame, Datagram, Overlong, all_but_last, frame_of, frames, parts, unescaped}
 use Rattle.uip_slip.specs.Text.{slip_text}
-use Rattle.uip_wire.specs.Fields.{long_at, long_bytes}
+use Rattle.uip_wire.specs.Fields.{long_bytes}
 use Rattle.uip_wire.specs.declared.sizes.TheConstants.{LARGEST_DATAGRAM}
 use Rattle.serve_loop.specs.LineEvents.{bytes_of}
 use Rattle.serve_loop.specs.Outside.{Outside, TookAll, Unfailed}
 use Rattle.serve_loop.proofs.EventLaws.{bytes_of-append, bytes_of-map}
 use Rattle.uip_edge.proofs.Told.{appends_by}
-use Rattle.trace.specs.CaptureReading.{BeginsWith, Captured, HoldsJust, IsCaptured, IsReadAs, Reading, cut_in, captured_in, captured_bytes, captured_line, fault_in, length_in, lines_of, order_of}
+use Rattle.trace.specs.CaptureReading.{Captured, HoldsJust, IsCaptured, IsReadAs, Reading, cut_in, captured_in, captured_bytes, captured_line, fault_in, lines_of, order_of}
 use Rattle.trace.specs.CaptureReading.Reading.{BadHeader, BadLength, InRecord, InHeader, Whole}
-use Rattle.trace.specs.CaptureText.{capture_header, capture_file, datagrams_in, datagrams_on, frame_record, record_bytes, seen_record}
+use Rattle.trace.specs.CaptureText.{capture_header, capture_file, datagrams_in, datagrams_on, frame_record, seen_record}
 use Rattle.trace.specs.Converting.{Converts, IsSurely, SlipEndsBy, end_by_cut}
 use Rattle.trace.specs.Seen.{Seen, seen_on}
 use Rattle.trace.proofs.CaptureLaws.{length_in-append, more_rest}

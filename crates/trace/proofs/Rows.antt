@@ -1,5 +1,5 @@
 -- Worked rows, computed from the definitions.
-use Rattle.std.proofs.Common.{◌≡◌, ℕ, List, [], ◌∷◌, ◌++◌, length, map, refl}
+use Rattle.std.proofs.Common.{◌≡◌, ℕ, List, [], ◌∷◌, ◌++◌, length, map, refl, arith, None}
 use Rattle.std.specs.Fmt.{digits}
 use Rattle.std.specs.Prelude.{codes}
 use Rattle.uip_edge.specs.declared.item.Item.{Item}
@@ -8,8 +8,10 @@ use Rattle.uip_ipv4.specs.Head.{head_or_fate}
 use Rattle.tcp_segment.specs.Received.{segment_in}
 use Rattle.uip_slip.specs.Text.{slip_text}
 use Rattle.uip_wire.specs.Checksum.{folded}
-use Rattle.trace.specs.CaptureText.{capture_file}
+use Rattle.trace.specs.CaptureReading.{HoldsJust, order_of}
+use Rattle.trace.specs.CaptureText.{capture_file, capture_header}
 use Rattle.trace.specs.DumpText.{dump_text}
+use Rattle.trace.specs.declared.byte_order.ByteOrder.TheVariants.{Little}
 
 -- an echo request of 10.0.0.2, its reply, and a SYN to a port where nobody listens
 request : List ℕ
@@ -25,7 +27,57 @@ syn = 0x45 ∷ 0 ∷ 0 ∷ 0x28 ∷ 0 ∷ 1 ∷ 0 ∷ 0 ∷ 0x40 ∷ 6 ∷ 0x66 
 line : List ℕ → List Item
 line datagram = map Byte (slip_text datagram)
 
-dump_row : dump_text (line request ++ line reply ++ line syn)
+-- a line for each frame
+three_lines : dump_text (line request ++ line reply ++ line syn)
     ≡ codes "1 28 icmp 10.0.0.2 10.0.0.1 8 0\n2 28 icmp 10.0.0.1 10.0.0.2 0 0\n3 40 tcp 10.0.0.2:1025 10.0.0.1:81 S 1000 0 0\n"
 unfolding digits head_or_fate segment_in folded request reply syn line
-dump_row = refl
+three_lines = refl
+
+-- a frame that fails a check has its line too
+damaged_frames : dump_text (line (1 ∷ []) ++ line (0x45 ∷ 0 ∷ 0 ∷ 20 ∷ 0 ∷ 1 ∷ 0 ∷ 0 ∷ 0x40 ∷ 17 ∷ 0x66 ∷ 0xD6 ∷ 10 ∷ 0 ∷ 0 ∷ 2 ∷ 10 ∷ 0 ∷ 0 ∷ 1 ∷ []))
+    ≡ codes "1 1 ip short\n2 20 ip protocol\n"
+unfolding digits head_or_fate folded line
+damaged_frames = refl
+
+-- one record of 68 bytes in all
+one_record : capture_file (line request) ≡ capture_header ++ 0 ∷ 0 ∷ 0 ∷ 0 ∷ 0 ∷ 0 ∷ 0 ∷ 0 ∷ 0 ∷ 0 ∷ 0 ∷ 28 ∷ 0 ∷ 0 ∷ 0 ∷ 28 ∷ request
+unfolding request line
+one_record = refl
+
+size_of_one : length (capture_file (line request)) ≡ 68
+unfolding request line
+size_of_one = refl
+
+-- three silences are a second and a half
+after_silences : capture_file (Quiet ∷ Quiet ∷ Byte 192 ∷ Byte 7 ∷ Quiet ∷ Byte 192 ∷ [])
+    ≡ capture_header ++ 0 ∷ 0 ∷ 0 ∷ 1 ∷ 0 ∷ 7 ∷ 161 ∷ 32 ∷ 0 ∷ 0 ∷ 0 ∷ 1 ∷ 0 ∷ 0 ∷ 0 ∷ 1 ∷ 7 ∷ []
+after_silences = refl
+
+-- a header in the other byte order, with any snap length and any eight bytes before it
+little_header : List ℕ
+little_header = 0xD4 ∷ 0xC3 ∷ 0xB2 ∷ 0xA1 ∷ 2 ∷ 0 ∷ 4 ∷ 0 ∷ 1 ∷ 2 ∷ 3 ∷ 4 ∷ 5 ∷ 6 ∷ 7 ∷ 8 ∷ 0 ∷ 0 ∷ 4 ∷ 0 ∷ 101 ∷ 0 ∷ 0 ∷ 0 ∷ []
+
+little_read : HoldsJust ((7 ∷ 8 ∷ []) ∷ []) (little_header ++ 9 ∷ 9 ∷ 9 ∷ 9 ∷ 9 ∷ 9 ∷ 9 ∷ 9 ∷ 2 ∷ 0 ∷ 0 ∷ 0 ∷ 9 ∷ 9 ∷ 9 ∷ 9 ∷ 7 ∷ 8 ∷ [])
+unfolding little_header
+little_read = record {
+  records = record { head = 9 ∷ 9 ∷ 9 ∷ 9 ∷ 9 ∷ 9 ∷ 9 ∷ 9 ∷ 2 ∷ 0 ∷ 0 ∷ 0 ∷ 9 ∷ 9 ∷ 9 ∷ 9 ∷ []; body = 7 ∷ 8 ∷ [] } ∷ [];
+  read = (
+    Little,
+    record {
+      header = little_header;
+      size = refl;
+      good = refl;
+      sound = (record { head = refl; body = refl; fits = omega arith }, tt);
+      spelled = refl;
+    },
+  );
+  bodies = refl;
+}
+
+-- times in nanoseconds are not read
+nanoseconds : order_of (0xA1 ∷ 0xB2 ∷ 0x3C ∷ 0x4D ∷ 0 ∷ 2 ∷ 0 ∷ 4 ∷ 0 ∷ 0 ∷ 0 ∷ 0 ∷ 0 ∷ 0 ∷ 0 ∷ 0 ∷ 0 ∷ 0 ∷ 255 ∷ 255 ∷ 0 ∷ 0 ∷ 0 ∷ 101 ∷ []) ≡ None
+nanoseconds = refl
+
+-- nor is Ethernet
+ethernet : order_of (0xA1 ∷ 0xB2 ∷ 0xC3 ∷ 0xD4 ∷ 0 ∷ 2 ∷ 0 ∷ 4 ∷ 0 ∷ 0 ∷ 0 ∷ 0 ∷ 0 ∷ 0 ∷ 0 ∷ 0 ∷ 0 ∷ 0 ∷ 255 ∷ 255 ∷ 0 ∷ 0 ∷ 0 ∷ 1 ∷ []) ≡ None
+ethernet = refl

@@ -1,14 +1,14 @@
 -- The frames that items bring behind others, and what is written of them.
-use Rattle.std.proofs.Common.{◌≡◌, ℕ, ◌+◌, true, false, List, [], ◌∷◌, ◌++◌, if◌then◌else◌, eqb, length, map, refl, sym, ap, ◌∙◌, append-nil, append_assoc, arith, length-append, subst}
+use Rattle.std.proofs.Common.{◌≡◌, ℕ, ◌+◌, true, false, List, [], ◌∷◌, ◌++◌, if◌then◌else◌, eqb, length, map, refl, sym, ap, ◌∙◌, append-nil, append_assoc, arith, length-append}
 use Rattle.std.specs.List.{enumerate_from, flat_map}
-use Rattle.std.proofs.lemmas.List.{length-map, map-append}
+use Rattle.std.proofs.lemmas.List.{map-append}
 use Rattle.std.proofs.lemmas.List.Concat.{flat_map-append}
 use Rattle.uip_edge.specs.declared.item.Item.{Item}
 use Rattle.uip_edge.specs.declared.item.Item.TheVariants.{Byte, Quiet}
 use Rattle.uip_slip.specs.Frames.{Frame, frame_of, frames, open_part, unescaped}
 use Rattle.uip_slip.proofs.PartLaws.{frames-end, frames-plain, parts-byte}
 use Rattle.serve_loop.specs.LineEvents.{bytes_of, completed}
-use Rattle.serve_loop.proofs.EventLaws.{bytes_of-append, bytes_of-map}
+use Rattle.serve_loop.proofs.EventLaws.{bytes_of-append}
 use Rattle.trace.specs.Seen.{Seen, seen_at, seen_behind, seen_on, silences_of}
 use Rattle.trace.specs.Watching.{frame_text, text_after, texts_from}
 use Rattle.trace.specs.declared.form.Form.{Form}

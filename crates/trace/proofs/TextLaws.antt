@@ -1,13 +1,11 @@
 -- The texts of a dump and of a capture file are what is written frame by frame.
-use Rattle.std.proofs.Common.{◌≡◌, ℕ, ◌+◌, List, [], ◌∷◌, ◌++◌, map, refl, sym, ap, ◌∙◌, append-nil}
+use Rattle.std.proofs.Common.{◌≡◌, ℕ, ◌+◌, List, [], ◌∷◌, ◌++◌, map, refl, sym, ap, ◌∙◌}
 use Rattle.std.specs.List.{enumerate_from, flat_map}
 use Rattle.uip_edge.specs.declared.item.Item.{Item}
-use Rattle.uip_slip.specs.Frames.{Frame, frames}
-use Rattle.serve_loop.specs.LineEvents.{bytes_of}
 use Rattle.trace.specs.CaptureText.{capture_header, capture_file, seen_record}
 use Rattle.trace.specs.DumpText.{dump_line, dump_text, numbered_line}
 use Rattle.trace.specs.Seen.{Seen, seen_on}
-use Rattle.trace.specs.Watching.{frame_text, text_after, texts_from}
+use Rattle.trace.specs.Watching.{text_after, texts_from}
 use Rattle.trace.specs.declared.form.Form.TheVariants.{Capture, Dump}
 use Rattle.trace.proofs.SeenLaws.{frame_in, frames_seen}
 

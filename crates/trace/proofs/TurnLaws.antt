@@ -1,5 +1,5 @@
 -- A turn of the reader of a capture file.
-use Rattle.std.proofs.Common.{◌≡◌, ℕ, ◌+◌, ◌<◌, ◌≤◌, List, [], ◌∷◌, ◌++◌, Option, Some, None, Ok, length, map, refl, sym, ap, ◌∙◌, append-nil, arith, length-append, subst}
+use Rattle.std.proofs.Common.{◌≡◌, ℕ, ◌<◌, List, [], ◌∷◌, ◌++◌, Option, Some, None, Ok, length, map, refl, sym, ap, ◌∙◌, append-nil, arith, subst}
 use Rattle.std.specs.Io.KnownBytes.{Appends}
 use Rattle.uip_edge.specs.Causes.{Rose}
 use Rattle.uip_edge.specs.Coming.{IsAtEnd}
@@ -9,10 +9,10 @@ use Rattle.uip_edge.specs.declared.item.Item.TheVariants.{Byte, Quiet}
 use Rattle.serve_loop.specs.LineEvents.{bytes_of}
 use Rattle.serve_loop.specs.Outside.{IsDry, Outside}
 use Rattle.serve_loop.proofs.EventLaws.{bytes_of-append, bytes_of-map}
-use Rattle.trace.specs.CaptureReading.{Captured, IsCutRecord, IsReadAs, Reading, cut_in, captured_in, fault_in, length_in, lines_of}
+use Rattle.trace.specs.CaptureReading.{Captured, IsReadAs, Reading, cut_in, captured_in, fault_in, lines_of}
 use Rattle.trace.specs.CaptureReading.Reading.{BadHeader, BadLength, InRecord, InHeader, Whole}
-use Rattle.trace.specs.Converting.{Calm, WroteLine}
-use Rattle.trace.specs.Gathering.{BrokeOff, IsReadTo, IsAtFault, IsOpen, StopsBy, EndsIn, end_at}
+use Rattle.trace.specs.Converting.{Calm}
+use Rattle.trace.specs.Gathering.{BrokeOff, IsReadTo, IsAtFault, IsOpen, EndsIn, end_at}
 use Rattle.trace.specs.declared.slip_end.CaptureWhy.{CaptureWhy}
 use Rattle.trace.specs.declared.slip_end.CaptureWhy.TheVariants as whys
 use Rattle.trace.specs.declared.slip_end.SlipEnd.{SlipEnd}

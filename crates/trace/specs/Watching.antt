@@ -10,8 +10,8 @@ use Rattle.uip_edge.specs.declared.serve_end.ServeEnd.TheVariants as ends
 use Rattle.uip_slip.specs.Decoding.{State, WasFed}
 use Rattle.serve_loop.specs.LineEvents.{bytes_of}
 use Rattle.serve_loop.specs.Outside.{IsDry, Outside}
-use Rattle.trace.specs.CaptureText.{capture_file, seen_record}
-use Rattle.trace.specs.DumpText.{dump_line, dump_text}
+use Rattle.trace.specs.CaptureText.{seen_record}
+use Rattle.trace.specs.DumpText.{dump_line}
 use Rattle.trace.specs.Seen.{Seen, seen_behind, seen_on, silences_of}
 use Rattle.trace.specs.declared.form.Form.{Form}
 use Rattle.trace.specs.declared.form.Form.TheVariants.{Capture, Dump}

@@ -1,4 +1,4 @@
-use Rattle.std.proofs.Common.{◌≡◌, ◌++◌, [], refl, arith, ◌∙◌, length-take, length-append}
+use Rattle.std.proofs.Common.{◌++◌, [], refl, arith, ◌∙◌, length-take, length-append}
 use Rattle.uip_edge.proofs.Told.{Consumes-none, Consumes-then}
 use Rattle.serve_loop.specs.Outside.{outside}
 use Rattle.trace.proofs.ConvertLaws.{spent, stopped}

@@ -1,4 +1,4 @@
-use Rattle.std.proofs.Common.{◌≡◌, ◌++◌, [], refl, arith, ◌∙◌, ap, sym, length-take, length-append}
+use Rattle.std.proofs.Common.{◌++◌, [], refl, arith, ◌∙◌, ap, sym, length-take, length-append}
 use Rattle.uip_edge.proofs.Told.{Appends-none, Appends-then, Consumes-none, Consumes-then, appends_by}
 use Rattle.serve_loop.specs.Outside.{outside}
 use Rattle.trace.specs.Watching.{text_after}

@@ -1,8 +1,6 @@
-use Rattle.std.proofs.Common.{rules, ◌≡◌, ◌++◌, [], ◌∙◌, List, ℕ, Option, length, take, refl, sym, subst, append-nil, arith, length-append}
-use Rattle.std.proofs.lemmas.Bool.{eqb-true}
+use Rattle.std.proofs.Common.{rules, ◌++◌, [], ◌∙◌, take, refl, append-nil, arith, length-append}
 use Rattle.std.proofs.lemmas.List.{length-take-le}
 use Rattle.uip_edge.proofs.Told.{moved_on}
-use Rattle.trace.specs.Gathering.{IsReadTo}
 use Rattle.trace.proofs.ReadLaws.{at_both, stops_both}
 use Rattle.trace.proofs.reader.Reader.take.Goals as goal
 

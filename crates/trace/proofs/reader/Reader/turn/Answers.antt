@@ -1,4 +1,4 @@
-use Rattle.std.proofs.Common.{◌≡◌, [], ◌∷◌, List, ℕ, length, map, take, refl, subst, arith, ◌∙◌}
+use Rattle.std.proofs.Common.{◌≡◌, [], ◌∷◌, List, ℕ, length, map, take, refl, subst, arith}
 use Rattle.uip_edge.specs.declared.item.Item.TheVariants.{Byte, Quiet}
 use Rattle.serve_loop.specs.LineEvents.{bytes_of}
 use Rattle.serve_loop.proofs.EventLaws.{counted}

@@ -1,11 +1,6 @@
-use Rattle.std.proofs.Common.{◌≡◌, ◌++◌, [], ◌∙◌, List, ℕ, length, length-append, take, refl, sym, subst, append-nil, arith, map, ap}
+use Rattle.std.proofs.Common.{◌++◌, [], ◌∙◌, length-append, take, refl, append-nil, arith}
 use Rattle.std.proofs.lemmas.List.{length-take-le}
-use Rattle.std.proofs.lemmas.Bool.{eqb-true}
-use Rattle.std.specs.Io.KnownBytes.{Appends}
 use Rattle.uip_edge.proofs.Told.{Appends-none, moved_on, on_err}
-use Rattle.uip_edge.specs.declared.item.Item.{Item}
-use Rattle.uip_edge.specs.declared.item.Item.TheVariants.{Byte}
-use Rattle.trace.specs.Watching.{HasSeen, text_after}
 use Rattle.trace.proofs.FrontLaws.{broke_both, seen_on_both, wrote_both}
 use Rattle.trace.proofs.watch.Watch.take.Goals as goal
 

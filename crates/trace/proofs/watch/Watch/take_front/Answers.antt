@@ -1,8 +1,6 @@
-use Rattle.std.proofs.Common.{◌≡◌, ◌+◌, List, ℕ, map, take, ◌∙◌, ap, sym}
+use Rattle.std.proofs.Common.{take, ◌∙◌, ap, sym}
 use Rattle.uip_edge.proofs.Told.{appends_by, on_err}
 use Rattle.uip_slip.specs.Decoding.{told_by}
-use Rattle.trace.specs.Seen.{seen_at}
-use Rattle.trace.specs.Watching.{texts_from}
 use Rattle.trace.proofs.FrontLaws.{front_broke, front_seen, front_text}
 use Rattle.trace.proofs.watch.Watch.take_front.Goals as goal
 

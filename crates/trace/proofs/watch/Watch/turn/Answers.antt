@@ -1,4 +1,4 @@
-use Rattle.std.proofs.Common.{◌≡◌, [], ◌∷◌, ◌≤◌, refl, arith}
+use Rattle.std.proofs.Common.{[], ◌∷◌, refl, arith}
 use Rattle.uip_edge.specs.declared.item.Item.TheVariants.{Quiet}
 use Rattle.uip_edge.proofs.Told.{Appends-none}
 use Rattle.trace.proofs.FrontLaws.{silence_seen}
