@@ -8,6 +8,10 @@ mod counting;
 pub use counting::{Counter, Tally};
 
 #[cfg(test)]
+mod captures;
+#[cfg(test)]
+mod dumps;
+#[cfg(test)]
 mod example_image;
 #[cfg(test)]
 mod fields;
