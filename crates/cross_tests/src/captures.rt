@@ -1,4 +1,6 @@
 // Capture files of both byte orders, cut at each place of two records, and files that are not read.
+ghost use Rattle.std.specs.Prelude.{◌≤◌, length};
+
 use std::alloc::{AllocError, Global};
 use std::process::Abort;
 use std::test::Fail;
@@ -51,43 +53,39 @@ const fn bad(number: u64, why: CaptureWhy) -> SlipEnd {
     SlipEnd::Bad { number, why }
 }
 
-/// What a file is that ends behind so many bytes, and how many bytes of the line were written.
-fn end_at(len: usize) -> (SlipEnd, usize) {
+/// What a file is that ends behind so many bytes, and what was written of the line.
+fn end_at(len: usize) -> (SlipEnd, &'static [u8]) {
     match len {
-        0..=23 => (bad(0, CaptureWhy::Cut), 0),
-        24 => (SlipEnd::End, 0),
-        25..=42 => (bad(1, CaptureWhy::Cut), 0),
-        43 => (SlipEnd::End, 6),
-        44..=60 => (bad(2, CaptureWhy::Cut), 6),
-        _ => (SlipEnd::End, 11),
+        0..=23 => (bad(0, CaptureWhy::Cut), b""),
+        24 => (SlipEnd::End, b""),
+        25..=42 => (bad(1, CaptureWhy::Cut), b""),
+        43 => (SlipEnd::End, &LINE[..6]),
+        44..=60 => (bad(2, CaptureWhy::Cut), &LINE[..6]),
+        _ => (SlipEnd::End, LINE),
     }
+}
+
+/// Reads a front of a file, and the file up to as many items.
+fn check_cut(
+    rt: &impl Abort,
+    alloc: Global,
+    file: &[u8],
+    len: usize,
+    most: usize,
+) -> Result<(), Fail>
+    requires { len ≤ length file.now }
+{
+    let (end, line) = end_at(len);
+    check(rt, alloc, &file[..len], most, u64::MAX, end, line)?;
+    check(rt, alloc, file, most, len as u64, SlipEnd::Budget, line)
 }
 
 #[test]
 fn each_cut_is_told(rt: HostRuntime) -> Result<(), Fail> {
     for file in [BIG, LITTLE] {
         for len in 0..=file.len() {
-            let (end, written) = end_at(len);
             for most in [1, 5, 64] {
-                let front = &file[..len];
-                check(
-                    &rt,
-                    rt.alloc(),
-                    front,
-                    most,
-                    u64::MAX,
-                    end,
-                    &LINE[..written],
-                )?;
-                check(
-                    &rt,
-                    rt.alloc(),
-                    file,
-                    most,
-                    len as u64,
-                    SlipEnd::Budget,
-                    &LINE[..written],
-                )?;
+                check_cut(&rt, rt.alloc(), file, len, most)?;
             }
         }
     }
@@ -118,7 +116,15 @@ fn check_fault(
     for most in [1, 7, 64] {
         check(rt, alloc, &file, most, u64::MAX, end, line)?;
         check(rt, alloc, &file, most, len, end, line)?;
-        check(rt, alloc, &file, most, len - 1, SlipEnd::Budget, line)?;
+        check(
+            rt,
+            alloc,
+            &file,
+            most,
+            len.saturating_sub(1),
+            SlipEnd::Budget,
+            line,
+        )?;
     }
     Ok(())
 }

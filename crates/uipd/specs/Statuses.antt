@@ -8,6 +8,8 @@ use Rattle.site_commands.specs.declared.site_end.SiteEnd.{SiteEnd}
 use Rattle.site_commands.specs.declared.site_end.SiteEnd.TheVariants as ends
 use Rattle.replay_command.specs.declared.replay_end.ReplayEnd.{ReplayEnd}
 use Rattle.replay_command.specs.declared.replay_end.ReplayEnd.TheVariants as replays
+use Rattle.trace.specs.declared.slip_end.SlipEnd.{SlipEnd}
+use Rattle.trace.specs.declared.slip_end.SlipEnd.TheVariants as slips
 use Rattle.uipd.specs.declared.status.Status.{Status}
 use Rattle.uipd.specs.declared.status.Status.TheVariants as status
 
@@ -21,6 +23,14 @@ status_of_serving serves.End = status.Done
 status_of_serving serves.LinkFault = status.LinkFault
 status_of_serving serves.WriteFault = status.WriteFault
 status_of_serving serves.Budget = status.Budget
+
+-- of reading a capture file
+abbrev pub status_of_slip : SlipEnd → Status
+status_of_slip slips.End = status.Done
+status_of_slip slips.LinkFault = status.LinkFault
+status_of_slip slips.WriteFault = status.WriteFault
+status_of_slip slips.Budget = status.Budget
+status_of_slip (slips.Bad number why) = status.BadCapture number why
 
 -- of a site that could not be opened
 abbrev pub status_of_fault : LoadFault → Status
@@ -56,3 +66,4 @@ exit_code_of status.Budget = 5
 exit_code_of (status.BadSite error) = 6
 exit_code_of (status.BadSchedule line why) = 7
 exit_code_of status.NoMemory = 8
+exit_code_of (status.BadCapture number why) = 9

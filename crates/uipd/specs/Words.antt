@@ -1,5 +1,5 @@
 -- The words of the command line.
-use Rattle.std.specs.Prelude.{ℕ, ◌-◌, ◌^◌, ◌==◌, ◌&&◌, nat_le, nat_lt, if◌then◌else◌, Bool, true, false, List, [], ◌∷◌, Option, None, Some, codes, length, map, slice_get, string_bytes}
+use Rattle.std.specs.Prelude.{ℕ, ◌-◌, ◌^◌, ◌==◌, ◌&&◌, nat_le, nat_lt, if◌then◌else◌, Bool, true, false, List, [], ◌∷◌, Option, None, Some, option_map, codes, length, map, slice_get, string_bytes}
 use Rattle.std.specs.Char.{is_ascii_digit}
 use Rattle.std.specs.List.{list_all, list_any, before_first, after_first}
 use Rattle.std.specs.Str.{bytes_eq}
@@ -10,12 +10,13 @@ use Rattle.site_image.specs.Names.{is_kind}
 use Rattle.file_tree.specs.Upgrading.{KindContent}
 use Rattle.site_commands.specs.Gathering.{NamedContent}
 use Rattle.uipd.specs.declared.words.Command.{Command}
-use Rattle.uipd.specs.declared.words.Command.TheVariants.{Serve, Check, Page, Pack, Upgrade, Replay, Load}
+use Rattle.uipd.specs.declared.words.Command.TheVariants.{Serve, Check, Page, Pack, Upgrade, Replay, Load, Dump, Pcap, Slip}
 use Rattle.uipd.specs.declared.words.Limits.{Limits}
 
 -- what the words ask for: to serve a line with a site, at an address and a pace, up to so many items; to look at the image of
 -- a site, or at a page of it, to pack files into one, and to upgrade one; to play a schedule by a site, and to show its datagrams; to play
--- the schedule that a seed makes for so many clients
+-- the schedule that a seed makes for so many clients; to dump a line, up to so many items, to capture it, and to make a capture a
+-- line again
 pub data Task : Type 0 where
   Serves : (site : List ℕ) (own : Addr) (pace items : ℕ) → Task
   Checks : (site : List ℕ) → Task
@@ -24,6 +25,9 @@ pub data Task : Type 0 where
   Upgrades : (site : List ℕ) (kinds : List KindContent) → Task
   Replays : (site schedule : List ℕ) (show : Bool) → Task
   Loads : (site : List ℕ) (seed clients : ℕ) → Task
+  Dumps : (items : ℕ) → Task
+  Captures : (items : ℕ) → Task
+  PlaysBack : (items : ℕ) → Task
 
 -- a word of two parts, around its first `=`
 abbrev pub is_equals : ℕ → Bool
@@ -58,6 +62,9 @@ task_meant (Upgrade site words) = Upgrades site.now (map kind_word (map string_b
 task_meant (Page site target) = Pages site.now target.now
 task_meant (Replay site schedule show) = Replays site.now schedule.now show
 task_meant (Load site seed clients) = Loads site.now seed clients
+task_meant (Dump items) = Dumps items
+task_meant (Pcap items) = Captures items
+task_meant (Slip items) = PlaysBack items
 
 -- nothing, or a zero in front of something
 abbrev pub leads_badly : List ℕ → Bool
@@ -165,6 +172,22 @@ abbrev pub load_words : List (List ℕ) → Option Task
 load_words (site ∷ seed ∷ words) = load_with site (number_of seed) words
 load_words words = None
 
+-- optionally `items N`, then optionally `tty`
+abbrev pub items_of : List (List ℕ) → Option ℕ
+items_of words = option_map (λ limits. limits.items) (limits_at 0 words)
+
+abbrev pub dump_words : List (List ℕ) → Option Task
+dump_words words = option_map Dumps (items_of words)
+
+abbrev pub pcap_words : List (List ℕ) → Option Task
+pcap_words words = option_map Captures (items_of words)
+
+-- optionally `items N`
+abbrev pub slip_words : List (List ℕ) → Option Task
+slip_words [] = Some (PlaysBack all_items)
+slip_words (word ∷ number ∷ []) = if bytes_eq word (codes "items") then option_map PlaysBack (number_of number) else None
+slip_words words = None
+
 -- by the command in front
 abbrev pub task_of : List (List ℕ) → Option Task
 task_of [] = None
@@ -176,4 +199,7 @@ task_of (command ∷ words) =
     else if bytes_eq command (codes "page") then page_words words
     else if bytes_eq command (codes "replay") then replay_words words
     else if bytes_eq command (codes "load") then load_words words
+    else if bytes_eq command (codes "dump") then dump_words words
+    else if bytes_eq command (codes "pcap") then pcap_words words
+    else if bytes_eq command (codes "slip") then slip_words words
     else None

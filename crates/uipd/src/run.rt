@@ -14,6 +14,7 @@ use crate::site_work::{check_site, pack_site, page_site, upgrade_site};
 use crate::status::Status;
 use crate::words::{Command, command_of};
 use std::alloc::Global;
+use trace::{dump, pcap, slip};
 use uip_edge::{Link, Shelf, Sink};
 
 /// Does what the words say.
@@ -45,6 +46,9 @@ pub fn run<H: Shelf, L: Link, K: Sink>(
         Some(Command::Load(site, seed, clients)) => {
             load_site(alloc, site, seed, clients, shelf, out)
         }
+        Some(Command::Dump(items)) => Status::from(dump(link, out, items)),
+        Some(Command::Pcap(items)) => Status::from(pcap(link, out, items)),
+        Some(Command::Slip(items)) => Status::from(slip(link, out, items)),
     }
 }
 

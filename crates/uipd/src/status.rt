@@ -1,11 +1,12 @@
 //! How a run ends, and the status of each end of its work.
 
 ghost use Rattle.std.specs.Prelude.{◌≡◌};
-ghost use Rattle.uipd.specs.Statuses.{exit_code_of, status_of_fault, status_of_replay, status_of_serving, status_of_site};
+ghost use Rattle.uipd.specs.Statuses.{exit_code_of, status_of_fault, status_of_replay, status_of_serving, status_of_site, status_of_slip};
 
 use file_tree::LoadFault;
 use replay_command::{ReplayEnd, Why};
 use site_commands::{SiteEnd, SiteError};
+use trace::{CaptureWhy, SlipEnd};
 use uip_edge::ServeEnd;
 
 /// How a run ends.
@@ -29,6 +30,8 @@ pub enum Status {
     BadSchedule { line: u32, why: Why },
     /// There was not enough memory.
     NoMemory,
+    /// The capture file is at fault in the record with this number, counted from 1; its header has number 0.
+    BadCapture { number: u64, why: CaptureWhy },
 }
 
 impl Status {
@@ -46,6 +49,7 @@ impl Status {
             Status::BadSite(_) => 6,
             Status::BadSchedule { .. } => 7,
             Status::NoMemory => 8,
+            Status::BadCapture { .. } => 9,
         }
     }
 }
@@ -60,6 +64,21 @@ impl From<ServeEnd> for Status {
             ServeEnd::LinkFault => Status::LinkFault,
             ServeEnd::WriteFault => Status::WriteFault,
             ServeEnd::Budget => Status::Budget,
+        }
+    }
+}
+
+/// Reading a capture file came to this end.
+impl From<SlipEnd> for Status {
+    ghost from_gives = { λ end status. status ≡ status_of_slip end };
+
+    fn from(end: SlipEnd) -> Status {
+        match end {
+            SlipEnd::End => Status::Done,
+            SlipEnd::LinkFault => Status::LinkFault,
+            SlipEnd::WriteFault => Status::WriteFault,
+            SlipEnd::Budget => Status::Budget,
+            SlipEnd::Bad { number, why } => Status::BadCapture { number, why },
         }
     }
 }

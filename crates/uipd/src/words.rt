@@ -4,6 +4,7 @@ ghost use Rattle.std.specs.List.{list_all};
 ghost use Rattle.uipd.specs.Words.{task_meant, task_of, check_words as words_of_check, pack_words as words_of_pack, serve_words as words_of_serve};
 ghost use Rattle.uipd.specs.Words.{upgrade_words as words_of_upgrade};
 ghost use Rattle.uipd.specs.Words.{load_at as counted, load_with as words_with, load_words as words_of_load, page_words as words_of_page, replay_words as words_of_replay};
+ghost use Rattle.uipd.specs.Words.{dump_words as words_of_dump, pcap_words as words_of_pcap, slip_words as words_of_slip, items_of as items_spelled};
 ghost use Rattle.uipd.specs.Words.{ends_here as no_more, limited as limits_meant, limits_at as limits_behind, limits_of as limits_spelled, says_tty as terminal_told};
 ghost use Rattle.uipd.specs.Allowed.{IsAllowed};
 ghost use Rattle.uipd.specs.Words.{number_of as number_meant, is_number as number_form, leads_badly as bad_lead};
@@ -36,6 +37,12 @@ pub enum Command<'a> {
     /// `load SITE SEED CLIENTS`: the schedule that a seed makes for 1 to 64 clients is played by the web server of a site, and what it
     /// came to is written in one line.
     Load(&'a str, u64, u8),
+    /// `dump`, and further words: a line of text is written for each frame of the line, up to so many items.
+    Dump(u64),
+    /// `pcap`, and further words: a capture file is written of the line's datagrams, up to so many items.
+    Pcap(u64),
+    /// `slip`, and optionally `items N`: a capture file that comes over the line is made a serial line, up to so many items.
+    Slip(u64),
 }
 
 /// The command that the words spell, if they have a form.
@@ -52,6 +59,9 @@ pub fn command_of(words: &[String]) -> Option<Command<'_>>
         [command, words @ ..] if command.as_str() == "page" => page_words(words),
         [command, words @ ..] if command.as_str() == "replay" => replay_words(words),
         [command, words @ ..] if command.as_str() == "load" => load_words(words),
+        [command, words @ ..] if command.as_str() == "dump" => dump_words(words),
+        [command, words @ ..] if command.as_str() == "pcap" => pcap_words(words),
+        [command, words @ ..] if command.as_str() == "slip" => slip_words(words),
         _ => None,
     }
 }
@@ -212,6 +222,38 @@ fn load_at(site: &str, seed: u64, clients: u64) -> Option<Command<'_>>
         return Some(Command::Load(site, seed, clients as u8));
     }
     None
+}
+
+/// The words behind `dump`.
+fn dump_words(words: &[String]) -> Option<Command<'_>>
+    ensures { option_map task_meant result ≡ words_of_dump (map string_bytes words.now) }
+{
+    Some(Command::Dump(items_of(words)?))
+}
+
+/// The words behind `pcap`.
+fn pcap_words(words: &[String]) -> Option<Command<'_>>
+    ensures { option_map task_meant result ≡ words_of_pcap (map string_bytes words.now) }
+{
+    Some(Command::Pcap(items_of(words)?))
+}
+
+/// How many items are taken of a line at most: optionally `items N`, then optionally `tty`.
+fn items_of(words: &[String]) -> Option<u64>
+    ensures { result ≡ items_spelled (map string_bytes words.now) }
+{
+    Some(limits_at(0, words)?.items)
+}
+
+/// The words behind `slip`: optionally `items N`. A file has no silences, so `tty` has no place.
+fn slip_words(words: &[String]) -> Option<Command<'_>>
+    ensures { option_map task_meant result ≡ words_of_slip (map string_bytes words.now) }
+{
+    match words {
+        [] => Some(Command::Slip(u64::MAX)),
+        [word, number] if word.as_str() == "items" => Some(Command::Slip(number_of(number)?)),
+        _ => None,
+    }
 }
 
 /// A number below 2^64 in decimal digits, without a leading zero.
