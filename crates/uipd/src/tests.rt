@@ -5,6 +5,7 @@ use site_commands::{SiteError, SiteWhy};
 use std::alloc::{AllocError, Global};
 use std::process::Abort;
 use std::test::Fail;
+use trace::CaptureWhy;
 use uip_edge::{Held, Item, MemLink, MemShelf, MemSink};
 
 const SERVE: [&str; 3] = ["serve", "-", "10.0.0.1"];
@@ -118,6 +119,13 @@ const PAGE: [u8; 128] = [
     0x63, 0x74, 0x69, 0x6F, 0x6E, 0x3A, 0x20, 0x63, 0x6C, 0x6F, 0x73, 0x65, 0x0D, 0x0A, 0x43, 0x6F,
     0x6E, 0x74, 0x65, 0x6E, 0x74, 0x2D, 0x74, 0x79, 0x70, 0x65, 0x3A, 0x20, 0x74, 0x65, 0x78, 0x74,
     0x2F, 0x68, 0x74, 0x6D, 0x6C, 0x0D, 0x0A, 0x0D, 0x0A, 0x68, 0x65, 0x6C, 0x6C, 0x6F, 0x0A, 0xC0,
+];
+
+// The echo request in a capture file.
+const CAPTURE: [u8; 68] = [
+    0xA1, 0xB2, 0xC3, 0xD4, 0, 2, 0, 4, 0, 0, 0, 0, 0, 0, 0, 0, 0, 0, 0xFF, 0xFF, 0, 0, 0, 0x65, 0,
+    0, 0, 0, 0, 0, 0, 0, 0, 0, 0, 0x1C, 0, 0, 0, 0x1C, 0x45, 0, 0, 0x1C, 0, 1, 0, 0, 0x40, 1, 0x66,
+    0xDE, 10, 0, 0, 2, 10, 0, 0, 1, 8, 0, 0xF7, 0xFD, 0, 1, 0, 1,
 ];
 
 const SITE: &[u8] = b"UIPSITE1\0\x01\x0b/index.html\0\0\0\x06hello\n";
@@ -315,7 +323,7 @@ fn serves_a_site(rt: HostRuntime) -> Result<(), Fail> {
 
 #[test]
 fn knows_its_words(rt: HostRuntime) -> Result<(), Fail> {
-    let bad: [&[&str]; 16] = [
+    let bad: [&[&str]; 22] = [
         &[],
         &["serve"],
         &["serve", "-"],
@@ -332,6 +340,12 @@ fn knows_its_words(rt: HostRuntime) -> Result<(), Fail> {
         &["replay", "a"],
         &["replay", "a", "b", "c"],
         &["replay", "a", "b", "show", "x"],
+        &["dump", "tty", "items", "2"],
+        &["dump", "items", "tty"],
+        &["dump", "pace", "2"],
+        &["pcap", "items", "01"],
+        &["slip", "tty"],
+        &["slip", "items", "2", "tty"],
     ];
     for words in bad {
         let row = Row {
@@ -394,4 +408,54 @@ fn stops_as_asked(rt: HostRuntime) -> Result<(), Fail> {
         ..Row::new(&PING, &[])
     };
     check(&rt, rt.alloc(), &failing, 1)
+}
+
+#[test]
+fn tells_a_line(rt: HostRuntime) -> Result<(), Fail> {
+    let alloc = rt.alloc();
+    let asked = joined(alloc, &PING, &PONG)?;
+    let line = joined(alloc, &asked, &STRAY_SYN)?;
+    let lines: &[u8] =
+        b"1 28 icmp 10.0.0.2 10.0.0.1 8 0\n2 28 icmp 10.0.0.1 10.0.0.2 0 0\n3 40 tcp 10.0.0.2:1025 10.0.0.1:81 S 1000 0 0\n";
+    let rows = [
+        Row {
+            words: &["dump"],
+            ..Row::new(&line, lines)
+        },
+        Row {
+            words: &["dump", "items", "60", "tty"],
+            status: Status::Budget,
+            ..Row::new(&line, &lines[..64])
+        },
+        Row {
+            words: &["pcap", "tty"],
+            ..Row::new(&PING, &CAPTURE)
+        },
+        Row {
+            words: &["pcap", "items", "0"],
+            status: Status::Budget,
+            ..Row::new(&PING, &CAPTURE[..24])
+        },
+        Row {
+            words: &["slip"],
+            ..Row::new(&CAPTURE, &PING)
+        },
+        Row {
+            words: &["slip", "items", "68"],
+            status: Status::Budget,
+            ..Row::new(&CAPTURE, &PING)
+        },
+        Row {
+            words: &["slip"],
+            status: Status::BadCapture {
+                number: 1,
+                why: CaptureWhy::Cut,
+            },
+            ..Row::new(&CAPTURE[..67], &[])
+        },
+    ];
+    for row in &rows {
+        check_cuts(&rt, alloc, row)?;
+    }
+    Ok(())
 }
