@@ -10,6 +10,7 @@ use Rattle.serve_loop.specs.Outside.{IsDry, Outside}
 use Rattle.trace.specs.CaptureReading.{BeginsWith, Captured, IsReadAs, Reading, cut_in, captured_in, fault_in, length_in, lines_of}
 use Rattle.trace.specs.Converting.{Calm, WroteLine}
 use Rattle.trace.specs.declared.area.TheConstants.{LONGEST_RECORD}
+use Rattle.trace.specs.declared.reader.Reader.{Reader}
 use Rattle.trace.specs.declared.reader.Stop.{Stop}
 use Rattle.trace.specs.declared.reader.Stop.TheVariants as stops
 use Rattle.trace.specs.declared.reader.Turn.{Turn}
@@ -49,6 +50,16 @@ pub record IsReadTo (start now : Option (List ℕ)) (bytes : List ℕ) (stage : 
   pub records : List Captured
   pub read : HasRead bytes records stage number part
   pub written : Appends start now (lines_of records)
+
+-- the reader of a capture file waits for more of its part, has all of it, or has read these bytes
+abbrev pub IsOpenIn : Reader → Type 0
+IsOpenIn reader = IsOpen reader.stage reader.part reader.want
+
+abbrev pub IsFullIn : Reader → Type 0
+IsFullIn reader = IsFull reader.stage reader.part reader.want
+
+abbrev pub HasReadTo : Option (List ℕ) → Option (List ℕ) → List ℕ → Reader → Type 0
+HasReadTo start now bytes reader = IsReadTo start now bytes reader.stage reader.number reader.part
 
 -- the writing of a line broke off: these bytes are read so, and a front of their records' line was written
 pub record BrokeOff (start now : Option (List ℕ)) (bytes : List ℕ) : Type 0 where

@@ -16,6 +16,7 @@ use Rattle.trace.specs.Seen.{Seen, seen_behind, seen_on, silences_of}
 use Rattle.trace.specs.declared.form.Form.{Form}
 use Rattle.trace.specs.declared.form.Form.TheVariants.{Capture, Dump}
 use Rattle.trace.specs.declared.watch.Turn.{Turn}
+use Rattle.trace.specs.declared.watch.Watch.{Watch}
 use Rattle.trace.specs.declared.watch.Turn.TheVariants as turns
 
 -- what is written of a frame with its number
@@ -36,6 +37,10 @@ pub record HasSeen (before : List Item) (decoder : State) (frames silences : ℕ
   pub fed : WasFed (bytes_of before) decoder
   pub numbered : frames ≡ length (seen_on before)
   pub waited : silences ≡ silences_of before
+
+-- by a line that is watched
+abbrev pub Saw : List Item → Watch → Type 0
+Saw before watch = HasSeen before watch.decoder watch.frames watch.silences
 
 -- a turn takes at least one item and no more than there is room for, and counts no more than it takes
 abbrev pub WatchFits : Turn → ℕ → ℕ → ℕ → ℕ → ℕ → Type 0

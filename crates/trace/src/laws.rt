@@ -25,13 +25,16 @@ pub fn records_are_datagrams()
 
 /// What `pcap` wrote of a line, `slip` writes as the SLIP texts of the line's datagrams, and answers the end.
 pub fn lines_come_back()
-    ensures { (items : List Item) (n : ℕ) (old new : Outside) (end : AnyEnd) → old.coming ≡ Some (map Byte (capture_file items))
+    ensures { (items : List Item) (n : ℕ) (old new : Outside) (end : AnyEnd)
+        → old.coming ≡ Some (map Byte (capture_file items))
         → length (capture_file items) < n → Converts n old new end → Unfailed old new
         → (end ≡ End) × Appends old.written new.written (flat_map slip_text (datagrams_on items)) }
 {}
 
-/// Where nothing failed, `slip` answers a fault of the file wherever there is one, else the budget, and else the end or a cut.
+/// Where nothing failed, `slip` answers a fault of the file wherever there is one, else the budget, and else the end or a
+/// cut.
 pub fn slip_end_is_told()
-    ensures { (n : ℕ) (old new : Outside) (taken : List Item) (reading : Reading) (end : AnyEnd) → SlipEndsBy n old new taken reading end
+    ensures { (n : ℕ) (old new : Outside) (taken : List Item) (reading : Reading) (end : AnyEnd)
+        → SlipEndsBy n old new taken reading end
         → Unfailed old new → IsSurely n old new taken reading end }
 {}

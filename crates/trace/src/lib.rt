@@ -1,6 +1,6 @@
-//! Serial lines that can be read: `dump` writes a line of text for each frame, `pcap` a capture file of the datagrams, and `slip`
-//! makes a capture file a serial line again. What is written is told of the whole list of items that were taken, however the link
-//! cut them. No call is given an allocator.
+//! Serial lines that can be read: `dump` writes a line of text for each frame, `pcap` a capture file of the datagrams, and
+//! `slip` makes a capture file a serial line again. What is written is told of the whole list of items that were taken,
+//! however the link cut them. No call is given an allocator.
 #![tactic(auto)]
 
 mod area;

@@ -3,7 +3,7 @@ ghost use Rattle.uip_edge.specs.Causes.{HasCause};
 ghost use Rattle.uip_edge.specs.declared.item.Item.{Item};
 ghost use Rattle.serve_loop.specs.LineEvents.{bytes_of};
 ghost use Rattle.serve_loop.specs.Outside.{outside};
-ghost use Rattle.trace.specs.Gathering.{BrokeOff, ReadFits, IsReadTo, IsAtFault, IsFull, IsOpen, OpenOn, SinkBy, StopsAt, Reads, end_at};
+ghost use Rattle.trace.specs.Gathering.{BrokeOff, ReadFits, HasReadTo, IsAtFault, IsFullIn, IsOpenIn, OpenOn, SinkBy, StopsAt, Reads, end_at};
 ghost use Rattle.trace.specs.declared.reader.Stop.TheVariants.{Bad as BadStop, WriteFault};
 ghost use Rattle.trace.specs.declared.slip_end.SlipEnd.TheVariants.{Bad as BadEnd};
 ghost use Rattle.trace.specs.declared.stage.Stage.TheVariants as stages;
@@ -68,9 +68,9 @@ pub(crate) struct Reader {
 impl Reader {
     /// A file of which nothing was read.
     pub fn new() -> Reader
-        ensures open { IsOpen result.stage result.part result.want }
+        ensures open { IsOpenIn result }
         ensures number { result.number ≡ 0 }
-        ensures at { (start : Option (List ℕ)) → IsReadTo start start [] result.stage result.number result.part }
+        ensures at { (start : Option (List ℕ)) → HasReadTo start start [] result }
     {
         Reader {
             stage: Stage::Header,
@@ -84,12 +84,12 @@ impl Reader {
     /// Takes what the link gives next. A silence says nothing.
     pub fn turn<L: Link, K: Sink>(&mut self, buf: &mut [u8], link: &mut L, sink: &mut K) -> Turn
         requires room { 0 < length buf.old }
-        requires open { IsOpen self.old.stage self.old.part self.old.want }
+        requires open { IsOpenIn self.old }
         requires number { self.old.number + length buf.old < 2 ^ 64 }
         ensures open { OpenOn result self.new.stage self.new.part self.new.want }
         ensures fits { ReadFits result (length buf.old) self.old.number self.new.number }
         ensures turns { (start : Option (List ℕ)) (before : List Item)
-            → IsReadTo start (K.written sink.old) (bytes_of before) self.old.stage self.old.number self.old.part
+            → HasReadTo start (K.written sink.old) (bytes_of before) self.old
             → Reads start before (outside L.coming K.written L.faults K.faults link.old sink.old)
             (outside L.coming K.written L.faults K.faults link.new sink.new)
             self.new.stage self.new.number self.new.part (length buf.old) result }
@@ -128,14 +128,15 @@ impl Reader {
 
     /// Takes bytes, and writes the datagrams that they complete.
     fn take<K: Sink>(&mut self, bytes: &[u8], sink: &mut K) -> Result<(), Stop>
-        requires open { IsOpen self.old.stage self.old.part self.old.want }
+        requires open { IsOpenIn self.old }
         requires number { self.old.number + length bytes.now < 2 ^ 64 }
-        ensures open { OnOk result (IsOpen self.new.stage self.new.part self.new.want) }
+        ensures open { OnOk result (IsOpenIn self.new) }
         ensures number { OnOk result (self.new.number ≤ self.old.number + length bytes.now) }
-        ensures at { OnOk result ((start : Option (List ℕ)) (before : List ℕ) → IsReadTo start (K.written sink.old) before self.old.stage self.old.number self.old.part
-            → IsReadTo start (K.written sink.new) (before ++ bytes.now) self.new.stage self.new.number self.new.part) }
+        ensures at { OnOk result ((start : Option (List ℕ)) (before : List ℕ)
+            → HasReadTo start (K.written sink.old) before self.old
+            → HasReadTo start (K.written sink.new) (before ++ bytes.now) self.new) }
         ensures stop { IfErr result (λ stop. (start : Option (List ℕ)) (before : List ℕ)
-            → IsReadTo start (K.written sink.old) before self.old.stage self.old.number self.old.part
+            → HasReadTo start (K.written sink.old) before self.old
             → StopsAt stop start (K.written sink.new) (before ++ bytes.now) self.new.number) }
         ensures cause { SinkBy (K.faults sink.old) (K.faults sink.new) result }
     {
@@ -150,16 +151,16 @@ impl Reader {
     /// Takes as many bytes as the part still wants.
     fn take_front<K: Sink>(&mut self, bytes: &[u8], sink: &mut K) -> Result<usize, Stop>
         requires some { 0 < length bytes.now }
-        requires open { IsOpen self.old.stage self.old.part self.old.want }
+        requires open { IsOpenIn self.old }
         requires number { self.old.number + 1 < 2 ^ 64 }
-        ensures open { OnOk result (IsOpen self.new.stage self.new.part self.new.want) }
+        ensures open { OnOk result (IsOpenIn self.new) }
         ensures number { self.new.number ≤ self.old.number + 1 }
         ensures count { IfOk result (λ n. (0 < n) × (n ≤ length bytes.now)) }
         ensures at { IfOk result (λ n. (start : Option (List ℕ)) (before : List ℕ)
-            → IsReadTo start (K.written sink.old) before self.old.stage self.old.number self.old.part
-            → IsReadTo start (K.written sink.new) (before ++ take n bytes.now) self.new.stage self.new.number self.new.part) }
+            → HasReadTo start (K.written sink.old) before self.old
+            → HasReadTo start (K.written sink.new) (before ++ take n bytes.now) self.new) }
         ensures stop { IfErr result (λ stop. (start : Option (List ℕ)) (before : List ℕ)
-            → IsReadTo start (K.written sink.old) before self.old.stage self.old.number self.old.part
+            → HasReadTo start (K.written sink.old) before self.old
             → StopsAt stop start (K.written sink.new) (before ++ bytes.now) self.new.number) }
         ensures cause { SinkBy (K.faults sink.old) (K.faults sink.new) result }
     {
@@ -173,14 +174,15 @@ impl Reader {
 
     /// The part is as long as was wanted.
     fn look<K: Sink>(&mut self, sink: &mut K) -> Result<(), Stop>
-        requires full { IsFull self.old.stage self.old.part self.old.want }
+        requires full { IsFullIn self.old }
         requires number { self.old.number + 1 < 2 ^ 64 }
-        ensures open { OnOk result (IsOpen self.new.stage self.new.part self.new.want) }
+        ensures open { OnOk result (IsOpenIn self.new) }
         ensures number { self.new.number ≤ self.old.number + 1 }
-        ensures at { OnOk result ((start : Option (List ℕ)) (bytes : List ℕ) → IsReadTo start (K.written sink.old) bytes self.old.stage self.old.number self.old.part
-            → IsReadTo start (K.written sink.new) bytes self.new.stage self.new.number self.new.part) }
+        ensures at { OnOk result ((start : Option (List ℕ)) (bytes : List ℕ)
+            → HasReadTo start (K.written sink.old) bytes self.old
+            → HasReadTo start (K.written sink.new) bytes self.new) }
         ensures stop { IfErr result (λ stop. (start : Option (List ℕ)) (bytes more : List ℕ)
-            → IsReadTo start (K.written sink.old) bytes self.old.stage self.old.number self.old.part
+            → HasReadTo start (K.written sink.old) bytes self.old
             → StopsAt stop start (K.written sink.new) (bytes ++ more) self.new.number) }
         ensures cause { SinkBy (K.faults sink.old) (K.faults sink.new) result }
     {
@@ -193,15 +195,15 @@ impl Reader {
 
     /// The header is whole.
     fn look_at_header(&mut self) -> Result<(), CaptureWhy>
-        requires full { IsFull self.old.stage self.old.part self.old.want }
+        requires full { IsFullIn self.old }
         requires number { self.old.number + 1 < 2 ^ 64 }
         requires stage { self.old.stage ≡ stages.Header }
-        ensures open { OnOk result (IsOpen self.new.stage self.new.part self.new.want) }
+        ensures open { OnOk result (IsOpenIn self.new) }
         ensures number { self.new.number ≤ self.old.number + 1 }
-        ensures at { OnOk result ((start now : Option (List ℕ)) (bytes : List ℕ) → IsReadTo start now bytes self.old.stage self.old.number self.old.part
-            → IsReadTo start now bytes self.new.stage self.new.number self.new.part) }
+        ensures at { OnOk result ((start now : Option (List ℕ)) (bytes : List ℕ) → HasReadTo start now bytes self.old
+            → HasReadTo start now bytes self.new) }
         ensures fault { IfErr result (λ why. (start now : Option (List ℕ)) (bytes more : List ℕ)
-            → IsReadTo start now bytes self.old.stage self.old.number self.old.part
+            → HasReadTo start now bytes self.old
             → IsAtFault why start now (bytes ++ more) self.new.number) }
     {
         match order_of(self.part.bytes()) {
@@ -215,15 +217,15 @@ impl Reader {
 
     /// The times and lengths of a record are whole.
     fn look_at_head(&mut self, order: ByteOrder) -> Result<(), CaptureWhy>
-        requires full { IsFull self.old.stage self.old.part self.old.want }
+        requires full { IsFullIn self.old }
         requires number { self.old.number + 1 < 2 ^ 64 }
         requires stage { self.old.stage ≡ stages.Head order }
-        ensures open { OnOk result (IsOpen self.new.stage self.new.part self.new.want) }
+        ensures open { OnOk result (IsOpenIn self.new) }
         ensures number { self.new.number ≤ self.old.number + 1 }
-        ensures at { OnOk result ((start now : Option (List ℕ)) (bytes : List ℕ) → IsReadTo start now bytes self.old.stage self.old.number self.old.part
-            → IsReadTo start now bytes self.new.stage self.new.number self.new.part) }
+        ensures at { OnOk result ((start now : Option (List ℕ)) (bytes : List ℕ) → HasReadTo start now bytes self.old
+            → HasReadTo start now bytes self.new) }
         ensures fault { IfErr result (λ why. (start now : Option (List ℕ)) (bytes more : List ℕ)
-            → IsReadTo start now bytes self.old.stage self.old.number self.old.part
+            → HasReadTo start now bytes self.old
             → IsAtFault why start now (bytes ++ more) self.new.number) }
     {
         let len = field(order, self.part.bytes(), 8) as usize;
@@ -241,15 +243,16 @@ impl Reader {
 
     /// The datagram of a record is whole.
     fn look_at_body<K: Sink>(&mut self, order: ByteOrder, sink: &mut K) -> Result<(), Failed>
-        requires full { IsFull self.old.stage self.old.part self.old.want }
+        requires full { IsFullIn self.old }
         requires number { self.old.number + 1 < 2 ^ 64 }
         requires stage { self.old.stage ≡ stages.Body order }
-        ensures open { OnOk result (IsOpen self.new.stage self.new.part self.new.want) }
+        ensures open { OnOk result (IsOpenIn self.new) }
         ensures number { self.new.number ≤ self.old.number + 1 }
-        ensures at { OnOk result ((start : Option (List ℕ)) (bytes : List ℕ) → IsReadTo start (K.written sink.old) bytes self.old.stage self.old.number self.old.part
-            → IsReadTo start (K.written sink.new) bytes self.new.stage self.new.number self.new.part) }
+        ensures at { OnOk result ((start : Option (List ℕ)) (bytes : List ℕ)
+            → HasReadTo start (K.written sink.old) bytes self.old
+            → HasReadTo start (K.written sink.new) bytes self.new) }
         ensures broke { OnErr result ((start : Option (List ℕ)) (bytes more : List ℕ)
-            → IsReadTo start (K.written sink.old) bytes self.old.stage self.old.number self.old.part
+            → HasReadTo start (K.written sink.old) bytes self.old
             → BrokeOff start (K.written sink.new) (bytes ++ more)) }
         ensures cause { HasCause (K.faults sink.old) (K.faults sink.new) result }
     {

@@ -8,8 +8,8 @@ ghost use Rattle.trace.specs.CaptureText.{capture_header, record_bytes};
 use crate::area::Area;
 use uip_wire::LARGEST_DATAGRAM;
 
-/// The header of a capture file: the magic number of times in microseconds, version 2.4, records of up to 65535 bytes, and link type
-/// 101, which is a datagram with nothing before it.
+/// The header of a capture file: the magic number of times in microseconds, version 2.4, records of up to 65535 bytes, and
+/// link type 101, which is a datagram with nothing before it.
 pub(crate) const HEADER: [u8; 24] = [
     0xA1, 0xB2, 0xC3, 0xD4, 0, 2, 0, 4, 0, 0, 0, 0, 0, 0, 0, 0, 0, 0, 0xFF, 0xFF, 0, 0, 0, 101,
 ];

@@ -8,7 +8,7 @@ ghost use Rattle.uip_slip.specs.Decoding.{Leaves, told_by};
 ghost use Rattle.uip_slip.specs.Frames.{Datagram, Overlong};
 ghost use Rattle.serve_loop.specs.Outside.{outside};
 ghost use Rattle.trace.specs.Seen.{seen_at};
-ghost use Rattle.trace.specs.Watching.{WatchFits, HasSeen, Watches, frame_text, text_after, texts_from};
+ghost use Rattle.trace.specs.Watching.{WatchFits, Saw, Watches, frame_text, text_after, texts_from};
 
 use crate::area::Area;
 use crate::dump_line::{put_datagram_line, put_overlong_line};
@@ -42,7 +42,7 @@ impl Watch {
         ensures form { result.form ≡ form }
         ensures frames { result.frames ≡ 0 }
         ensures silences { result.silences ≡ 0 }
-        ensures seen { HasSeen [] result.decoder result.frames result.silences }
+        ensures seen { Saw [] result }
     {
         Watch {
             form,
@@ -60,7 +60,7 @@ impl Watch {
         requires silences { self.old.silences + length buf.old < 2 ^ 64 }
         ensures form { self.new.form ≡ self.old.form }
         ensures fits { WatchFits result (length buf.old) self.old.frames self.old.silences self.new.frames self.new.silences }
-        ensures turns { (before : List Item) → HasSeen before self.old.decoder self.old.frames self.old.silences
+        ensures turns { (before : List Item) → Saw before self.old
             → Watches self.old.form before (outside L.coming K.written L.faults K.faults link.old sink.old)
             (outside L.coming K.written L.faults K.faults link.new sink.new)
             self.new.decoder self.new.frames self.new.silences (length buf.old) result }
@@ -85,11 +85,11 @@ impl Watch {
         ensures form { self.new.form ≡ self.old.form }
         ensures silences { self.new.silences ≡ self.old.silences }
         ensures frames { OnOk result (self.new.frames ≤ self.old.frames + length bytes.now) }
-        ensures seen { OnOk result ((before : List Item) → HasSeen before self.old.decoder self.old.frames self.old.silences
-            → HasSeen (before ++ map Byte bytes.now) self.new.decoder self.new.frames self.new.silences) }
-        ensures ok { OnOk result ((before : List Item) → HasSeen before self.old.decoder self.old.frames self.old.silences
+        ensures seen { OnOk result ((before : List Item) → Saw before self.old
+            → Saw (before ++ map Byte bytes.now) self.new) }
+        ensures ok { OnOk result ((before : List Item) → Saw before self.old
             → Appends (K.written sink.old) (K.written sink.new) (text_after self.old.form before (map Byte bytes.now))) }
-        ensures err { OnErr result ((before : List Item) → HasSeen before self.old.decoder self.old.frames self.old.silences
+        ensures err { OnErr result ((before : List Item) → Saw before self.old
             → AppendsPrefix (K.written sink.old) (K.written sink.new) (text_after self.old.form before (map Byte bytes.now))) }
         ensures cause { HasCause (K.faults sink.old) (K.faults sink.new) result }
     {
@@ -109,11 +109,11 @@ impl Watch {
         ensures silences { self.new.silences ≡ self.old.silences }
         ensures frames { IfOk result (λ n. self.new.frames ≤ self.old.frames + n) }
         ensures count { IfOk result (λ n. (0 < n) × (n ≤ length bytes.now)) }
-        ensures seen { IfOk result (λ n. (before : List Item) → HasSeen before self.old.decoder self.old.frames self.old.silences
-            → HasSeen (before ++ map Byte (take n bytes.now)) self.new.decoder self.new.frames self.new.silences) }
-        ensures ok { IfOk result (λ n. (before : List Item) → HasSeen before self.old.decoder self.old.frames self.old.silences
+        ensures seen { IfOk result (λ n. (before : List Item) → Saw before self.old
+            → Saw (before ++ map Byte (take n bytes.now)) self.new) }
+        ensures ok { IfOk result (λ n. (before : List Item) → Saw before self.old
             → Appends (K.written sink.old) (K.written sink.new) (text_after self.old.form before (map Byte (take n bytes.now)))) }
-        ensures err { OnErr result ((before : List Item) → HasSeen before self.old.decoder self.old.frames self.old.silences
+        ensures err { OnErr result ((before : List Item) → Saw before self.old
             → AppendsPrefix (K.written sink.old) (K.written sink.new) (text_after self.old.form before (map Byte bytes.now))) }
         ensures cause { HasCause (K.faults sink.old) (K.faults sink.new) result }
     {
