@@ -1,4 +1,4 @@
-ghost use Rattle.std.specs.Prelude.{◌≡◌, ◌<◌, ◌≤◌, ◌++◌, ◌↔◌, length, take, min, map, Contains, IsErr, IfOk, Ok, Some};
+ghost use Rattle.std.specs.Prelude.{◌≡◌, ◌<◌, ◌≤◌, ◌++◌, ◌↔◌, length, take, min, map, Contains, IsErr, IfOk, OnErr, Ok, Some};
 ghost use Rattle.uip_edge.specs.Causes.{HasCause, counted_on};
 ghost use Rattle.uip_edge.specs.Coming.{items_of, CountFits, Consumes, IsAtEnd};
 ghost use Rattle.uip_edge.specs.Memory.{byte_run, given, item_count};
@@ -111,6 +111,7 @@ impl Link for MemLink {
         // A call fails exactly where its number is planned. Else it gives all that is there and fits.
         ensures numbered { self.new.calls ≡ counted_on self.old.calls }
         ensures planned { IsErr result ↔ Contains self.old.fails self.new.calls }
+        ensures counted { OnErr result (self.new.faults ≡ counted_on self.old.faults) }
         ensures given { IfOk result (λ got. got ≡ given (min self.old.most (length buf.old)) self.old.left) }
         ensures kept { (self.new.most ≡ self.old.most) × (self.new.fails ≡ self.old.fails) }
     {

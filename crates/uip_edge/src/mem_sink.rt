@@ -1,4 +1,4 @@
-ghost use Rattle.std.specs.Prelude.{◌≡◌, ◌<◌, ◌≤◌, ◌-◌, ◌↔◌, ◌⊎◌, [], length, min, Contains, IsErr, IfOk, Some};
+ghost use Rattle.std.specs.Prelude.{◌≡◌, ◌<◌, ◌≤◌, ◌-◌, ◌↔◌, ◌⊎◌, [], length, min, Contains, IsErr, IfOk, OnErr, Some};
 ghost use Rattle.std.specs.Io.KnownBytes.{WriteAppends};
 ghost use Rattle.uip_edge.specs.Causes.{HasCause, counted_on};
 
@@ -70,6 +70,7 @@ impl Sink for MemSink {
         // A call fails exactly where its number is planned, or where a piece comes and no room is left.
         ensures numbered { self.new.calls ≡ counted_on self.old.calls }
         ensures planned { IsErr result ↔ (Contains self.old.fails self.new.calls ⊎ ((0 < length piece.now) × (self.old.room ≤ length self.old.text))) }
+        ensures counted { OnErr result (self.new.faults ≡ counted_on self.old.faults) }
         ensures taken { IfOk result (λ n. n ≡ min (length piece.now) (self.old.room - length self.old.text)) }
         ensures kept { (self.new.room ≡ self.old.room) × (self.new.fails ≡ self.old.fails) }
     {

@@ -124,6 +124,7 @@ impl<A: App> Node<A> {
     pub fn count_overlong(&mut self)
         requires whole { IsWhole A.App self.old }
         ensures whole { IsWhole A.App self.new }
+        ensures rest { self.new ≡ record self.old { counts = self.new.counts } }
         ensures same { A.kept self.new.shared ≡ A.kept self.old.shared }
         ensures step { (n : AbstractNode) → Stands A.App self.old n n.past
             → Stands A.App self.new (step (A.meaning (A.kept self.old.shared)) A.served n Overlong).node (seen Overlong n.past) }
