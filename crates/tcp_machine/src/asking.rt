@@ -45,6 +45,7 @@ fn idle<A: App>(conn: &mut Conn<A>, shared: &A::Shared, fresh: bool) -> Step
     ensures same_numbers { SameNumbers conn.old conn.new }
     ensures answer { IsAnswer result }
     ensures takes { Takes A.App (λ m a ns. idles fresh a ns) conn.old shared.now conn.new shared.now result }
+    ensures fits { StepFits conn.new result }
 {
     if conn.state == State::CloseWait {
         conn.state = State::Closed;
@@ -61,6 +62,7 @@ fn do_as_wanted<A: App>(conn: &mut Conn<A>, shared: &A::Shared, want: Want, fres
     ensures same_numbers { SameNumbers conn.old conn.new }
     ensures answer { IsAnswer result }
     ensures takes { Takes A.App (λ m a ns. does_as_wanted want fresh a ns) conn.old shared.now conn.new shared.now result }
+    ensures fits { StepFits conn.new result }
 {
     match want {
         Want::Abort => {
@@ -89,6 +91,7 @@ pub fn ask<A: App>(conn: &mut Conn<A>, shared: &A::Shared, now: &Now, fresh: boo
     ensures same_numbers { SameNumbers conn.old conn.new }
     ensures answer { IsAnswer result }
     ensures takes { Takes A.App (λ m a ns. ask m now.now fresh a ns) conn.old shared.now conn.new shared.now result }
+    ensures fits { StepFits conn.new result }
 {
     prepare(conn, shared, now);
     let want = conn.app.want(shared);

@@ -149,7 +149,6 @@ fn in_close_wait<A: App>(
 ) -> Step
     requires state { conn.old.state ≡ State.CloseWait }
     requires sound { IsSound A.App (A.kept shared.old) conn.old }
-    requires out { 0 < conn.old.len }
     ensures { (s : PlainSegment) → Takes A.App (λ m a ns. by_state m State.CloseWait acked a ns (record s { window = seg.now.window })) conn.old shared.old conn.new shared.new result }
 {
     if acked {
@@ -185,7 +184,6 @@ fn by_state<A: App>(
 ) -> Step
     requires live { is_live conn.old.state ≡ true }
     requires sound { IsSound A.App (A.kept shared.old) conn.old }
-    requires busy { Rests conn.old }
     requires short { length piece.now ≤ 1500 }
     ensures { Takes A.App (λ m a ns. by_state m a.state acked a ns (plain seg.now piece.now)) conn.old shared.old conn.new shared.new result }
 {
@@ -217,7 +215,6 @@ pub fn on_segment<A: App>(
 ) -> Step
     requires live { is_live conn.old.state ≡ true }
     requires sound { IsSound A.App (A.kept shared.old) conn.old }
-    requires busy { Rests conn.old }
     requires short { length piece.now ≤ 1500 }
     ensures { Takes A.App (λ m a ns. on_segment m a ns (plain seg.now piece.now)) conn.old shared.old conn.new shared.new result }
 {

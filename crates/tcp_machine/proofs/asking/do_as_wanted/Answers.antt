@@ -28,6 +28,9 @@ returns-in-Send-clause-takes g c = record {
         rw (c.send-in-Send.ensures.kept.app, c.send-in-Send.ensures.len) can;
   };
   place = search rules;
-  fits = (ap is_open c.send-in-Send.ensures.state ∙ c.requires.asked.open_to_it, c.send-in-Send.ensures.some);
+  fits = λ _. (ap is_open c.send-in-Send.ensures.state ∙ c.requires.asked.open_to_it, c.send-in-Send.ensures.some);
   meets = search rules;
 }
+
+pub returns-in-Send-clause-fits : goal.returns-in-Send-clause-fits
+returns-in-Send-clause-fits g c = (ap is_open c.send-in-Send.ensures.state ∙ c.requires.asked.open_to_it, c.send-in-Send.ensures.some)

@@ -38,10 +38,10 @@ returns-clause-kept g c =
     kept_after g.A.App k c.table.inside.conns.items c.args.slot c.ask.new.conn
     (subst (λ (xs : List (Conn g.row.A.Denot)). AllSound g.A.App k xs) (sym e) c.requires.sound)
     (subst (λ (xs : List (Conn g.row.A.Denot)). OthersRest c.args.slot xs) (sym e) c.requires.others)
-    (record { sound = c.ask.ensures.takes.sound; busy = rests_of c.ask.new.conn c.ask.result c.ask.ensures.answer c.ask.ensures.takes.fits })
+    (record { sound = c.ask.ensures.takes.sound; busy = rests_of c.ask.new.conn c.ask.result c.ask.ensures.answer c.ask.ensures.fits })
 
 pub returns-clause-text : goal.returns-clause-text
-returns-clause-text g c = is_in_after (λ d. StepFits d c.ask.result) c.table.inside.conns.items c.args.slot c.ask.new.conn c.ask.ensures.takes.fits
+returns-clause-text g c = is_in_after (λ d. StepFits d c.ask.result) c.table.inside.conns.items c.args.slot c.ask.new.conn c.ask.ensures.fits
 
 pub returns-clause-meets : goal.returns-clause-meets
 returns-clause-meets g c = λ abstracts a stand there.

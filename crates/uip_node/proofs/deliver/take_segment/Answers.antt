@@ -18,11 +18,6 @@ on_segment-requires-clause-sound g c =
     let e = ap (λ (t : Connections g.row.A.Denot). t.conns) c.table.view_is in
     (c.requires.kept c.args.slot c.index_mut-conn.result.now (at_place _ _ c.args.slot c.index_mut-conn.result.now e c.requires.within c.index_mut-conn.ensures.value)).sound
 
-pub on_segment-requires-clause-busy : goal.on_segment-requires-clause-busy
-on_segment-requires-clause-busy g c =
-    let e = ap (λ (t : Connections g.row.A.Denot). t.conns) c.table.view_is in
-    (c.requires.kept c.args.slot c.index_mut-conn.result.now (at_place _ _ c.args.slot c.index_mut-conn.result.now e c.requires.within c.index_mut-conn.ensures.value)).busy
-
 pub invariant_of-table : goal.invariant_of-table
 invariant_of-table g c =
     let e = ap (λ (t : Connections g.row.A.Denot). t.conns) c.table.view_is in
@@ -39,7 +34,10 @@ returns-clause-sound g c =
     c.on_segment.ensures.sound
 
 pub returns-clause-fits : goal.returns-clause-fits
-returns-clause-fits g c = is_in_after (λ d. StepFits d c.on_segment.result) c.table.inside.conns.items c.args.slot c.on_segment.new.conn c.on_segment.ensures.fits
+returns-clause-fits g c =
+    let e = ap (λ (t : Connections g.row.A.Denot). t.conns) c.table.view_is in
+    let at = at_place _ _ c.args.slot c.index_mut-conn.result.now e c.requires.within c.index_mut-conn.ensures.value in
+    is_in_after (λ d. StepFits d c.on_segment.result) c.table.inside.conns.items c.args.slot c.on_segment.new.conn (c.on_segment.ensures.fits (c.requires.kept c.args.slot c.index_mut-conn.result.now at).busy)
 
 pub returns-clause-others : goal.returns-clause-others
 returns-clause-others g c = λ j d other h.

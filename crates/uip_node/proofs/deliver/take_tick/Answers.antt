@@ -37,7 +37,10 @@ returns-clause-sound g c =
     c.on_tick.ensures.takes.sound
 
 pub returns-clause-fits : goal.returns-clause-fits
-returns-clause-fits g c = is_in_after (λ d. StepFits d c.on_tick.result) c.table.inside.conns.items c.args.slot c.on_tick.new.conn c.on_tick.ensures.takes.fits
+returns-clause-fits g c =
+    let e = ap (λ (t : Connections g.row.A.Denot). t.conns) c.table.view_is in
+    let at = at_place _ _ c.args.slot c.index_mut-conn.result.now e c.requires.within c.index_mut-conn.ensures.value in
+    is_in_after (λ d. StepFits d c.on_tick.result) c.table.inside.conns.items c.args.slot c.on_tick.new.conn (c.on_tick.ensures.takes.fits (c.requires.kept c.args.slot c.index_mut-conn.result.now at).busy)
 
 pub returns-clause-others : goal.returns-clause-others
 returns-clause-others g c = λ j d other h.
