@@ -1,8 +1,8 @@
 -- What a decoder knows after one more byte, or a run of them.
-use Rattle.std.proofs.Common.{◌≡◌, ℕ, ◌+◌, ◌≤◌, ◌<◌, Bool, true, false, cond, eqb, nat_lt, List, [], ◌∷◌, ◌++◌, take, length, get_or, refl, sym, ap, subst, ◌-◌, ◌∙◌, append-nil, append_assoc, arith, length-take, length-append, min, ◌||◌}
+use Rattle.std.proofs.Common.{◌≡◌, ℕ, ◌+◌, ◌≤◌, ◌<◌, Bool, true, false, cond, eqb, nat_lt, List, [], ◌∷◌, ◌++◌, take, length, get_or, refl, sym, ap, subst, ◌-◌, ◌∙◌, append-nil, append_assoc, arith, length-take, length-append, length-drop, drop, min, ◌||◌}
 use Rattle.std.specs.List.{list_all}
 use Rattle.std.proofs.lemmas.List.{take_all, take-append-le, take-take, length-take-le, take_more}
-use Rattle.std.proofs.Math.Seq.{take-append-add}
+use Rattle.std.proofs.Math.Seq.{take-add, take-append-add}
 use Rattle.std.proofs.lemmas.Bool.{ltb-false, ltb-true, le-ltb, lt-ltb, le-leb, lt-leb}
 use Rattle.uip_slip.specs.Frames.{Frame, meant, unescaped, frame_of, open_part, frames, Datagram, Overlong, is_plain}
 use Rattle.uip_slip.specs.declared.fed.Fed.{Fed}
@@ -212,3 +212,21 @@ joined_is s run len count size h e =
     let over : nat_lt (1500 - len) (length run) ≡ nat_lt 1500 (length s.bytes + length run) =
     past_room 1500 len (length run) h ∙ ap (λ k. nat_lt 1500 (k + length run)) (sym size) in
     same_state s _ _ _ _ bytes (ap (λ v. s.over || v) over)
+
+-- the first bytes, and then a front of the others
+front_and_more : (before bytes : List ℕ) (n k : ℕ) → (before ++ take n bytes) ++ take k (take (length bytes - n) (drop n bytes)) ≡ before ++ take (n + k) bytes
+front_and_more before bytes n k =
+    let rest : take (length bytes - n) (drop n bytes) ≡ drop n bytes = take_all (length bytes - n) (drop n bytes) (omega (arith, length-drop n bytes)) in
+    append_assoc before (take n bytes) (take k (take (length bytes - n) (drop n bytes)))
+    ∙ ap (λ l. before ++ (take n bytes ++ take k l)) rest ∙ ap (λ l. before ++ l) (sym (take-add n k bytes))
+
+-- what was fed and told so far, and then a front of the other bytes
+pub fed_on : (before bytes : List ℕ) (n k : ℕ) (s t : State) (told : List Frame)
+    → WasFed (before ++ take n bytes) s × (frames (before ++ take n bytes) ≡ frames before)
+    → ((b : List ℕ) → WasFed b s → WasFed (b ++ take k (take (length bytes - n) (drop n bytes))) t
+    × (frames (b ++ take k (take (length bytes - n) (drop n bytes))) ≡ frames b ++ told))
+    → WasFed (before ++ take (n + k) bytes) t × (frames (before ++ take (n + k) bytes) ≡ frames before ++ told)
+fed_on before bytes n k s t told so_far step =
+    let at = front_and_more before bytes n k in
+    let both = step (before ++ take n bytes) so_far.0 in
+    (subst (λ l. WasFed l t) at both.0, ap frames (sym at) ∙ both.1 ∙ ap (λ l. l ++ told) so_far.1)

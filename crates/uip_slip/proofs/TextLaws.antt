@@ -25,15 +25,15 @@ escaped-bound (b ∷ bytes) = omega (arith, byte_bound b, escaped-bound bytes, l
 pub run_text : (old new piece : List ℕ) (n : ℕ) → list_all is_plain (take n piece) ≡ true → new ≡ old ++ take n piece → new ≡ old ++ escaped (take n piece)
 run_text old new piece n plain e = e ∙ ap (λ l. old ++ l) (sym (escaped-plain (take n piece) plain))
 
--- and the byte behind it escaped
-pub mark_text : (old mid new piece mark : List ℕ) (n : ℕ) → n < length piece → mid ≡ old ++ escaped (take n piece)
-    → mark ≡ escaped_byte (get_or piece n 0) → new ≡ mid ++ mark → new ≡ old ++ escaped (take (n + 1) piece)
-mark_text old mid new piece mark n here run m e =
-    let one : escaped (get_or piece n 0 ∷ []) ≡ mark = append-nil (escaped_byte (get_or piece n 0)) ∙ sym m in
-    let both : escaped (take (n + 1) piece) ≡ escaped (take n piece) ++ mark =
+-- one more byte
+pub byte_text : (start text new piece : List ℕ) (n : ℕ) → n < length piece → text ≡ start ++ escaped (take n piece) → new ≡ text ++ escaped_byte (get_or piece n 0)
+    → new ≡ start ++ escaped (take (n + 1) piece)
+byte_text start text new piece n here made e =
+    let byte = escaped_byte (get_or piece n 0) in
+    let both : escaped (take (n + 1) piece) ≡ escaped (take n piece) ++ byte =
     ap (λ l. escaped l) (take_more piece n 0 here) ∙ flat_map-append escaped_byte (take n piece) (get_or piece n 0 ∷ [])
-    ∙ ap (λ l. escaped (take n piece) ++ l) one in
-    e ∙ ap (λ l. l ++ mark) run ∙ append_assoc old (escaped (take n piece)) mark ∙ ap (λ l. old ++ l) (sym both)
+    ∙ ap (λ l. escaped (take n piece) ++ l) (append-nil byte) in
+    e ∙ ap (λ l. l ++ byte) made ∙ append_assoc start (escaped (take n piece)) byte ∙ ap (λ l. start ++ l) (sym both)
 
 -- text behind the text of a front
 pub escaped_then : (start text new front part : List ℕ) → text ≡ start ++ escaped front → new ≡ text ++ escaped part → new ≡ start ++ escaped (front ++ part)

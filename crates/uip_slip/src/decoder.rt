@@ -29,6 +29,21 @@ impl Model for Decoder {
     ghost invariant = { λ d. d.len ≤ LARGEST_DATAGRAM };
 }
 
+/// So many bytes go one by one behind a run that was shorter.
+const SHORT_RUN: usize = 8;
+
+/// How many more bytes go one by one, behind a front of `count` bytes that ends with this one. An END stands at each frame's front.
+fn still_dense(dense: usize, count: usize, last: u8) -> usize {
+    if dense > 0 {
+        return dense - 1;
+    }
+    if count < SHORT_RUN && last != END {
+        2 * SHORT_RUN
+    } else {
+        0
+    }
+}
+
 impl Decoder {
     ghost use Rattle.uip_slip.specs.Decoding.{WasFed, told_by, Leaves};
     ghost use Rattle.uip_slip.specs.Steps.{reopened, taken, pushed, joined, Closes};
@@ -61,9 +76,51 @@ impl Decoder {
         Fed::More
     }
 
-    /// Takes the bytes in front of the next END or ESC, and the byte behind them if there is one. It is as if each of
-    /// them was fed, but the run is copied as a whole.
+    /// Takes a front of the bytes: up to an END that completes a frame, or all of them. It is as if each of them was fed, but a run without
+    /// END and ESC is copied as a whole.
     pub fn feed_run(&mut self, bytes: &[u8]) -> FedRun
+        requires { 0 < length bytes.now }
+        ensures some { 0 < result.count }
+        ensures within { result.count ≤ length bytes.now }
+        ensures frames { (before : List ℕ) → WasFed before self.old → WasFed (before ++ take result.count bytes.now) self.new
+            × (frames (before ++ take result.count bytes.now) ≡ frames before ++ told_by result.fed self.new) }
+        ensures leaves { Leaves result.fed self.new }
+    {
+        let mut count = 0;
+        let mut dense = 0;
+        while count < bytes.len() {
+            let front = self.feed_part(&bytes[count..], dense > 0);
+            count += front.count;
+            dense = still_dense(dense, front.count, bytes[count - 1]);
+            match front.fed {
+                Fed::More => {}
+                fed => return FedRun { count, fed },
+            }
+        }
+        FedRun {
+            count,
+            fed: Fed::More,
+        }
+    }
+
+    /// Takes a front of the bytes: where marks stand close together one byte, and else a run with the mark behind it.
+    fn feed_part(&mut self, bytes: &[u8], is_dense: bool) -> FedRun
+        requires { 0 < length bytes.now }
+        ensures some { 0 < result.count }
+        ensures within { result.count ≤ length bytes.now }
+        ensures frames { (before : List ℕ) → WasFed before self.old → WasFed (before ++ take result.count bytes.now) self.new
+            × (frames (before ++ take result.count bytes.now) ≡ frames before ++ told_by result.fed self.new) }
+        ensures leaves { Leaves result.fed self.new }
+    {
+        if is_dense {
+            let fed = self.feed(bytes[0]);
+            return FedRun { count: 1, fed };
+        }
+        self.feed_front(bytes)
+    }
+
+    /// Takes the bytes in front of the next END or ESC, and the byte behind them if there is one.
+    fn feed_front(&mut self, bytes: &[u8]) -> FedRun
         requires { 0 < length bytes.now }
         ensures some { 0 < result.count }
         ensures within { result.count ≤ length bytes.now }

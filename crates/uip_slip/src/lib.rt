@@ -8,7 +8,9 @@ mod encoding;
 mod fed;
 mod marks;
 mod text_area;
+mod writing;
 
 pub use decoder::Decoder;
 pub use encoding::{Encoder, encode, encoded_len, text_is_one_frame};
 pub use fed::{Fed, FedRun};
+pub use writing::text_into;

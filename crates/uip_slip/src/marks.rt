@@ -1,6 +1,5 @@
 ghost use Rattle.std.specs.Prelude.{◌≡◌, ◌≤◌, length, take, true, ◌<◌, slice_index};
 ghost use Rattle.std.specs.List.{list_all};
-ghost use Rattle.uip_slip.specs.Text.{escaped_byte};
 ghost use Rattle.uip_slip.specs.Frames.{is_mark, is_plain, meant as meant_of};
 
 use memchr::memchr2;
@@ -34,17 +33,5 @@ pub fn meant(byte: u8) -> u8
         ESC_END => END,
         ESC_ESC => ESC,
         _ => byte,
-    }
-}
-
-/// What is written for an END or an ESC of a datagram.
-pub fn escape_of(mark: u8) -> [u8; 2]
-    requires { is_mark mark ≡ true }
-    ensures { result ≡ escaped_byte mark }
-{
-    if mark == END {
-        [ESC, ESC_END]
-    } else {
-        [ESC, ESC_ESC]
     }
 }

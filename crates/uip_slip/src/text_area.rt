@@ -1,7 +1,7 @@
 ghost use Rattle.std.specs.Prelude.{◌≡◌, ◌≤◌, ◌<◌, ◌+◌, ◌*◌, ◌++◌, [], ◌∷◌, length, take};
 ghost use Rattle.uip_slip.specs.Text.{escaped};
 
-use crate::marks::{END, ESC, escape_of, plain_len};
+use crate::writing::put_escaped;
 use std::marker::Model;
 use uip_wire::LARGEST_DATAGRAM;
 
@@ -63,27 +63,6 @@ impl TextArea {
         requires { length self.old + 2 * length piece.now ≤ LARGEST_TEXT }
         ensures { self.new ≡ self.old ++ escaped piece.now }
     {
-        let mut rest = piece;
-        while !rest.is_empty() {
-            let count = self.put_run(rest);
-            rest = &rest[count..];
-        }
-    }
-
-    /// Adds the bytes in front of the next END or ESC, and this one escaped if it is there. Says how many these are.
-    fn put_run(&mut self, piece: &[u8]) -> usize
-        requires some { 0 < length piece.now }
-        requires room { length self.old + 2 * length piece.now ≤ LARGEST_TEXT }
-        ensures some { 0 < result }
-        ensures within { result ≤ length piece.now }
-        ensures text { self.new ≡ self.old ++ escaped (take result piece.now) }
-    {
-        let plain = plain_len(piece);
-        self.put(&piece[..plain]);
-        if plain == piece.len() {
-            return plain;
-        }
-        self.put(&escape_of(piece[plain]));
-        plain + 1
+        self.len = put_escaped(&mut self.area, self.len, piece);
     }
 }

@@ -1,0 +1,15 @@
+use Rattle.std.proofs.Common.{◌≡◌, ◌++◌, ◌+◌, ◌*◌, ◌≤◌, List, ℕ, length, take}
+use Rattle.uip_slip.specs.Text.{escaped}
+use Rattle.uip_slip.proofs.writing.put_escaped.Given as goal
+
+abbrev pub invariant-loop-chunk : goal.invariant-loop-chunk
+invariant-loop-chunk l = record {
+  front : List ℕ;
+  pieces : l.piece ≡ front ++ l.rest;
+  made : take l.end l.out ≡ take l.len l.fn.out ++ escaped front;
+  long : length l.out ≡ length l.fn.out;
+  bound : l.end + 2 * length l.rest ≤ l.len + 2 * length l.piece;
+}
+
+abbrev pub decreases-loop-chunk : goal.decreases-loop-chunk
+decreases-loop-chunk l = length l.rest
