@@ -89,9 +89,12 @@ impl Decoder {
         let mut count = 0;
         let mut dense = 0;
         while count < bytes.len() {
-            let front = self.feed_part(&bytes[count..], dense > 0);
+            let waited = self.waits;
+            let front = self.feed_part(&bytes[count..], waited || dense > 0);
             count += front.count;
-            dense = still_dense(dense, front.count, bytes[count - 1]);
+            if !waited {
+                dense = still_dense(dense, front.count, bytes[count - 1]);
+            }
             match front.fed {
                 Fed::More => {}
                 fed => return FedRun { count, fed },

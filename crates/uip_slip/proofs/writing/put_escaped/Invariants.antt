@@ -2,8 +2,8 @@ use Rattle.std.proofs.Common.{◌≡◌, ◌++◌, ◌+◌, ◌*◌, ◌≤◌, 
 use Rattle.uip_slip.specs.Text.{escaped}
 use Rattle.uip_slip.proofs.writing.put_escaped.Given as goal
 
-abbrev pub invariant-loop-chunk : goal.invariant-loop-chunk
-invariant-loop-chunk l = record {
+abbrev pub invariant-loop-rest : goal.invariant-loop-rest
+invariant-loop-rest l = record {
   front : List ℕ;
   pieces : l.piece ≡ front ++ l.rest;
   made : take l.end l.out ≡ take l.len l.fn.out ++ escaped front;
@@ -11,5 +11,5 @@ invariant-loop-chunk l = record {
   bound : l.end + 2 * length l.rest ≤ l.len + 2 * length l.piece;
 }
 
-abbrev pub decreases-loop-chunk : goal.decreases-loop-chunk
-decreases-loop-chunk l = length l.rest
+abbrev pub decreases-loop-rest : goal.decreases-loop-rest
+decreases-loop-rest l = length l.rest

@@ -1,4 +1,4 @@
-use Rattle.std.proofs.Common.{◌∙◌, ◌++◌, ◌-◌, ap, append-nil, arith, drop, length, length-drop, length-take, subst, take}
+use Rattle.std.proofs.Common.{◌∙◌, ◌++◌, ◌-◌, ap, append-nil, arith, drop, length, length-drop, length-take, subst}
 use Rattle.uip_slip.proofs.DecoderLaws.{fed_on}
 use Rattle.uip_slip.specs.Decoding.{Leaves, told_by}
 use Rattle.uip_slip.specs.Frames.{frames}
