@@ -1,0 +1,2 @@
+pub mod LearningLaws
+pub mod TableLaws

@@ -1,0 +1,41 @@
+-- The way of Ethernet with ARP over a line of bytes: each frame stands behind its length in two bytes.
+use Rattle.std.specs.Prelude.{ℕ, ◌+◌, ◌*◌, ◌==◌, ◌&&◌, nat_le, Bool, false, if◌then◌else◌, List, [], ◌∷◌, ◌++◌, length, drop}
+use Rattle.line_medium.specs.Ways.{Came, Way}
+use Rattle.ethernet_arp.specs.Frames.{Host, frame_brings, framed, is_sendable, reply_to, wrapped}
+use Rattle.ethernet_arp.specs.Learning.{Act, Asked, Replied, Ticked}
+use Rattle.ethernet_arp.specs.declared.sizes.TheConstants.{LARGEST_FRAME, SMALLEST_FRAME}
+
+-- bytes that begin with a length are whole where so many follow it
+abbrev pub is_whole : List ℕ → Bool
+is_whole (high ∷ low ∷ frame) = length frame == 256 * high + low
+is_whole (high ∷ []) = false
+is_whole [] = false
+
+-- what stands behind the last whole frame, and waits for more
+abbrev pub open_from : List ℕ → List ℕ → List ℕ
+open_from part [] = part
+open_from part (b ∷ bytes) = open_from (if is_whole (part ++ b ∷ []) then [] else part ++ b ∷ []) bytes
+
+-- what a part brings that has become whole: a frame of 14 to 1514 bytes is taken, and any other is dropped
+abbrev pub closes : Host → List ℕ → List (Came Act)
+closes k part =
+    if is_whole part && nat_le (SMALLEST_FRAME + 2) (length part) && nat_le (length part) (LARGEST_FRAME + 2)
+    then frame_brings k (drop 2 part) else []
+
+-- what a host writes at an act: the reply to a request
+abbrev pub says_at : Host → Act → List ℕ
+says_at k (Asked pair) = framed (reply_to k pair)
+says_at k (Replied pair) = []
+says_at k Ticked = []
+
+-- the text of a datagram behind these acts
+abbrev pub ether_text : Host → List Act → List ℕ → List ℕ
+ether_text k acts datagram = if is_sendable datagram then framed (wrapped k acts datagram) else []
+
+abbrev pub ether_way : Host → Way Act
+ether_way k = record {
+  brings = λ before b. closes k (open_from [] before ++ b ∷ []);
+  at_tick = Ticked ∷ [];
+  says = λ act. says_at k act;
+  text = λ acts datagram. ether_text k acts datagram;
+}

@@ -1,0 +1,96 @@
+-- Ethernet frames (RFC 894) and the ARP packets in them (RFC 826): what a received one brings, and those that are sent.
+use Rattle.std.specs.Prelude.{ℕ, ◌+◌, ◌/◌, ◌%◌, ◌==◌, ◌&&◌, ◌||◌, nat_le, nat_lt, Bool, if◌then◌else◌, List, [], ◌∷◌, ◌++◌, length, drop, slice_index, Option, None, Some}
+use Rattle.std.specs.Str.{bytes_eq}
+use Rattle.uip_wire.specs.Addr.{address_at}
+use Rattle.uip_wire.specs.Fields.{word_at, word_bytes}
+use Rattle.uip_wire.specs.declared.sizes.TheConstants.{LARGEST_DATAGRAM}
+use Rattle.line_medium.specs.Ways.{Came, Datagram, Own}
+use Rattle.ethernet_arp.specs.Learning.{Act, Asked, Pair, Replied, known}
+
+-- a host: its Internet address and its hardware address
+pub record Host : Type 0 where
+  pub addr : List ℕ
+  pub mac : List ℕ
+
+-- the six bytes at a place
+abbrev pub mac_at : List ℕ → ℕ → List ℕ
+mac_at bytes at =
+    slice_index bytes at ∷ slice_index bytes (at + 1) ∷ slice_index bytes (at + 2) ∷ slice_index bytes (at + 3) ∷ slice_index bytes (at + 4) ∷ slice_index bytes (at + 5) ∷ []
+
+abbrev pub broadcast : List ℕ
+broadcast = 255 ∷ 255 ∷ 255 ∷ 255 ∷ 255 ∷ 255 ∷ []
+
+abbrev pub no_mac : List ℕ
+no_mac = 0 ∷ 0 ∷ 0 ∷ 0 ∷ 0 ∷ 0 ∷ []
+
+-- the types of a payload: 0800 is a datagram, 0806 a packet of ARP
+abbrev pub is_datagram : ℕ → Bool
+is_datagram kind = kind == 2048
+
+abbrev pub is_arp : ℕ → Bool
+is_arp kind = kind == 2054
+
+-- a frame
+abbrev pub frame_of : List ℕ → List ℕ → ℕ → List ℕ → List ℕ
+frame_of to from kind payload = to ++ from ++ word_bytes kind ++ payload
+
+-- how a packet of ARP begins: Ethernet, the Internet, and the lengths of their addresses
+abbrev pub arp_begin : List ℕ
+arp_begin = 0 ∷ 1 ∷ 8 ∷ 0 ∷ 6 ∷ 4 ∷ []
+
+-- a packet of ARP: 1 asks and 2 replies; the sender's pair and the target's
+abbrev pub arp_packet : ℕ → List ℕ → List ℕ → List ℕ → List ℕ → List ℕ
+arp_packet operation sender_mac sender target_mac target = arp_begin ++ word_bytes operation ++ sender_mac ++ sender ++ target_mac ++ target
+
+-- the reply to a request that came from this pair
+abbrev pub reply_to : Host → Pair → List ℕ
+reply_to k pair = frame_of pair.mac k.mac 2054 (arp_packet 2 k.mac k.addr pair.mac pair.addr)
+
+-- the request for the hardware address of a target
+abbrev pub request_for : Host → List ℕ → List ℕ
+request_for k target = frame_of broadcast k.mac 2054 (arp_packet 1 k.mac k.addr no_mac target)
+
+-- what a packet of ARP brings that is sound and asks or tells the host's address
+abbrev pub arp_brings : ℕ → Pair → List (Came Act)
+arp_brings operation sender =
+    if operation == 1 then Own (Asked sender) ∷ []
+    else if operation == 2 then Own (Replied sender) ∷ []
+    else []
+
+abbrev pub is_arp_for : List ℕ → List ℕ → Bool
+is_arp_for addr packet =
+    nat_le 28 (length packet) && word_at packet 0 == 1 && word_at packet 2 == 2048 && slice_index packet 4 == 6 && slice_index packet 5 == 4
+    && bytes_eq (address_at packet 24) addr
+
+abbrev pub sender_of : List ℕ → Pair
+sender_of packet = record { addr = address_at packet 14; mac = mac_at packet 8 }
+
+-- what a payload of this type brings
+abbrev pub payload_brings : Host → ℕ → List ℕ → List (Came Act)
+payload_brings k kind payload =
+    if is_datagram kind && nat_lt 0 (length payload) then Datagram payload ∷ []
+    else if is_arp kind && is_arp_for k.addr payload then arp_brings (word_at payload 6) (sender_of payload)
+    else []
+
+-- what a frame of at least 14 bytes brings: nothing, unless it goes to the host or to all
+abbrev pub frame_brings : Host → List ℕ → List (Came Act)
+frame_brings k frame =
+    if bytes_eq (mac_at frame 0) k.mac || bytes_eq (mac_at frame 0) broadcast then payload_brings k (word_at frame 12) (drop 14 frame)
+    else []
+
+-- the frame for a datagram to a target: to the known hardware address of that, or else the request for it
+abbrev pub frame_to : Host → List ℕ → Option (List ℕ) → List ℕ → List ℕ
+frame_to k target (Some mac) datagram = frame_of mac k.mac 2048 datagram
+frame_to k target None datagram = request_for k target
+
+-- the frame for a datagram, behind these acts
+abbrev pub wrapped : Host → List Act → List ℕ → List ℕ
+wrapped k acts datagram = let target = address_at datagram 16 in frame_to k target (known acts target) datagram
+
+-- a frame behind its length
+abbrev pub framed : List ℕ → List ℕ
+framed frame = word_bytes (length frame) ++ frame
+
+-- a datagram has a header with its target, and fits a frame
+abbrev pub is_sendable : List ℕ → Bool
+is_sendable datagram = nat_le 20 (length datagram) && nat_le (length datagram) LARGEST_DATAGRAM

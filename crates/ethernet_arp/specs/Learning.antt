@@ -1,0 +1,73 @@
+-- Which addresses are known: the law of the list of all learnings and ticks, with no table.
+use Rattle.std.specs.Prelude.{ℕ, ◌+◌, ◌&&◌, ◌||◌, nat_lt, Bool, false, if◌then◌else◌, List, [], ◌∷◌, length, Option, None, Some}
+use Rattle.std.specs.Str.{bytes_eq}
+use Rattle.ethernet_arp.specs.declared.sizes.TheConstants.{ARP_ENTRIES, ARP_TICKS}
+
+-- an Internet address and a hardware address, each as its bytes
+pub record Pair : Type 0 where
+  pub addr : List ℕ
+  pub mac : List ℕ
+
+-- what an Ethernet host does by itself: a request or a reply of ARP taught it a pair, or a tick went by
+pub data Act : Type 0 where
+  Asked : Pair → Act
+  Replied : Pair → Act
+  Ticked : Act
+
+-- the pair that an act taught
+abbrev pub taught : Act → Option Pair
+taught (Asked pair) = Some pair
+taught (Replied pair) = Some pair
+taught Ticked = None
+
+-- a learning: the hardware address that was learnt, and all that came later
+pub record Learning : Type 0 where
+  pub mac : List ℕ
+  pub later : List Act
+
+-- the learning of an address from this pair
+abbrev pub learning_by : List ℕ → Option Pair → List Act → Option Learning
+learning_by addr None later = None
+learning_by addr (Some pair) later = if bytes_eq pair.addr addr then Some (record { mac = pair.mac; later = later }) else None
+
+abbrev pub later_or : Option Learning → Option Learning → Option Learning
+later_or (Some l) earlier = Some l
+later_or None earlier = earlier
+
+-- the last learning of an address
+abbrev pub last_learning : List ℕ → List Act → Option Learning
+last_learning addr [] = None
+last_learning addr (act ∷ acts) = later_or (last_learning addr acts) (learning_by addr (taught act) acts)
+
+-- how many ticks went by
+abbrev pub ticks_of : List Act → ℕ
+ticks_of [] = 0
+ticks_of (Ticked ∷ acts) = ticks_of acts + 1
+ticks_of (Asked pair ∷ acts) = ticks_of acts
+ticks_of (Replied pair ∷ acts) = ticks_of acts
+
+abbrev pub among : List ℕ → List (List ℕ) → Bool
+among addr [] = false
+among addr (other ∷ others) = bytes_eq other addr || among addr others
+
+-- one more address among others, each of which stands once
+abbrev pub with_one : Option Pair → List (List ℕ) → List (List ℕ)
+with_one None others = others
+with_one (Some pair) others = if among pair.addr others then others else pair.addr ∷ others
+
+-- the addresses that were learnt, each once
+abbrev pub addresses_of : List Act → List (List ℕ)
+addresses_of [] = []
+addresses_of (act ∷ acts) = with_one (taught act) (addresses_of acts)
+
+-- since this learning there were fewer than 2400 ticks and learnings of fewer than 8 other addresses
+abbrev pub is_fresh : Learning → Bool
+is_fresh l = nat_lt (ticks_of l.later) ARP_TICKS && nat_lt (length (addresses_of l.later)) ARP_ENTRIES
+
+abbrev pub mac_of : Option Learning → Option (List ℕ)
+mac_of None = None
+mac_of (Some l) = if is_fresh l then Some l.mac else None
+
+-- An address is known exactly where its last learning is fresh; its hardware address is that learning's.
+abbrev pub known : List Act → List ℕ → Option (List ℕ)
+known acts addr = mac_of (last_learning addr acts)

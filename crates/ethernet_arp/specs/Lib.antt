@@ -1,0 +1,5 @@
+pub mod EtherWay
+pub mod Frames
+pub mod Learning
+pub mod Table
+pub mod Words

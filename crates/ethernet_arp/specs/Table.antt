@@ -1,0 +1,59 @@
+-- What it means that the table of an `Arp` stands for a list of learnings and ticks.
+use Rattle.std.specs.Prelude.{◌≡◌, ◌<◌, ◌≤◌, ◌+◌, ◌&&◌, ℕ, nat_lt, Bool, false, if◌then◌else◌, List, [], ◌∷◌, ◌++◌, length, take, drop, None, Some, ⊤}
+use Rattle.std.specs.List.{list_any}
+use Rattle.std.specs.Str.{bytes_eq}
+use Rattle.ethernet_arp.specs.Frames.{Host}
+use Rattle.ethernet_arp.specs.Learning.{Act, Learning, addresses_of, among, known, last_learning, ticks_of}
+use Rattle.ethernet_arp.specs.declared.arp.Arp.{Arp}
+use Rattle.ethernet_arp.specs.declared.arp.Entry.{Entry}
+use Rattle.ethernet_arp.specs.declared.sizes.TheConstants.{ARP_ENTRIES, ARP_TICKS}
+
+abbrev pub host_of : Arp → Host
+host_of arp = record { addr = arp.own.0; mac = arp.mac.0 }
+
+-- an entry of this address that is not forgotten
+abbrev pub is_of : List ℕ → Entry → Bool
+is_of addr e = nat_lt e.age ARP_TICKS && bytes_eq e.addr.0 addr
+
+-- an entry after a tick
+abbrev pub aged : Entry → Entry
+aged e = record e { age = if nat_lt e.age ARP_TICKS then e.age + 1 else e.age }
+
+-- the entries with a new one in front, in place of that at a place
+abbrev pub moved_front : Entry → ℕ → List Entry → List Entry
+moved_front e place es = e ∷ take place es ++ drop (place + 1) es
+
+-- the same addresses, each as often as before
+pub record IsLike (xs ys : List (List ℕ)) : Type 0 where
+  pub size : length xs ≡ length ys
+  pub same : (addr : List ℕ) → among addr xs ≡ among addr ys
+
+-- An entry tells the last learning of its address: the hardware address, the ticks since, and that since then the addresses
+-- of the entries in front of it were learnt, and no other.
+pub record Remembers (acts : List Act) (front : List (List ℕ)) (e : Entry) : Type 0 where
+  pub learning : Learning
+  pub last : last_learning e.addr.0 acts ≡ Some learning
+  pub mac : learning.mac ≡ e.mac.0
+  pub age : ticks_of learning.later ≡ e.age
+  pub others : IsLike (addresses_of learning.later) front
+
+-- each entry does that is not forgotten
+abbrev pub AllRemember : List Act → List (List ℕ) → List Entry → Type 0
+AllRemember acts front [] = ⊤
+AllRemember acts front (e ∷ es) = (e.age < ARP_TICKS → Remembers acts front e) × AllRemember acts (e.addr.0 ∷ front) es
+
+-- no entry is older than those behind it
+abbrev pub AreOlder : ℕ → List Entry → Type 0
+AreOlder age [] = ⊤
+AreOlder age (e ∷ es) = (age ≤ e.age) × AreOlder age es
+
+abbrev pub AreOrdered : List Entry → Type 0
+AreOrdered [] = ⊤
+AreOrdered (e ∷ es) = AreOlder e.age es × AreOrdered es
+
+-- the table after these acts
+pub record Knows (arp : Arp) (acts : List Act) : Type 0 where
+  pub size : length arp.entries ≡ ARP_ENTRIES
+  pub entries : AllRemember acts [] arp.entries
+  pub order : AreOrdered arp.entries
+  pub rest : (addr : List ℕ) → list_any (λ e. is_of addr e) arp.entries ≡ false → known acts addr ≡ None

@@ -1,0 +1,11 @@
+//! Ethernet with ARP (RFC 894, RFC 826): a node's datagrams in frames, each to the hardware address that its target taught
+//! last. Over a line of bytes each frame stands behind its length.
+#![tactic(auto)]
+
+mod arp;
+mod mac;
+mod sizes;
+
+pub use arp::Arp;
+pub use mac::Mac;
+pub use sizes::{ARP_ENTRIES, ARP_FRAME, ARP_TICKS, LARGEST_FRAME, SMALLEST_FRAME};
