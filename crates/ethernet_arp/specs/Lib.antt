@@ -2,4 +2,6 @@ pub mod EtherWay
 pub mod Frames
 pub mod Learning
 pub mod Table
+pub mod Taking
 pub mod Words
+pub mod Wrapping

@@ -4,8 +4,13 @@
 
 mod arp;
 mod mac;
+mod packets;
 mod sizes;
+mod taking;
+mod wrapping;
 
 pub use arp::Arp;
 pub use mac::Mac;
 pub use sizes::{ARP_ENTRIES, ARP_FRAME, ARP_TICKS, LARGEST_FRAME, SMALLEST_FRAME};
+pub use taking::{Taken, take};
+pub use wrapping::wrap;
