@@ -1,3 +1,4 @@
 pub mod Bytes
 pub mod LearningLaws
+pub mod PartLaws
 pub mod TableLaws

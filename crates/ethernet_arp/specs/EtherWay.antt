@@ -16,11 +16,13 @@ abbrev pub open_from : List ℕ → List ℕ → List ℕ
 open_from part [] = part
 open_from part (b ∷ bytes) = open_from (if is_whole (part ++ b ∷ []) then [] else part ++ b ∷ []) bytes
 
--- what a part brings that has become whole: a frame of 14 to 1514 bytes is taken, and any other is dropped
+-- a frame of 14 to 1514 bytes is taken, and any other is dropped
+abbrev pub is_taken : List ℕ → Bool
+is_taken frame = nat_le SMALLEST_FRAME (length frame) && nat_le (length frame) LARGEST_FRAME
+
+-- what a part brings that has become whole
 abbrev pub closes : Host → List ℕ → List (Came Act)
-closes k part =
-    if is_whole part && nat_le (SMALLEST_FRAME + 2) (length part) && nat_le (length part) (LARGEST_FRAME + 2)
-    then frame_brings k (drop 2 part) else []
+closes k part = if is_whole part && is_taken (drop 2 part) then frame_brings k (drop 2 part) else []
 
 -- what a host writes at an act: the reply to a request
 abbrev pub says_at : Host → Act → List ℕ

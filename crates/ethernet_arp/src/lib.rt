@@ -3,6 +3,7 @@
 #![tactic(auto)]
 
 mod arp;
+mod frame_part;
 mod mac;
 mod packets;
 mod sizes;
