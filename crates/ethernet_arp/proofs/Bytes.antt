@@ -1,8 +1,9 @@
 -- Addresses as the lists of their bytes.
-use Rattle.std.proofs.Common.{◌≡◌, ℕ, ◌+◌, ◌/◌, ◌%◌, ◌<◌, List, [], ◌∷◌, ◌++◌, length, get_or, drop, refl, sym, arith, ap, ◌∙◌, append_assoc, length-append}
-use Rattle.std.proofs.lemmas.List.{drop-drop}
+use Rattle.std.proofs.Common.{◌≡◌, ℕ, ◌+◌, ◌/◌, ◌%◌, ◌<◌, List, [], ◌∷◌, ◌++◌, length, get_or, drop, refl, sym, arith, ap, ◌∙◌, append-nil, append_assoc, length-append, take, ◌-◌, ◌≤◌}
+use Rattle.std.proofs.lemmas.List.{drop-drop, drop-take, drop_all, length-take-le}
+use Rattle.std.proofs.Math.Seq.{take-append-add, take-append_seam}
 use Rattle.uip_wire.specs.Fields.{word_bytes, written}
-use Rattle.ethernet_arp.specs.Frames.{arp_begin, frame_of}
+use Rattle.ethernet_arp.specs.Frames.{arp_begin, frame_of, framed}
 use Rattle.ethernet_arp.specs.Wrapping.{Puts}
 
 -- the elements of a list, one by one
@@ -78,3 +79,26 @@ module _ (to from datagram : List ℕ) (a : length to ≡ 6) (b : length from �
         ∙ sym (append_assoc head datagram (drop (length datagram) (drop 14 out)))
         ∙ ap (λ l. head ++ datagram ++ l) (drop-drop (length datagram) 14 out ∙ ap (λ n. drop n out) (omega (arith, frame_size)));
   }
+
+no_more : (n : ℕ) → 0 + n ≡ n
+no_more n = omega arith
+
+-- a frame behind its length
+pub framed_is : (head room frame new_head new_room : List ℕ) (len : ℕ) → length head ≡ 2 → new_head ≡ written head 0 (word_bytes len) → Puts frame len room new_room
+    → take (2 + len) (new_head ++ new_room) ≡ framed frame
+framed_is head room frame new_head new_room len two e p =
+    let word = word_bytes len in
+    let behind = drop (0 + length frame) room in
+    let first : new_head ≡ word = e ∙ ap (λ l. word ++ l) (drop_all 2 head (omega (arith, two))) ∙ append-nil word in
+    ap (λ l. take (2 + len) (l ++ new_room)) first ∙ ap (λ l. take (2 + len) (word ++ l)) p.there
+    ∙ take-append-add word (frame ++ behind) len
+    ∙ ap (λ n. word ++ take n (frame ++ behind)) p.size
+    ∙ ap (λ l. word ++ l) (take-append_seam frame behind)
+    ∙ ap (λ n. word_bytes n ++ frame) p.size
+
+-- the payload of a frame that stands in an area
+pub payload_is : (area : List ℕ) (len : ℕ) → 14 ≤ len → len ≤ length area → drop 14 (take len area) ≡ take (length (take len area) - 14) (drop 14 area)
+payload_is area len least fits =
+    let rest : 14 + (len - 14) ≡ len = omega (arith, least) in
+    let size : len - 14 ≡ length (take len area) - 14 = omega (arith, length-take-le len area fits) in
+    ap (λ n. drop 14 (take n area)) (sym rest) ∙ drop-take 14 (len - 14) area ∙ ap (λ n. take n (drop 14 area)) size

@@ -545,3 +545,12 @@ module _ (acts : List Act) where
       | inr not ↦ not
     ];
   }
+
+-- two tables with the same entries know the same
+pub knows_same : (old new : Arp) (acts : List Act) → new.entries ≡ old.entries → Knows old acts → Knows new acts
+knows_same old new acts e k = record {
+  size = ap (λ (l : List Entry). length l) e ∙ k.size;
+  entries = subst (λ (l : List Entry). AllRemember acts [] l) (sym e) k.entries;
+  order = subst (λ (l : List Entry). AreOrdered l) (sym e) k.order;
+  rest = λ x none. k.rest x (ap (λ (l : List Entry). list_any (λ y. is_of x y) l) (sym e) ∙ none);
+}

@@ -6,6 +6,7 @@ use Rattle.uip_wire.specs.Fields.{word_at, word_bytes}
 use Rattle.uip_wire.specs.declared.sizes.TheConstants.{LARGEST_DATAGRAM}
 use Rattle.line_medium.specs.Ways.{Came, Datagram, Own}
 use Rattle.ethernet_arp.specs.Learning.{Act, Asked, Pair, Replied, known}
+use Rattle.ethernet_arp.specs.declared.sizes.TheConstants.{SMALLEST_DATAGRAM}
 
 -- a host: its Internet address and its hardware address
 pub record Host : Type 0 where
@@ -93,4 +94,4 @@ framed frame = word_bytes (length frame) ++ frame
 
 -- a datagram has a header with its target, and fits a frame
 abbrev pub is_sendable : List ℕ → Bool
-is_sendable datagram = nat_le 20 (length datagram) && nat_le (length datagram) LARGEST_DATAGRAM
+is_sendable datagram = nat_le SMALLEST_DATAGRAM (length datagram) && nat_le (length datagram) LARGEST_DATAGRAM

@@ -2,6 +2,7 @@ pub mod EtherWay
 pub mod Frames
 pub mod Learning
 pub mod Parts
+pub mod Shown
 pub mod Table
 pub mod Taking
 pub mod Words

@@ -81,6 +81,14 @@ impl Arp {
         grow_older(&mut self.entries);
     }
 
+    /// Knows what another host has learnt, and no more.
+    pub(crate) fn learn_all(&mut self, other: &Arp)
+        ensures host { host_of self.new ≡ host_of self.old }
+        ensures knows { self.new.entries ≡ other.now.entries }
+    {
+        self.entries = other.entries;
+    }
+
     /// The hardware address that is known of an address.
     pub fn known(&self, addr: Addr) -> Option<Mac>
         ensures { (acts : List Act) → Knows self.now acts → option_map (λ m. m.0) result ≡ known acts addr.0 }

@@ -1,8 +1,9 @@
-ghost use Rattle.std.specs.Prelude.{◌≡◌, ◌<◌, ◌≤◌, ◌+◌, ◌*◌, ◌&&◌, ◌++◌, ◌↔◌, [], List, ℕ, IsTrue, None, length, nat_le, take};
+ghost use Rattle.std.specs.Prelude.{◌≡◌, ◌<◌, ◌≤◌, ◌+◌, ◌*◌, ◌&&◌, ◌++◌, [], List, ℕ, None, drop, length, nat_le, nat_lt, take};
 ghost use Rattle.ethernet_arp.specs.Parts.{GoesOn, Holds, IsWaiting, TakesIn};
 
 use crate::packets::put_front;
 use crate::sizes::{LARGEST_FRAME, SMALLEST_FRAME};
+use uip_wire::LARGEST_DATAGRAM;
 
 /// What a line brought behind its last whole frame: a length, of which the first byte may have come, or as many bytes of a
 /// frame as came. Of a frame that is too long the bytes are counted, and a front of them is kept.
@@ -29,7 +30,7 @@ impl FramePart {
 
     /// A frame waits for more bytes.
     pub fn is_waiting(&self) -> bool
-        ensures { IsTrue result ↔ IsWaiting self.now }
+        ensures { result ≡ nat_lt self.now.len self.now.size }
     {
         self.len < self.size
     }
@@ -40,6 +41,14 @@ impl FramePart {
         ensures { result.now ≡ take self.now.len self.now.area }
     {
         &self.area[..self.len]
+    }
+
+    /// So many bytes of the payload of the last frame.
+    pub fn payload(&self, count: usize) -> &[u8]
+        requires { count ≤ LARGEST_DATAGRAM }
+        ensures { result.now ≡ take count (drop 14 self.now.area) }
+    {
+        &self.area[SMALLEST_FRAME..SMALLEST_FRAME + count]
     }
 
     /// The last frame has a length that is taken.

@@ -3,15 +3,19 @@
 #![tactic(auto)]
 
 mod arp;
+mod ether_line;
 mod frame_part;
+mod framing;
 mod mac;
 mod packets;
+mod serving;
 mod sizes;
 mod taking;
 mod wrapping;
 
 pub use arp::Arp;
 pub use mac::Mac;
+pub use serving::serve_ether;
 pub use sizes::{ARP_ENTRIES, ARP_FRAME, ARP_TICKS, LARGEST_FRAME, SMALLEST_FRAME};
 pub use taking::{Taken, take};
 pub use wrapping::wrap;

@@ -7,16 +7,17 @@ ghost use Rattle.ethernet_arp.specs.Wrapping.{Puts};
 use crate::arp::Arp;
 use crate::mac::{BROADCAST, Mac};
 use crate::packets::{REQUEST, arp_frame, datagram_head, put_front};
-use crate::sizes::{ARP_FRAME, LARGEST_FRAME, SMALLEST_FRAME};
+use crate::sizes::{ARP_FRAME, LARGEST_FRAME, SMALLEST_DATAGRAM, SMALLEST_FRAME};
 use uip_wire::{Addr, LARGEST_DATAGRAM};
 
 /// Writes the frame for a datagram, and tells its length: to the hardware address that is known of its target; where none is,
 /// the request for that, and the datagram is lost.
 pub fn wrap(arp: &Arp, datagram: &[u8], out: &mut [u8]) -> usize
-    requires least { 20 ≤ length datagram.now }
+    requires least { SMALLEST_DATAGRAM ≤ length datagram.now }
     requires most { length datagram.now ≤ LARGEST_DATAGRAM }
     requires room { LARGEST_FRAME ≤ length out.old }
-    ensures { (acts : List Act) → Knows arp.now acts → Puts (wrapped (host_of arp.now) acts datagram.now) result out.old out.new }
+    ensures within { result ≤ LARGEST_FRAME }
+    ensures puts { (acts : List Act) → Knows arp.now acts → Puts (wrapped (host_of arp.now) acts datagram.now) result out.old out.new }
 {
     let target = Addr::get(datagram, 16);
     match arp.known(target) {
@@ -29,7 +30,8 @@ pub fn wrap(arp: &Arp, datagram: &[u8], out: &mut [u8]) -> usize
 fn put_datagram(to: Mac, from: Mac, datagram: &[u8], out: &mut [u8]) -> usize
     requires most { length datagram.now ≤ LARGEST_DATAGRAM }
     requires room { LARGEST_FRAME ≤ length out.old }
-    ensures { Puts (frame_of to.0 from.0 2048 datagram.now) result out.old out.new }
+    ensures within { result ≤ LARGEST_FRAME }
+    ensures puts { Puts (frame_of to.0 from.0 2048 datagram.now) result out.old out.new }
 {
     let (head, rest) = out.split_at_mut(SMALLEST_FRAME);
     head.copy_from_slice(&datagram_head(to, from));
@@ -40,7 +42,8 @@ fn put_datagram(to: Mac, from: Mac, datagram: &[u8], out: &mut [u8]) -> usize
 /// Writes the request for the hardware address of a target.
 fn put_request(arp: &Arp, target: Addr, out: &mut [u8]) -> usize
     requires { LARGEST_FRAME ≤ length out.old }
-    ensures { Puts (request_for (host_of arp.now) target.0) result out.old out.new }
+    ensures within { result ≤ LARGEST_FRAME }
+    ensures puts { Puts (request_for (host_of arp.now) target.0) result out.old out.new }
 {
     let nobody = Mac([0; 6]);
     put_front(out, &arp_frame(BROADCAST, REQUEST, arp.own, arp.mac, nobody, target));

@@ -1,0 +1,47 @@
+-- A serving, told of other words for what its medium did.
+use Rattle.std.proofs.Common.{◌≡◌, ℕ, Bool, List, Option}
+use Rattle.app_events.specs.Part.{Meaning}
+use Rattle.app_events.specs.declared.app.App.{Ghosts}
+use Rattle.uip_edge.specs.declared.serve_end.ServeEnd.{ServeEnd}
+use Rattle.uip_edge.specs.declared.serve_end.ServeEnd.TheVariants as ends
+use Rattle.uip_wire.specs.declared.addr.Addr.{Addr}
+use Rattle.uip_node.specs.declared.node.Node.{Node}
+use Rattle.line_medium.specs.Ways.{Way}
+use Rattle.serve_loop.specs.DeedRuns.{AllSaid, Deed, FrontSaid, Station}
+use Rattle.serve_loop.specs.DeedServing.{IsAt, SaidBy, ServesOver}
+use Rattle.serve_loop.specs.Outside.{Outside}
+
+module _ {A S C : Type 0} (g : Ghosts A S) (w : Way C) (did did' told told' : List C → Type 0) (before after : Node A S)
+    (first : (acts : List C) → told acts → did acts) (last : (acts : List C) → did' acts → told' acts) where
+  starts : (s : Station C) → IsAt g told before s → IsAt g did before s
+  starts s p = record { stands = p.stands; acted = first s.acts p.acted }
+
+  stops : (s : Station C) → IsAt g did' after s → IsAt g told' after s
+  stops s p = record { stands = p.stands; acted = last s.acts p.acted }
+
+  all_told : (m : Meaning) (served : ℕ → Bool) (own : Addr) (deeds : List (Deed C)) (a b : Option (List ℕ))
+      → AllSaid m served w own deeds (IsAt g did before) (IsAt g did' after) a b → AllSaid m served w own deeds (IsAt g told before) (IsAt g told' after) a b
+  all_told m served own deeds a b v = record { each = λ s p. let it = v.each s (starts s p) in (stops _ it.0, it.1) }
+
+  front_told : (m : Meaning) (served : ℕ → Bool) (own : Addr) (deeds : List (Deed C)) (a b : Option (List ℕ))
+      → FrontSaid m served w own deeds (IsAt g did before) (IsAt g did' after) a b → FrontSaid m served w own deeds (IsAt g told before) (IsAt g told' after) a b
+  front_told m served own deeds a b v = record {
+    each = λ s p.
+        let it = v.each s (starts s p) in
+        record { done = it.done; later = it.later; front = it.front; after = stops _ it.after; written = it.written };
+  }
+
+  told_by : (end : ServeEnd) (m : Meaning) (served : ℕ → Bool) (own : Addr) (deeds : List (Deed C)) (a b : Option (List ℕ))
+      → SaidBy end m served w own deeds (IsAt g did before) (IsAt g did' after) a b → SaidBy end m served w own deeds (IsAt g told before) (IsAt g told' after) a b
+  told_by ends.End m served own deeds a b v = all_told m served own deeds a b v
+  told_by ends.Budget m served own deeds a b v = all_told m served own deeds a b v
+  told_by ends.LinkFault m served own deeds a b v = all_told m served own deeds a b v
+  told_by ends.WriteFault m served own deeds a b v = front_told m served own deeds a b v
+
+  pub serves_told : (pace n : ℕ) (old new : Outside) (end : ServeEnd) → ServesOver g w did did' pace n before after old new end → ServesOver g w told told' pace n before after old new end
+  serves_told pace n old new end v = record {
+    taken = v.taken;
+    consumed = v.consumed;
+    ends = v.ends;
+    wrote = told_by end _ _ _ _ _ _ v.wrote;
+  }

@@ -1,0 +1,52 @@
+use Rattle.std.proofs.Common.{◌≡◌, ◌-◌, ◌++◌, ◌∷◌, ◌∙◌, [], List, ℕ, length, take, drop, refl, arith, ap, append-nil, sym, subst}
+use Rattle.line_medium.specs.Ways.{Came, Datagram, Own, acts_of}
+use Rattle.ethernet_arp.specs.Frames.{Host, frame_brings, framed, reply_to}
+use Rattle.ethernet_arp.specs.Learning.{Act, Asked, Pair, Replied}
+use Rattle.ethernet_arp.specs.Table.{Knows, host_of}
+use Rattle.ethernet_arp.proofs.Bytes.{payload_is}
+use Rattle.ethernet_arp.proofs.TakenLaws.{brings_act, brings_datagram, brings_none}
+use Rattle.ethernet_arp.proofs.ether_line.EtherLine.take_whole.Goals as goal
+
+pub returns-in-Nothing-clause-told : goal.returns-in-Nothing-clause-told
+returns-in-Nothing-clause-told c = ap (λ l. frame_brings (host_of c.args.self.now.arp) l) (sym c.frame.ensures) ∙ c.in-Nothing.ensures.brings
+
+pub returns-in-Nothing-clause-knows : goal.returns-in-Nothing-clause-knows
+returns-in-Nothing-clause-knows c =
+    brings_none c.args.self.now.arp c.args.self.now.arp _ (ap (λ l. frame_brings (host_of c.args.self.now.arp) l) (sym c.frame.ensures) ∙ c.in-Nothing.ensures.brings) (λ acts k. k)
+
+pub returns-in-Datagram-clause-told : goal.returns-in-Datagram-clause-told
+returns-in-Datagram-clause-told c =
+    let part = c.args.self.now.part in
+    let payload = payload_is part.area part.len c.requires.least (let most = c.requires.most in omega arith) in
+    ap (λ l. frame_brings (host_of c.args.self.now.arp) l) (sym c.frame.ensures) ∙ c.in-Datagram.ensures.brings
+    ∙ ap (λ l. Datagram (drop 14 l) ∷ []) c.frame.ensures
+    ∙ ap (λ l. Datagram l ∷ []) (payload ∙ ap (λ l. take (length l - 14) (drop 14 part.area)) (sym c.frame-in-Datagram.ensures))
+
+pub returns-in-Datagram-clause-knows : goal.returns-in-Datagram-clause-knows
+returns-in-Datagram-clause-knows c =
+    brings_datagram c.args.self.now.arp c.args.self.now.arp _ _ (ap (λ l. frame_brings (host_of c.args.self.now.arp) l) (sym c.frame.ensures) ∙ c.in-Datagram.ensures.brings) (λ acts k. k)
+
+pub returns-in-Asked-clause-told : goal.returns-in-Asked-clause-told
+returns-in-Asked-clause-told c =
+    let pair : Pair = record { addr = c.in-Asked.addr.0; mac = c.in-Asked.mac.0 } in (
+      Asked pair,
+      ap (λ l. frame_brings (host_of c.args.self.now.arp) l) (sym c.frame.ensures) ∙ c.in-Asked.ensures.brings,
+      ap (λ (k : Host). framed (reply_to k pair)) (sym c.learn.ensures.host) ∙ sym c.frame_reply-self.ensures.text,
+    )
+
+pub returns-in-Asked-clause-knows : goal.returns-in-Asked-clause-knows
+returns-in-Asked-clause-knows c =
+    let pair : Pair = record { addr = c.in-Asked.addr.0; mac = c.in-Asked.mac.0 } in
+    brings_act c.args.self.now.arp c.learn.new.self _ (Asked pair) (ap (λ l. frame_brings (host_of c.args.self.now.arp) l) (sym c.frame.ensures) ∙ c.in-Asked.ensures.brings)
+    (λ acts k. c.learn.ensures.knows (Asked pair) acts refl k)
+
+pub returns-in-Replied-clause-told : goal.returns-in-Replied-clause-told
+returns-in-Replied-clause-told c =
+    let pair : Pair = record { addr = c.in-Replied.addr.0; mac = c.in-Replied.mac.0 } in
+    (Replied pair, ap (λ l. frame_brings (host_of c.args.self.now.arp) l) (sym c.frame.ensures) ∙ c.in-Replied.ensures.brings, refl)
+
+pub returns-in-Replied-clause-knows : goal.returns-in-Replied-clause-knows
+returns-in-Replied-clause-knows c =
+    let pair : Pair = record { addr = c.in-Replied.addr.0; mac = c.in-Replied.mac.0 } in
+    brings_act c.args.self.now.arp c.learn-in-Replied.new.self _ (Replied pair) (ap (λ l. frame_brings (host_of c.args.self.now.arp) l) (sym c.frame.ensures) ∙ c.in-Replied.ensures.brings)
+    (λ acts k. c.learn-in-Replied.ensures.knows (Replied pair) acts refl k)
