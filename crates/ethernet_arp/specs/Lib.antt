@@ -2,8 +2,10 @@ pub mod EtherWay
 pub mod Frames
 pub mod Learning
 pub mod Parts
+pub mod Sending
 pub mod Shown
 pub mod Table
 pub mod Taking
 pub mod Words
+pub mod Worked
 pub mod Wrapping

@@ -1,0 +1,34 @@
+-- The law of sending, over the text of a whole line: each frame with a datagram goes to the hardware address that its target
+-- taught last.
+use Rattle.std.specs.Prelude.{◌≡◌, ℕ, Bool, true, if◌then◌else◌, List, [], ◌∷◌, ◌++◌, drop, length, Some, slice_get}
+use Rattle.app_events.specs.Part.{Meaning}
+use Rattle.uip_wire.specs.Addr.{address_at}
+use Rattle.uip_wire.specs.Fields.{word_at}
+use Rattle.uip_wire.specs.declared.addr.Addr.{Addr}
+use Rattle.serve_loop.specs.DeedRuns.{Deed, Station, after, said}
+use Rattle.ethernet_arp.specs.EtherWay.{ether_way, is_whole}
+use Rattle.ethernet_arp.specs.Frames.{Host, is_datagram, mac_at}
+use Rattle.ethernet_arp.specs.Learning.{Act, Learning, last_learning}
+
+-- the frames of a text, each behind its length
+abbrev pub frames_from : List ℕ → List ℕ → List (List ℕ)
+frames_from part [] = []
+frames_from part (b ∷ bytes) = if is_whole (part ++ b ∷ []) then drop 2 (part ++ b ∷ []) ∷ frames_from [] bytes else frames_from (part ++ b ∷ []) bytes
+
+-- the target of the datagram in a frame
+abbrev pub target_of : List ℕ → List ℕ
+target_of frame = address_at (drop 14 frame) 16
+
+-- The frame was sent behind a front of the deeds, and goes to the hardware address that its target had taught last by then.
+pub record GoesHome (m : Meaning) (served : ℕ → Bool) (deeds : List (Deed Act)) (s : Station Act) (frame : List ℕ) : Type 0 where
+  pub done : List (Deed Act)
+  pub later : List (Deed Act)
+  pub front : deeds ≡ done ++ later
+  pub learning : Learning
+  pub last : last_learning (target_of frame) (after m served done s).acts ≡ Some learning
+  pub to : mac_at frame 0 ≡ learning.mac
+
+-- every frame with a datagram in the text that is said for deeds
+pub record AllGoHome (m : Meaning) (served : ℕ → Bool) (k : Host) (own : Addr) (deeds : List (Deed Act)) (s : Station Act) : Type 0 where
+  pub each : (i : ℕ) (frame : List ℕ) → slice_get (frames_from [] (said m served (ether_way k) own deeds s)) i ≡ Some frame → is_datagram (word_at frame 12) ≡ true
+      → GoesHome m served deeds s frame
