@@ -1,11 +1,9 @@
 -- The last learning of an address behind one more act.
-use Rattle.std.proofs.Common.{◌≡◌, ℕ, ◌+◌, ◌<◌, ◌≤◌, ◌&&◌, ◌||◌, Bool, true, false, if◌then◌else◌, nat_lt, List, [], ◌∷◌, ◌++◌, Option, None, Some, length, refl, sym, ap, ◌∙◌, subst, arith}
+use Rattle.std.proofs.Common.{◌≡◌, ℕ, ◌+◌, ◌||◌, Bool, true, false, if◌then◌else◌, List, [], ◌∷◌, ◌++◌, Option, None, Some, length, refl, sym, ap, ◌∙◌, subst, arith}
 use Rattle.std.specs.Prelude.{⊤}
 use Rattle.std.specs.Str.{bytes_eq}
-use Rattle.std.proofs.lemmas.Bool.{ltb-true, lt-ltb}
 use Rattle.std.proofs.lemmas.Slice.Eq.{bytes_eq-Decides}
-use Rattle.ethernet_arp.specs.Learning.{Act, Asked, Learning, Pair, Replied, Ticked, addresses_of, among, is_fresh, known, last_learning, later_or, learning_by, mac_of, taught, ticks_of, with_one}
-use Rattle.ethernet_arp.specs.Table.{IsLike}
+use Rattle.ethernet_arp.specs.Learning.{Act, Asked, Learning, Pair, Replied, Ticked, addresses_of, among, last_learning, later_or, learning_by, taught, ticks_of, with_one}
 
 -- bytes that are equal
 pub is_same : (xs ys : List ℕ) → bytes_eq xs ys ≡ true → xs ≡ ys
@@ -38,7 +36,7 @@ by_more : (addr : List ℕ) (pair : Option Pair) (acts : List Act) (act : Act)
 by_more addr None acts act = refl
 by_more addr (Some pair) acts act =
     elim (bytes_eq pair.addr addr) as (λ v. (if v then Some (record { mac = pair.mac; later = acts ++ act ∷ [] }) else None)
-        ≡ on_later act (if v then Some (record { mac = pair.mac; later = acts }) else None)) [
+    ≡ on_later act (if v then Some (record { mac = pair.mac; later = acts }) else None)) [
       | true ↦ refl
       | false ↦ refl
     ]

@@ -1,5 +1,5 @@
 -- What a run of bytes does to an Ethernet line.
-use Rattle.std.proofs.Common.{◌≡◌, ◌++◌, ◌∷◌, ◌∙◌, ◌&&◌, [], List, ℕ, if◌then◌else◌, true, false, nat_le, take, ap, append-nil, sym, subst}
+use Rattle.std.proofs.Common.{◌≡◌, ◌++◌, ◌∙◌, ◌&&◌, [], List, ℕ, if◌then◌else◌, true, false, nat_le, take, ap, append-nil, sym, subst}
 use Rattle.line_medium.specs.Ways.{Came, Tells, acts_of, all_brought}
 use Rattle.line_medium.specs.declared.medium.Brought.{Brought}
 use Rattle.ethernet_arp.specs.EtherWay.{ether_way, open_from}

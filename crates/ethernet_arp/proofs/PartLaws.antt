@@ -1,13 +1,12 @@
 -- What more bytes make of the part behind the last whole frame, and what they bring.
-use Rattle.std.proofs.Common.{◌≡◌, ℕ, ◌+◌, ◌-◌, ◌*◌, ◌<◌, ◌≤◌, ◌&&◌, Bool, true, false, if◌then◌else◌, min, nat_le, nat_lt, List, [], ◌∷◌, ◌++◌, Option, None, Some, length, take, drop, option_to_list, refl, sym, ap, ◌∙◌, subst, arith, inl, inr, ◌⊎◌, length-drop, append-nil, append_assoc, length-append, eqb, eq-eqb, ne_eqb}
+use Rattle.std.proofs.Common.{◌≡◌, ℕ, ◌+◌, ◌-◌, ◌*◌, ◌<◌, ◌≤◌, ◌&&◌, Bool, true, false, if◌then◌else◌, min, nat_le, nat_lt, List, [], ◌∷◌, ◌++◌, Option, length, take, drop, option_to_list, refl, sym, ap, ◌∙◌, arith, inl, inr, ◌⊎◌, length-drop, append-nil, append_assoc, length-append, eq-eqb, ne_eqb}
 use Rattle.std.proofs.Math.Seq.{take-append-add, take-append_seam}
 use Rattle.std.proofs.lemmas.Bool.{leb-false, leb-true, ltb-false, ltb-true}
 use Rattle.std.proofs.lemmas.List.{length-take-le, take-append-le, take_all}
 use Rattle.uip_wire.specs.Fields.{written}
-use Rattle.line_medium.specs.Ways.{Came, all_brought}
+use Rattle.line_medium.specs.Ways.{all_brought}
 use Rattle.ethernet_arp.specs.EtherWay.{closes, ether_way, is_taken, is_whole, open_from}
 use Rattle.ethernet_arp.specs.Frames.{Host, frame_brings}
-use Rattle.ethernet_arp.specs.Learning.{Act}
 use Rattle.ethernet_arp.specs.Parts.{Holds, InFrame, TakesIn, brought_from, whole_brings}
 use Rattle.ethernet_arp.specs.declared.frame_part.FramePart.{FramePart}
 
@@ -140,6 +139,7 @@ none_left n part rest bytes m is least size same =
       | true ↦ λ e. inl (leb-true a b e)
       | false ↦ λ e. inr (let below = leb-false a b e in omega arith)
     ] refl
+
     empty : (xs : List ℕ) → length xs ≡ 0 → xs ≡ []
     empty [] e = refl
     empty (x ∷ xs) e = absurd (omega (arith, e))
@@ -205,7 +205,7 @@ module _ (old new : FramePart) (run : List ℕ) (some : 0 < length run) (waits :
   taken_is k frame same kept =
       ap (λ n. if nat_le 14 n && nat_le n 1514 then frame_brings k frame else []) same
       ∙ elim (nat_le new.len 1514) as (λ v. nat_le new.len 1514 ≡ v
-          → (if nat_le 14 new.len && v then frame_brings k frame else []) ≡ (if nat_le 14 new.len && v then frame_brings k (take new.len new.area) else [])) [
+      → (if nat_le 14 new.len && v then frame_brings k frame else []) ≡ (if nat_le 14 new.len && v then frame_brings k (take new.len new.area) else [])) [
         | true ↦ λ e.
             let fits : length frame ≤ 1514 = (let below = leb-true new.len 1514 e in omega (arith, same)) in
             ap (λ l. if nat_le 14 new.len && true then frame_brings k l else []) (sym (take_all 1514 frame fits) ∙ sym kept)

@@ -1,8 +1,7 @@
 -- What is written for worked lines.
-use Rattle.std.proofs.Common.{◌≡◌, ℕ, Bool, List, [], ◌∷◌, ◌++◌, map, replicate, refl}
+use Rattle.std.proofs.Common.{◌≡◌, ℕ, Bool, ◌++◌, map, refl}
 use Rattle.app_events.specs.Part.{Meaning}
-use Rattle.uip_edge.specs.declared.item.Item.{Item}
-use Rattle.uip_edge.specs.declared.item.Item.TheVariants.{Byte, Quiet}
+use Rattle.uip_edge.specs.declared.item.Item.TheVariants.{Byte}
 use Rattle.uip_ipv4.specs.Head.{head_or_fate}
 use Rattle.uip_wire.specs.Checksum.{folded}
 use Rattle.ethernet_arp.specs.Worked.{ping, pong, question, reply, request, written_for}

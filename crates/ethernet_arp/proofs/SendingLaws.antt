@@ -1,5 +1,5 @@
 -- Each frame with a datagram goes to the hardware address that its target taught last.
-use Rattle.std.proofs.Common.{◌≡◌, ℕ, zero, suc, ◌+◌, ◌*◌, ◌/◌, ◌%◌, ◌<◌, ◌≤◌, ◌&&◌, ◌||◌, ◌==◌, Bool, true, false, if◌then◌else◌, nat_le, nat_lt, List, [], ◌∷◌, ◌++◌, Option, None, Some, length, drop, map, refl, sym, ap, ◌∙◌, subst, arith, inl, inr, ◌⊎◌, append-nil, append_assoc, length-append, ne_eqb, eq-eqb}
+use Rattle.std.proofs.Common.{◌≡◌, ℕ, zero, suc, ◌+◌, ◌*◌, ◌/◌, ◌%◌, ◌<◌, ◌&&◌, ◌||◌, ◌==◌, Bool, true, false, if◌then◌else◌, nat_le, nat_lt, List, [], ◌∷◌, ◌++◌, Option, None, Some, length, drop, map, refl, sym, ap, ◌∙◌, subst, arith, inl, inr, ◌⊎◌, append_assoc, length-append, ne_eqb, eq-eqb}
 use Rattle.std.specs.Prelude.{⊤, slice_get}
 use Rattle.std.specs.Str.{bytes_eq}
 use Rattle.std.proofs.lemmas.Bool.{leb-true}
@@ -13,7 +13,7 @@ use Rattle.uip_node.specs.Edge.{reply_bytes}
 use Rattle.uip_node.specs.Events.{Event, Reply, tick}
 use Rattle.uip_node.specs.Node.{AbstractNode, step}
 use Rattle.line_medium.specs.Ways.{Came, Datagram, Overlong, Own}
-use Rattle.serve_loop.specs.DeedRuns.{Deed, Does, Happens, Station, after, after_deed, said, said_at, text_behind}
+use Rattle.serve_loop.specs.DeedRuns.{Deed, Does, Happens, Station, after_deed, said, said_at, text_behind}
 use Rattle.serve_loop.specs.LineDeeds.{beat_on, deed_by, deeds_behind, line_deeds, tick_on}
 use Rattle.serve_loop.specs.Pace.{is_beat}
 use Rattle.ethernet_arp.specs.EtherWay.{closes, ether_text, ether_way, is_taken, is_whole, open_from}

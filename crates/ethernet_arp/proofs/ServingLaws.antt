@@ -1,5 +1,5 @@
 -- A serving, told of other words for what its medium did.
-use Rattle.std.proofs.Common.{◌≡◌, ℕ, Bool, List, Option}
+use Rattle.std.proofs.Common.{ℕ, Bool, List, Option}
 use Rattle.app_events.specs.Part.{Meaning}
 use Rattle.app_events.specs.declared.app.App.{Ghosts}
 use Rattle.uip_edge.specs.declared.serve_end.ServeEnd.{ServeEnd}

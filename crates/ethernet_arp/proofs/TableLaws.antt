@@ -1,16 +1,15 @@
 -- A table after one more act.
-use Rattle.std.proofs.Common.{add-one, ◌≡◌, ℕ, zero, suc, ◌+◌, ◌-◌, ◌<◌, ◌≤◌, ◌&&◌, ◌||◌, Bool, true, false, if◌then◌else◌, nat_lt, min, List, [], ◌∷◌, ◌++◌, Option, None, Some, length, map, take, drop, get_or, refl, sym, ap, ◌∙◌, subst, arith, inl, inr, ◌⊎◌}
-use Rattle.std.specs.Prelude.{⊤}
+use Rattle.std.proofs.Common.{add-one, ◌≡◌, ℕ, suc, ◌+◌, ◌-◌, ◌<◌, ◌≤◌, ◌&&◌, ◌||◌, Bool, true, false, if◌then◌else◌, nat_lt, min, List, [], ◌∷◌, ◌++◌, Option, None, Some, length, map, take, drop, get_or, refl, sym, ap, ◌∙◌, subst, arith, inl, inr, ◌⊎◌}
 use Rattle.std.specs.List.{list_any, position_or_len}
 use Rattle.std.specs.Str.{bytes_eq}
 use Rattle.std.proofs.lemmas.Bool.{le-ltb, ltb-false, ltb-true, lt-ltb}
 use Rattle.std.proofs.lemmas.List.{length-map}
 use Rattle.std.proofs.lemmas.List.Recursion.{is_position_or_len}
-use Rattle.ethernet_arp.specs.Learning.{Act, Learning, Pair, Ticked, addresses_of, among, is_fresh, known, last_learning, learning_by, mac_of, taught, ticks_of}
+use Rattle.ethernet_arp.specs.Learning.{Act, Learning, Pair, Ticked, addresses_of, among, is_fresh, known, last_learning, mac_of, taught, ticks_of}
 use Rattle.ethernet_arp.specs.Table.{AllRemember, AreOlder, AreOrdered, IsLike, Knows, Remembers, aged, is_of, moved_front}
 use Rattle.ethernet_arp.specs.declared.arp.Arp.{Arp}
 use Rattle.ethernet_arp.specs.declared.arp.Entry.{Entry}
-use Rattle.ethernet_arp.proofs.LearningLaws.{HasMore, addresses-learnt, addresses-tick, is_same, last-learnt, last-other, last-tick, not_among, not_both, on_later, or_parts, same, ticks-learnt, ticks-tick}
+use Rattle.ethernet_arp.proofs.LearningLaws.{addresses-learnt, addresses-tick, is_same, last-learnt, last-other, last-tick, not_among, not_both, on_later, or_parts, same, ticks-learnt, ticks-tick}
 
 pub like_same : (xs : List (List ℕ)) → IsLike xs xs
 like_same xs = record { size = refl; same = λ y. refl }
@@ -226,13 +225,13 @@ module _ (acts : List Act) (act : Act) (pair : Pair) (is : taught act ≡ Some p
             let here = (live_entry pair.addr e h).1 in
             all_old acts act pair is (x ∷ es) (e.addr.0 ∷ front) front' (in_front e.addr.0 front here) (like_found e.addr.0 front front' here f) r.1
         | false ↦ λ h. (
-            λ live. remember_new acts act pair is e front front' (away_from e (other_entry pair.addr e live h)) new f (r.0 live),
-            elim (is_live e.age) [
-              | inl live ↦ all_learnt (x ∷ es) (e.addr.0 ∷ front) (e.addr.0 ∷ front') (not_in e.addr.0 front (other_entry pair.addr e live h) new)
-                  (like_turn pair.addr e.addr.0 front front' f) o.1 r.1
-              | inr old ↦ all_gone after e.age (without pair.addr (x ∷ es)) (e.addr.0 ∷ front') old (older_without pair.addr e.age (x ∷ es) o.0)
-            ],
-          )
+          λ live. remember_new acts act pair is e front front' (away_from e (other_entry pair.addr e live h)) new f (r.0 live),
+          elim (is_live e.age) [
+            | inl live ↦ all_learnt (x ∷ es) (e.addr.0 ∷ front) (e.addr.0 ∷ front') (not_in e.addr.0 front (other_entry pair.addr e live h) new)
+                (like_turn pair.addr e.addr.0 front front' f) o.1 r.1
+            | inr old ↦ all_gone after e.age (without pair.addr (x ∷ es)) (e.addr.0 ∷ front') old (older_without pair.addr e.age (x ∷ es) o.0)
+          ],
+        )
       ] refl
 
   -- an address that was not known is not, after a learning of another
@@ -246,6 +245,7 @@ module _ (acts : List Act) (act : Act) (pair : Pair) (is : taught act ≡ Some p
       at_least : (n m : ℕ) (b : Bool) → m ≡ n + (if b then 0 else 1) → n ≤ m
       at_least n m true e = omega (arith, e)
       at_least n m false e = omega (arith, e)
+
       less : (t t' n n' : ℕ) → t' ≡ t → n ≤ n' → (nat_lt t 2400 && nat_lt n 8) ≡ false → (nat_lt t' 2400 && nat_lt n' 8) ≡ false
       less t t' n n' e f h =
           elim (nat_lt t' 2400 && nat_lt n' 8) as (λ v. (nat_lt t' 2400 && nat_lt n' 8) ≡ v → v ≡ false) [
@@ -263,6 +263,7 @@ module _ (acts : List Act) (act : Act) (pair : Pair) (is : taught act ≡ Some p
     where
       some_none : (m : List ℕ) → Some m ≡ None → ⊥
       some_none m e = cc
+
       stale : (l : Learning) → mac_of (Some l) ≡ None → is_fresh l ≡ false
       stale l e =
           elim (is_fresh l) as (λ v. (if◌then◌else◌ {A = Option (List ℕ)} v (Some l.mac) None) ≡ None → v ≡ false) [
@@ -301,15 +302,15 @@ module _ (acts : List Act) (act : Act) (pair : Pair) (is : taught act ≡ Some p
       ] refl
   dropped addr (e ∷ x ∷ es) front away new size o r none =
       elim (is_of pair.addr e) as (λ v. is_of pair.addr e ≡ v → list_any (λ y. is_of addr y) (if v then x ∷ es else e ∷ without pair.addr (x ∷ es)) ≡ false
-          → (list_any (λ y. is_of addr y) (e ∷ x ∷ es) ≡ false) ⊎ (known after addr ≡ None)) [
+      → (list_any (λ y. is_of addr y) (e ∷ x ∷ es) ≡ false) ⊎ (known after addr ≡ None)) [
         | true ↦ λ h rest. inl (ap (λ v. v || list_any (λ y. is_of addr y) (x ∷ es)) (not_here e (live_entry pair.addr e h).1) ∙ rest)
         | false ↦ λ h rest.
             let parts = or_parts (is_of addr e) (list_any (λ y. is_of addr y) (without pair.addr (x ∷ es))) rest in
             elim (is_live e.age) [
               | inl live ↦ elim (dropped addr (x ∷ es) (e.addr.0 ∷ front) away (not_in e.addr.0 front (other_entry pair.addr e live h) new) (omega (arith, size)) o.1 r.1 parts.1) [
-                  | inl was ↦ inl (ap (λ v. v || list_any (λ y. is_of addr y) (x ∷ es)) parts.0 ∙ was)
-                  | inr not ↦ inr not
-                ]
+                | inl was ↦ inl (ap (λ v. v || list_any (λ y. is_of addr y) (x ∷ es)) parts.0 ∙ was)
+                | inr not ↦ inr not
+              ]
               | inr old ↦ inl (ap (λ v. v || list_any (λ y. is_of addr y) (x ∷ es)) parts.0 ∙ none_gone addr e.age (x ∷ es) old o.0)
             ]
       ] refl none
@@ -317,6 +318,7 @@ module _ (acts : List Act) (act : Act) (pair : Pair) (is : taught act ≡ Some p
       and_false : (a b : Bool) → b ≡ false → (a && b) ≡ false
       and_false true b e = e
       and_false false b e = refl
+
       not_here : (y : Entry) → y.addr.0 ≡ pair.addr → is_of addr y ≡ false
       not_here y here = ap (λ l. nat_lt y.age 2400 && bytes_eq l addr) here ∙ and_false (nat_lt y.age 2400) (bytes_eq pair.addr addr) away
 
@@ -370,7 +372,7 @@ moved_is addr (e ∷ []) p some h =
     subst (λ (n : ℕ). take n (e ∷ []) ++ drop (suc n) (e ∷ []) ≡ []) zero_is refl
 moved_is addr (e ∷ x ∷ es) p some h =
     elim (is_of addr e) as (λ v. p ≡ min (if v then 0 else suc (place_in addr (x ∷ es))) (length (e ∷ x ∷ es) - 1)
-        → take p (e ∷ x ∷ es) ++ drop (suc p) (e ∷ x ∷ es) ≡ (if v then x ∷ es else e ∷ without addr (x ∷ es))) [
+    → take p (e ∷ x ∷ es) ++ drop (suc p) (e ∷ x ∷ es) ≡ (if v then x ∷ es else e ∷ without addr (x ∷ es))) [
       | true ↦ λ k.
           let zero_is : 0 ≡ p = omega (arith, k) in
           subst (λ (n : ℕ). take n (e ∷ x ∷ es) ++ drop (suc n) (e ∷ x ∷ es) ≡ x ∷ es) zero_is refl
@@ -443,9 +445,9 @@ grow_on : (a b : ℕ) → a ≤ b → grow a ≤ grow b
 grow_on a b h =
     elim (is_live a) [
       | inl x ↦ elim (is_live b) [
-          | inl y ↦ omega (arith, grow_young a x, grow_young b y)
-          | inr y ↦ omega (arith, grow_young a x, grow_old b y)
-        ]
+        | inl y ↦ omega (arith, grow_young a x, grow_young b y)
+        | inr y ↦ omega (arith, grow_young a x, grow_old b y)
+      ]
       | inr x ↦ omega (arith, grow_old a x, grow_old b (omega arith))
     ]
 
@@ -489,12 +491,14 @@ module _ (acts : List Act) where
     where
       some_none : (m : List ℕ) → Some m ≡ None → ⊥
       some_none m e = cc
+
       stale : (l : Learning) → mac_of (Some l) ≡ None → is_fresh l ≡ false
       stale l e =
           elim (is_fresh l) as (λ v. (if◌then◌else◌ {A = Option (List ℕ)} v (Some l.mac) None) ≡ None → v ≡ false) [
             | true ↦ λ f. absurd (some_none l.mac f)
             | false ↦ λ f. refl
           ] e
+
       no_younger : (t t' : ℕ) → t' ≡ t + 1 → (n n' : ℕ) → n' ≡ n → (nat_lt t 2400 && nat_lt n 8) ≡ false → (nat_lt t' 2400 && nat_lt n' 8) ≡ false
       no_younger t t' e n n' f h =
           elim (nat_lt t' 2400 && nat_lt n' 8) as (λ v. (nat_lt t' 2400 && nat_lt n' 8) ≡ v → v ≡ false) [

@@ -1,6 +1,6 @@
 -- The law of sending, over the text of a whole line: each frame with a datagram goes to the hardware address that its target
 -- taught last.
-use Rattle.std.specs.Prelude.{◌≡◌, ℕ, Bool, true, if◌then◌else◌, List, [], ◌∷◌, ◌++◌, drop, length, Some, slice_get}
+use Rattle.std.specs.Prelude.{◌≡◌, ℕ, Bool, true, if◌then◌else◌, List, [], ◌∷◌, ◌++◌, drop, Some, slice_get}
 use Rattle.app_events.specs.Part.{Meaning}
 use Rattle.uip_wire.specs.Addr.{address_at}
 use Rattle.uip_wire.specs.Fields.{word_at}

@@ -4,7 +4,6 @@ use Rattle.uip_wire.specs.Fields.{written}
 use Rattle.line_medium.specs.Ways.{Came, Datagram, Own}
 use Rattle.ethernet_arp.specs.Frames.{Host, reply_to}
 use Rattle.ethernet_arp.specs.Learning.{Act, Asked, Pair, Replied}
-use Rattle.ethernet_arp.specs.declared.arp.Arp.{Arp}
 use Rattle.ethernet_arp.specs.declared.taking.Sorted.{Sorted}
 use Rattle.ethernet_arp.specs.declared.taking.Sorted.TheVariants as sorted
 use Rattle.ethernet_arp.specs.declared.taking.Taken.{Taken}

@@ -37,7 +37,11 @@ impl Entry {
     fn older(self) -> Entry
         ensures { result ≡ aged self }
     {
-        let age = if self.age < ARP_TICKS { self.age + 1 } else { self.age };
+        let age = if self.age < ARP_TICKS {
+            self.age + 1
+        } else {
+            self.age
+        };
         Entry { age, ..self }
     }
 }

@@ -84,6 +84,7 @@ impl Medium for EtherLine {
     ghost use Rattle.ethernet_arp.specs.Parts.{Holds};
     ghost use Rattle.ethernet_arp.specs.Shown.{IsShown, shown_of};
     ghost use Rattle.ethernet_arp.specs.Table.{Knows, host_of};
+
     ghost Act = { EtherAct };
 
     ghost Set = { Host };

@@ -16,7 +16,25 @@ impl Mac {
         ensures { option_map (λ m. m.0) result ≡ mac_of_text text.now }
     {
         match text {
-            [a, b, b':', c, d, b':', e, f, b':', g, h, b':', i, j, b':', k, l] => Some(Mac([
+            [
+                a,
+                b,
+                b':',
+                c,
+                d,
+                b':',
+                e,
+                f,
+                b':',
+                g,
+                h,
+                b':',
+                i,
+                j,
+                b':',
+                k,
+                l,
+            ] => Some(Mac([
                 pair(*a, *b)?,
                 pair(*c, *d)?,
                 pair(*e, *f)?,

@@ -54,8 +54,8 @@ pub(crate) fn arp_frame(
     let [their0, their1, their2, their3, their4, their5] = target_mac.0;
     let [target0, target1, target2, target3] = target.0;
     [
-        to0, to1, to2, to3, to4, to5, mac0, mac1, mac2, mac3, mac4, mac5, 8, 6, 0, 1, 8, 0, 6, 4, 0,
-        operation, mac0, mac1, mac2, mac3, mac4, mac5, own0, own1, own2, own3, their0, their1,
+        to0, to1, to2, to3, to4, to5, mac0, mac1, mac2, mac3, mac4, mac5, 8, 6, 0, 1, 8, 0, 6, 4,
+        0, operation, mac0, mac1, mac2, mac3, mac4, mac5, own0, own1, own2, own3, their0, their1,
         their2, their3, their4, their5, target0, target1, target2, target3,
     ]
 }

@@ -46,6 +46,9 @@ fn put_request(arp: &Arp, target: Addr, out: &mut [u8]) -> usize
     ensures puts { Puts (request_for (host_of arp.now) target.0) result out.old out.new }
 {
     let nobody = Mac([0; 6]);
-    put_front(out, &arp_frame(BROADCAST, REQUEST, arp.own, arp.mac, nobody, target));
+    put_front(
+        out,
+        &arp_frame(BROADCAST, REQUEST, arp.own, arp.mac, nobody, target),
+    );
     ARP_FRAME
 }

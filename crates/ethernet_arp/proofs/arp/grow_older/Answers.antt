@@ -1,4 +1,4 @@
-use Rattle.std.proofs.Common.{[], ◌∙◌, set, sym, ap, arith, get_or, refl}
+use Rattle.std.proofs.Common.{[], ◌∙◌, set, ap, arith, get_or}
 use Rattle.std.proofs.lemmas.List.{get_or_default}
 use Rattle.std.proofs.lemmas.List.Edits.{map_over_more}
 use Rattle.ethernet_arp.specs.Table.{aged}

@@ -1,4 +1,3 @@
-use Rattle.std.proofs.Common.{arith}
 use Rattle.ethernet_arp.specs.Frames.{wrapped}
 use Rattle.ethernet_arp.specs.Table.{host_of}
 use Rattle.ethernet_arp.proofs.Bytes.{framed_is}

@@ -1,4 +1,4 @@
-use Rattle.std.proofs.Common.{arith, length}
+use Rattle.std.proofs.Common.{length}
 use Rattle.std.proofs.lemmas.List.{length-take-le}
 use Rattle.ethernet_arp.proofs.packets.put_front.Goals as goal
 

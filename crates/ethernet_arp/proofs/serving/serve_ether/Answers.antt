@@ -1,5 +1,4 @@
-use Rattle.std.proofs.Common.{ap, refl, sym, subst, ◌∙◌, ◌≡◌}
-use Rattle.ethernet_arp.specs.EtherWay.{open_from}
+use Rattle.std.proofs.Common.{ap, sym, subst, ◌≡◌}
 use Rattle.ethernet_arp.specs.Table.{Knows, host_of}
 use Rattle.ethernet_arp.specs.declared.arp.Arp.{Arp}
 use Rattle.ethernet_arp.proofs.ServingLaws.{serves_told}

@@ -1,4 +1,4 @@
-use Rattle.std.proofs.Common.{◌≡◌, ◌++◌, ◌∷◌, [], List, ℕ, length, length-drop, refl, arith, ap, sym, ◌∙◌, subst}
+use Rattle.std.proofs.Common.{◌≡◌, ◌++◌, List, length, length-drop, refl, arith, ap, sym, ◌∙◌, subst}
 use Rattle.line_medium.specs.Ways.{Came, acts_of}
 use Rattle.ethernet_arp.specs.Frames.{Host, reply_to}
 use Rattle.ethernet_arp.specs.Learning.{Act, Asked, Pair, Replied}

@@ -1,5 +1,4 @@
 use Rattle.std.proofs.Common.{◌∙◌, ap, min, refl}
-use Rattle.ethernet_arp.specs.Table.{moved_front}
 use Rattle.ethernet_arp.proofs.TableLaws.{knows_learnt, moved_front_is}
 use Rattle.ethernet_arp.proofs.arp.Arp.learn.Goals as goal
 

@@ -1,8 +1,8 @@
-use Rattle.std.proofs.Common.{◌≡◌, ◌-◌, ◌++◌, ◌∷◌, ◌∙◌, [], List, ℕ, length, take, drop, refl, arith, ap, append-nil, sym, subst}
-use Rattle.line_medium.specs.Ways.{Came, Datagram, Own, acts_of}
+use Rattle.std.proofs.Common.{◌-◌, ◌∷◌, ◌∙◌, [], length, take, drop, refl, arith, ap, sym}
+use Rattle.line_medium.specs.Ways.{Datagram}
 use Rattle.ethernet_arp.specs.Frames.{Host, frame_brings, framed, reply_to}
-use Rattle.ethernet_arp.specs.Learning.{Act, Asked, Pair, Replied}
-use Rattle.ethernet_arp.specs.Table.{Knows, host_of}
+use Rattle.ethernet_arp.specs.Learning.{Asked, Pair, Replied}
+use Rattle.ethernet_arp.specs.Table.{host_of}
 use Rattle.ethernet_arp.proofs.Bytes.{payload_is}
 use Rattle.ethernet_arp.proofs.TakenLaws.{brings_act, brings_datagram, brings_none}
 use Rattle.ethernet_arp.proofs.ether_line.EtherLine.take_whole.Goals as goal

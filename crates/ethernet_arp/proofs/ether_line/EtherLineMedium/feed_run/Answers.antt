@@ -1,12 +1,9 @@
-use Rattle.std.proofs.Common.{◌≡◌, ◌++◌, ◌∷◌, ◌∙◌, [], List, ℕ, length, take, arith, ap, append-nil, sym, subst}
+use Rattle.std.proofs.Common.{◌++◌, ◌∙◌, [], take, sym, subst}
 use Rattle.std.proofs.lemmas.Bool.{ltb-false, ltb-true}
-use Rattle.line_medium.specs.Ways.{Came, Tells, acts_of, all_brought}
-use Rattle.ethernet_arp.specs.EtherWay.{ether_way, open_from}
-use Rattle.ethernet_arp.specs.Frames.{Host, frame_brings}
-use Rattle.ethernet_arp.specs.Learning.{Act}
+use Rattle.ethernet_arp.specs.EtherWay.{open_from}
 use Rattle.ethernet_arp.specs.Parts.{Holds}
 use Rattle.ethernet_arp.specs.Shown.{shown_of}
-use Rattle.ethernet_arp.specs.Table.{Knows, host_of}
+use Rattle.ethernet_arp.specs.Table.{host_of}
 use Rattle.ethernet_arp.specs.declared.frame_part.FramePart.{FramePart}
 use Rattle.ethernet_arp.proofs.LineLaws.{brings_nothing, did_nothing, did_whole, fed_more, told_whole, whole_none}
 use Rattle.ethernet_arp.proofs.ether_line.EtherLineMedium.feed_run.Goals as goal
