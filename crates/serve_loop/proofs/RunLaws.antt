@@ -16,7 +16,7 @@ module _ {A : Type 0} (m : Meaning) (served : ℕ → Bool) (w : Way A) (own : A
   after-append [] ys s = refl
   after-append (x ∷ xs) ys s = after-append xs ys (after_deed m served s x)
 
-  said-append : (xs ys : List (Deed A)) (s : Station A)
+  pub said-append : (xs ys : List (Deed A)) (s : Station A)
       → said m served w own (xs ++ ys) s ≡ said m served w own xs s ++ said m served w own ys (after m served xs s)
   said-append [] ys s = refl
   said-append (x ∷ xs) ys s =

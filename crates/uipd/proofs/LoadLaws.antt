@@ -10,11 +10,11 @@ use Rattle.uip_edge.specs.Causes.{Rose}
 use Rattle.uip_edge.specs.Shelving.{Files}
 use Rattle.uip_edge.specs.declared.serve_end.ServeEnd.{ServeEnd}
 use Rattle.uip_edge.specs.declared.serve_end.ServeEnd.TheVariants as serves
-use Rattle.uip_wire.specs.declared.addr.Addr.{Addr}
 use Rattle.uipd.specs.Serving.{ServeRuns, ServesFiles}
 use Rattle.uipd.specs.SiteServing.{AnswersRead, IsUndisturbed, SiteIsTold, WithSite}
 use Rattle.uipd.specs.Statuses.{status_of_fault, status_of_serving}
 use Rattle.uipd.specs.Surroundings.{Surroundings, line_of}
+use Rattle.uipd.specs.declared.words.ServedLine.{ServedLine}
 use Rattle.uipd.specs.declared.status.Status.{Status}
 use Rattle.uipd.specs.declared.status.Status.TheVariants as status
 
@@ -36,23 +36,23 @@ not_lacking held files site read e f gone =
     cc
 
 -- without a fault the line came to its end, or the budget did
-ended : (files : List File) (own : Addr) (pace n : ℕ) (old new : Surroundings) (end : ServeEnd) (result : Status) → IsUndisturbed old new → result ≡ status_of_serving end
-    → ServesFiles files own pace n (line_of old) (line_of new) end → (result ≡ status.Done) ⊎ (result ≡ status.Budget)
-ended files own pace n old new serves.End result calm e s = inl e
-ended files own pace n old new serves.Budget result calm e s = inr e
-ended files own pace n old new serves.LinkFault result calm e s = absurd (stayed old.link_faults new.link_faults calm.line.link calm.line.link_below s.ends.1)
-ended files own pace n old new serves.WriteFault result calm e s = absurd (stayed old.sink_faults new.sink_faults calm.line.sink calm.line.sink_below s.ends.2)
+ended : (files : List File) (line : ServedLine) (old new : Surroundings) (end : ServeEnd) (result : Status) → IsUndisturbed old new → result ≡ status_of_serving end
+    → ServesFiles files line (line_of old) (line_of new) end → (result ≡ status.Done) ⊎ (result ≡ status.Budget)
+ended files line old new serves.End result calm e s = inl e
+ended files line old new serves.Budget result calm e s = inr e
+ended files line old new serves.LinkFault result calm e s = absurd (stayed old.link_faults new.link_faults calm.line.link calm.line.link_below s.ends.1)
+ended files line old new serves.WriteFault result calm e s = absurd (stayed old.sink_faults new.sink_faults calm.line.sink calm.line.sink_below s.ends.2)
 
-served : (files : List File) (own : Addr) (pace n : ℕ) (old new : Surroundings) (result : Status) → IsUndisturbed old new → ServeRuns files own pace n (line_of old) (line_of new) result
+served : (files : List File) (line : ServedLine) (old new : Surroundings) (result : Status) → IsUndisturbed old new → ServeRuns files line (line_of old) (line_of new) result
     → (result ≡ status.NoMemory) ⊎ ((result ≡ status.Done) ⊎ (result ≡ status.Budget))
-served files own pace n old new result calm (inl run) = inr (ended files own pace n old new run.0 result calm run.1 run.2)
-served files own pace n old new result calm (inr short) = inl short.0
+served files line old new result calm (inl run) = inr (ended files line old new run.0 result calm run.1 run.2)
+served files line old new result calm (inr short) = inl short.0
 
-with_site : (site : List ℕ) (own : Addr) (pace n : ℕ) (old new : Surroundings) (result : Status) (files : Files) (read : Result (List File) SiteError)
+with_site : (site : List ℕ) (line : ServedLine) (old new : Surroundings) (result : Status) (files : Files) (read : Result (List File) SiteError)
     → old.held ≡ Some files → site_read site files ≡ Some read → IsUndisturbed old new
-    → WithSite site old new (λ found. ServeRuns found own pace n (line_of old) (line_of new) result) → (result ≡ status.NoMemory) ⊎ AnswersRead read result
-with_site site own pace n old new result files read e f calm has =
-    elim (served has.files own pace n old new result calm has.done) [
+    → WithSite site old new (λ found. ServeRuns found line (line_of old) (line_of new) result) → (result ≡ status.NoMemory) ⊎ AnswersRead read result
+with_site site line old new result files read e f calm has =
+    elim (served has.files line old new result calm has.done) [
       | inl short ↦ inl short
       | inr made ↦ inr (subst (λ r. AnswersRead r result) (sym (read_same old.held files site read (Ok has.files) e f has.read)) made)
     ]
@@ -67,5 +67,5 @@ without_site site old new result files read (loads.Bad error) e f calm told (is,
 without_site site old new result files read loads.NoMemory e f calm told same = inl told
 
 pub site_is_told : SiteIsTold
-site_is_told site own pace n old new result files read e f calm (inl has) = with_site site own pace n old new result files read e f calm has
-site_is_told site own pace n old new result files read e f calm (inr none) = without_site site old new result files read none.fault e f calm none.told none.fails
+site_is_told site line old new result files read e f calm (inl has) = with_site site line old new result files read e f calm has
+site_is_told site line old new result files read e f calm (inr none) = without_site site old new result files read none.fault e f calm none.told none.fails

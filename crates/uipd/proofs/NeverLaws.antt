@@ -3,7 +3,6 @@ use Rattle.std.proofs.Common.{◌≡◌, ℕ, List, Option, sym, ◌∙◌, inl,
 use Rattle.uip_edge.specs.Shelving.{Files}
 use Rattle.uip_edge.specs.declared.serve_end.ServeEnd.{ServeEnd}
 use Rattle.uip_edge.specs.declared.serve_end.ServeEnd.TheVariants as serves
-use Rattle.uip_wire.specs.declared.addr.Addr.{Addr}
 use Rattle.file_tree.specs.declared.load_fault.LoadFault.{LoadFault}
 use Rattle.file_tree.specs.declared.load_fault.LoadFault.TheVariants as loads
 use Rattle.site_commands.specs.Due.{Due}
@@ -16,6 +15,7 @@ use Rattle.uipd.specs.Running.{SiteRuns}
 use Rattle.uipd.specs.SiteServing.{SiteServes}
 use Rattle.uipd.specs.Statuses.{RunsAs, status_of_fault, status_of_replay, status_of_serving, status_of_site}
 use Rattle.uipd.specs.Surroundings.{Surroundings}
+use Rattle.uipd.specs.declared.words.ServedLine.{ServedLine}
 use Rattle.uipd.specs.declared.status.Status.{Status}
 use Rattle.uipd.specs.declared.status.Status.TheVariants.{BadWords}
 
@@ -54,7 +54,7 @@ site_never Ends result run e = never status_of_site Ends result site_has_words r
 pub replay_never : (Ends : ReplayEnd → Type 0) (result : Status) → RunsAs status_of_replay Ends result → result ≡ BadWords → ⊥
 replay_never Ends result run e = never status_of_replay Ends result replay_has_words run e
 
-pub serving_never : (site : List ℕ) (own : Addr) (pace n : ℕ) (old new : Surroundings) (result : Status) → SiteServes site own pace n old new result → result ≡ BadWords → ⊥
-serving_never site own pace n old new result (inr none) e = fault_has_words none.fault (sym none.told ∙ e)
-serving_never site own pace n old new result (inl has) e =
+pub serving_never : (site : List ℕ) (line : ServedLine) (old new : Surroundings) (result : Status) → SiteServes site line old new result → result ≡ BadWords → ⊥
+serving_never site line old new result (inr none) e = fault_has_words none.fault (sym none.told ∙ e)
+serving_never site line old new result (inl has) e =
     elim has.done [ inl run ↦ serving_has_words run.0 (sym run.1 ∙ e) | inr short ↦ (let no = sym short.0 ∙ e in cc) ]

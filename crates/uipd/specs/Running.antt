@@ -31,7 +31,7 @@ LineWorks status_of Ends old new result = RunsAs status_of (Ends (line_of old) (
 -- words without a form are told, and only they; other words are done
 abbrev pub TaskRuns : Option Task → Surroundings → Surroundings → Status → Type 0
 TaskRuns None old new result = result ≡ BadWords
-TaskRuns (Some (Serves site own pace n)) old new result = SiteServes site own pace n old new result
+TaskRuns (Some (Serves site line)) old new result = SiteServes site line old new result
 TaskRuns (Some (Checks site)) old new result = SiteWorks (check_due site) old new result
 TaskRuns (Some (Packs files)) old new result = SiteWorks (pack_due files) old new result
 TaskRuns (Some (Upgrades site kinds)) old new result = SiteWorks (upgrade_due site kinds) old new result

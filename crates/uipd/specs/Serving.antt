@@ -7,12 +7,12 @@ use Rattle.uip_edge.specs.declared.serve_end.ServeEnd.{ServeEnd}
 use Rattle.uip_edge.specs.declared.serve_end.ServeEnd.TheVariants.{WriteFault}
 use Rattle.uip_edge.specs.Coming.{Consumes}
 use Rattle.uip_edge.specs.Writing.{AppendsPrefix}
-use Rattle.uip_wire.specs.declared.addr.Addr.{Addr}
 use Rattle.serve_loop.specs.Outside.{Outside}
 use Rattle.serve_loop.specs.Serving.{EndsBy}
 use Rattle.uipd.specs.declared.status.Status.{Status}
 use Rattle.uipd.specs.declared.status.Status.TheVariants.{NoMemory}
 use Rattle.uipd.specs.Output.{output_of}
+use Rattle.uipd.specs.declared.words.ServedLine.{ServedLine}
 use Rattle.uipd.specs.Statuses.{RunsAs, status_of_serving}
 
 -- this text was written, or a front of it where a write failed
@@ -20,14 +20,14 @@ abbrev pub WrittenBy : ServeEnd → Option (List ℕ) → Option (List ℕ) → 
 WrittenBy WriteFault old new text = AppendsPrefix old new text
 WrittenBy _ old new text = Appends old new text
 
--- the line is served with the files of a site, at the address `own` and at a pace, up to n items
-pub record ServesFiles (files : List File) (own : Addr) (pace n : ℕ) (old new : Outside) (end : ServeEnd) : Type 0 where
+-- the line is served with the files of a site
+pub record ServesFiles (files : List File) (line : ServedLine) (old new : Outside) (end : ServeEnd) : Type 0 where
   pub taken : List Item
   pub consumed : Consumes old.coming new.coming taken
-  pub ends : EndsBy n old new taken end
-  pub written : WrittenBy end old.written new.written (output_of files own pace taken)
+  pub ends : EndsBy line.limits.items old new taken end
+  pub written : WrittenBy end old.written new.written (output_of files line taken)
 
 -- a run ends as the serving does, or had not enough memory and left the line and its output as they were
-abbrev pub ServeRuns : List File → Addr → ℕ → ℕ → Outside → Outside → Status → Type 0
-ServeRuns files own pace n old new result =
-    RunsAs status_of_serving (ServesFiles files own pace n old new) result ⊎ ((result ≡ NoMemory) × (new ≡ old))
+abbrev pub ServeRuns : List File → ServedLine → Outside → Outside → Status → Type 0
+ServeRuns files line old new result =
+    RunsAs status_of_serving (ServesFiles files line old new) result ⊎ ((result ≡ NoMemory) × (new ≡ old))

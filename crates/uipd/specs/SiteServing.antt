@@ -5,11 +5,11 @@ use Rattle.site_image.specs.declared.site_error.SiteError.{SiteError}
 use Rattle.file_tree.specs.declared.load_fault.LoadFault.{LoadFault}
 use Rattle.file_tree.specs.Opening.{FailsToOpen, IsSiteRead, site_read}
 use Rattle.uip_edge.specs.Shelving.{Files}
-use Rattle.uip_wire.specs.declared.addr.Addr.{Addr}
 use Rattle.serve_loop.specs.Outside.{Unfailed}
 use Rattle.uipd.specs.Surroundings.{Surroundings, LeavesShelf, line_of}
 use Rattle.uipd.specs.Serving.{ServeRuns}
 use Rattle.uipd.specs.Statuses.{status_of_fault}
+use Rattle.uipd.specs.declared.words.ServedLine.{ServedLine}
 use Rattle.uipd.specs.declared.status.Status.{Status}
 use Rattle.uipd.specs.declared.status.Status.TheVariants as status
 
@@ -29,9 +29,9 @@ pub record WithoutSite (site : List ℕ) (old new : Surroundings) (result : Stat
   pub line : line_of new ≡ line_of old
 
 -- the line is served with the site under a name
-abbrev pub SiteServes : List ℕ → Addr → ℕ → ℕ → Surroundings → Surroundings → Status → Type 0
-SiteServes site own pace n old new result =
-    WithSite site old new (λ files. ServeRuns files own pace n (line_of old) (line_of new) result) ⊎ WithoutSite site old new result
+abbrev pub SiteServes : List ℕ → ServedLine → Surroundings → Surroundings → Status → Type 0
+SiteServes site line old new result =
+    WithSite site old new (λ files. ServeRuns files line (line_of old) (line_of new) result) ⊎ WithoutSite site old new result
 
 -- no count rose, and none stands at its end value
 pub record IsUndisturbed (old new : Surroundings) : Type 0 where
@@ -48,6 +48,6 @@ AnswersRead (Err error) result = result ≡ status.BadSite error
 -- memory.
 abbrev pub SiteIsTold : Type 0
 SiteIsTold =
-    (site : List ℕ) (own : Addr) (pace n : ℕ) (old new : Surroundings) (result : Status) (files : Files) (read : Result (List File) SiteError)
-    → old.held ≡ Some files → site_read site files ≡ Some read → IsUndisturbed old new → SiteServes site own pace n old new result
+    (site : List ℕ) (line : ServedLine) (old new : Surroundings) (result : Status) (files : Files) (read : Result (List File) SiteError)
+    → old.held ≡ Some files → site_read site files ≡ Some read → IsUndisturbed old new → SiteServes site line old new result
     → (result ≡ status.NoMemory) ⊎ AnswersRead read result

@@ -5,20 +5,22 @@ use Rattle.std.specs.List.{list_all, list_any, before_first, after_first}
 use Rattle.std.specs.Str.{bytes_eq}
 use Rattle.std.specs.Str.Parse.{digits_value}
 use Rattle.uip_wire.specs.Addr.{quad_of}
-use Rattle.uip_wire.specs.declared.addr.Addr.{Addr}
+use Rattle.ethernet_arp.specs.Words.{mac_of_text}
 use Rattle.site_image.specs.Names.{is_kind}
 use Rattle.file_tree.specs.Upgrading.{KindContent}
 use Rattle.site_commands.specs.Gathering.{NamedContent}
 use Rattle.uipd.specs.declared.words.Command.{Command}
 use Rattle.uipd.specs.declared.words.Command.TheVariants.{Serve, Check, Page, Pack, Upgrade, Replay, Load, Dump, Pcap, Slip}
 use Rattle.uipd.specs.declared.words.Limits.{Limits}
+use Rattle.uipd.specs.declared.words.LineKind.{LineKind}
+use Rattle.uipd.specs.declared.words.LineKind.TheVariants.{Ethernet, Serial}
+use Rattle.uipd.specs.declared.words.ServedLine.{ServedLine}
 
--- what the words ask for: to serve a line with a site, at an address and a pace, up to so many items; to look at the image of
--- a site, or at a page of it, to pack files into one, and to upgrade one; to play a schedule by a site, and to show its datagrams; to play
--- the schedule that a seed makes for so many clients; to dump a line, up to so many items, to capture it, and to make a capture a
--- line again
+-- what the words ask for: to serve a line with a site; to look at the image of a site, or at a page of it, to pack files into one, and to
+-- upgrade one; to play a schedule by a site, and to show its datagrams; to play the schedule that a seed makes for so many clients; to dump
+-- a line, up to so many items, to capture it, and to make a capture a line again
 pub data Task : Type 0 where
-  Serves : (site : List ℕ) (own : Addr) (pace items : ℕ) → Task
+  Serves : (site : List ℕ) (line : ServedLine) → Task
   Checks : (site : List ℕ) → Task
   Pages : (site target : List ℕ) → Task
   Packs : (files : List NamedContent) → Task
@@ -55,7 +57,7 @@ kind_word word = record { name = front_part word; kind = back_part word }
 
 -- what a command of the code asks for
 abbrev pub task_meant : Command → Task
-task_meant (Serve site own limits) = Serves site.now own limits.pace limits.items
+task_meant (Serve site line) = Serves site.now line
 task_meant (Check site) = Checks site.now
 task_meant (Pack words) = Packs (map named_file (map string_bytes words.now))
 task_meant (Upgrade site words) = Upgrades site.now (map kind_word (map string_bytes words.now))
@@ -120,15 +122,25 @@ limits_of (word ∷ number ∷ words) =
     if bytes_eq word (codes "pace") then limits_from (number_of number) words else limits_at 0 (word ∷ number ∷ words)
 limits_of words = limits_at 0 words
 
-abbrev pub serve_at : List ℕ → Option (List ℕ) → Option Limits → Option Task
-serve_at site (Some own) (Some limits) = Some (Serves site (record { 0 = own }) limits.pace limits.items)
-serve_at site (Some own) None = None
-serve_at site None limits = None
+abbrev pub serve_at : List ℕ → Option (List ℕ) → Option LineKind → Option Limits → Option Task
+serve_at site (Some own) (Some kind) (Some limits) = Some (Serves site (record { own = record { 0 = own }; kind = kind; limits = limits }))
+serve_at site (Some own) (Some kind) None = None
+serve_at site (Some own) None limits = None
+serve_at site None kind limits = None
 
--- `SITE ADDR`, and further words
+-- `SITE ADDR`, and further words: over a serial line
 abbrev pub serve_words : List (List ℕ) → Option Task
-serve_words (site ∷ address ∷ words) = serve_at site (quad_of address) (limits_of words)
+serve_words (site ∷ address ∷ words) = serve_at site (quad_of address) (Some Serial) (limits_of words)
 serve_words words = None
+
+-- `SITE ADDR MAC`, and further words: over Ethernet frames
+abbrev pub frames_at : Option (List ℕ) → Option LineKind
+frames_at (Some mac) = Some (Ethernet (record { 0 = mac }))
+frames_at None = None
+
+abbrev pub ether_words : List (List ℕ) → Option Task
+ether_words (site ∷ address ∷ mac ∷ words) = serve_at site (quad_of address) (frames_at (mac_of_text mac)) (limits_of words)
+ether_words words = None
 
 -- `SITE`
 abbrev pub check_words : List (List ℕ) → Option Task
@@ -193,6 +205,7 @@ abbrev pub task_of : List (List ℕ) → Option Task
 task_of [] = None
 task_of (command ∷ words) =
     if bytes_eq command (codes "serve") then serve_words words
+    else if bytes_eq command (codes "ether") then ether_words words
     else if bytes_eq command (codes "check") then check_words words
     else if bytes_eq command (codes "pack") then pack_words words
     else if bytes_eq command (codes "upgrade") then upgrade_words words

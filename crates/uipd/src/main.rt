@@ -1,4 +1,4 @@
-//! The program `uipd`: it serves a serial line, works on the images of sites and plays schedules. It reads its words, and reaches its files,
+//! The program `uipd`: it serves a line, works on the images of sites and plays schedules. It reads its words, and reaches its files,
 //! its line and its output through the traits of `uip_edge` alone, so that everything it does is said of `run`. This file
 //! only makes the real adapters and turns the answer of `run` into the process's status.
 #![tactic(auto)]
@@ -6,6 +6,8 @@
 #[cfg(test)]
 mod adapter_tests;
 mod adapters;
+#[cfg(test)]
+mod ether_tests;
 mod file_shelf;
 #[cfg(test)]
 mod load_tests;

@@ -33,9 +33,7 @@ pub fn run<H: Shelf, L: Link, K: Sink>(
 {
     match command_of(words) {
         None => Status::BadWords,
-        Some(Command::Serve(site, own, limits)) => {
-            serve(alloc, site.as_bytes(), own, limits, shelf, link, out)
-        }
+        Some(Command::Serve(site, line)) => serve(alloc, site.as_bytes(), line, shelf, link, out),
         Some(Command::Check(site)) => check_site(alloc, site, shelf, out),
         Some(Command::Pack(words)) => pack_site(alloc, words, shelf, out),
         Some(Command::Upgrade(site, words)) => upgrade_site(alloc, site, words, shelf, out),

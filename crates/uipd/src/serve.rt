@@ -1,4 +1,4 @@
-//! The command that serves a line.
+//! The commands that serve a line.
 
 ghost use Rattle.std.specs.Prelude.{◌≡◌};
 ghost use Rattle.file_tree.specs.Site.{files_of};
@@ -9,33 +9,32 @@ ghost use Rattle.uipd.specs.SiteServing.{SiteIsTold, SiteServes};
 ghost use Rattle.uipd.specs.Surroundings.{surroundings};
 
 use crate::status::Status;
-use crate::words::Limits;
+use crate::words::{Limits, LineKind, ServedLine};
+use ethernet_arp::{Arp, serve_ether};
 use file_tree::Site;
 use httpd::{Httpd, Web};
 use serve_loop::serve as serve_line;
 use std::alloc::Global;
 use uip_edge::{Link, Shelf, Sink};
 use uip_node::Node;
-use uip_wire::Addr;
 
-/// Serves the line at an address by the web server of the site that the shelf holds under the name; `-` is the site without
+/// Serves the line by the web server of the site that the shelf holds under the name; `-` is the site without
 /// files. Memory is taken before the first item alone.
 pub fn serve<H: Shelf, L: Link, K: Sink>(
     alloc: Global,
     name: &[u8],
-    own: Addr,
-    limits: Limits,
+    line: ServedLine,
     shelf: &mut H,
     link: &mut L,
     out: &mut K,
 ) -> Status
-    ensures runs { SiteServes name.now own limits.pace limits.items
+    ensures runs { SiteServes name.now line
         (surroundings H.held L.coming K.written H.faults L.faults K.faults shelf.old link.old out.old)
         (surroundings H.held L.coming K.written H.faults L.faults K.faults shelf.new link.new out.new) result }
     ensures kept { H.held shelf.new ≡ H.held shelf.old }
 {
     match Site::open(alloc, shelf, name) {
-        Ok(site) => serve_site(alloc, site, own, limits, link, out),
+        Ok(site) => serve_site(alloc, site, line, link, out),
         Err(fault) => Status::from(fault),
     }
 }
@@ -44,16 +43,15 @@ pub fn serve<H: Shelf, L: Link, K: Sink>(
 fn serve_site<L: Link, K: Sink>(
     alloc: Global,
     site: Site,
-    own: Addr,
-    limits: Limits,
+    line: ServedLine,
     link: &mut L,
     out: &mut K,
 ) -> Status
-    ensures { ServeRuns (files_of site) own limits.pace limits.items (outside L.coming K.written L.faults K.faults link.old out.old)
+    ensures { ServeRuns (files_of site) line (outside L.coming K.written L.faults K.faults link.old out.old)
         (outside L.coming K.written L.faults K.faults link.new out.new) result }
 {
     match Web::new(alloc, site) {
-        Ok(web) => serve_web(alloc, web, own, limits, link, out),
+        Ok(web) => serve_web(alloc, web, line, link, out),
         Err(_) => Status::NoMemory,
     }
 }
@@ -62,19 +60,23 @@ fn serve_site<L: Link, K: Sink>(
 fn serve_web<L: Link, K: Sink>(
     alloc: Global,
     web: Web,
-    own: Addr,
-    limits: Limits,
+    line: ServedLine,
     link: &mut L,
     out: &mut K,
 ) -> Status
     requires { web.hits ≡ no_hits (files_of web.site) }
-    ensures { ServeRuns (files_of web.site) own limits.pace limits.items (outside L.coming K.written L.faults K.faults link.old out.old)
+    ensures { ServeRuns (files_of web.site) line (outside L.coming K.written L.faults K.faults link.old out.old)
         (outside L.coming K.written L.faults K.faults link.new out.new) result }
 {
-    match Node::<Httpd>::new(alloc, own, web) {
-        Ok(mut node) => {
-            Status::from(serve_line(&mut node, link, out, limits.pace, limits.items))
-        }
+    let Limits { pace, items } = line.limits;
+    match Node::<Httpd>::new(alloc, line.own, web) {
+        Ok(mut node) => match line.kind {
+            LineKind::Serial => Status::from(serve_line(&mut node, link, out, pace, items)),
+            LineKind::Ethernet(mac) => {
+                let mut arp = Arp::new(line.own, mac);
+                Status::from(serve_ether(&mut node, &mut arp, link, out, pace, items))
+            }
+        },
         Err(_) => Status::NoMemory,
     }
 }

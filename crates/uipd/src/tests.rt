@@ -132,19 +132,19 @@ const SITE: &[u8] = b"UIPSITE1\0\x01\x0b/index.html\0\0\0\x06hello\n";
 
 /// A run: its words, its link and sink, and what it has to write and answer.
 #[derive(Drop)]
-struct Row<'a> {
-    words: &'a [&'a str],
-    input: &'a [u8],
+pub struct Row<'a> {
+    pub words: &'a [&'a str],
+    pub input: &'a [u8],
     /// How many silences follow.
-    silences: usize,
-    link_fails: &'a [u64],
-    room: usize,
-    output: &'a [u8],
-    status: Status,
+    pub silences: usize,
+    pub link_fails: &'a [u64],
+    pub room: usize,
+    pub output: &'a [u8],
+    pub status: Status,
 }
 
 impl<'a> Row<'a> {
-    fn new(input: &'a [u8], output: &'a [u8]) -> Row<'a> {
+    pub fn new(input: &'a [u8], output: &'a [u8]) -> Row<'a> {
         Row {
             words: &SERVE,
             input,
@@ -177,7 +177,7 @@ fn items_of(alloc: Global, bytes: &[u8], silences: usize) -> Result<Vec<Item>, A
 }
 
 /// Does a row with so many bytes a call of the link.
-fn check(rt: &impl Abort, alloc: Global, row: &Row, most: usize) -> Result<(), Fail> {
+pub fn check(rt: &impl Abort, alloc: Global, row: &Row, most: usize) -> Result<(), Fail> {
     let words = words_of(alloc, row.words)?;
     let fails = row.link_fails.to_vec(alloc)?;
     let mut link = MemLink::new(
@@ -205,7 +205,7 @@ fn check(rt: &impl Abort, alloc: Global, row: &Row, most: usize) -> Result<(), F
 }
 
 /// Does a row with its items cut in every way.
-fn check_cuts(rt: &impl Abort, alloc: Global, row: &Row) -> Result<(), Fail> {
+pub fn check_cuts(rt: &impl Abort, alloc: Global, row: &Row) -> Result<(), Fail> {
     for most in 1..=row.input.len().max(1) {
         check(rt, alloc, row, most)?;
     }
@@ -249,7 +249,7 @@ fn takes_the_largest_frame(rt: HostRuntime) -> Result<(), Fail> {
     check_cuts(&rt, alloc, &Row::new(&longer, &PONG))
 }
 
-fn joined(alloc: Global, first: &[u8], second: &[u8]) -> Result<Vec<u8>, AllocError> {
+pub fn joined(alloc: Global, first: &[u8], second: &[u8]) -> Result<Vec<u8>, AllocError> {
     let mut text = first.to_vec(alloc)?;
     text.extend_from_slice(second)?;
     Ok(text)

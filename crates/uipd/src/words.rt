@@ -1,7 +1,7 @@
 ghost use Rattle.std.specs.Prelude.{◌≡◌, Option, ℕ, Some, map, option_map, string_bytes, IfSome};
 ghost use Rattle.std.specs.Char.{is_ascii_digit};
 ghost use Rattle.std.specs.List.{list_all};
-ghost use Rattle.uipd.specs.Words.{task_meant, task_of, check_words as words_of_check, pack_words as words_of_pack, serve_words as words_of_serve};
+ghost use Rattle.uipd.specs.Words.{task_meant, task_of, check_words as words_of_check, pack_words as words_of_pack, serve_words as words_of_serve, ether_words as words_of_ether};
 ghost use Rattle.uipd.specs.Words.{upgrade_words as words_of_upgrade};
 ghost use Rattle.uipd.specs.Words.{load_at as counted, load_with as words_with, load_words as words_of_load, page_words as words_of_page, replay_words as words_of_replay};
 ghost use Rattle.uipd.specs.Words.{dump_words as words_of_dump, pcap_words as words_of_pcap, slip_words as words_of_slip, items_of as items_spelled};
@@ -10,6 +10,7 @@ ghost use Rattle.uipd.specs.Allowed.{IsAllowed};
 ghost use Rattle.uipd.specs.Words.{number_of as number_meant, is_number as number_form, leads_badly as bad_lead};
 
 use crate::parts::{are_kind_words, have_parts};
+use ethernet_arp::Mac;
 use uip_wire::Addr;
 
 /// At which pace the bytes of a line make ticks, where this is above 0, and how many items are taken of it at most.
@@ -19,11 +20,28 @@ pub struct Limits {
     pub items: u64,
 }
 
+/// How datagrams stand on a line.
+#[derive(Clone, Copy, Debug, PartialEq, Eq)]
+pub enum LineKind {
+    /// A serial line (RFC 1055).
+    Serial,
+    /// Ethernet frames, each behind its length in two bytes, of a host at this hardware address.
+    Ethernet(Mac),
+}
+
+/// A line that is served at an address.
+#[derive(Clone, Copy, Debug, PartialEq, Eq)]
+pub struct ServedLine {
+    pub own: Addr,
+    pub kind: LineKind,
+    pub limits: Limits,
+}
+
 /// What the words ask for.
 #[derive(Clone, Copy, Debug, PartialEq, Eq)]
 pub enum Command<'a> {
-    /// `serve SITE ADDR`, and further words: the web server of a site serves the line at an address.
-    Serve(&'a str, Addr, Limits),
+    /// `serve SITE ADDR` or `ether SITE ADDR MAC`, and further words: the web server of a site serves the line.
+    Serve(&'a str, ServedLine),
     /// `check SITE`: the files of an image are told, with the greatest lengths of their pages.
     Check(&'a str),
     /// `pack NAME=FILE ..`: files are packed into an image.
@@ -53,6 +71,7 @@ pub fn command_of(words: &[String]) -> Option<Command<'_>>
     match words {
         [] => None,
         [command, words @ ..] if command.as_str() == "serve" => serve_words(words),
+        [command, words @ ..] if command.as_str() == "ether" => ether_words(words),
         [command, words @ ..] if command.as_str() == "check" => check_words(words),
         [command, words @ ..] if command.as_str() == "pack" => pack_words(words),
         [command, words @ ..] if command.as_str() == "upgrade" => upgrade_words(words),
@@ -73,8 +92,28 @@ fn serve_words(words: &[String]) -> Option<Command<'_>>
     match words {
         [site, address, words @ ..] => Some(Command::Serve(
             site,
-            Addr::parse(address.as_bytes())?,
-            limits_of(words)?,
+            ServedLine {
+                own: Addr::parse(address.as_bytes())?,
+                kind: LineKind::Serial,
+                limits: limits_of(words)?,
+            },
+        )),
+        _ => None,
+    }
+}
+
+/// The words behind `ether`: `SITE ADDR MAC`, and further words.
+fn ether_words(words: &[String]) -> Option<Command<'_>>
+    ensures { option_map task_meant result ≡ words_of_ether (map string_bytes words.now) }
+{
+    match words {
+        [site, address, mac, words @ ..] => Some(Command::Serve(
+            site,
+            ServedLine {
+                own: Addr::parse(address.as_bytes())?,
+                kind: LineKind::Ethernet(Mac::parse(mac.as_bytes())?),
+                limits: limits_of(words)?,
+            },
         )),
         _ => None,
     }

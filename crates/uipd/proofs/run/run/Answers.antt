@@ -2,7 +2,7 @@ use Rattle.uipd.proofs.NeverLaws.{replay_never, serving_never, site_never}
 use Rattle.uipd.proofs.run.run.Goals as goal
 
 pub returns-in-Some-Serve-clause-untouched : goal.returns-in-Some-Serve-clause-untouched
-returns-in-Some-Serve-clause-untouched g c = λ e. absurd (serving_never _ _ _ _ _ _ _ c.serve.ensures.runs e)
+returns-in-Some-Serve-clause-untouched g c = λ e. absurd (serving_never _ _ _ _ _ c.serve.ensures.runs e)
 
 pub returns-in-Some-Check-clause-untouched : goal.returns-in-Some-Check-clause-untouched
 returns-in-Some-Check-clause-untouched g c = λ e. absurd (site_never _ _ c.check_site.ensures.runs e)
