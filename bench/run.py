@@ -4,10 +4,11 @@
     python3 bench/run.py [PROGRAM]
 
 PROGRAM is the built `uipd`, crates/uipd/out/uipd where none is named (`rt run` in crates/uipd builds it). The inputs are
-made anew each time in bench/out: the same echo request of 84 or of 1006 bytes, again and again, and clients that get a page, one
-after another, each from its SYN to the end of its connection: a page of one byte, and pages of 40,000 at three segment sizes. Instructions are those
-that `valgrind --tool=callgrind` counts, where it is there, less those of a run on an empty line; they repeat to a small
-fraction of a percent. Nanoseconds are wall time, the least of some runs, and move with the machine.
+made anew each time in bench/out: the same echo request of 84 or of 1006 bytes, again and again, over SLIP and in Ethernet
+frames, and clients that get a page, one after another, each from its SYN to the end of its connection: a page of one byte, and
+pages of 40,000 at three segment sizes. Instructions are those that `valgrind --tool=callgrind` counts, where it is there, less
+those of a run on an empty line; they repeat to a small fraction of a percent. Nanoseconds are wall time, the least of some
+runs, and move with the machine.
 """
 import os
 import re
@@ -19,6 +20,7 @@ HERE = os.path.dirname(os.path.abspath(__file__))
 OUT = os.path.join(HERE, "out")
 SITE = os.path.join(OUT, "bench.site")
 WORDS = ["serve", SITE, "10.0.0.1"]
+ETHER_WORDS = ["ether", SITE, "10.0.0.1", "02:00:00:00:00:01"]
 
 # Instructions per ping of the peers behind the same recorded line: uIP 1.0 in C with a byte-by-byte SLIP, lwIP 2.2.1 with
 # its slipif, and a C program that answers pings and does nothing else, eight bytes at a time.
@@ -98,6 +100,21 @@ def slip(datagram):
     return b"\xc0" + body + b"\xc0"
 
 
+NODE_MAC, PEER_MAC = bytes([2, 0, 0, 0, 0, 1]), bytes([2, 0, 0, 0, 0, 2])
+
+
+def framed(payload, kind=b"\x08\x00", target=NODE_MAC):
+    """An Ethernet frame of the peer behind its length in two bytes."""
+    frame = target + PEER_MAC + kind + payload
+    return len(frame).to_bytes(2, "big") + frame
+
+
+def arp_request():
+    """The peer's request for the address of the node, which teaches the node the peer's."""
+    packet = bytes([0, 1, 8, 0, 6, 4, 0, 1]) + PEER_MAC + bytes([10, 0, 0, 2]) + bytes(6) + bytes([10, 0, 0, 1])
+    return framed(packet, b"\x08\x06", bytes([255] * 6))
+
+
 def record(name, data):
     path = os.path.join(OUT, name)
     with open(path, "wb") as f:
@@ -105,22 +122,22 @@ def record(name, data):
     return path
 
 
-def run(program, line, before=()):
+def run(program, line, before=(), words=WORDS):
     with open(line, "rb") as stdin:
-        return subprocess.run([*before, program, *WORDS], stdin=stdin, stdout=subprocess.PIPE, stderr=subprocess.PIPE, check=True)
+        return subprocess.run([*before, program, *words], stdin=stdin, stdout=subprocess.PIPE, stderr=subprocess.PIPE, check=True)
 
 
-def instructions(program, line):
+def instructions(program, line, words=WORDS):
     profile = os.path.join(OUT, "callgrind.out")
-    done = run(program, line, ["valgrind", "--tool=callgrind", "--callgrind-out-file=" + profile])
+    done = run(program, line, ["valgrind", "--tool=callgrind", "--callgrind-out-file=" + profile], words)
     return int(re.search(rb"Collected : (\d+)", done.stderr).group(1))
 
 
-def nanoseconds(program, line):
+def nanoseconds(program, line, words=WORDS):
     best = None
     for _ in range(7):
         start = time.perf_counter_ns()
-        run(program, line)
+        run(program, line, (), words)
         spent = time.perf_counter_ns() - start
         best = spent if best is None else min(best, spent)
     return best
@@ -144,6 +161,15 @@ def main():
         counted = "%d" % round((instructions(program, few) - base) / count) if has_valgrind else "-"
         spent = (nanoseconds(program, many) - nanoseconds(program, empty)) / (count * 20)
         print("%4d bytes %20s %8d %8d %8d %13d" % (size, counted, *PEERS[size], round(spent)))
+    print("per ping in a frame                                    nanoseconds")
+    taught = record("taught.frames", arp_request())
+    base_taught = instructions(program, taught, ETHER_WORDS) if has_valgrind else None
+    for size, count in ((84, 2000), (1006, 500)):
+        few = record("ping%d.frames" % size, arp_request() + framed(ping(size)) * count)
+        many = record("pings%d.frames" % size, arp_request() + framed(ping(size)) * (count * 20))
+        counted = "%d" % round((instructions(program, few, ETHER_WORDS) - base_taught) / count) if has_valgrind else "-"
+        spent = (nanoseconds(program, many, ETHER_WORDS) - nanoseconds(program, taught, ETHER_WORDS)) / (count * 20)
+        print("%4d bytes %20s %41d" % (size, counted, round(spent)))
     print("per page byte     instructions      uIP     lwIP             nanoseconds")
     for mss, peers in PAGE_PEERS.items():
         count, size = 10, page_length("/long.html")
