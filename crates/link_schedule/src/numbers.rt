@@ -60,7 +60,7 @@ pub fn addressed(word: &[u8]) -> Result<Addr, Why>
 }
 
 /// Whether the bytes are decimal digits without a leading zero, but for 0 itself.
-fn is_number(text: &[u8]) -> bool
+pub fn is_number(text: &[u8]) -> bool
     ensures { result ≡ number_form text.now }
 {
     if leads_badly(text) {

@@ -9,7 +9,8 @@ use Rattle.std.specs.Result.{result_ok, OkIff}
 use Rattle.std.specs.Str.Parse.{digits_value, ParsesUnsigned}
 use Rattle.std.proofs.lemmas.Bool.{ltb-true, lt-ltb}
 use Rattle.std.proofs.lemmas.Str.Parse.{IsNumeralModel, numerals_by_value, parse_digits}
-use Rattle.uipd.specs.Words.{is_number, leads_badly, is_tty, limits_at, limits_of, load_words, number_of, says_tty}
+use Rattle.link_schedule.specs.Numbers.{is_number, leads_badly}
+use Rattle.uipd.specs.Words.{is_tty, limits_at, limits_of, load_words, number_of, says_tty}
 
 own : IsNumeralModel (λ ds. list_all is_ascii_digit ds ≡ true) (digits_value 10)
 own = numerals_by_value _ (search rules)

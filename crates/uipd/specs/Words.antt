@@ -1,9 +1,9 @@
 -- The words of the command line.
 use Rattle.std.specs.Prelude.{ℕ, ◌-◌, ◌^◌, ◌==◌, ◌&&◌, nat_le, nat_lt, if◌then◌else◌, Bool, true, false, List, [], ◌∷◌, Option, None, Some, option_map, codes, length, map, slice_get, string_bytes}
-use Rattle.std.specs.Char.{is_ascii_digit}
 use Rattle.std.specs.List.{list_all, list_any, before_first, after_first}
 use Rattle.std.specs.Str.{bytes_eq}
 use Rattle.std.specs.Str.Parse.{digits_value}
+use Rattle.link_schedule.specs.Numbers.{is_number}
 use Rattle.uip_wire.specs.Addr.{quad_of}
 use Rattle.ethernet_arp.specs.Words.{mac_of_text}
 use Rattle.site_image.specs.Names.{is_kind}
@@ -68,17 +68,7 @@ task_meant (Dump items) = Dumps items
 task_meant (Pcap items) = Captures items
 task_meant (Slip items) = PlaysBack items
 
--- nothing, or a zero in front of something
-abbrev pub leads_badly : List ℕ → Bool
-leads_badly [] = true
-leads_badly (c ∷ []) = false
-leads_badly (c ∷ d ∷ rest) = c == 48
-
--- decimal digits, without a leading zero but for 0 itself
-abbrev pub is_number : List ℕ → Bool
-is_number text = if leads_badly text then false else list_all is_ascii_digit text
-
--- the number that such digits write, below 2^64
+-- the number that decimal digits write, below 2^64
 abbrev pub number_of : List ℕ → Option ℕ
 number_of text = if is_number text && nat_lt (digits_value 10 text) (2 ^ 64) then Some (digits_value 10 text) else None
 

@@ -1,16 +1,15 @@
 ghost use Rattle.std.specs.Prelude.{◌≡◌, Option, ℕ, Some, map, option_map, string_bytes, IfSome};
-ghost use Rattle.std.specs.Char.{is_ascii_digit};
-ghost use Rattle.std.specs.List.{list_all};
 ghost use Rattle.uipd.specs.Words.{task_meant, task_of, check_words as words_of_check, pack_words as words_of_pack, serve_words as words_of_serve, ether_words as words_of_ether};
 ghost use Rattle.uipd.specs.Words.{upgrade_words as words_of_upgrade};
 ghost use Rattle.uipd.specs.Words.{load_at as counted, load_with as words_with, load_words as words_of_load, page_words as words_of_page, replay_words as words_of_replay};
 ghost use Rattle.uipd.specs.Words.{dump_words as words_of_dump, pcap_words as words_of_pcap, slip_words as words_of_slip, items_of as items_spelled};
 ghost use Rattle.uipd.specs.Words.{ends_here as no_more, limited as limits_meant, limits_at as limits_behind, limits_of as limits_spelled, says_tty as terminal_told};
 ghost use Rattle.uipd.specs.Allowed.{IsAllowed};
-ghost use Rattle.uipd.specs.Words.{number_of as number_meant, is_number as number_form, leads_badly as bad_lead};
+ghost use Rattle.uipd.specs.Words.{number_of as number_meant};
 
 use crate::parts::{are_kind_words, have_parts};
 use ethernet_arp::Mac;
+use link_schedule::is_number;
 use uip_wire::Addr;
 
 /// At which pace the bytes of a line make ticks, where this is above 0, and how many items are taken of it at most.
@@ -303,31 +302,4 @@ fn number_of(text: &str) -> Option<u64>
         return None;
     }
     text.parse::<u64>().ok()
-}
-
-/// Whether the bytes are decimal digits without a leading zero, but for 0 itself.
-fn is_number(text: &[u8]) -> bool
-    ensures { result ≡ number_form text.now }
-{
-    if leads_badly(text) {
-        return false;
-    }
-    all_digits(text)
-}
-
-/// Whether there is nothing, or a zero in front of something.
-fn leads_badly(text: &[u8]) -> bool
-    ensures { result ≡ bad_lead text.now }
-{
-    match text {
-        [] => true,
-        [_] => false,
-        [first, ..] => *first == b'0',
-    }
-}
-
-fn all_digits(text: &[u8]) -> bool
-    ensures { result ≡ list_all is_ascii_digit text.now }
-{
-    text.iter().all(|byte| byte.is_ascii_digit())
 }
