@@ -18,7 +18,7 @@ use Rattle.link_world.specs.Reading.{IsRead, IsSentBy}
 use Rattle.link_world.proofs.Tables.{get_set_same}
 use Rattle.link_replay.specs.Noting.{pair_at}
 use Rattle.link_replay.specs.Stands.{WorldStands, LinkStands, IsLink}
-use Rattle.link_replay.specs.Telling.{AnswersTo, AreTo, client_of, pair_at_side, sees}
+use Rattle.link_replay.specs.Telling.{AnswersTo, AreTo, client_told, pair_at_side, sees}
 use Rattle.link_replay.specs.declared.link.Link.{Link}
 use Rattle.link_replay.specs.declared.world.World.{World as CodeWorld}
 use Rattle.link_replay.proofs.Handling.{arrived_to, linked}
@@ -54,8 +54,8 @@ number_put w (suc n) old new h = get_set_same w.sides n old new h
 module _ (m : Meaning) (served : ℕ → Bool) (w : World) (k : ℕ) (e : Sent) (server : (number : ℕ) (side : Side) → numbered w.sides number ≡ Some side → side.client.setup.server ≡ w.node.addr) where
   -- what holds where a datagram of this kind is delivered
   pub record Hands (who : Who) (content : Content) (bytes : List ℕ) : Type 0 where
-    pub same : hands_over m served (sees w (client_of who) k e (numbered w.sides (client_of who))) bytes who ≡ delivers m served w k e who content
-    pub answers : AnswersTo (sees w (client_of who) k e (numbered w.sides (client_of who))) who (step m served w.node (event_of w.node.addr bytes)).sent
+    pub same : hands_over m served (sees w (client_told who) k e (numbered w.sides (client_told who))) bytes who ≡ delivers m served w k e who content
+    pub answers : AnswersTo (sees w (client_told who) k e (numbered w.sides (client_told who))) who (step m served w.node (event_of w.node.addr bytes)).sent
 
   from_client : (number id : ℕ) (s : PlainSegment) (bytes : List ℕ) (side : Side) → numbered w.sides number ≡ Some side → event_of w.node.addr bytes ≡ Arrived (client_sockets side) s → Hands (FromClient number) (OfSegment id s) bytes
   from_client number id s bytes side g r =

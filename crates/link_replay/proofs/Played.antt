@@ -25,7 +25,7 @@ use Rattle.link_world.specs.Headline.{HasBytes, IsAct, OfLine}
 use Rattle.link_world.proofs.Fits.{all_nil}
 use Rattle.link_world.proofs.Lines.{line_acts}
 use Rattle.link_replay.specs.Opening.{opening_for, plan_from, server}
-use Rattle.link_replay.specs.Playing.{LinesEnd, Plays, Reaches, Refuses, event_at, refusal_at}
+use Rattle.link_replay.specs.Playing.{LinesEnd, PlaysSchedule, Reaches, Refuses, event_at, refusal_at}
 use Rattle.link_replay.specs.Reaching.{ActsEnd, IsAt}
 use Rattle.link_replay.specs.Stands.{WorldStands}
 use Rattle.link_replay.specs.declared.world.World.{World as CodeWorld}
@@ -131,7 +131,7 @@ module _ {A S : Type 0} (g : Ghosts A S) where
       → ((w : World) → IsAt (g.meaning (g.kept world.node.shared)) g.served w → WorldStands g world w
       → LinesEnd (g.meaning (g.kept world.node.shared)) g.served (λ (done : Unit {0}). After) lines answer (plays (g.meaning (g.kept world.node.shared)) g.served (map event_at lines) w))
       → (pages : Pages) → IsPaged (g.meaning (g.kept shared)) pages → HasBytes pages → All IsWord (g.numbers shared)
-      → Plays (g.meaning (g.kept shared)) g.served (g.numbers shared) (content_at schedule) (λ (done : Unit {0}). After) answer
+      → PlaysSchedule (g.meaning (g.kept shared)) g.served (g.numbers shared) (content_at schedule) (λ (done : Unit {0}). After) answer
   whole_schedule world After shared schedule clients lines answer same_clients same_lines same_shared each stands ends pages lawful bytes words =
       let m = g.meaning (g.kept shared) in
       let plans = map plan_at schedule.clients.items in

@@ -51,6 +51,6 @@ LinesEnd m served Now lines (Err (Bad number why)) meant = Refuses lines meant n
 LinesEnd m served Now lines (Err NoRoom) meant = ⊤
 
 -- a schedule, from the opening world of its clients on
-abbrev pub Plays : {X : Type 0} → Meaning → (ℕ → Bool) → List ℕ → SchedulePlan → (X → World → Type 0) → Result X ReadSchedule → Type 0
-Plays m served numbers content Now result =
+abbrev pub PlaysSchedule : {X : Type 0} → Meaning → (ℕ → Bool) → List ℕ → SchedulePlan → (X → World → Type 0) → Result X ReadSchedule → Type 0
+PlaysSchedule m served numbers content Now result =
     LinesEnd m served Now content.lines result (plays m served (map event_at content.lines) (opening_for numbers content.clients))

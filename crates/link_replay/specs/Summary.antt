@@ -1,8 +1,9 @@
 -- The summary of a replay in one line.
 use Rattle.std.specs.Prelude.{ℕ, Bool, List, ◌++◌, length, not, count_by, sum_by, codes, decimal}
+use Rattle.link_client.specs.Calls.{is_opened}
 use Rattle.link_client.specs.declared.client_state.ClientState.{ClientState}
 use Rattle.link_world.specs.World.{World, is_clean}
-use Rattle.link_replay.specs.Kinds.{is_closed, is_open, is_reset, is_other}
+use Rattle.link_replay.specs.Kinds.{is_closed, is_reset, is_other}
 use Rattle.link_replay.specs.declared.tally.Tally.{Tally}
 
 -- how many clients have a state of this kind
@@ -13,7 +14,7 @@ clients_that kind w = count_by (λ side. kind side.client.state) w.sides
 abbrev pub tally_of : World → Tally
 tally_of w = record {
   closed = clients_that is_closed w;
-  opened = clients_that is_open w;
+  opened = clients_that is_opened w;
   reset = clients_that is_reset w;
   other = clients_that is_other w;
   stale = count_by (λ side. not (is_clean side)) w.sides;

@@ -18,10 +18,10 @@ AreTo to None = ⊤
 AreTo to (Some reply) = IsTo to reply
 
 -- the client that a datagram concerns, by its sender; 0 where it concerns none
-abbrev pub client_of : Who → ℕ
-client_of (FromClient number) = number
-client_of (FromNode number) = number
-client_of Pinger = 0
+abbrev pub client_told : Who → ℕ
+client_told (FromClient number) = number
+client_told (FromNode number) = number
+client_told Pinger = 0
 
 -- the sockets of the server's connection with a client
 abbrev pub pair_at_side : Option Side → Option SocketPair

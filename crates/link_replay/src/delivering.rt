@@ -14,7 +14,7 @@ ghost use Rattle.link_replay.specs.Owning.{own_step};
 ghost use Rattle.link_world.specs.Headline.{IsAct};
 ghost use Rattle.link_replay.specs.Reaching.{IsAt};
 ghost use Rattle.link_replay.specs.Stands.{IsKept, WorldStands};
-ghost use Rattle.link_replay.specs.Telling.{AnswersTo, AreTo, client_of};
+ghost use Rattle.link_replay.specs.Telling.{AnswersTo, AreTo, client_told};
 
 use crate::before::Before;
 use crate::own::Own;
@@ -215,7 +215,7 @@ impl<A: App> World<A> {
 
 /// The client that a datagram concerns, by its sender; 0 where it concerns none.
 fn client_of(who: Who) -> u8
-    ensures { result ≡ client_of who }
+    ensures { result ≡ client_told who }
 {
     match who {
         Who::FromClient(client) | Who::FromNode(client) => client,

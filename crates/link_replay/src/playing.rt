@@ -8,7 +8,7 @@ ghost use Rattle.link_schedule.specs.Kept.{event_in_range};
 ghost use Rattle.link_world.specs.Headline.{HasBytes, IsAct, OfLine};
 ghost use Rattle.link_world.specs.Schedule.{plays as played};
 ghost use Rattle.link_world.specs.World.{World as PlainWorld};
-ghost use Rattle.link_replay.specs.Playing.{LinesEnd, Plays, event_at, refusal_at};
+ghost use Rattle.link_replay.specs.Playing.{LinesEnd, PlaysSchedule, event_at, refusal_at};
 ghost use Rattle.link_replay.specs.Reaching.{IsAt};
 ghost use Rattle.link_replay.specs.Stands.{IsKept, WorldStands};
 
@@ -82,7 +82,7 @@ pub fn play<A: App>(
 ) -> Result<World<A>, ReadSchedule>
     ensures kept { IfOk result (λ world. IsKept A.App world) }
     ensures plays { (pages : Pages) → IsPaged (A.meaning (A.kept shared)) pages → HasBytes pages → All IsWord (A.numbers shared)
-        → Plays (A.meaning (A.kept shared)) A.served (A.numbers shared) (content_at schedule.now) (WorldStands A.App) result }
+        → PlaysSchedule (A.meaning (A.kept shared)) A.served (A.numbers shared) (content_at schedule.now) (WorldStands A.App) result }
 {
     let Ok(mut world) = World::new(alloc, schedule.clients.as_slice(), shared) else {
         return Err(ReadSchedule::NoMemory);

@@ -3,7 +3,8 @@
 ghost use Rattle.std.specs.Prelude.{◌≡◌, Bool, count_by, is_none, length, not, sum_by};
 ghost use Rattle.link_world.specs.World.{World as PlainWorld};
 ghost use Rattle.link_replay.specs.Stands.{LinkStands};
-ghost use Rattle.link_replay.specs.Kinds.{is_closed as closed_state, is_open as open_state, is_other as other_state, is_reset as reset_state};
+ghost use Rattle.link_client.specs.Calls.{is_opened as open_state};
+ghost use Rattle.link_replay.specs.Kinds.{is_closed as closed_state, is_other as other_state, is_reset as reset_state};
 ghost use Rattle.link_replay.specs.Summary.{tally_of};
 
 use crate::link::Link;

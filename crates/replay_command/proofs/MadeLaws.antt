@@ -23,7 +23,7 @@ use Rattle.link_world.proofs.Basics.{choose}
 use Rattle.link_world.proofs.Accepting.{AllSpoken, AreKept, FineLines, IsKept, IsOpening, keeps_again, keeps_half, keeps_lose, keeps_reverse, keeps_round, keeps_tick, keeps_twice, kept_append, kept_fine, kept_replicate, opening_ready, opens_fine}
 use Rattle.link_replay.specs.Opening.{opening_for, plan_from, server}
 use Rattle.link_replay.specs.Playing.{event_at, refusal_at}
-use Rattle.workload.specs.Workload.{client_of, event_by, events_of, happens, numbered_from, words_from, workload_of}
+use Rattle.workload.specs.Workload.{client_of, event_drawn, events_of, happens, numbered_from, words_from, workload_of}
 use Rattle.replay_command.specs.Laws.{OnlyFull}
 use Rattle.replay_command.specs.Playing.{outcome}
 
@@ -36,7 +36,7 @@ length-plan_from number [] = refl
 length-plan_from number (plan ∷ plans) = ap suc (length-plan_from (number + 1) plans)
 
 module _ (m : Meaning) (served : ℕ → Bool) (n : ℕ) (some : 0 < n) where
-  event_kept : (rest k : ℕ) → k < n → IsKept m served n (event_by rest (1 + k))
+  event_kept : (rest k : ℕ) → k < n → IsKept m served n (event_drawn rest (1 + k))
   event_kept rest k lt =
       let last : suc k ≡ 1 + k = omega arith in
       choose (λ e. IsKept m served n e) (leb rest 2) _ _ (λ e. keeps_round m served n) (λ e.

@@ -18,7 +18,7 @@ use Rattle.link_world.specs.Headline.{HasBytes}
 use Rattle.link_world.specs.Schedule.{BadLine, plays}
 use Rattle.link_world.specs.World.{World}
 use Rattle.link_replay.specs.Opening.{opening_for}
-use Rattle.link_replay.specs.Playing.{Plays, Reaches, Refuses, event_at}
+use Rattle.link_replay.specs.Playing.{PlaysSchedule, Reaches, Refuses, event_at}
 use Rattle.link_replay.specs.Reaching.{IsAt}
 use Rattle.replay_command.specs.Playing.{bad_schedule}
 use Rattle.web_pages.specs.Serving.{is_served, no_hits}
@@ -62,13 +62,13 @@ module _ (site : SiteContent) (loaded : IsLoaded site) (bytes : All IsByte site.
 
     -- a line of it was refused, and is told
     pub refused_due : {X : Type 0} (Now : X → World → Type 0) (fault : ReadSchedule)
-        → ForPages (files_of site) hits (Plays (web_meaning (files_of site)) is_served hits content Now (Err fault))
+        → ForPages (files_of site) hits (PlaysSchedule (web_meaning (files_of site)) is_served hits content Now (Err fault))
         → TellsFault fault old new before now result → Answers (IsPlayDue (files_of site) content telling) old new before now result
     refused_due Now NoMemory plays_for short = inr short
     refused_due Now (Bad line why) plays_for (inr short) = inr short
     refused_due Now (Bad line why) plays_for (inl wrote) =
         let refuses : Refuses content.lines (outcome_from hits (files_of site) content) line why =
-        web_has (Plays (web_meaning (files_of site)) is_served hits content Now (Err (Bad line why))) plays_for in
+        web_has (PlaysSchedule (web_meaning (files_of site)) is_served hits content Now (Err (Bad line why))) plays_for in
         let due : IsPlayDue (files_of site) content telling (bad_schedule line why) (ends.BadSchedule line why) =
         (subst (λ (h : List ℕ). Refuses content.lines (outcome_from h (files_of site) content) line why) none refuses, refl) in
         inl (bad_schedule line why, ends.BadSchedule line why, due, wrote)

@@ -17,7 +17,7 @@ use Rattle.link_schedule.specs.declared.line.Line.{Line}
 use Rattle.link_schedule.specs.Clients.{Plan}
 use Rattle.link_schedule.specs.Reading.{SchedulePlan, meets}
 use Rattle.link_schedule.specs.Kept.{Keeps, are_apart, client_in_range, event_in_range, is_between}
-use Rattle.workload.specs.Workload.{client_of, event_by, events_of, happens, numbered_from, request_by, words_from, workload_of}
+use Rattle.workload.specs.Workload.{client_of, event_drawn, events_of, happens, numbered_from, request_by, words_from, workload_of}
 
 pub on_ok_by : {T E P Q : Type 0} (r : Result T E) → (P → Q) → OnOk r P → OnOk r Q
 on_ok_by (Ok x) f p = f p
@@ -95,7 +95,7 @@ one_of : (n : ℕ) (b : Bool) (x y : Event) → event_in_range n x ≡ true → 
 one_of n true x y p q = p
 one_of n false x y p q = q
 
-event_fits : (n r c : ℕ) → is_between 1 n c ≡ true → event_in_range n (event_by r c) ≡ true
+event_fits : (n r c : ℕ) → is_between 1 n c ≡ true → event_in_range n (event_drawn r c) ≡ true
 event_fits n r c fits =
     one_of n (nat_le r 2) Round _ refl (one_of n (r == 3) Twice _ refl (one_of n (r == 4) Reverse _ refl (one_of n (r == 5) Half _ refl (one_of n (r == 6) Lose (Again c) refl fits))))
 
@@ -106,7 +106,7 @@ drawn_fit : (n : ℕ) (ws : List ℕ) → 1 ≤ n → list_all (event_in_range n
 drawn_fit n [] some = refl
 drawn_fit n (w ∷ ws) some =
     ap (list_all (event_in_range n)) (flat_map-cons (happens n) w ws)
-    ∙ both (event_in_range n (event_by (w % 8) (1 + w / 8 % n))) (list_all (event_in_range n) (flat_map (happens n) ws))
+    ∙ both (event_in_range n (event_drawn (w % 8) (1 + w / 8 % n))) (list_all (event_in_range n) (flat_map (happens n) ws))
     (event_fits n (w % 8) (1 + w / 8 % n) (between n (1 + w / 8 % n) (omega arith) (let lt = rest_below (w / 8) n some in omega (arith, lt)))) (drawn_fit n ws some)
 
 events_fit : (seed n : ℕ) → 1 ≤ n → list_all (event_in_range n) (events_of seed n) ≡ true

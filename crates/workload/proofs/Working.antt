@@ -9,7 +9,7 @@ use Rattle.rand_pcg.specs.Pcg.{pcg32}
 use Rattle.link_schedule.specs.declared.event.Event.{Event}
 use Rattle.link_schedule.specs.declared.event.Event.TheVariants.{Tick}
 use Rattle.link_schedule.specs.declared.line.Line.{Line}
-use Rattle.workload.specs.Workload.{event_by, happens, numbered_from}
+use Rattle.workload.specs.Workload.{event_drawn, happens, numbered_from}
 
 abbrev pub line_with : ℕ → Event → Line
 line_with number event = record { at = number; event = event }
@@ -38,7 +38,7 @@ unfolding first_words
 drawn_more f k s = flat_map-cons f (pcg32 s).0 (first_words pcg32 k (pcg32 s).1)
 
 pub drawn_step : (clients left k : ℕ) (s t : Lcg) (word : ℕ) (old one two new : List Event) (e : Event) → left ≡ suc k → (word, t) ≡ pcg32 s
-    → e ≡ event_by (word % 8) (1 + word / 8 % clients) → one ≡ old ++ e ∷ [] → two ≡ one ++ Tick 1 ∷ []
+    → e ≡ event_drawn (word % 8) (1 + word / 8 % clients) → one ≡ old ++ e ∷ [] → two ≡ one ++ Tick 1 ∷ []
     → new ≡ two ++ flat_map (happens clients) (first_words pcg32 k t) → new ≡ old ++ flat_map (happens clients) (first_words pcg32 left s)
 drawn_step clients left k s t word old one two new e more drawn event first second rest =
     let f = happens clients in

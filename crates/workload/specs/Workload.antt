@@ -22,8 +22,8 @@ client_of k = record {
 }
 
 -- three of eight words let all through, and the others disturb the link
-abbrev pub event_by : ℕ → ℕ → Event
-event_by rest client =
+abbrev pub event_drawn : ℕ → ℕ → Event
+event_drawn rest client =
     if nat_le rest 2 then Round
     else if rest == 3 then Twice
     else if rest == 4 then Reverse
@@ -33,7 +33,7 @@ event_by rest client =
 
 -- what a word makes happen, and a tick
 abbrev pub happens : ℕ → ℕ → List Event
-happens clients word = event_by (word % 8) (1 + word / 8 % clients) ∷ Tick 1 ∷ []
+happens clients word = event_drawn (word % 8) (1 + word / 8 % clients) ∷ Tick 1 ∷ []
 
 -- the words that a seed gives, from the first on
 abbrev pub words_from : ℕ → List ℕ

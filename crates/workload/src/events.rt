@@ -5,7 +5,7 @@ ghost use Rattle.std.specs.List.{range_with_len};
 ghost use Rattle.rand_core.specs.Steps.{first_words};
 ghost use Rattle.rand_pcg.specs.Pcg.{pcg32};
 ghost use Rattle.link_schedule.specs.declared.event.Event.TheVariants.{Opens, Round as RoundEvent};
-ghost use Rattle.workload.specs.Workload.{event_by as event_meant, happens as meant, numbered_from};
+ghost use Rattle.workload.specs.Workload.{event_drawn as event_meant, happens as meant, numbered_from};
 
 use link_schedule::{Event, Line};
 use rand_core::utils::NextWord;

@@ -6,7 +6,7 @@ use Rattle.link_schedule.specs.Stands.{plan_at}
 use Rattle.link_schedule.specs.declared.line.Line.{Line}
 use Rattle.link_world.specs.Schedule.{plays}
 use Rattle.link_replay.specs.Opening.{opening_for}
-use Rattle.link_replay.specs.Playing.{Plays, event_at}
+use Rattle.link_replay.specs.Playing.{PlaysSchedule, event_at}
 use Rattle.link_replay.specs.Stands.{WorldStands}
 use Rattle.link_replay.proofs.Played.{handed_on, same_refusal, whole_schedule}
 use Rattle.link_replay.proofs.playing.play.Goals as goal
@@ -22,7 +22,7 @@ returns-in_err-play_lines-clause-plays g c = λ pages lawful bytes words.
     let m = a.meaning (a.kept c.args.shared) in
     let lines = c.args.schedule.now.lines.items in
     let end = plays m a.served (map event_at lines) (opening_for (a.numbers c.args.shared) (map plan_at c.args.schedule.now.clients.items)) in
-    subst (λ r. Plays m a.served (a.numbers c.args.shared) (content_at c.args.schedule.now) (WorldStands a) r)
+    subst (λ r. PlaysSchedule m a.served (a.numbers c.args.shared) (content_at c.args.schedule.now) (WorldStands a) r)
     (sym (handed_on c.from_residual.result c.in_err-play_lines.field-0.0 c.from_residual.ensures.0 c.from_residual.ensures.1))
     (same_refusal m a.served (λ (done : Unit {0}). WorldStands a c.play_lines.new.world) (WorldStands a) lines end c.in_err-play_lines.field-0.0
     (whole_schedule a c.in-Ok.world (WorldStands a c.play_lines.new.world) c.args.shared c.args.schedule.now

@@ -3,7 +3,8 @@ use Rattle.link_replay.specs.Matched.{Matched}
 use Rattle.link_replay.specs.Stands.{SideStands, SentStands}
 use Rattle.link_replay.specs.declared.sent.Sent.{Sent as CodeSent}
 use Rattle.link_replay.specs.declared.side.Side.{Side as CodeSide}
-use Rattle.link_replay.specs.Kinds.{is_closed, is_open, is_reset, is_other}
+use Rattle.link_client.specs.Calls.{is_opened}
+use Rattle.link_replay.specs.Kinds.{is_closed, is_reset, is_other}
 use Rattle.link_replay.proofs.Counted.{again_stand, bytes_stand, kinds_stand, same_tally, stale_stand}
 use Rattle.link_replay.proofs.tally.count_up.Goals as goal
 
@@ -15,7 +16,7 @@ returns c = λ w st.
     let n : Matched (SentStands w) sent w.sent = subst (λ (l : List CodeSent). Matched (SentStands w) l w.sent) (sym c.as_slice-sent.ensures.value) st.sent in
     same_tally _ _ _ _ _ _ _ _ _ _ _ _ _ _ _ _
     (c.closed.ensures ∙ kinds_stand is_closed sides w.sides m)
-    (c.opened.ensures ∙ kinds_stand is_open sides w.sides m)
+    (c.opened.ensures ∙ kinds_stand is_opened sides w.sides m)
     (c.reset.ensures ∙ kinds_stand is_reset sides w.sides m)
     (c.other.ensures ∙ kinds_stand is_other sides w.sides m)
     (c.stale.ensures ∙ stale_stand sides w.sides m)

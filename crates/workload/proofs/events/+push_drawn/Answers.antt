@@ -3,7 +3,7 @@ use Rattle.std.specs.Prelude.{flat_map}
 use Rattle.rand_core.specs.Steps.{first_words}
 use Rattle.rand_pcg.specs.Pcg.{pcg32}
 use Rattle.link_schedule.specs.declared.event.Event.{Event}
-use Rattle.workload.specs.Workload.{event_by, happens}
+use Rattle.workload.specs.Workload.{event_drawn, happens}
 use Rattle.workload.proofs.Keeping.{more_from, on_ok_by}
 use Rattle.workload.proofs.Working.{drawn_step, none_drawn}
 use Rattle.workload.proofs.events.+push_drawn.Goals as goal
@@ -21,5 +21,5 @@ returns t c =
     (λ rest. drawn_step c.args.clients c.args.left (c.args.left - 1) c.args.words.now c.next_word-word.new.self c.next_word-word.result
     c.args.events.now.items c.push.new.events.items c.push-2.new.events.items c.push_drawn.new.events.items c.event_by.result
     (more_from c.args.left c.if-left-eq0.false) c.next_word-word.ensures
-    (c.event_by.ensures ∙ ap (λ k. event_by (c.next_word-word.result % 8) k) c.client_by.ensures) c.in_ok-push.ensures c.in_ok-push-2.ensures rest)
+    (c.event_by.ensures ∙ ap (λ k. event_drawn (c.next_word-word.result % 8) k) c.client_by.ensures) c.in_ok-push.ensures c.in_ok-push-2.ensures rest)
     c.push_drawn.ensures

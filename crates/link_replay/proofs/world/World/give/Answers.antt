@@ -8,7 +8,7 @@ use Rattle.link_world.specs.Bytes.{sent_bytes}
 use Rattle.link_world.specs.World.{World, Sent, hands_to, numbered}
 use Rattle.link_world.specs.declared.who.Who.{Who}
 use Rattle.link_replay.specs.Stands.{LinkStands, SentStands, WorldStands}
-use Rattle.link_replay.specs.Telling.{AnswersTo, client_of, sees}
+use Rattle.link_replay.specs.Telling.{AnswersTo, client_told, sees}
 use Rattle.link_replay.specs.declared.sent.Sent.{Sent as CodeSent}
 use Rattle.link_replay.proofs.Delivered.{answers_seen, hands, seen, speaks_to}
 use Rattle.link_replay.proofs.Pairs.{numbered_at, partner, there_is}
@@ -44,17 +44,17 @@ returns-clause-given g c = λ w h s.
     let e : Sent = p.other in
     let items : c.in-Ok.bytes.items ≡ c.as_slice.result.now = search (rules, tests) in
     let bytes : c.as_slice-2.result.now ≡ sent_bytes w e = c.as_slice-2.ensures.value ∙ items ∙ c.as_slice.ensures.value ∙ p.pair.bytes in
-    let client : c.client_of.result ≡ client_of e.who = c.client_of.ensures ∙ ap client_of p.pair.who in
-    let v : World = sees w (client_of e.who) number e (numbered w.sides (client_of e.who)) in
+    let client : c.client_of.result ≡ client_told e.who = c.client_of.ensures ∙ ap client_told p.pair.who in
+    let v : World = sees w (client_told e.who) number e (numbered w.sides (client_told e.who)) in
     let facts = hands m a.served w number e (speaks_to c.args.self.now.link w s.link s.home) e.who e.content (sent_bytes w e) (read_at m a.served w h n e p.get) (sent_at m a.served w h n e p.get) in
     let stands : WorldStands a (record c.args.self.now { link = c.see.new.self }) v
-    = seen a c.args.self.now c.see.new.self w (client_of e.who) number e (numbered w.sides (client_of e.who)) s
+    = seen a c.args.self.now c.see.new.self w (client_told e.who) number e (numbered w.sides (client_told e.who)) s
     (subst (λ k. LinkStands c.see.new.self (sees w k number e (numbered w.sides k))) client (c.see.ensures.stands w e s.link p.pair.epoch)) (c.see.ensures.kept w.node.addr s.home) in
     let answer : Option Reply = (step m a.served v.node (event_of v.node.addr c.as_slice-2.result.now)).sent in
     let answers : AnswersTo v code.who answer
     = subst (λ (who : Who). AnswersTo v who answer) (sym p.pair.who)
     (subst (λ (b : List ℕ). AnswersTo v e.who (step m a.served v.node (event_of v.node.addr b)).sent) (sym bytes)
-    (answers_seen m a.served w (client_of e.who) number e (numbered w.sides (client_of e.who)) e.who (sent_bytes w e) facts.answers)) in
+    (answers_seen m a.served w (client_told e.who) number e (numbered w.sides (client_told e.who)) e.who (sent_bytes w e) facts.answers)) in
     let same : hands_over m a.served v c.as_slice-2.result.now code.who ≡ hands_to m a.served w number (numbered w.sent number)
     = ap (λ (b : List ℕ). hands_over m a.served v b code.who) bytes
     ∙ ap (λ (who : Who). hands_over m a.served v (sent_bytes w e) who) p.pair.who
