@@ -48,10 +48,20 @@ IsHeadOf head bytes = head_or_fate bytes head.target.0 ≡ Ok head
 abbrev pub payload_of : IpHead → List ℕ → List ℕ
 payload_of head bytes = slice_range bytes 20 head.total
 
--- the header of a datagram that is sent, with this checksum: no options, no fragments, 64 hops to live
+-- the header of a datagram that is sent, for the protocol of this number and with this checksum: no options, no fragments,
+-- 64 hops to live
+abbrev pub numbered_with : ℕ → ℕ → ℕ → ℕ → List ℕ → List ℕ → List ℕ
+numbered_with sum total id number source target =
+    bytes_of (17664 ∷ total ∷ id ∷ 0 ∷ (16384 + number) ∷ sum ∷ []) ++ source ++ target
+
+-- the same with its own checksum
+unfoldable pub numbered_head : ℕ → ℕ → ℕ → List ℕ → List ℕ → List ℕ
+numbered_head total id number source target =
+    numbered_with (checksum_of (numbered_with 0 total id number source target)) total id number source target
+
+-- the header for one of our protocols, with this checksum
 abbrev pub head_with : ℕ → ℕ → ℕ → Proto → List ℕ → List ℕ → List ℕ
-head_with sum total id proto source target =
-    bytes_of (17664 ∷ total ∷ id ∷ 0 ∷ (16384 + number_of proto) ∷ sum ∷ []) ++ source ++ target
+head_with sum total id proto source target = numbered_with sum total id (number_of proto) source target
 
 -- the same with its own checksum
 unfoldable pub head_bytes : ℕ → ℕ → Proto → List ℕ → List ℕ → List ℕ

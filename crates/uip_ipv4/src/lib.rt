@@ -12,4 +12,4 @@ pub use fate::IpFate;
 pub use head::IpHead;
 pub use proto::Proto;
 pub use received::check;
-pub use sent::{put_head, reads_back};
+pub use sent::{put_head, put_numbered_head, reads_back};

@@ -1,16 +1,32 @@
 ghost use Rattle.std.specs.Prelude.{◌≡◌, ◌≤◌, ◌++◌, length, drop};
-ghost use Rattle.uip_ipv4.specs.Head.{ReadsBack, head_bytes, head_with};
+ghost use Rattle.uip_ipv4.specs.Head.{ReadsBack, head_bytes, numbered_head, numbered_with};
 
 use crate::proto::Proto;
 use uip_wire::{Addr, checksum, put16};
 
 /// Writes a header before a datagram that is sent, with no options, 64 hops to live and its checksum.
-#[tactic(auto, unfolding(crate::specs::Head::head_bytes))]
+#[tactic(auto, unfolding(crate::specs::Head::head_bytes, crate::specs::Head::numbered_head))]
 pub fn put_head(out: &mut [u8], total: u16, id: u16, proto: Proto, source: Addr, target: Addr)
     requires { 20 ≤ length out.old }
     ensures { out.new ≡ head_bytes total id proto source.0 target.0 ++ drop 20 out.old }
 {
-    let mut head = head_without_sum(total, id, proto, source, target);
+    put_numbered_head(out, total, id, proto.number(), source, target);
+}
+
+/// Writes the same for the protocol of this number (RFC 790), which need not be one that `check` takes.
+#[tactic(auto, unfolding(crate::specs::Head::numbered_head))]
+pub fn put_numbered_head(
+    out: &mut [u8],
+    total: u16,
+    id: u16,
+    number: u8,
+    source: Addr,
+    target: Addr,
+)
+    requires { 20 ≤ length out.old }
+    ensures { out.new ≡ numbered_head total id number source.0 target.0 ++ drop 20 out.old }
+{
+    let mut head = head_without_sum(total, id, number, source, target);
     let sum = checksum(&head);
     put16(&mut head, 10, sum);
     out[..20].copy_from_slice(&head);
@@ -22,8 +38,8 @@ pub fn reads_back()
 {}
 
 /// The header with 0 in place of its checksum.
-fn head_without_sum(total: u16, id: u16, proto: Proto, source: Addr, target: Addr) -> [u8; 20]
-    ensures { result ≡ head_with 0 total id proto source.0 target.0 }
+fn head_without_sum(total: u16, id: u16, number: u8, source: Addr, target: Addr) -> [u8; 20]
+    ensures { result ≡ numbered_with 0 total id number source.0 target.0 }
 {
     let [total_high, total_low] = total.to_be_bytes();
     let [id_high, id_low] = id.to_be_bytes();
@@ -39,7 +55,7 @@ fn head_without_sum(total: u16, id: u16, proto: Proto, source: Addr, target: Add
         0,
         0,
         64,
-        proto.number(),
+        number,
         0,
         0,
         source0,

@@ -1,6 +1,6 @@
 use Rattle.std.proofs.Common.{arith}
 use Rattle.std.proofs.lemmas.List.{length-take-le}
-use Rattle.uip_ipv4.proofs.sent.put_head.Goals as goal
+use Rattle.uip_ipv4.proofs.sent.put_numbered_head.Goals as goal
 
 pub copy_from_slice-requires : goal.copy_from_slice-requires
 copy_from_slice-requires c = omega (arith, length-take-le 20 c.args.out.now c.requires)
