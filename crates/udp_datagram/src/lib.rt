@@ -1,0 +1,12 @@
+//! UDP over IPv4 (RFC 768): the datagram that carries data from one port to another, and the data of a received one. It takes
+//! no memory.
+#![tactic(auto)]
+
+mod received;
+mod sent;
+mod sums;
+mod way;
+
+pub use received::udp_data;
+pub use sent::udp_datagram;
+pub use way::Way;

@@ -1,0 +1,64 @@
+ghost use Rattle.std.specs.Prelude.{◌≡◌, ◌<◌, ◌≤◌, ◌++◌, length, option_map, true};
+ghost use Rattle.udp_datagram.specs.Udp.{IsWhole, behind_head, carries_udp, udp_data, udp_in, udp_pseudo_header};
+ghost use Rattle.uip_wire.specs.Checksum.{checksum_of};
+
+use crate::sums::{UDP, pseudo_sum};
+use crate::way::Way;
+use uip_ipv4::{IpFate, check};
+use uip_wire::{Addr, get16};
+
+/// The payload that a datagram carries on this way, if it carries any: where its Internet header passes every check of `check`
+/// but the last, its protocol is UDP, and its addresses, ports, length and checksum are right.
+#[tactic(auto, unfolding(crate::specs::Udp::udp_data))]
+pub fn udp_data(way: Way, datagram: &[u8]) -> Option<&[u8]>
+    ensures { option_map (λ payload. payload.now) result ≡ udp_data way datagram.now }
+{
+    if !carries_udp(way.target, datagram) {
+        return None;
+    }
+    if Addr::get(datagram, 12) != way.source {
+        return None;
+    }
+    udp_in(way, &datagram[20..usize::from(get16(datagram, 2))])
+}
+
+/// Whether a whole datagram to this address carries UDP.
+fn carries_udp(own: Addr, datagram: &[u8]) -> bool
+    ensures exact { result ≡ carries_udp own.0 datagram.now }
+    ensures whole { result ≡ true → IsWhole datagram.now }
+{
+    match check(datagram, own) {
+        Err(IpFate::Protocol) => datagram[9] == UDP,
+        _ => false,
+    }
+}
+
+/// The payload of a UDP datagram on this way.
+fn udp_in(way: Way, udp: &[u8]) -> Option<&[u8]>
+    ensures { option_map (λ payload. payload.now) result ≡ udp_in way udp.now }
+{
+    if udp.len() < 8 {
+        return None;
+    }
+    if get16(udp, 0) != way.from.0 || get16(udp, 2) != way.to.0 {
+        return None;
+    }
+    let len = get16(udp, 4);
+    let end = usize::from(len);
+    if end < 8 || udp.len() < end {
+        return None;
+    }
+    if get16(udp, 6) != 0 && checksum(way, &udp[..end], len) != 0 {
+        return None;
+    }
+    Some(&udp[8..end])
+}
+
+/// The checksum over a received UDP datagram: 0 where the one in it is right.
+fn checksum(way: Way, udp: &[u8], len: u16) -> u16
+    ensures { result ≡ checksum_of (udp_pseudo_header way len ++ udp.now) }
+{
+    let mut sum = pseudo_sum(way, len);
+    sum.add(udp);
+    sum.finish()
+}
