@@ -1,0 +1,71 @@
+-- The walks over names and records, one step at a time.
+use Rattle.std.proofs.Common.{◌≡◌, ℕ, zero, suc, ◌+◌, ◌<◌, ◌≤◌, Bool, true, false, cond, eqb, if◌then◌else◌, ltb, slice_index, List, [], ◌∷◌, length, drop, refl, sym, ap, ◌∙◌, arith, add-one, Option, None, Some}
+use Rattle.dns_message.specs.Names.{behind_name, behind_pointer}
+use Rattle.dns_message.specs.Records.{Record, address_in, answer_by, answer_of_records, first_record, is_address, records, records_by}
+use Rattle.dns_message.specs.declared.answer.Answer.{Answer}
+use Rattle.dns_message.specs.declared.answer.Answer.TheVariants.{Address}
+use Rattle.std.specs.List.{find}
+
+pub skipped : (k : ℕ) (bytes : List ℕ) → k ≤ length bytes → behind_name k bytes ≡ behind_name 0 (drop k bytes)
+skipped zero bytes h = refl
+skipped (suc k) [] h = absurd (omega arith)
+skipped (suc k) (b ∷ bytes) h = skipped k bytes (omega arith)
+
+pub cut_off : (k : ℕ) (bytes : List ℕ) → length bytes < k → behind_name k bytes ≡ None
+cut_off k [] h = refl
+cut_off zero (b ∷ bytes) h = absurd (omega arith)
+cut_off (suc k) (b ∷ bytes) h = cut_off k bytes (omega arith)
+
+some_count : (count : ℕ) → (count ≡ 0 → ⊥) → eqb count 0 ≡ false
+some_count count h = grind arith
+
+short_count : (count : ℕ) → count < 64 → ltb count 64 ≡ true
+short_count count h = grind arith
+
+-- a name that begins with a label goes on behind it
+pub label_first : (bytes : List ℕ) (count : ℕ) → 1 ≤ length bytes → count ≡ slice_index bytes 0 → (count ≡ 0 → ⊥) → count < 64
+    → behind_name 0 bytes ≡ behind_name count (drop 1 bytes)
+label_first [] count h same some short = absurd (omega arith)
+label_first (b ∷ bytes) count h same some short =
+    let e : b ≡ count = sym same in
+    ap (λ c. behind_name 0 (c ∷ bytes)) e
+    ∙ ap (λ t. if t then Some bytes else if ltb count 64 then behind_name count bytes else if ltb count 192 then None else behind_pointer bytes) (some_count count some)
+    ∙ ap (λ t. if t then behind_name count bytes else if ltb count 192 then None else behind_pointer bytes) (short_count count short)
+
+not_address_by : (b : Bool) (content : List ℕ) → ◌≡◌ {A = Option (List ℕ)} (if b then Some content else None) None → b ≡ false
+not_address_by true content e = absurd (cc e)
+not_address_by false content e = refl
+
+pub not_address : (r : Record) → address_in r ≡ None → is_address r ≡ false
+not_address r e = not_address_by (is_address r) r.content e
+
+abbrev by_list : ℕ → List Record → Option Answer
+by_list n found = answer_by (find is_address found) (eqb (length found) n)
+
+not_all : (n : ℕ) → eqb 0 (suc n) ≡ false
+not_all n = grind arith
+
+pub none_left : (n m : ℕ) (bytes : List ℕ) → n ≡ m + 1 → first_record bytes ≡ None → answer_of_records n bytes ≡ None
+none_left zero m bytes size e = absurd (omega arith)
+none_left (suc n) m bytes size e =
+    ap (λ l. by_list (suc n) (records_by (records n) l)) e ∙ ap (λ b. answer_by None b) (not_all n)
+
+pub address_first : (n m : ℕ) (bytes rest : List ℕ) (r : Record) → n ≡ m + 1 → first_record bytes ≡ Some (r, rest) → is_address r ≡ true
+    → answer_of_records n bytes ≡ Some (Address (record { 0 = r.content }))
+address_first zero m bytes rest r size e is = absurd (omega arith)
+address_first (suc n) m bytes rest r size e is =
+    ap (λ l. by_list (suc n) (records_by (records n) l)) e
+    ∙ ap (λ t. answer_by (cond t (Some r) (find is_address (records n rest))) (eqb (length (r ∷ records n rest)) (suc n))) is
+
+same_size : (a b : ℕ) → eqb (suc a) (suc b) ≡ eqb a b
+same_size a b = grind arith
+
+pub other_first : (n m : ℕ) (bytes rest : List ℕ) (r : Record) → n ≡ m + 1 → first_record bytes ≡ Some (r, rest) → is_address r ≡ false
+    → answer_of_records n bytes ≡ answer_of_records m rest
+other_first zero m bytes rest r size e is = absurd (omega arith)
+other_first (suc n) m bytes rest r size e is =
+    let same : n ≡ m = omega arith in
+    ap (λ l. by_list (suc n) (records_by (records n) l)) e
+    ∙ ap (λ t. answer_by (cond t (Some r) (find is_address (records n rest))) (eqb (length (r ∷ records n rest)) (suc n))) is
+    ∙ ap (λ b. answer_by (find is_address (records n rest)) b) (same_size (length (records n rest)) n)
+    ∙ ap (λ k. answer_of_records k rest) same

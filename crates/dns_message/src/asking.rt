@@ -1,0 +1,64 @@
+ghost use Rattle.std.specs.Prelude.{◌≡◌};
+ghost use Rattle.dns_message.specs.Replies.{answer_to, query_datagram, way_back, way_there};
+
+use crate::answer::Answer;
+use crate::message::{answer_by_message, query_message};
+use crate::name::Name;
+use arrayvec::ArrayVec;
+use udp_datagram::{Way, udp_data, udp_datagram};
+use uip_wire::{Addr, LARGEST_DATAGRAM, Port};
+
+/// The port from which names are asked for.
+pub const ASKING_PORT: u16 = 4096;
+
+/// The port of a server (RFC 1035, section 4.2.1).
+pub const SERVER_PORT: u16 = 53;
+
+/// Who asks which server, under which id.
+#[derive(Clone, Copy, Debug, PartialEq, Eq)]
+pub struct Asking {
+    pub own: Addr,
+    pub server: Addr,
+    pub id: u16,
+}
+
+impl Asking {
+    /// The datagram that asks for a name, under an identification of its Internet header.
+    pub fn query(self, name: &Name, ident: u16) -> ArrayVec<u8, LARGEST_DATAGRAM>
+        ensures { result.items ≡ query_datagram self name.now ident }
+    {
+        udp_datagram(self.way_there(), ident, &query_message(self.id, name))
+    }
+
+    /// What a datagram answers to the question for a name, if it is a matching reply and says something. Any other datagram
+    /// is to be ignored.
+    #[tactic(auto, unfolding(crate::specs::Replies::answer_to))]
+    pub fn answer(self, name: &Name, datagram: &[u8]) -> Option<Answer>
+        ensures { result ≡ answer_to self name.now datagram.now }
+    {
+        let message = udp_data(self.way_back(), datagram)?;
+        answer_by_message(self.id, name, message)
+    }
+
+    fn way_there(self) -> Way
+        ensures { result ≡ way_there self }
+    {
+        Way {
+            source: self.own,
+            target: self.server,
+            from: Port(ASKING_PORT),
+            to: Port(SERVER_PORT),
+        }
+    }
+
+    fn way_back(self) -> Way
+        ensures { result ≡ way_back self }
+    {
+        Way {
+            source: self.server,
+            target: self.own,
+            from: Port(SERVER_PORT),
+            to: Port(ASKING_PORT),
+        }
+    }
+}

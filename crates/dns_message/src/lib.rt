@@ -1,0 +1,13 @@
+//! The messages by which a host asks for the address of a name (RFC 1035) over UDP: the query, which reply matches it, and
+//! what the reply says. It takes no memory.
+#![tactic(auto)]
+
+mod answer;
+mod asking;
+mod message;
+mod name;
+mod record;
+
+pub use answer::Answer;
+pub use asking::{ASKING_PORT, Asking, SERVER_PORT};
+pub use name::{LONGEST_NAME, Name};

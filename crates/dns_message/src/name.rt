@@ -1,0 +1,85 @@
+ghost use Rattle.std.specs.Prelude.{◌≡◌, ◌≤◌, None, Some, true, if◌then◌else◌, length, nat_le};
+ghost use Rattle.std.specs.List.{list_all};
+ghost use Rattle.dns_message.specs.Names.{is_label, is_label_byte, is_name, labels};
+
+use arrayvec::ArrayVec;
+use memchr::memchr;
+use std::marker::Model;
+
+/// The most bytes of a name that is asked for.
+pub const LONGEST_NAME: usize = 64;
+
+/// A name that is asked for, as a text. Contracts see its bytes.
+#[derive(Drop)]
+pub struct Name {
+    pub text: ArrayVec<u8, LONGEST_NAME>,
+}
+
+impl Model for Name {
+    ghost use Rattle.std.specs.Prelude.{List, ℕ};
+
+    ghost Value = { List ℕ };
+
+    ghost view = { λ name. name.text.items };
+}
+
+impl Name {
+    /// The name that a text spells: at most 64 bytes, and two or more labels parted by dots, each of 1 to 63 letters, digits,
+    /// `-` or `_`.
+    pub fn parse(text: &[u8]) -> Option<Name>
+        ensures { result ≡ if is_name text.now then Some text.now else None }
+    {
+        if !is_name(text) {
+            return None;
+        }
+        let mut name: ArrayVec<u8, LONGEST_NAME> = ArrayVec::new();
+        let _fits = name.try_extend_from_slice(text);
+        Some(Name { text: name })
+    }
+}
+
+/// Whether a text has the form of a name.
+#[tactic(auto, unfolding(crate::specs::Names::is_name))]
+fn is_name(text: &[u8]) -> bool
+    ensures exact { result ≡ is_name text.now }
+    ensures short { result ≡ true → length text.now ≤ LONGEST_NAME }
+{
+    text.len() <= LONGEST_NAME && has_dot(text) && has_labels(text)
+}
+
+/// Whether there is a dot, and so two labels at least.
+fn has_dot(text: &[u8]) -> bool
+    ensures { result ≡ nat_le 2 (length (labels text.now)) }
+{
+    memchr(b'.', text).is_some()
+}
+
+/// Whether each part between the dots is a label.
+fn has_labels(text: &[u8]) -> bool
+    ensures { result ≡ list_all is_label (labels text.now) }
+{
+    let mut rest = text;
+    while let Some(dot) = memchr(b'.', rest) {
+        if !is_label(&rest[..dot]) {
+            return false;
+        }
+        rest = &rest[dot + 1..];
+    }
+    is_label(rest)
+}
+
+/// Whether it is a label.
+fn is_label(label: &[u8]) -> bool
+    ensures { result ≡ is_label label.now }
+{
+    !label.is_empty() && label.len() <= 63 && are_label_bytes(label)
+}
+
+/// Whether each byte may stand in a label.
+fn are_label_bytes(label: &[u8]) -> bool
+    ensures { result ≡ list_all is_label_byte label.now }
+{
+    label
+        .iter()
+        .all(|byte| byte.is_ascii_alphanumeric() || *byte == b'-' || *byte == b'_')
+}

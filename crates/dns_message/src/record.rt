@@ -1,0 +1,98 @@
+ghost use Rattle.std.specs.Prelude.{◌≡◌, None, if◌then◌else◌, nat_lt, option_map};
+ghost use Rattle.dns_message.specs.Names.{behind_name, behind_pointer};
+ghost use Rattle.dns_message.specs.Records.{address_in, answer_of_records, first_record, is_address, plain, record_behind};
+
+use crate::answer::Answer;
+use uip_wire::{Addr, get16};
+
+/// What a resource record says (RFC 1035, section 4.1.3).
+#[derive(Clone, Copy)]
+struct Record<'a> {
+    kind: u16,
+    class: u16,
+    content: &'a [u8],
+}
+
+/// What so many answer records say: the first address among them, or that there is none. Nothing, where a record before the
+/// first address is malformed.
+pub(crate) fn answer_of_records(count: u16, bytes: &[u8]) -> Option<Answer>
+    ensures { result ≡ answer_of_records count bytes.now }
+{
+    let mut rest = bytes;
+    for _number in 0..count {
+        let (found, behind) = first_record(rest)?;
+        if let Some(address) = address_in(found) {
+            return Some(Answer::Address(address));
+        }
+        rest = behind;
+    }
+    Some(Answer::NoAddress)
+}
+
+/// The Internet address that a record gives, if it gives one.
+fn address_in(found: Record<'_>) -> Option<Addr>
+    ensures { option_map (λ a. a.0) result ≡ address_in (plain found.entry) }
+{
+    if found.kind == 1 && found.class == 1 && found.content.len() == 4 {
+        Some(Addr::get(found.content, 0))
+    } else {
+        None
+    }
+}
+
+/// The record at the front, and what stands behind it.
+fn first_record(bytes: &[u8]) -> Option<(Record<'_>, &[u8])>
+    ensures { option_map (λ p. (plain p.0, p.1.now)) result ≡ first_record bytes.now }
+{
+    record_behind(behind_name(bytes)?)
+}
+
+/// The record whose owner stood before these bytes, and what stands behind it.
+fn record_behind(bytes: &[u8]) -> Option<(Record<'_>, &[u8])>
+    ensures { option_map (λ p. (plain p.0, p.1.now)) result ≡ record_behind bytes.now }
+{
+    if bytes.len() < 10 {
+        return None;
+    }
+    let end = 10 + usize::from(get16(bytes, 8));
+    if bytes.len() < end {
+        return None;
+    }
+    let found = Record {
+        kind: get16(bytes, 0),
+        class: get16(bytes, 2),
+        content: &bytes[10..end],
+    };
+    Some((found, &bytes[end..]))
+}
+
+/// What stands behind the name at the front.
+fn behind_name(bytes: &[u8]) -> Option<&[u8]>
+    ensures { option_map (λ rest. rest.now) result ≡ behind_name 0 bytes.now }
+{
+    let mut rest = bytes;
+    while let [first, behind @ ..] = rest {
+        let count = usize::from(*first);
+        if count == 0 {
+            return Some(behind);
+        }
+        if count >= 64 {
+            return behind_pointer(*first, behind);
+        }
+        if behind.len() < count {
+            return None;
+        }
+        rest = &behind[count..];
+    }
+    None
+}
+
+/// What stands behind a pointer, of which this was the first byte, if it was one.
+fn behind_pointer(first: u8, behind: &[u8]) -> Option<&[u8]>
+    ensures { option_map (λ rest. rest.now) result ≡ if nat_lt first 192 then None else behind_pointer behind.now }
+{
+    match behind {
+        [_, rest @ ..] if first >= 192 => Some(rest),
+        _ => None,
+    }
+}
