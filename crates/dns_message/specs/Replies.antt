@@ -26,7 +26,7 @@ way_back asking = record {
 }
 
 -- the datagram that asks for a name, under an identification of its Internet header
-abbrev pub query_datagram : Asking → List ℕ → ℕ → List ℕ
+unfoldable pub query_datagram : Asking → List ℕ → ℕ → List ℕ
 query_datagram asking text ident = udp_datagram (way_there asking) ident (query_message asking.id text)
 
 -- what a datagram answers to the question for a name, if it is a matching reply and says something

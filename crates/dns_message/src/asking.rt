@@ -24,6 +24,7 @@ pub struct Asking {
 
 impl Asking {
     /// The datagram that asks for a name, under an identification of its Internet header.
+    #[tactic(auto, unfolding(crate::specs::Replies::query_datagram))]
     pub fn query(self, name: &Name, ident: u16) -> ArrayVec<u8, LARGEST_DATAGRAM>
         ensures { result.items ≡ query_datagram self name.now ident }
     {

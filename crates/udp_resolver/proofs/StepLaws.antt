@@ -1,0 +1,88 @@
+-- The loops over names and answers, one step at a time.
+use Rattle.std.proofs.Common.{◌≡◌, ℕ, ◌+◌, ◌<◌, ◌≤◌, suc, Bool, List, [], ◌∷◌, ◌++◌, length, drop, get_or, refl, sym, ap, ◌∙◌, arith, append_assoc, Option, None, Some, Result, Ok, Err, OnErr}
+use Rattle.std.proofs.Math.ListN.{set}
+use Rattle.std.proofs.Math.Seq.{set-append_seam}
+use Rattle.std.proofs.lemmas.List.{drop_more}
+use Rattle.uip_edge.specs.Writing.{AppendsPrefix}
+use Rattle.uip_edge.proofs.Told.{prefix_by}
+use Rattle.uip_slip.specs.Text.{slip_text}
+use Rattle.dns_message.specs.Replies.{answer_to, query_datagram}
+use Rattle.dns_message.specs.declared.answer.Answer.{Answer}
+use Rattle.dns_message.specs.declared.asking.Asking.{Asking}
+use Rattle.udp_resolver.specs.Asked.{last_ident, next_ident, query_texts}
+use Rattle.udp_resolver.specs.Fates.{Question, fate_by, next_asking, or_else, questions}
+use Rattle.udp_resolver.specs.Lines.{line_of}
+use Rattle.udp_resolver.specs.Steps.{heard, lines_by, unanswered, unless_answered}
+
+pub query_texts-append : (ident : ℕ) (xs ys : List Question) → query_texts ident (xs ++ ys) ≡ query_texts ident xs ++ query_texts (last_ident ident xs) ys
+query_texts-append ident [] ys = refl
+query_texts-append ident (x ∷ xs) ys =
+    let next = next_ident ident in
+    let first : List ℕ = slip_text (query_datagram x.asking x.text next) in
+    ap (λ l. first ++ l) (query_texts-append next xs ys) ∙ sym (append_assoc first (query_texts next xs) (query_texts (last_ident next xs) ys))
+
+pub last_ident-append : (ident : ℕ) (xs ys : List Question) → last_ident ident (xs ++ ys) ≡ last_ident (last_ident ident xs) ys
+last_ident-append ident [] ys = refl
+last_ident-append ident (x ∷ xs) ys = last_ident-append (next_ident ident) xs ys
+
+-- the element at a place, and those behind it
+pub here : {X : Type 0} (xs : List X) (at : ℕ) (x : X) → at < length xs → x ≡ get_or xs at x → drop at xs ≡ x ∷ drop (at + 1) xs
+here xs at x h is = drop_more xs at x h ∙ ap (λ y. y ∷ drop (at + 1) xs) (sym is)
+
+module _ {X : Type 0} where
+  get_seam_at : (front : List X) (a : X) (rest : List X) (d : X) → get_or (front ++ a ∷ rest) (length front) d ≡ a
+  get_seam_at [] a rest d = refl
+  get_seam_at (x ∷ front) a rest d = get_seam_at front a rest d
+
+  -- the element where two parts meet
+  pub get_seam : (now front : List X) (a : X) (rest : List X) (at : ℕ) (d : X) → length front ≡ at → now ≡ front ++ a ∷ rest → get_or now at d ≡ a
+  get_seam now front a rest at d size e =
+      ap (λ l. get_or l at d) e ∙ ap (λ n. get_or (front ++ a ∷ rest) n d) (sym size) ∙ get_seam_at front a rest d
+
+  pub set_seam : (now front : List X) (a b : X) (rest : List X) (at : ℕ) → length front ≡ at → now ≡ front ++ a ∷ rest → set now at b ≡ (front ++ b ∷ []) ++ rest
+  set_seam now front a b rest at size e =
+      ap (λ l. set l at b) e ∙ ap (λ n. set (front ++ a ∷ rest) n b) (sym size) ∙ set-append_seam front a rest b ∙ sym (append_assoc front (b ∷ []) rest)
+
+pub heard_step : (datagram : List ℕ) (asking after : Asking) (names later : List (List ℕ)) (name : List ℕ) (olds rest : List (Option Answer)) (a b : Option Answer) (whole front : List (Option Answer))
+    → names ≡ name ∷ later → olds ≡ a ∷ rest → after ≡ next_asking asking → b ≡ or_else a (answer_to asking name datagram)
+    → whole ≡ front ++ heard datagram (questions asking names) olds
+    → whole ≡ (front ++ b ∷ []) ++ heard datagram (questions after later) rest
+heard_step datagram asking after names later name olds rest a b whole front n o k is e =
+    e ∙ ap (λ l. front ++ heard datagram (questions asking l) olds) n
+    ∙ ap (λ l. front ++ heard datagram (questions asking (name ∷ later)) l) o
+    ∙ ap (λ x. front ++ x ∷ heard datagram (questions (next_asking asking) later) rest) (sym is)
+    ∙ ap (λ x. front ++ b ∷ heard datagram (questions x later) rest) (sym k)
+    ∙ sym (append_assoc front (b ∷ []) (heard datagram (questions after later) rest))
+
+pub unanswered_step : (asking after : Asking) (names later : List (List ℕ)) (name : List ℕ) (olds rest : List (Option Answer)) (a : Option Answer) (whole front : List Question)
+    → names ≡ name ∷ later → olds ≡ a ∷ rest → after ≡ next_asking asking
+    → whole ≡ front ++ unanswered (questions asking names) olds
+    → whole ≡ (front ++ unless_answered (record { asking = asking; text = name }) a) ++ unanswered (questions after later) rest
+unanswered_step asking after names later name olds rest a whole front n o k e =
+    let one : List Question = unless_answered (record { asking = asking; text = name }) a in
+    e ∙ ap (λ l. front ++ unanswered (questions asking l) olds) n
+    ∙ ap (λ l. front ++ unanswered (questions asking (name ∷ later)) l) o
+    ∙ ap (λ x. front ++ (one ++ unanswered (questions x later) rest)) (sym k)
+    ∙ sym (append_assoc front one (unanswered (questions after later) rest))
+
+pub lines_step : (names later : List (List ℕ)) (name : List ℕ) (olds rest : List (Option Answer)) (a : Option Answer) (is_over : Bool) (whole front : List ℕ)
+    → names ≡ name ∷ later → olds ≡ a ∷ rest
+    → whole ≡ front ++ lines_by names olds is_over
+    → whole ≡ (front ++ line_of name (fate_by a is_over)) ++ lines_by later rest is_over
+lines_step names later name olds rest a is_over whole front n o e =
+    e ∙ ap (λ l. front ++ lines_by l olds is_over) n ∙ ap (λ l. front ++ lines_by (name ∷ later) l is_over) o
+    ∙ sym (append_assoc front (line_of name (fate_by a is_over)) (lines_by later rest is_over))
+
+-- nothing is left behind the last name
+pub heard_none : (datagram : List ℕ) (asking : Asking) (names : List (List ℕ)) (olds : List (Option Answer)) → names ≡ [] → heard datagram (questions asking names) olds ≡ []
+heard_none datagram asking names olds e = ap (λ l. heard datagram (questions asking l) olds) e
+
+pub unanswered_none : (asking : Asking) (names : List (List ℕ)) (olds : List (Option Answer)) → names ≡ [] → unanswered (questions asking names) olds ≡ []
+unanswered_none asking names olds e = ap (λ l. unanswered (questions asking l) olds) e
+
+pub lines_none : (names : List (List ℕ)) (olds : List (Option Answer)) (is_over : Bool) → names ≡ [] → lines_by names olds is_over ≡ []
+lines_none names olds is_over e = ap (λ l. lines_by l olds is_over) e
+
+pub err_by : {T E : Type 0} (r : Result T E) (a b : Option (List ℕ)) (xs ys : List ℕ) → ys ≡ xs → OnErr r (AppendsPrefix a b xs) → OnErr r (AppendsPrefix a b ys)
+err_by (Ok x) a b xs ys e p = tt
+err_by (Err x) a b xs ys e p = prefix_by a b xs ys e p

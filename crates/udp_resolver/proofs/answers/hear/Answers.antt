@@ -1,0 +1,37 @@
+use Rattle.std.proofs.Common.{◌≡◌, ◌∷◌, [], ◌+◌, ◌++◌, ◌∙◌, None, Option, refl, sym, ap, arith, drop, get_or, length, length-append, append-nil}
+use Rattle.std.proofs.lemmas.List.{drop_all, drop_more}
+use Rattle.dns_message.specs.Replies.{answer_to}
+use Rattle.udp_resolver.specs.Fates.{or_else}
+use Rattle.udp_resolver.proofs.StepLaws.{get_seam, heard_none, heard_step, here, set_seam}
+use Rattle.udp_resolver.proofs.answers.hear.Goals as goal
+
+pub loop-at-init : goal.loop-at-init
+loop-at-init c = record { front = []; size = refl; answers = refl; heard = refl }
+
+pub loop-at-preserved : goal.loop-at-preserved
+loop-at-preserved c =
+    let inv = c.loop-at.invariant in
+    let at = c.loop-at.at in
+    let olds = c.args.answers.now in
+    let name = c.index-names-at.result in
+    let a = get_or olds at None in
+    let b = c.known_or.result in
+    let named = here c.args.names.now at name c.loop-at-test.true c.index-names-at.is in
+    let known = drop_more olds at None (omega (arith, c.requires, c.loop-at-test.true)) in
+    let now = inv.answers ∙ ap (λ l. inv.front ++ l) known in
+    let same = get_seam c.loop-at.answers inv.front a (drop (at + 1) olds) at None inv.size now in
+    record {
+      front = inv.front ++ b ∷ [];
+      size = length-append inv.front (b ∷ []) ∙ ap (λ n. n + 1) inv.size;
+      answers = set_seam c.loop-at.answers inv.front a b (drop (at + 1) olds) at inv.size now;
+      heard = heard_step c.args.datagram.now c.loop-at.asking c.next_asking-asking.result _ _ name _ _ a b _ inv.front named known c.next_asking-asking.ensures
+          (c.known_or.ensures ∙ ap (λ o. or_else o (answer_to c.loop-at.asking name c.args.datagram.now)) same) inv.heard;
+    }
+
+pub returns : goal.returns
+returns c =
+    let inv = c.loop-at.invariant in
+    let at = c.loop-at.at in
+    let none = drop_all at c.args.names.now c.loop-at-test.false in
+    let left = drop_all at c.args.answers.now (omega (arith, c.requires, c.loop-at-test.false)) in
+    inv.answers ∙ ap (λ l. inv.front ++ l) (left ∙ sym (heard_none c.args.datagram.now c.loop-at.asking (drop at c.args.names.now) (drop at c.args.answers.now) none)) ∙ sym inv.heard

@@ -1,0 +1,12 @@
+use Rattle.std.proofs.Common.{◌≡◌, ◌++◌, List, ℕ, length, drop}
+use Rattle.std.specs.Io.KnownBytes.{Appends}
+use Rattle.udp_resolver.specs.Steps.{lines_by}
+use Rattle.udp_resolver.proofs.lines.tell_all.Given as goal
+
+abbrev pub invariant-loop-at : goal.invariant-loop-at
+invariant-loop-at g l = record {
+  front : List ℕ;
+  whole : lines_by l.names l.answers l.is_over ≡ front ++ lines_by (drop l.at l.names) (drop l.at l.answers) l.is_over;
+  wrote : Appends (g.T.Sink.written l.fn.tell) (g.T.Sink.written l.tell) front;
+  calm : g.T.Sink.faults l.tell ≡ g.T.Sink.faults l.fn.tell;
+}

@@ -1,0 +1,17 @@
+use Rattle.std.proofs.Common.{◌≡◌, ◌++◌, List, length, drop}
+use Rattle.std.specs.Io.KnownBytes.{Appends}
+use Rattle.uip_wire.specs.declared.sizes.TheConstants.{LARGEST_DATAGRAM}
+use Rattle.udp_resolver.specs.Asked.{last_ident, query_texts}
+use Rattle.udp_resolver.specs.Fates.{Question, questions}
+use Rattle.udp_resolver.specs.Steps.{unanswered}
+use Rattle.udp_resolver.proofs.sender.Sender.send_open.Given as goal
+
+abbrev pub invariant-loop-at : goal.invariant-loop-at
+invariant-loop-at g l = record {
+  front : List Question;
+  area : length l.packet.area ≡ LARGEST_DATAGRAM;
+  whole : unanswered (questions l.fn.asking l.names) l.answers ≡ front ++ unanswered (questions l.asking (drop l.at l.names)) (drop l.at l.answers);
+  ident : l.self.ident ≡ last_ident l.fn.self.ident front;
+  wrote : Appends (g.K.Sink.written l.fn.out) (g.K.Sink.written l.out) (query_texts l.fn.self.ident front);
+  calm : g.K.Sink.faults l.out ≡ g.K.Sink.faults l.fn.out;
+}

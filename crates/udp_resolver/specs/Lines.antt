@@ -1,0 +1,30 @@
+-- What is told of the names: a line for each, with what became of it.
+use Rattle.std.specs.Prelude.{ℕ, List, ◌∷◌, ◌++◌, [], codes, decimal, slice_index}
+use Rattle.std.specs.List.{flat_map}
+use Rattle.dns_message.specs.declared.answer.Answer.{Answer}
+use Rattle.dns_message.specs.declared.answer.Answer.TheVariants.{Address, Code, NoAddress}
+use Rattle.udp_resolver.specs.Fates.{Question, fate_of}
+use Rattle.udp_resolver.specs.LineEvents.{Event}
+use Rattle.udp_resolver.specs.declared.fate.Fate.{Fate}
+use Rattle.udp_resolver.specs.declared.fate.Fate.TheVariants.{Answered, Open, Timeout}
+
+-- an address as a dotted quad
+abbrev pub quad_text : List ℕ → List ℕ
+quad_text address =
+    decimal (slice_index address 0) ++ codes "." ++ decimal (slice_index address 1) ++ codes "."
+    ++ decimal (slice_index address 2) ++ codes "." ++ decimal (slice_index address 3)
+
+abbrev pub fate_text : Fate → List ℕ
+fate_text (Answered (Address address)) = quad_text address.0
+fate_text (Answered NoAddress) = codes "none"
+fate_text (Answered (Code code)) = codes "code " ++ decimal code
+fate_text Timeout = codes "timeout"
+fate_text Open = codes "open"
+
+-- the name, a space, what became of it, and a line feed
+abbrev pub line_of : List ℕ → Fate → List ℕ
+line_of text fate = text ++ codes " " ++ fate_text fate ++ codes "\n"
+
+-- the lines of questions, in order
+abbrev pub lines : List Question → List Event → List ℕ
+lines asked happened = flat_map (λ q. line_of q.text (fate_of happened q)) asked

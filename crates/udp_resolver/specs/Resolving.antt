@@ -1,0 +1,97 @@
+-- What asking for names does to the streams, and how it ends.
+use Rattle.std.specs.Prelude.{◌≡◌, ◌<◌, ◌≤◌, ◌⊎◌, ℕ, List, [], ◌∷◌, ◌++◌, Bool, true, false, length, map, ⊤}
+use Rattle.std.specs.Io.KnownBytes.{Appends}
+use Rattle.uip_edge.specs.Causes.{Rose}
+use Rattle.uip_edge.specs.Coming.{Consumes}
+use Rattle.uip_edge.specs.Writing.{AppendsPrefix}
+use Rattle.uip_edge.specs.declared.item.Item.{Item}
+use Rattle.uip_edge.specs.declared.item.Item.TheVariants.{Byte, Quiet}
+use Rattle.uip_edge.specs.declared.serve_end.ServeEnd.{ServeEnd}
+use Rattle.uip_edge.specs.declared.serve_end.ServeEnd.TheVariants as ends
+use Rattle.udp_resolver.specs.Asked.{line_text}
+use Rattle.udp_resolver.specs.Fates.{Question, all_settled}
+use Rattle.udp_resolver.specs.LineEvents.{events}
+use Rattle.udp_resolver.specs.Lines.{lines}
+use Rattle.udp_resolver.specs.Streams.{Calm, IsAll, Streams}
+
+-- over these items all questions are settled, or one is open
+abbrev pub IsSettled : List Question → List Item → Type 0
+IsSettled asked taken = all_settled asked (events taken) ≡ true
+
+abbrev pub IsOpen : List Question → List Item → Type 0
+IsOpen asked taken = all_settled asked (events taken) ≡ false
+
+-- the link ended while a question was open, before n items
+pub record RanDry (asked : List Question) (n : ℕ) (old : Streams) (taken : List Item) : Type 0 where
+  pub is_open : IsOpen asked taken
+  pub all : IsAll old.coming taken
+  pub few : length taken < n
+
+-- why no more items are taken: all questions are settled or the link ended, or else n items were taken
+abbrev pub IsDone : List Question → ℕ → Streams → List Item → ServeEnd → Type 0
+IsDone asked n old taken ends.End = IsSettled asked taken ⊎ RanDry asked n old taken
+IsDone asked n old taken ends.Budget = IsOpen asked taken × (length taken ≡ n)
+IsDone asked n old taken ends.LinkFault = ⊥
+IsDone asked n old taken ends.WriteFault = ⊥
+
+-- all was asked and told
+pub record WroteAll (asked : List Question) (n : ℕ) (old new : Streams) (taken : List Item) (end : ServeEnd) : Type 0 where
+  pub done : IsDone asked n old taken end
+  pub calm : Calm old new
+  pub out : Appends old.out new.out (line_text asked (events taken))
+  pub told : Appends old.told new.told (lines asked (events taken))
+
+-- the link failed while a question was open, and nothing was told
+pub record LinkFailed (asked : List Question) (n : ℕ) (old new : Streams) (taken : List Item) : Type 0 where
+  pub is_open : IsOpen asked taken
+  pub few : length taken < n
+  pub rose : Rose old.link_faults new.link_faults
+  pub out_same : new.out_faults ≡ old.out_faults
+  pub tell_same : new.tell_faults ≡ old.tell_faults
+  pub out : Appends old.out new.out (line_text asked (events taken))
+  pub told : new.told ≡ old.told
+
+-- the line out failed, and nothing was told
+pub record OutFailed (asked : List Question) (old new : Streams) (taken : List Item) : Type 0 where
+  pub link_same : new.link_faults ≡ old.link_faults
+  pub rose : Rose old.out_faults new.out_faults
+  pub tell_same : new.tell_faults ≡ old.tell_faults
+  pub out : AppendsPrefix old.out new.out (line_text asked (events taken))
+  pub told : new.told ≡ old.told
+
+-- all was asked, and the telling failed
+pub record TellFailed (asked : List Question) (n : ℕ) (old new : Streams) (taken : List Item) : Type 0 where
+  pub end : ServeEnd
+  pub done : IsDone asked n old taken end
+  pub link_same : new.link_faults ≡ old.link_faults
+  pub out_same : new.out_faults ≡ old.out_faults
+  pub rose : Rose old.tell_faults new.tell_faults
+  pub out : Appends old.out new.out (line_text asked (events taken))
+  pub told : AppendsPrefix old.told new.told (lines asked (events taken))
+
+abbrev pub EndsBy : List Question → ℕ → Streams → Streams → List Item → ServeEnd → Type 0
+EndsBy asked n old new taken ends.End = WroteAll asked n old new taken ends.End
+EndsBy asked n old new taken ends.Budget = WroteAll asked n old new taken ends.Budget
+EndsBy asked n old new taken ends.LinkFault = LinkFailed asked n old new taken
+EndsBy asked n old new taken ends.WriteFault = OutFailed asked old new taken ⊎ TellFailed asked n old new taken
+
+-- what one answer of a link gives: bytes, or one silence
+abbrev pub IsOneAnswer : List Item → Type 0
+IsOneAnswer items = (items ≡ Quiet ∷ []) ⊎ ((bytes : List ℕ) × (items ≡ map Byte bytes))
+
+-- the link was asked for the last of the items while a question was open
+pub record LastAsked (asked : List Question) (taken : List Item) : Type 0 where
+  pub before : List Item
+  pub last : List Item
+  pub whole : taken ≡ before ++ last
+  pub is_open : IsOpen asked before
+  pub once : IsOneAnswer last
+
+-- The questions were asked, up to n items: there are items that the link told and lost, of which none was asked for without
+-- need, and the end has its cause and its texts.
+pub record Resolves (asked : List Question) (n : ℕ) (old new : Streams) (result : ServeEnd) : Type 0 where
+  pub taken : List Item
+  pub within : length taken ≤ n
+  pub consumed : Consumes old.coming new.coming taken
+  pub needed : (taken ≡ []) ⊎ LastAsked asked taken
+  pub ends : EndsBy asked n old new taken result

@@ -1,0 +1,42 @@
+-- What the parts of a run make of an event.
+use Rattle.std.specs.Prelude.{◌≡◌, ◌<◌, ◌==◌, ℕ, Bool, List, [], ◌∷◌, ◌++◌, Option, Some, None, take}
+use Rattle.std.specs.List.{list_any}
+use Rattle.rexmit_timer.specs.Ages.{IsAtAge, ages}
+use Rattle.rexmit_timer.specs.declared.timer.TheConstants.{TEXT_LIMIT}
+use Rattle.dns_message.specs.Replies.{answer_to}
+use Rattle.dns_message.specs.declared.answer.Answer.{Answer}
+use Rattle.udp_resolver.specs.Fates.{Question, fate_by, is_given_up, last_silence, or_else, silences}
+use Rattle.udp_resolver.specs.LineEvents.{Event}
+use Rattle.udp_resolver.specs.Lines.{line_of}
+use Rattle.udp_resolver.specs.declared.clock.Clock.{Clock}
+
+-- the answers after a datagram came: those that there were, and what it answers to the other questions
+abbrev pub heard : List ℕ → List Question → List (Option Answer) → List (Option Answer)
+heard datagram [] answers = []
+heard datagram (q ∷ asked) [] = []
+heard datagram (q ∷ asked) (answer ∷ answers) = or_else answer (answer_to q.asking q.text datagram) ∷ heard datagram asked answers
+
+abbrev pub unless_answered : Question → Option Answer → List Question
+unless_answered q None = q ∷ []
+unless_answered q (Some answer) = []
+
+-- the questions that have no answer
+abbrev pub unanswered : List Question → List (Option Answer) → List Question
+unanswered [] answers = []
+unanswered (q ∷ asked) [] = []
+unanswered (q ∷ asked) (answer ∷ answers) = unless_answered q answer ++ unanswered asked answers
+
+-- the lines of names with these answers
+abbrev pub lines_by : List (List ℕ) → List (Option Answer) → Bool → List ℕ
+lines_by [] answers is_over = []
+lines_by (text ∷ names) [] is_over = []
+lines_by (text ∷ names) (answer ∷ answers) is_over = line_of text (fate_by answer is_over) ++ lines_by names answers is_over
+
+-- the clock after these events
+pub record IsAt (happened : List Event) (clock : Clock) : Type 0 where
+  pub given_up : clock.given_up ≡ is_given_up happened
+  pub age : silences happened < last_silence → IsAtAge clock.timer (silences happened)
+
+-- the age of a retransmission
+abbrev pub is_due : ℕ → Bool
+is_due age = list_any (λ a. a == age) (take TEXT_LIMIT ages)

@@ -1,0 +1,53 @@
+ghost use Rattle.std.specs.Prelude.{◌≡◌, length};
+ghost use Rattle.std.specs.List.{list_any};
+ghost use Rattle.std.specs.Option.{is_none};
+ghost use Rattle.udp_resolver.specs.Fates.{next_asking, or_else, questions};
+ghost use Rattle.dns_message.specs.Replies.{answer_to};
+ghost use Rattle.udp_resolver.specs.Steps.{heard};
+
+use dns_message::{Answer, Asking, Name};
+
+/// The same asking under the next id.
+pub(crate) fn next_asking(asking: Asking) -> Asking
+    ensures { result ≡ next_asking asking }
+{
+    Asking {
+        own: asking.own,
+        server: asking.server,
+        id: asking.id.wrapping_add(1),
+    }
+}
+
+/// The answer that is known, or else what a datagram answers.
+fn known_or(known: Option<Answer>, asking: Asking, name: &Name, datagram: &[u8]) -> Option<Answer>
+    ensures { result ≡ or_else known (answer_to asking name.now datagram.now) }
+{
+    if known.is_some() {
+        return known;
+    }
+    asking.answer(name, datagram)
+}
+
+/// A datagram comes: it may answer questions that have no answer yet.
+pub(crate) fn hear(
+    answers: &mut [Option<Answer>],
+    asking: Asking,
+    names: &[Name],
+    datagram: &[u8],
+)
+    requires { length answers.old ≡ length names.now }
+    ensures { answers.new ≡ heard datagram.now (questions asking names.now) answers.old }
+{
+    let mut asking = asking;
+    for at in 0..names.len() {
+        answers[at] = known_or(answers[at], asking, &names[at], datagram);
+        asking = next_asking(asking);
+    }
+}
+
+/// Whether a question has no answer yet.
+pub(crate) fn any_open(answers: &[Option<Answer>]) -> bool
+    ensures { result ≡ list_any is_none answers.now }
+{
+    answers.iter().any(|answer| answer.is_none())
+}

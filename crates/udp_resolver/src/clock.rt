@@ -1,0 +1,44 @@
+ghost use Rattle.std.specs.Prelude.{◌≡◌, ◌+◌, ◌≤◌, ◌∷◌, ◌++◌, [], List, false};
+ghost use Rattle.rexmit_timer.specs.declared.timer.TheConstants.{TEXT_LIMIT};
+ghost use Rattle.udp_resolver.specs.Fates.{is_given_up, silences};
+ghost use Rattle.udp_resolver.specs.LineEvents.{Event, Silence};
+ghost use Rattle.udp_resolver.specs.Steps.{IsAt, is_due};
+
+use rexmit_timer::{Beat, TEXT_LIMIT, Timer};
+
+/// When questions are asked again, and when they are given up. All are asked at once, so one clock serves them all.
+#[derive(Drop)]
+pub(crate) struct Clock {
+    pub timer: Timer,
+    pub given_up: bool,
+}
+
+impl Clock {
+    /// The clock when the questions are asked first.
+    pub fn new() -> Clock
+        ensures at { IsAt [] result }
+        ensures tries { result.timer.tries ≤ TEXT_LIMIT }
+    {
+        Clock {
+            timer: Timer::fresh(),
+            given_up: false,
+        }
+    }
+
+    /// A silence. Whether the questions that are open are to be asked again.
+    pub fn tick(&mut self) -> bool
+        requires tries { self.old.timer.tries ≤ TEXT_LIMIT }
+        ensures tries { self.new.timer.tries ≤ TEXT_LIMIT }
+        ensures at { (happened : List Event) → is_given_up happened ≡ false → IsAt happened self.old → IsAt (happened ++ Silence ∷ []) self.new }
+        ensures again { (happened : List Event) → is_given_up happened ≡ false → IsAt happened self.old → result ≡ is_due (silences happened + 1) }
+    {
+        match self.timer.tick(TEXT_LIMIT) {
+            Beat::Wait => false,
+            Beat::Again => true,
+            Beat::GiveUp => {
+                self.given_up = true;
+                false
+            }
+        }
+    }
+}

@@ -1,0 +1,13 @@
+//! A resolver over a serial line: it asks a server for the addresses of names (RFC 1035), asks again while the server is
+//! silent, and tells what became of each name. What it writes is told by the whole list of items that it took, however the
+//! link cut them. It takes no memory.
+#![tactic(auto)]
+
+mod answers;
+mod clock;
+mod fate;
+mod lines;
+mod sender;
+
+pub use dns_message::{LONGEST_NAME, Name};
+pub use fate::Fate;
