@@ -1,5 +1,5 @@
 -- What asking for names does to the streams, and how it ends.
-use Rattle.std.specs.Prelude.{◌≡◌, ◌<◌, ◌≤◌, ◌⊎◌, ℕ, List, [], ◌∷◌, ◌++◌, Bool, true, false, length, map, ⊤}
+use Rattle.std.specs.Prelude.{◌≡◌, ◌<◌, ◌≤◌, ◌⊎◌, ℕ, List, [], ◌∷◌, ◌++◌, Bool, true, false, Option, length, map}
 use Rattle.std.specs.Io.KnownBytes.{Appends}
 use Rattle.uip_edge.specs.Causes.{Rose}
 use Rattle.uip_edge.specs.Coming.{Consumes}
@@ -22,21 +22,21 @@ abbrev pub IsOpen : List Question → List Item → Type 0
 IsOpen asked taken = all_settled asked (events taken) ≡ false
 
 -- the link ended while a question was open, before n items
-pub record RanDry (asked : List Question) (n : ℕ) (old : Streams) (taken : List Item) : Type 0 where
+pub record RanDry (asked : List Question) (n : ℕ) (coming : Option (List Item)) (taken : List Item) : Type 0 where
   pub is_open : IsOpen asked taken
-  pub all : IsAll old.coming taken
+  pub all : IsAll coming taken
   pub few : length taken < n
 
 -- why no more items are taken: all questions are settled or the link ended, or else n items were taken
-abbrev pub IsDone : List Question → ℕ → Streams → List Item → ServeEnd → Type 0
-IsDone asked n old taken ends.End = IsSettled asked taken ⊎ RanDry asked n old taken
-IsDone asked n old taken ends.Budget = IsOpen asked taken × (length taken ≡ n)
-IsDone asked n old taken ends.LinkFault = ⊥
-IsDone asked n old taken ends.WriteFault = ⊥
+abbrev pub IsDone : List Question → ℕ → Option (List Item) → List Item → ServeEnd → Type 0
+IsDone asked n coming taken ends.End = IsSettled asked taken ⊎ RanDry asked n coming taken
+IsDone asked n coming taken ends.Budget = IsOpen asked taken × (length taken ≡ n)
+IsDone asked n coming taken ends.LinkFault = ⊥
+IsDone asked n coming taken ends.WriteFault = ⊥
 
 -- all was asked and told
 pub record WroteAll (asked : List Question) (n : ℕ) (old new : Streams) (taken : List Item) (end : ServeEnd) : Type 0 where
-  pub done : IsDone asked n old taken end
+  pub done : IsDone asked n old.coming taken end
   pub calm : Calm old new
   pub out : Appends old.out new.out (line_text asked (events taken))
   pub told : Appends old.told new.told (lines asked (events taken))
@@ -62,7 +62,7 @@ pub record OutFailed (asked : List Question) (old new : Streams) (taken : List I
 -- all was asked, and the telling failed
 pub record TellFailed (asked : List Question) (n : ℕ) (old new : Streams) (taken : List Item) : Type 0 where
   pub end : ServeEnd
-  pub done : IsDone asked n old taken end
+  pub done : IsDone asked n old.coming taken end
   pub link_same : new.link_faults ≡ old.link_faults
   pub out_same : new.out_faults ≡ old.out_faults
   pub rose : Rose old.tell_faults new.tell_faults

@@ -1,10 +1,11 @@
 -- What the parts of a run make of an event.
-use Rattle.std.specs.Prelude.{◌≡◌, ◌<◌, ◌==◌, ℕ, Bool, List, [], ◌∷◌, ◌++◌, Option, Some, None, take}
+use Rattle.std.specs.Prelude.{◌≡◌, ◌<◌, ◌+◌, ◌==◌, if◌then◌else◌, ℕ, Bool, List, [], ◌∷◌, ◌++◌, Option, Some, None, take}
 use Rattle.std.specs.List.{list_any}
 use Rattle.rexmit_timer.specs.Ages.{IsAtAge, ages}
 use Rattle.rexmit_timer.specs.declared.timer.TheConstants.{TEXT_LIMIT}
 use Rattle.dns_message.specs.Replies.{answer_to}
 use Rattle.dns_message.specs.declared.answer.Answer.{Answer}
+use Rattle.udp_resolver.specs.Asked.{open_ones}
 use Rattle.udp_resolver.specs.Fates.{Question, fate_by, is_given_up, last_silence, or_else, silences}
 use Rattle.udp_resolver.specs.LineEvents.{Event}
 use Rattle.udp_resolver.specs.Lines.{line_of}
@@ -40,3 +41,7 @@ pub record IsAt (happened : List Event) (clock : Clock) : Type 0 where
 -- the age of a retransmission
 abbrev pub is_due : ℕ → Bool
 is_due age = list_any (λ a. a == age) (take TEXT_LIMIT ages)
+
+-- the questions that a silence behind these events asks again
+abbrev pub asked_next : List Question → List Event → List Question
+asked_next asked happened = if is_due (silences happened + 1) then open_ones asked happened else []

@@ -21,6 +21,21 @@ streams coming out told link_faults out_faults tell_faults link sink tell = reco
   tell_faults = tell_faults tell;
 }
 
+-- the line in and out alone
+pub record Wires : Type 0 where
+  pub coming : Option (List Item)
+  pub out : Option (List ℕ)
+  pub link_faults : ℕ
+  pub out_faults : ℕ
+
+abbrev pub wires : {L K : Type 0} → (L → Option (List Item)) → (K → Option (List ℕ)) → (L → ℕ) → (K → ℕ) → L → K → Wires
+wires coming out link_faults out_faults link sink = record {
+  coming = coming link;
+  out = out sink;
+  link_faults = link_faults link;
+  out_faults = out_faults sink;
+}
+
 -- no count rose
 pub record Calm (old new : Streams) : Type 0 where
   pub link : new.link_faults ≡ old.link_faults

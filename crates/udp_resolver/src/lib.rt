@@ -7,7 +7,13 @@ mod answers;
 mod clock;
 mod fate;
 mod lines;
+mod resolving;
+mod run;
 mod sender;
 
 pub use dns_message::{LONGEST_NAME, Name};
 pub use fate::Fate;
+pub use resolving::resolve;
+
+/// The most names that are asked for at once.
+pub const MOST_NAMES: usize = 4;

@@ -1,0 +1,72 @@
+use Rattle.std.proofs.Common.{◌≡◌, ◌∙◌, ◌∷◌, [], refl, ap, sym, arith, map, take, length, inl, inr}
+use Rattle.uip_edge.specs.declared.item.Item.TheVariants.{Byte, Quiet}
+use Rattle.uip_edge.proofs.Told.{Appends-none}
+use Rattle.udp_resolver.specs.Asked.{query_texts}
+use Rattle.udp_resolver.specs.Fates.{questions}
+use Rattle.udp_resolver.specs.LineEvents.{events}
+use Rattle.udp_resolver.specs.Steps.{asked_next}
+use Rattle.udp_resolver.proofs.FateLaws.{not_given_up}
+use Rattle.udp_resolver.proofs.RunLaws.{adds_bytes, adds_quiet, counted}
+use Rattle.udp_resolver.proofs.run.Run.turn.Goals as goal
+
+pub returns-in-Ok-clause-turns : goal.returns-in-Ok-clause-turns
+returns-in-Ok-clause-turns g c = λ items is_open k.
+    let asked = questions c.args.asking c.args.names.now in
+    let told = rw c.in-Ok-Quiet.field-0-is at c.in-Ok-Quiet.ensures in
+    let done = c.in-Ok.ensures in
+    let e = not_given_up (events items) asked is_open in
+    record {
+      more = Quiet ∷ [];
+      consumed = told.items;
+      within = omega (arith, c.requires.room);
+      by = (refl, record {
+        calm = (told.cause.same, done.cause.same);
+        knows = done.knows items e k;
+        once = inl refl;
+        text = query_texts c.args.self.now.sender.ident (asked_next asked (events items));
+        adds = adds_quiet asked items c.args.self.now k;
+        out = done.ok items e k;
+      });
+    }
+
+pub returns-in-Err-tick-clause-turns : goal.returns-in-Err-tick-clause-turns
+returns-in-Err-tick-clause-turns g c = λ items is_open k.
+    let asked = questions c.args.asking c.args.names.now in
+    let told = rw c.in-Ok-Quiet.field-0-is at c.in-Ok-Quiet.ensures in
+    let failed = c.in-Err-tick.ensures in
+    let e = not_given_up (events items) asked is_open in
+    record {
+      more = Quiet ∷ [];
+      consumed = told.items;
+      within = omega (arith, c.requires.room);
+      by = record {
+        same = told.cause.same;
+        rose = failed.cause.failed;
+        once = inl refl;
+        text = query_texts c.args.self.now.sender.ident (asked_next asked (events items));
+        adds = adds_quiet asked items c.args.self.now k;
+        out = failed.err items e k;
+      };
+    }
+
+pub returns-in-Ok-Bytes-clause-turns : goal.returns-in-Ok-Bytes-clause-turns
+returns-in-Ok-Bytes-clause-turns g c = λ items is_open k.
+    let asked = questions c.args.asking c.args.names.now in
+    let told = rw c.in-Ok-Bytes.field-0-is at c.in-Ok-Bytes.ensures in
+    let e = not_given_up (events items) asked is_open in
+    let n = c.in-Ok-Bytes.count in
+    let bytes = take n c.next.new.buf in
+    let count : length (map Byte bytes) ≡ n = counted n c.next.new.buf told.count.1 in
+    record {
+      more = map Byte bytes;
+      consumed = told.items;
+      within = omega (arith, count, told.count.1, c.next.auto.buf);
+      by = (count, record {
+        calm = (told.cause.same, refl);
+        knows = c.take.ensures.knows items e k;
+        once = inr (bytes, refl);
+        text = [];
+        adds = adds_bytes asked items bytes;
+        out = Appends-none (g.K.Sink.written c.args.out.now);
+      });
+    }

@@ -1,0 +1,5 @@
+use Rattle.std.proofs.Common.{◌≡◌, ◌≤◌, None, replicate}
+use Rattle.udp_resolver.proofs.run.no_answers.Given as goal
+
+abbrev pub invariant-loop-name : goal.invariant-loop-name
+invariant-loop-name l = l.answers.items ≡ replicate l._name None

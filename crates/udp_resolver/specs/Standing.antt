@@ -1,0 +1,106 @@
+-- What a run of the resolver knows of the items that it took, and what its turns add.
+use Rattle.std.specs.Prelude.{◌≡◌, ◌<◌, ◌≤◌, ◌⊎◌, ℕ, List, [], ◌∷◌, ◌++◌, Option, None, Some, length, map, ⊤}
+use Rattle.std.specs.Io.KnownBytes.{Appends}
+use Rattle.uip_edge.specs.Causes.{Rose}
+use Rattle.uip_edge.specs.Coming.{Consumes}
+use Rattle.uip_edge.specs.Writing.{AppendsPrefix}
+use Rattle.uip_edge.specs.declared.item.Item.{Item}
+use Rattle.uip_edge.specs.declared.serve_end.ServeEnd.{ServeEnd}
+use Rattle.uip_edge.specs.declared.serve_end.ServeEnd.TheVariants as ends
+use Rattle.uip_slip.specs.Decoding.{WasFed}
+use Rattle.udp_resolver.specs.Asked.{last_ident, line_text, queries}
+use Rattle.udp_resolver.specs.Fates.{Question, answer_among}
+use Rattle.udp_resolver.specs.LineEvents.{bytes_among, events}
+use Rattle.udp_resolver.specs.Resolving.{IsDone, IsOneAnswer, IsOpen, LastAsked}
+use Rattle.udp_resolver.specs.Steps.{IsAt}
+use Rattle.udp_resolver.specs.Streams.{IsAll, Wires}
+use Rattle.udp_resolver.specs.declared.run.Run.{Run}
+use Rattle.udp_resolver.specs.declared.run.Turn.{Turn}
+use Rattle.udp_resolver.specs.declared.run.Turn.TheVariants as turns
+
+-- the run after these items
+pub record Knows (asked : List Question) (items : List Item) (run : Run) : Type 0 where
+  pub fed : WasFed (bytes_among items) run.decoder
+  pub at : IsAt (events items) run.clock
+  pub heard : run.answers.items ≡ map (answer_among (events items)) asked
+  pub sent : run.sender.ident ≡ last_ident 0 (queries asked (events items))
+
+-- what further items add to the line out
+abbrev pub Adds : List Question → List Item → List Item → List ℕ → Type 0
+Adds asked items more text = line_text asked (events (items ++ more)) ≡ line_text asked (events items) ++ text
+
+-- neither count rose
+abbrev pub AreCalm : Wires → Wires → Type 0
+AreCalm old new = (new.link_faults ≡ old.link_faults) × (new.out_faults ≡ old.out_faults)
+
+-- a turn that took items
+pub record Went (asked : List Question) (items more : List Item) (run : Run) (old new : Wires) : Type 0 where
+  pub calm : AreCalm old new
+  pub knows : Knows asked (items ++ more) run
+  pub once : IsOneAnswer more
+  pub text : List ℕ
+  pub adds : Adds asked items more text
+  pub out : Appends old.out new.out text
+
+-- a turn at which the link ended or failed
+pub record Kept (asked : List Question) (items more : List Item) (run : Run) (old new : Wires) : Type 0 where
+  pub none : more ≡ []
+  pub knows : Knows asked items run
+  pub same : new.out_faults ≡ old.out_faults
+  pub out : new.out ≡ old.out
+
+-- a turn at which the line out failed
+pub record Broke (asked : List Question) (items more : List Item) (old new : Wires) : Type 0 where
+  pub same : new.link_faults ≡ old.link_faults
+  pub rose : Rose old.out_faults new.out_faults
+  pub once : IsOneAnswer more
+  pub text : List ℕ
+  pub adds : Adds asked items more text
+  pub out : AppendsPrefix old.out new.out text
+
+-- what a turn tells
+abbrev pub TurnsBy : List Question → List Item → List Item → Run → Wires → Wires → Turn → Type 0
+TurnsBy asked items more run old new (turns.Went n) = (length more ≡ n) × Went asked items more run old new
+TurnsBy asked items more run old new (turns.Stopped ends.End) =
+    Kept asked items more run old new × IsAll old.coming [] × (new.link_faults ≡ old.link_faults)
+TurnsBy asked items more run old new (turns.Stopped ends.LinkFault) =
+    Kept asked items more run old new × Rose old.link_faults new.link_faults
+TurnsBy asked items more run old new (turns.Stopped ends.WriteFault) = Broke asked items more old new
+TurnsBy asked items more run old new (turns.Stopped ends.Budget) = ⊥
+
+-- a turn behind these items
+pub record Turns (asked : List Question) (items : List Item) (run : Run) (old new : Wires) (room : ℕ) (turn : Turn) : Type 0 where
+  pub more : List Item
+  pub consumed : Consumes old.coming new.coming more
+  pub within : length more ≤ room
+  pub by : TurnsBy asked items more run old new turn
+
+-- a turn takes at least one item and no more than there is room for
+abbrev pub CountFits : Turn → ℕ → Type 0
+CountFits (turns.Went n) room = (0 < n) × (n ≤ room)
+CountFits (turns.Stopped end) room = ⊤
+
+-- why no more is asked, and what was written, where the line did not fail
+pub record Done (asked : List Question) (n : ℕ) (taken : List Item) (run : Run) (old new : Wires) (end : ServeEnd) : Type 0 where
+  pub done : IsDone asked n old.coming taken end
+  pub calm : AreCalm old new
+  pub knows : Knows asked taken run
+  pub out : Appends old.out new.out (line_text asked (events taken))
+
+abbrev pub AsksBy : List Question → ℕ → List Item → Run → Wires → Wires → ServeEnd → Type 0
+AsksBy asked n taken run old new ends.End = Done asked n taken run old new ends.End
+AsksBy asked n taken run old new ends.Budget = Done asked n taken run old new ends.Budget
+AsksBy asked n taken run old new ends.LinkFault =
+    IsOpen asked taken × (length taken < n) × Rose old.link_faults new.link_faults × (new.out_faults ≡ old.out_faults)
+    × Appends old.out new.out (line_text asked (events taken))
+AsksBy asked n taken run old new ends.WriteFault =
+    (new.link_faults ≡ old.link_faults) × Rose old.out_faults new.out_faults
+    × AppendsPrefix old.out new.out (line_text asked (events taken))
+
+-- the names were asked for, up to n items
+pub record Asks (asked : List Question) (n : ℕ) (run : Run) (old new : Wires) (end : ServeEnd) : Type 0 where
+  pub taken : List Item
+  pub within : length taken ≤ n
+  pub consumed : Consumes old.coming new.coming taken
+  pub needed : (taken ≡ []) ⊎ LastAsked asked taken
+  pub by : AsksBy asked n taken run old new end

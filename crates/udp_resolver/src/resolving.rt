@@ -1,0 +1,53 @@
+ghost use Rattle.std.specs.Prelude.{◌≡◌, ◌≤◌, ◌⊎◌, List, ℕ, Some, true, length};
+ghost use Rattle.rexmit_timer.specs.declared.timer.TheConstants.{TEXT_LIMIT};
+ghost use Rattle.udp_resolver.specs.Fates.{questions};
+ghost use Rattle.udp_resolver.specs.Resolving.{Resolves};
+ghost use Rattle.udp_resolver.specs.Standing.{Asks};
+ghost use Rattle.udp_resolver.specs.Streams.{streams, wires};
+ghost use Rattle.udp_resolver.specs.Told.{AddressesAreFromReplies};
+
+use crate::MOST_NAMES;
+use crate::lines::tell_all;
+use crate::run::{Run, ask};
+use arrayvec::ArrayVec;
+use dns_message::{Asking, Name};
+use packet_buffer::Packet;
+use uip_edge::{Link, ServeEnd, Sink};
+use uip_wire::{Addr, LARGEST_DATAGRAM};
+
+/// Asks a server for the addresses of names over a line, and tells what became of each name: its address, that it has none, the
+/// response code, that the server stayed silent, or that the name was open when the link ended or so many items were taken. The
+/// first name is asked under this id, and each further one under the next. No call in it is given an allocator.
+pub fn resolve<L: Link, K: Sink, T: Sink>(
+    packet: &mut Packet,
+    own: Addr,
+    server: Addr,
+    id: u16,
+    names: &ArrayVec<Name, MOST_NAMES>,
+    link: &mut L,
+    out: &mut K,
+    tell: &mut T,
+    items: u64,
+) -> ServeEnd
+    requires { length packet.old.area ≡ LARGEST_DATAGRAM }
+    ensures resolves { Resolves (questions (record { own = own; server = server; id = id }) names.now.items) items
+        (streams L.coming K.written T.written L.faults K.faults T.faults link.old out.old tell.old)
+        (streams L.coming K.written T.written L.faults K.faults T.faults link.new out.new tell.new) result }
+    ensures area { length packet.new.area ≡ LARGEST_DATAGRAM }
+{
+    let asking = Asking { own, server, id };
+    let mut run = Run::new(names.len());
+    let end = ask(&mut run, packet, asking, names.as_slice(), link, out, items);
+    if end == ServeEnd::LinkFault || end == ServeEnd::WriteFault {
+        return end;
+    }
+    match tell_all(
+        names.as_slice(),
+        run.answers.as_slice(),
+        run.clock.given_up,
+        tell,
+    ) {
+        Ok(()) => end,
+        Err(_) => ServeEnd::WriteFault,
+    }
+}

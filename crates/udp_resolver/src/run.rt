@@ -1,0 +1,246 @@
+ghost use Rattle.std.specs.Prelude.{◌≡◌, ◌≤◌, ◌<◌, ◌∷◌, ◌++◌, [], List, None, false, length, map, not, replicate, OnOk, OnErr};
+ghost use Rattle.std.specs.Io.KnownBytes.{Appends};
+ghost use Rattle.rexmit_timer.specs.declared.timer.TheConstants.{TEXT_LIMIT};
+ghost use Rattle.uip_edge.specs.Causes.{HasCause};
+ghost use Rattle.uip_edge.specs.Writing.{AppendsPrefix};
+ghost use Rattle.uip_edge.specs.declared.item.Item.{Item};
+ghost use Rattle.uip_edge.specs.declared.item.Item.TheVariants.{Byte, Quiet};
+ghost use Rattle.uip_slip.specs.Decoding.{WasFed};
+ghost use Rattle.udp_resolver.specs.Asked.{line_text, query_texts};
+ghost use Rattle.udp_resolver.specs.Fates.{all_settled, is_given_up, questions};
+ghost use Rattle.udp_resolver.specs.LineEvents.{events};
+ghost use Rattle.udp_resolver.specs.Resolving.{IsOpen};
+ghost use Rattle.udp_resolver.specs.Standing.{Asks, CountFits, Knows, Turns};
+ghost use Rattle.udp_resolver.specs.Steps.{IsAt, asked_next};
+ghost use Rattle.udp_resolver.specs.Streams.{wires};
+
+use crate::MOST_NAMES;
+use crate::answers::{any_open, hear};
+use crate::clock::Clock;
+use crate::sender::Sender;
+use arrayvec::ArrayVec;
+use dns_message::{Answer, Asking, Name};
+use packet_buffer::Packet;
+use uip_edge::{Failed, Got, Link, ServeEnd, Sink};
+use uip_slip::{Decoder, Fed};
+use uip_wire::LARGEST_DATAGRAM;
+
+/// What became of one turn: so many items were taken, or no more are.
+pub(crate) enum Turn {
+    Went(u64),
+    Stopped(ServeEnd),
+}
+
+/// A run of the resolver, as far as it came.
+#[derive(Drop)]
+pub(crate) struct Run {
+    decoder: Decoder,
+    pub clock: Clock,
+    pub sender: Sender,
+    pub answers: ArrayVec<Option<Answer>, MOST_NAMES>,
+}
+
+impl Run {
+    /// A run for so many names, before the first query.
+    pub fn new(count: usize) -> Run
+        requires { count ≤ MOST_NAMES }
+        ensures fed { WasFed [] result.decoder }
+        ensures at { IsAt [] result.clock }
+        ensures tries { result.clock.timer.tries ≤ TEXT_LIMIT }
+        ensures answers { result.answers.items ≡ replicate count None }
+        ensures ident { result.sender.ident ≡ 0 }
+    {
+        Run {
+            decoder: Decoder::new(),
+            clock: Clock::new(),
+            sender: Sender::new(),
+            answers: no_answers(count),
+        }
+    }
+
+    /// Asks all questions, in order.
+    pub fn send_first<K: Sink>(
+        &mut self,
+        packet: &mut Packet,
+        asking: Asking,
+        names: &[Name],
+        out: &mut K,
+    ) -> Result<(), Failed>
+        requires fed { WasFed [] self.old.decoder }
+        requires at { IsAt [] self.old.clock }
+        requires tries { self.old.clock.timer.tries ≤ TEXT_LIMIT }
+        requires answers { self.old.answers.items ≡ replicate (length names.now) None }
+        requires ident { self.old.sender.ident ≡ 0 }
+        requires area { length packet.old.area ≡ LARGEST_DATAGRAM }
+        ensures tries { self.new.clock.timer.tries ≤ TEXT_LIMIT }
+        ensures area { length packet.new.area ≡ LARGEST_DATAGRAM }
+        ensures each { length self.new.answers.items ≡ length names.now }
+        ensures knows { OnOk result (Knows (questions asking names.now) [] self.new) }
+        ensures ok { OnOk result (Appends (K.written out.old) (K.written out.new) (line_text (questions asking names.now) [])) }
+        ensures err { OnErr result (AppendsPrefix (K.written out.old) (K.written out.new) (line_text (questions asking names.now) [])) }
+        ensures cause { HasCause (K.faults out.old) (K.faults out.new) result }
+    {
+        self.sender
+            .send_open(packet, asking, names, self.answers.as_slice(), out)
+    }
+
+    /// Whether a question is open.
+    pub fn is_open(&self, asking: Asking, names: &[Name]) -> bool
+        ensures { (items : List Item) → Knows (questions asking names.now) items self.now
+            → result ≡ not (all_settled (questions asking names.now) (events items)) }
+    {
+        !self.clock.given_up && any_open(self.answers.as_slice())
+    }
+
+    /// Takes a byte.
+    fn take_byte(&mut self, asking: Asking, names: &[Name], byte: u8)
+        requires { length self.old.answers.items ≡ length names.now }
+        ensures each { length self.new.answers.items ≡ length names.now }
+        ensures clock { self.new.clock ≡ self.old.clock }
+        ensures knows { (items : List Item) → is_given_up (events items) ≡ false → Knows (questions asking names.now) items self.old
+            → Knows (questions asking names.now) (items ++ Byte byte ∷ []) self.new }
+    {
+        if let Fed::Datagram(count) = self.decoder.feed(byte) {
+            hear(
+                self.answers.as_mut_slice(),
+                asking,
+                names,
+                self.decoder.bytes(count),
+            );
+        }
+    }
+
+    /// Takes bytes.
+    fn take(&mut self, asking: Asking, names: &[Name], bytes: &[u8])
+        requires { length self.old.answers.items ≡ length names.now }
+        ensures each { length self.new.answers.items ≡ length names.now }
+        ensures clock { self.new.clock ≡ self.old.clock }
+        ensures knows { (items : List Item) → is_given_up (events items) ≡ false → Knows (questions asking names.now) items self.old
+            → Knows (questions asking names.now) (items ++ map Byte bytes.now) self.new }
+    {
+        for byte in bytes {
+            self.take_byte(asking, names, *byte);
+        }
+    }
+
+    /// Takes a silence: after some, the open questions are asked again.
+    fn tick<K: Sink>(
+        &mut self,
+        packet: &mut Packet,
+        asking: Asking,
+        names: &[Name],
+        out: &mut K,
+    ) -> Result<(), Failed>
+        requires tries { self.old.clock.timer.tries ≤ TEXT_LIMIT }
+        requires area { length packet.old.area ≡ LARGEST_DATAGRAM }
+        requires each { length self.old.answers.items ≡ length names.now }
+        ensures tries { self.new.clock.timer.tries ≤ TEXT_LIMIT }
+        ensures area { length packet.new.area ≡ LARGEST_DATAGRAM }
+        ensures each { length self.new.answers.items ≡ length names.now }
+        ensures knows { OnOk result ((items : List Item) → is_given_up (events items) ≡ false → Knows (questions asking names.now) items self.old
+            → Knows (questions asking names.now) (items ++ Quiet ∷ []) self.new) }
+        ensures ok { OnOk result ((items : List Item) → is_given_up (events items) ≡ false → Knows (questions asking names.now) items self.old
+            → Appends (K.written out.old) (K.written out.new) (query_texts self.old.sender.ident (asked_next (questions asking names.now) (events items)))) }
+        ensures err { OnErr result ((items : List Item) → is_given_up (events items) ≡ false → Knows (questions asking names.now) items self.old
+            → AppendsPrefix (K.written out.old) (K.written out.new) (query_texts self.old.sender.ident (asked_next (questions asking names.now) (events items)))) }
+        ensures cause { HasCause (K.faults out.old) (K.faults out.new) result }
+    {
+        if !self.clock.tick() {
+            return Ok(());
+        }
+        self.sender
+            .send_open(packet, asking, names, self.answers.as_slice(), out)
+    }
+
+    /// Takes what the link gives next.
+    pub fn turn<L: Link, K: Sink>(
+        &mut self,
+        packet: &mut Packet,
+        asking: Asking,
+        names: &[Name],
+        buf: &mut [u8],
+        link: &mut L,
+        out: &mut K,
+    ) -> Turn
+        requires room { 0 < length buf.old }
+        requires tries { self.old.clock.timer.tries ≤ TEXT_LIMIT }
+        requires area { length packet.old.area ≡ LARGEST_DATAGRAM }
+        requires each { length self.old.answers.items ≡ length names.now }
+        ensures tries { self.new.clock.timer.tries ≤ TEXT_LIMIT }
+        ensures area { length packet.new.area ≡ LARGEST_DATAGRAM }
+        ensures each { length self.new.answers.items ≡ length names.now }
+        ensures fits { CountFits result (length buf.old) }
+        ensures turns { (items : List Item) → IsOpen (questions asking names.now) items → Knows (questions asking names.now) items self.old
+            → Turns (questions asking names.now) items self.new
+            (wires L.coming K.written L.faults K.faults link.old out.old)
+            (wires L.coming K.written L.faults K.faults link.new out.new) (length buf.old) result }
+    {
+        match link.next(buf) {
+            Err(Failed) => Turn::Stopped(ServeEnd::LinkFault),
+            Ok(Got::End) => Turn::Stopped(ServeEnd::End),
+            Ok(Got::Quiet) => match self.tick(packet, asking, names, out) {
+                Ok(()) => Turn::Went(1),
+                Err(Failed) => Turn::Stopped(ServeEnd::WriteFault),
+            },
+            Ok(Got::Bytes(count)) => {
+                self.take(asking, names, &buf[..count]);
+                Turn::Went(count as u64)
+            }
+        }
+    }
+}
+
+/// The most bytes that are asked of a link at once.
+const BLOCK: usize = 4096;
+
+/// Asks for the names in a run that has not begun, until all questions are settled, the link ends or so many items were taken.
+pub(crate) fn ask<L: Link, K: Sink>(
+    run: &mut Run,
+    packet: &mut Packet,
+    asking: Asking,
+    names: &[Name],
+    link: &mut L,
+    out: &mut K,
+    items: u64,
+) -> ServeEnd
+    requires fed { WasFed [] run.old.decoder }
+    requires at { IsAt [] run.old.clock }
+    requires tries { run.old.clock.timer.tries ≤ TEXT_LIMIT }
+    requires answers { run.old.answers.items ≡ replicate (length names.now) None }
+    requires ident { run.old.sender.ident ≡ 0 }
+    requires area { length packet.old.area ≡ LARGEST_DATAGRAM }
+    ensures area { length packet.new.area ≡ LARGEST_DATAGRAM }
+    ensures each { length run.new.answers.items ≡ length names.now }
+    ensures asks { Asks (questions asking names.now) items run.new
+        (wires L.coming K.written L.faults K.faults link.old out.old)
+        (wires L.coming K.written L.faults K.faults link.new out.new) result }
+{
+    if run.send_first(packet, asking, names, out).is_err() {
+        return ServeEnd::WriteFault;
+    }
+    let mut buf = [0; BLOCK];
+    let mut left = items;
+    while run.is_open(asking, names) {
+        if left == 0 {
+            return ServeEnd::Budget;
+        }
+        let room = left.min(BLOCK as u64) as usize;
+        match run.turn(packet, asking, names, &mut buf[..room], link, out) {
+            Turn::Went(count) => left -= count,
+            Turn::Stopped(end) => return end,
+        }
+    }
+    ServeEnd::End
+}
+
+/// No answer yet for each of so many names.
+fn no_answers(count: usize) -> ArrayVec<Option<Answer>, MOST_NAMES>
+    requires { count ≤ MOST_NAMES }
+    ensures { result.items ≡ replicate count None }
+{
+    let mut answers: ArrayVec<Option<Answer>, MOST_NAMES> = ArrayVec::new();
+    for _name in 0..count {
+        answers.push(None);
+    }
+    answers
+}
