@@ -13,10 +13,11 @@ use Rattle.uip_slip.specs.Decoding.{State, WasFed, told_by}
 use Rattle.uip_slip.specs.declared.fed.Fed.{Fed}
 use Rattle.uip_slip.specs.declared.fed.Fed.TheVariants as fed
 use Rattle.udp_resolver.specs.Asked.{last_ident, line_text, open_ones, queries, query_texts}
-use Rattle.udp_resolver.specs.Fates.{Question, all_settled, answer_among, is_given_up, next_asking, questions, silences}
+use Rattle.udp_resolver.specs.Fates.{Question, all_settled, answer_among, fate_of, is_given_up, next_asking, questions, silences}
 use Rattle.udp_resolver.specs.LineEvents.{Event, Came, Silence, by_byte, by_frame, bytes_among, events, events_behind}
+use Rattle.udp_resolver.specs.Lines.{line_of, lines}
 use Rattle.udp_resolver.specs.Standing.{Adds, Knows}
-use Rattle.udp_resolver.specs.Steps.{IsAt, asked_next, heard, is_due, unanswered}
+use Rattle.udp_resolver.specs.Steps.{IsAt, asked_next, heard, is_due, lines_by, unanswered}
 use Rattle.udp_resolver.specs.declared.clock.Clock.{Clock}
 use Rattle.udp_resolver.specs.declared.run.Run.{Run}
 use Rattle.udp_resolver.proofs.EventLaws.{one_more, silences-append}
@@ -171,3 +172,20 @@ byte_more items bytes i h =
 
 pub counted : (n : ℕ) (buf : List ℕ) → n ≤ length buf → length (map Byte (take n buf)) ≡ n
 counted n buf h = rw length-map (length-take-le n buf h)
+
+all_open : (asked : List Question) → open_ones asked [] ≡ asked
+all_open [] = refl
+all_open (q ∷ asked) = ap (λ l. q ∷ l) (all_open asked)
+
+-- at the start all questions are asked
+pub first_asked : (asked : List Question) (answers : List (Option Answer)) → answers ≡ map (answer_among []) asked
+    → unanswered asked answers ≡ queries asked []
+first_asked asked answers e =
+    ap (λ l. unanswered asked l) e ∙ opens [] asked refl ∙ all_open asked ∙ sym (queries_first asked)
+
+-- the lines of the answers are the lines of the questions
+pub lines_told : (happened : List Event) (asking : Asking) (names : List (List ℕ))
+    → lines_by names (map (answer_among happened) (questions asking names)) (is_given_up happened) ≡ lines (questions asking names) happened
+lines_told happened asking [] = refl
+lines_told happened asking (text ∷ names) =
+    ap (λ l. line_of text (fate_of happened (record { asking = asking; text = text })) ++ l) (lines_told happened (next_asking asking) names)

@@ -6,6 +6,7 @@
 mod answers;
 mod clock;
 mod fate;
+mod laws;
 mod lines;
 mod resolving;
 mod run;
@@ -13,6 +14,7 @@ mod sender;
 
 pub use dns_message::{LONGEST_NAME, Name};
 pub use fate::Fate;
+pub use laws::{addresses_are_from_replies, budget_is_told, end_is_told};
 pub use resolving::resolve;
 
 /// The most names that are asked for at once.

@@ -1,10 +1,7 @@
-ghost use Rattle.std.specs.Prelude.{◌≡◌, ◌≤◌, ◌⊎◌, List, ℕ, Some, true, length};
-ghost use Rattle.rexmit_timer.specs.declared.timer.TheConstants.{TEXT_LIMIT};
+ghost use Rattle.std.specs.Prelude.{◌≡◌, length};
 ghost use Rattle.udp_resolver.specs.Fates.{questions};
 ghost use Rattle.udp_resolver.specs.Resolving.{Resolves};
-ghost use Rattle.udp_resolver.specs.Standing.{Asks};
-ghost use Rattle.udp_resolver.specs.Streams.{streams, wires};
-ghost use Rattle.udp_resolver.specs.Told.{AddressesAreFromReplies};
+ghost use Rattle.udp_resolver.specs.Streams.{streams};
 
 use crate::MOST_NAMES;
 use crate::lines::tell_all;
@@ -12,7 +9,7 @@ use crate::run::{Run, ask};
 use arrayvec::ArrayVec;
 use dns_message::{Asking, Name};
 use packet_buffer::Packet;
-use uip_edge::{Link, ServeEnd, Sink};
+use uip_edge::{Failed, Link, ServeEnd, Sink};
 use uip_wire::{Addr, LARGEST_DATAGRAM};
 
 /// Asks a server for the addresses of names over a line, and tells what became of each name: its address, that it has none, the
@@ -36,18 +33,15 @@ pub fn resolve<L: Link, K: Sink, T: Sink>(
     ensures area { length packet.new.area ≡ LARGEST_DATAGRAM }
 {
     let asking = Asking { own, server, id };
+    let names = names.as_slice();
     let mut run = Run::new(names.len());
-    let end = ask(&mut run, packet, asking, names.as_slice(), link, out, items);
-    if end == ServeEnd::LinkFault || end == ServeEnd::WriteFault {
-        return end;
-    }
-    match tell_all(
-        names.as_slice(),
-        run.answers.as_slice(),
-        run.clock.given_up,
-        tell,
-    ) {
-        Ok(()) => end,
-        Err(_) => ServeEnd::WriteFault,
+    let end = ask(&mut run, packet, asking, names, link, out, items);
+    match end {
+        ServeEnd::LinkFault => ServeEnd::LinkFault,
+        ServeEnd::WriteFault => ServeEnd::WriteFault,
+        done => match tell_all(names, run.answers.as_slice(), run.clock.given_up, tell) {
+            Ok(()) => done,
+            Err(Failed) => ServeEnd::WriteFault,
+        },
     }
 }

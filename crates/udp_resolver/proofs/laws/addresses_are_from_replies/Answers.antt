@@ -1,0 +1,5 @@
+use Rattle.udp_resolver.proofs.ToldLaws.{from_replies}
+use Rattle.udp_resolver.proofs.laws.addresses_are_from_replies.Goals as goal
+
+pub returns : goal.returns
+returns c = from_replies

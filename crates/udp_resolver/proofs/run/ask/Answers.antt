@@ -1,0 +1,45 @@
+use Rattle.std.proofs.Common.{◌≡◌, ◌∙◌, ◌++◌, [], refl, ap, sym, arith, length, length-append, length-take, inl, inr}
+use Rattle.uip_edge.proofs.Told.{Consumes-none, Consumes-then}
+use Rattle.udp_resolver.specs.Fates.{all_settled, questions}
+use Rattle.udp_resolver.specs.LineEvents.{events}
+use Rattle.udp_resolver.specs.Streams.{wires}
+use Rattle.udp_resolver.proofs.AskLaws.{added, open_by_test, stopped}
+use Rattle.udp_resolver.proofs.run.ask.Goals as goal
+
+pub loop-asking-preserved : goal.loop-asking-preserved
+loop-asking-preserved g c =
+    let inv = c.loop-asking.invariant in
+    let asked = questions c.args.asking c.args.names.now in
+    let is_open = open_by_test (all_settled asked (events inv.taken)) c.is_open.result (c.is_open.ensures inv.taken inv.knows) c.loop-asking-test.true in
+    let went = c.in-Went.ensures in
+    let turn = went.turns inv.taken is_open inv.knows in
+    let room = length-take c.min-room.result c.loop-asking.buf in
+    record {
+      tries = went.tries;
+      area = went.area;
+      each = went.each;
+      taken = inv.taken ++ turn.more;
+      consumed = Consumes-then (g.L.Link.coming c.args.link.now) (g.L.Link.coming c.loop-asking.link) (g.L.Link.coming c.turn.new.link) inv.taken turn.more inv.consumed turn.consumed;
+      number = omega (arith, length-append inv.taken turn.more, turn.by.0, inv.number, went.fits.1, room);
+      needed = inr (record { before = inv.taken; last = turn.more; whole = refl; is_open = is_open; once = turn.by.1.once });
+      knows = turn.by.1.knows;
+      wrote =
+          added asked inv.taken turn.more turn.by.1.text (g.K.Sink.written c.args.out.now) (g.K.Sink.written c.loop-asking.out) (g.K.Sink.written c.turn.new.out)
+          turn.by.1.adds inv.wrote turn.by.1.out;
+      link_same = turn.by.1.calm.0 ∙ inv.link_same;
+      out_same = turn.by.1.calm.1 ∙ inv.out_same;
+    }
+
+pub returns-in-Stopped-clause-asks : goal.returns-in-Stopped-clause-asks
+returns-in-Stopped-clause-asks g c =
+    let inv = c.loop-asking.invariant in
+    let asked = questions c.args.asking c.args.names.now in
+    let is_open = open_by_test (all_settled asked (events inv.taken)) c.is_open.result (c.is_open.ensures inv.taken inv.knows) c.loop-asking-test.true in
+    let turn = c.in-Stopped.ensures.turns inv.taken is_open inv.knows in
+    let room = length-take c.min-room.result c.loop-asking.buf in
+    stopped asked c.args.items inv.taken turn.more c.turn.new.self
+    (wires g.L.Link.coming g.K.Sink.written g.L.Link.faults g.K.Sink.faults c.args.link.now c.args.out.now)
+    (wires g.L.Link.coming g.K.Sink.written g.L.Link.faults g.K.Sink.faults c.loop-asking.link c.loop-asking.out)
+    (wires g.L.Link.coming g.K.Sink.written g.L.Link.faults g.K.Sink.faults c.turn.new.link c.turn.new.out)
+    _ c.in-Stopped.end is_open inv.consumed turn.consumed (omega (arith, inv.number, c.if-left-eq0.false)) turn.within (omega (arith, inv.number, room))
+    (inv.link_same, inv.out_same) inv.needed inv.wrote turn.by

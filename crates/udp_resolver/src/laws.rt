@@ -1,0 +1,31 @@
+//! What holds of every run of the resolver.
+
+ghost use Rattle.std.specs.Prelude.{◌≡◌, ◌<◌, List, ℕ, Some, length};
+ghost use Rattle.uip_edge.specs.Coming.{Consumes};
+ghost use Rattle.uip_edge.specs.declared.item.Item.{Item};
+ghost use Rattle.uip_edge.specs.declared.serve_end.ServeEnd.{ServeEnd as AnyEnd};
+ghost use Rattle.uip_edge.specs.declared.serve_end.ServeEnd.TheVariants.{Budget, End};
+ghost use Rattle.udp_resolver.specs.Fates.{Question};
+ghost use Rattle.udp_resolver.specs.Resolving.{EndsBy, IsOpen, IsSettled};
+ghost use Rattle.udp_resolver.specs.Streams.{Below, Calm, Streams};
+ghost use Rattle.udp_resolver.specs.Told.{AddressesAreFromReplies};
+
+/// An address is told of a name only where a datagram came that is the reply to the question for this name, and an answer
+/// record of it gives this address.
+pub fn addresses_are_from_replies()
+    ensures { AddressesAreFromReplies }
+{}
+
+/// The end is told wherever nothing failed and all questions are settled, or the link tells fewer items than are allowed.
+pub fn end_is_told()
+    ensures settled { (asked : List Question) (n : ℕ) (old new : Streams) (taken : List Item) (end : AnyEnd) → EndsBy asked n old new taken end
+        → Calm old new → Below old → IsSettled asked taken → end ≡ End }
+    ensures dry { (asked : List Question) (n : ℕ) (old new : Streams) (all taken : List Item) (end : AnyEnd) → EndsBy asked n old new taken end
+        → Calm old new → Below old → old.coming ≡ Some all → length all < n → Consumes old.coming new.coming taken → end ≡ End }
+{}
+
+/// The budget is told wherever nothing failed, as many items were taken as were allowed, and a question is open.
+pub fn budget_is_told()
+    ensures { (asked : List Question) (n : ℕ) (old new : Streams) (taken : List Item) (end : AnyEnd) → EndsBy asked n old new taken end
+        → Calm old new → Below old → IsOpen asked taken → length taken ≡ n → end ≡ Budget }
+{}
