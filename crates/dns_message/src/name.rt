@@ -1,4 +1,4 @@
-ghost use Rattle.std.specs.Prelude.{◌≡◌, ◌≤◌, None, Some, true, if◌then◌else◌, length, nat_le};
+ghost use Rattle.std.specs.Prelude.{◌≡◌, ◌≤◌, [], None, Some, true, if◌then◌else◌, length, nat_le};
 ghost use Rattle.std.specs.List.{list_all};
 ghost use Rattle.dns_message.specs.Names.{is_label, is_label_byte, is_name, labels};
 
@@ -21,6 +21,17 @@ impl Model for Name {
     ghost Value = { List ℕ };
 
     ghost view = { λ name. name.text.items };
+}
+
+impl Default for Name {
+    /// The place of a name, with no text.
+    fn default() -> Name
+        ensures { result ≡ [] }
+    {
+        Name {
+            text: ArrayVec::new(),
+        }
+    }
 }
 
 impl Name {

@@ -75,8 +75,11 @@ stopped asked n taken more run old mid new room ends.WriteFault is_open c d few 
   within = omega (arith, length-append taken more);
   consumed = Consumes-then old.coming mid.coming new.coming taken more c d;
   needed = inr (record { before = taken; last = more; whole = refl; is_open = is_open; once = t.once });
-  by = (t.same ∙ calm.0, rw calm.1 at t.rose,
-      prefix_by old.out new.out (line_text asked (events taken) ++ t.text) (line_text asked (events (taken ++ more))) t.adds
-      (prefix_then old.out mid.out new.out (line_text asked (events taken)) t.text wrote t.out));
+  by = (
+    t.same ∙ calm.0,
+    rw calm.1 at t.rose,
+    prefix_by old.out new.out (line_text asked (events taken) ++ t.text) (line_text asked (events (taken ++ more))) t.adds
+        (prefix_then old.out mid.out new.out (line_text asked (events taken)) t.text wrote t.out),
+  );
 }
 stopped asked n taken more run old mid new room ends.Budget is_open c d few size fits calm needed wrote t = absurd t

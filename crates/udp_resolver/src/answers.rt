@@ -29,12 +29,7 @@ fn known_or(known: Option<Answer>, asking: Asking, name: &Name, datagram: &[u8])
 }
 
 /// A datagram comes: it may answer questions that have no answer yet.
-pub(crate) fn hear(
-    answers: &mut [Option<Answer>],
-    asking: Asking,
-    names: &[Name],
-    datagram: &[u8],
-)
+pub(crate) fn hear(answers: &mut [Option<Answer>], asking: Asking, names: &[Name], datagram: &[u8])
     requires { length answers.old ≡ length names.now }
     ensures { answers.new ≡ heard datagram.now (questions asking names.now) answers.old }
 {

@@ -11,6 +11,8 @@ mod lines;
 mod resolving;
 mod run;
 mod sender;
+#[cfg(test)]
+mod tests;
 
 pub use dns_message::{LONGEST_NAME, Name};
 pub use fate::Fate;

@@ -17,26 +17,26 @@ pub returns-clause-knows : goal.returns-clause-knows
 returns-clause-knows g c =
     on_ok_weaker c.send_open.result
     (λ ident items e k.
-        let asked = questions c.args.asking c.args.names.now in
-        let due = sym (c.tick.ensures.again (events items) e k.at) ∙ c.if-not-tick.false in
-        knows_silence asked items c.args.self.now _ e k (c.tick.ensures.at (events items) e k.at) refl refl
-        (ident ∙ ap (λ l. last_ident c.args.self.now.sender.ident l) (sym (next_by asked items c.args.self.now c.as_slice.result.now e k c.as_slice.ensures.value due))))
+    let asked = questions c.args.asking c.args.names.now in
+    let due = sym (c.tick.ensures.again (events items) e k.at) ∙ c.if-not-tick.false in
+    knows_silence asked items c.args.self.now _ e k (c.tick.ensures.at (events items) e k.at) refl refl
+    (ident ∙ ap (λ l. last_ident c.args.self.now.sender.ident l) (sym (next_by asked items c.args.self.now c.as_slice.result.now e k c.as_slice.ensures.value due))))
     c.send_open.ensures.ident
 
 pub returns-clause-ok : goal.returns-clause-ok
 returns-clause-ok g c =
     on_ok_weaker c.send_open.result
     (λ wrote items e k.
-        let asked = questions c.args.asking c.args.names.now in
-        let due = sym (c.tick.ensures.again (events items) e k.at) ∙ c.if-not-tick.false in
-        appends_by _ _ _ _ (ap (λ l. query_texts c.args.self.now.sender.ident l) (next_by asked items c.args.self.now c.as_slice.result.now e k c.as_slice.ensures.value due)) wrote)
+    let asked = questions c.args.asking c.args.names.now in
+    let due = sym (c.tick.ensures.again (events items) e k.at) ∙ c.if-not-tick.false in
+    appends_by _ _ _ _ (ap (λ l. query_texts c.args.self.now.sender.ident l) (next_by asked items c.args.self.now c.as_slice.result.now e k c.as_slice.ensures.value due)) wrote)
     c.send_open.ensures.ok
 
 pub returns-clause-err : goal.returns-clause-err
 returns-clause-err g c =
     on_err_weaker c.send_open.result
     (λ wrote items e k.
-        let asked = questions c.args.asking c.args.names.now in
-        let due = sym (c.tick.ensures.again (events items) e k.at) ∙ c.if-not-tick.false in
-        prefix_by _ _ _ _ (ap (λ l. query_texts c.args.self.now.sender.ident l) (next_by asked items c.args.self.now c.as_slice.result.now e k c.as_slice.ensures.value due)) wrote)
+    let asked = questions c.args.asking c.args.names.now in
+    let due = sym (c.tick.ensures.again (events items) e k.at) ∙ c.if-not-tick.false in
+    prefix_by _ _ _ _ (ap (λ l. query_texts c.args.self.now.sender.ident l) (next_by asked items c.args.self.now c.as_slice.result.now e k c.as_slice.ensures.value due)) wrote)
     c.send_open.ensures.err

@@ -19,14 +19,17 @@ returns-in-Ok-clause-turns g c = λ items is_open k.
       more = Quiet ∷ [];
       consumed = told.items;
       within = omega (arith, c.requires.room);
-      by = (refl, record {
-        calm = (told.cause.same, done.cause.same);
-        knows = done.knows items e k;
-        once = inl refl;
-        text = query_texts c.args.self.now.sender.ident (asked_next asked (events items));
-        adds = adds_quiet asked items c.args.self.now k;
-        out = done.ok items e k;
-      });
+      by = (
+        refl,
+        record {
+          calm = (told.cause.same, done.cause.same);
+          knows = done.knows items e k;
+          once = inl refl;
+          text = query_texts c.args.self.now.sender.ident (asked_next asked (events items));
+          adds = adds_quiet asked items c.args.self.now k;
+          out = done.ok items e k;
+        },
+      );
     }
 
 pub returns-in-Err-tick-clause-turns : goal.returns-in-Err-tick-clause-turns
@@ -61,12 +64,15 @@ returns-in-Ok-Bytes-clause-turns g c = λ items is_open k.
       more = map Byte bytes;
       consumed = told.items;
       within = omega (arith, count, told.count.1, c.next.auto.buf);
-      by = (count, record {
-        calm = (told.cause.same, refl);
-        knows = c.take.ensures.knows items e k;
-        once = inr (bytes, refl);
-        text = [];
-        adds = adds_bytes asked items bytes;
-        out = Appends-none (g.K.Sink.written c.args.out.now);
-      });
+      by = (
+        count,
+        record {
+          calm = (told.cause.same, refl);
+          knows = c.take.ensures.knows items e k;
+          once = inr (bytes, refl);
+          text = [];
+          adds = adds_bytes asked items bytes;
+          out = Appends-none (g.K.Sink.written c.args.out.now);
+        },
+      );
     }
