@@ -1,10 +1,9 @@
 -- UDP over IPv4 (RFC 768): the datagram that carries payload on a way, and the payload that a received datagram carries on it.
-use Rattle.std.specs.Prelude.{◌≡◌, ◌<◌, ◌≤◌, ℕ, ◌+◌, ◌==◌, ◌||◌, ◌&&◌, nat_lt, not, if◌then◌else◌, Bool, true, false, List, [], ◌∷◌, ◌++◌, length, take, slice_index, slice_range, Option, Some, None, Result, Ok, Err}
+use Rattle.std.specs.Prelude.{◌≡◌, ◌≤◌, ℕ, ◌+◌, ◌==◌, ◌||◌, ◌&&◌, nat_lt, not, if◌then◌else◌, Bool, true, false, List, [], ◌∷◌, ◌++◌, length, take, slice_index, slice_range, Option, Some, None, Result, Ok, Err}
 use Rattle.std.specs.Str.{bytes_eq}
 use Rattle.uip_wire.specs.Addr.{address_at}
 use Rattle.uip_wire.specs.Checksum.{checksum_of}
 use Rattle.uip_wire.specs.Fields.{word_at, bytes_of}
-use Rattle.uip_wire.specs.declared.sizes.TheConstants.{LARGEST_DATAGRAM}
 use Rattle.uip_ipv4.specs.Head.{head_or_fate, numbered_head}
 use Rattle.uip_ipv4.specs.declared.fate.IpFate.{IpFate}
 use Rattle.uip_ipv4.specs.declared.fate.IpFate.TheVariants.{Protocol}
@@ -68,5 +67,4 @@ udp_data way datagram =
 -- Data that was sent on a way is received on it.
 abbrev pub ReadsBack : Type 0
 ReadsBack = (way : Way) (id : ℕ) (payload : List ℕ) → length way.source.0 ≡ 4 → length way.target.0 ≡ 4
-    → way.from.0 < 65536 → way.to.0 < 65536 → 28 + length payload ≤ LARGEST_DATAGRAM
     → udp_data way (udp_datagram way id payload) ≡ Some payload

@@ -8,5 +8,5 @@ mod sums;
 mod way;
 
 pub use received::udp_data;
-pub use sent::udp_datagram;
+pub use sent::{reads_back, udp_datagram};
 pub use way::Way;

@@ -1,5 +1,5 @@
 ghost use Rattle.std.specs.Prelude.{◌≡◌, ◌+◌, ◌≤◌, ◌∷◌, ◌++◌, [], length};
-ghost use Rattle.udp_datagram.specs.Udp.{sent_sum, udp_datagram, udp_sum, udp_with};
+ghost use Rattle.udp_datagram.specs.Udp.{ReadsBack, sent_sum, udp_datagram, udp_sum, udp_with};
 ghost use Rattle.uip_wire.specs.Fields.{bytes_of};
 
 use crate::sums::{UDP, pseudo_sum};
@@ -27,6 +27,11 @@ pub fn udp_datagram(way: Way, id: u16, payload: &[u8]) -> ArrayVec<u8, LARGEST_D
     let _data_fits = datagram.try_extend_from_slice(payload);
     datagram
 }
+
+/// Data that was sent on a way is received on it.
+pub fn reads_back()
+    ensures { ReadsBack }
+{}
 
 /// The UDP header before this payload.
 fn header(way: Way, payload: &[u8]) -> [u8; 8]
