@@ -1,3 +1,4 @@
 pub mod DotLaws
+pub mod QueryLaws
 pub mod RecordLaws
 pub mod Rows

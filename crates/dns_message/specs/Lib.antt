@@ -1,4 +1,5 @@
 pub mod Messages
 pub mod Names
+pub mod ReadBack
 pub mod Records
 pub mod Replies

@@ -4,10 +4,12 @@
 
 mod answer;
 mod asking;
+mod laws;
 mod message;
 mod name;
 mod record;
 
 pub use answer::Answer;
 pub use asking::{ASKING_PORT, Asking, SERVER_PORT};
+pub use laws::queries_are_read_back;
 pub use name::{LONGEST_NAME, Name};

@@ -1,0 +1,30 @@
+-- What a server reads in a query, and which records bytes spell.
+use Rattle.std.specs.Prelude.{◌≡◌, ◌⊎◌, ℕ, ◌&&◌, ◌==◌, nat_le, Bool, true, false, List, [], ◌∷◌, ◌++◌, length, drop, map, Some}
+use Rattle.std.specs.List.{flat_map, join_with_byte, list_all}
+use Rattle.uip_wire.specs.Fields.{word_at, bytes_of}
+use Rattle.udp_datagram.specs.Udp.{udp_data}
+use Rattle.dns_message.specs.Messages.{query_message}
+use Rattle.dns_message.specs.Names.{is_name, label_bytes}
+use Rattle.dns_message.specs.Records.{Record, records}
+use Rattle.dns_message.specs.Replies.{query_datagram, way_there}
+use Rattle.dns_message.specs.declared.asking.Asking.{Asking}
+
+-- a label of a name, of which the empty one is the root's
+abbrev pub has_label_size : List ℕ → Bool
+has_label_size label = nat_le 1 (length label) && nat_le (length label) 63
+
+-- The datagram carries a query with this id, with the flag that recursion is desired, and with one question. However its
+-- bytes are read as labels and the root, the labels are those of the name, and the type and the class stand behind them.
+pub record IsAsked (asking : Asking) (text : List ℕ) (ident : ℕ) : Type 0 where
+  pub message : List ℕ
+  pub carried : udp_data (way_there asking) (query_datagram asking text ident) ≡ Some message
+  pub id : word_at message 0 ≡ asking.id
+  pub flags : word_at message 2 ≡ 256
+  pub counts : drop 4 message ≡ bytes_of (1 ∷ 0 ∷ 0 ∷ 0 ∷ []) ++ drop 12 message
+  pub question : (list : List (List ℕ)) (rest : List ℕ) → list_all has_label_size list ≡ true
+      → drop 12 message ≡ flat_map label_bytes list ++ 0 ∷ rest
+      → (join_with_byte 46 list ≡ text) × (rest ≡ bytes_of (1 ∷ 1 ∷ []))
+
+abbrev pub QueriesAreReadBack : Type 0
+QueriesAreReadBack = (asking : Asking) (text : List ℕ) (ident : ℕ) → is_name text ≡ true
+    → length asking.own.0 ≡ 4 → length asking.server.0 ≡ 4 → IsAsked asking text ident
