@@ -1,6 +1,6 @@
 -- What a server reads in a query, and which records bytes spell.
 use Rattle.std.specs.Prelude.{◌≡◌, ◌⊎◌, ℕ, ◌&&◌, ◌==◌, nat_le, Bool, true, false, List, [], ◌∷◌, ◌++◌, length, drop, map, Some}
-use Rattle.std.specs.List.{flat_map, join_with_byte, list_all}
+use Rattle.std.specs.List.{AllByRecursion, flat_map, join_with_byte, list_all}
 use Rattle.uip_wire.specs.Fields.{word_at, bytes_of}
 use Rattle.udp_datagram.specs.Udp.{udp_data}
 use Rattle.dns_message.specs.Messages.{query_message}
@@ -28,3 +28,42 @@ pub record IsAsked (asking : Asking) (text : List ℕ) (ident : ℕ) : Type 0 wh
 abbrev pub QueriesAreReadBack : Type 0
 QueriesAreReadBack = (asking : Asking) (text : List ℕ) (ident : ℕ) → is_name text ≡ true
     → length asking.own.0 ≡ 4 → length asking.server.0 ≡ 4 → IsAsked asking text ident
+
+-- a record as bytes spell it: the labels of its owner and what ends them, the ten bytes of its type, class, time to live and
+-- length, and its content (RFC 1035, section 4.1.3)
+pub record Spelled : Type 0 where
+  pub owner : List (List ℕ)
+  pub ending : List ℕ
+  pub fields : List ℕ
+  pub content : List ℕ
+
+-- the root's empty label, or a pointer
+abbrev pub is_ending : List ℕ → Bool
+is_ending (b ∷ []) = b == 0
+is_ending (b ∷ c ∷ []) = nat_le 192 b
+is_ending bytes = false
+
+pub record IsSpelled (s : Spelled) : Type 0 where
+  pub owner : list_all has_label_size s.owner ≡ true
+  pub ending : is_ending s.ending ≡ true
+  pub fields : length s.fields ≡ 10
+  pub content : word_at s.fields 8 ≡ length s.content
+
+abbrev pub spelled_bytes : Spelled → List ℕ
+spelled_bytes s = (flat_map label_bytes s.owner ++ s.ending) ++ (s.fields ++ s.content)
+
+-- what it says
+abbrev pub record_of : Spelled → Record
+record_of s = record { kind = word_at s.fields 0; class = word_at s.fields 2; content = s.content }
+
+-- The records that are read of bytes are those that the bytes spell: n of them, or all in front of bytes that spell none.
+pub record AreSpelled (n : ℕ) (bytes : List ℕ) : Type 0 where
+  pub list : List Spelled
+  pub rest : List ℕ
+  pub each : AllByRecursion IsSpelled list
+  pub whole : bytes ≡ flat_map spelled_bytes list ++ rest
+  pub same : records n bytes ≡ map record_of list
+  pub all : (length list ≡ n) ⊎ ((s : Spelled) (more : List ℕ) → IsSpelled s → rest ≡ spelled_bytes s ++ more → ⊥)
+
+abbrev pub RecordsAreSpelled : Type 0
+RecordsAreSpelled = (n : ℕ) (bytes : List ℕ) → AreSpelled n bytes
