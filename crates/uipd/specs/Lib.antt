@@ -1,9 +1,11 @@
 pub mod Allowed
 pub mod Output
+pub mod ResolveWords
 pub mod Running
 pub mod Serving
 pub mod SiteServing
 pub mod Statuses
 pub mod Surroundings
 pub mod Telling
+pub mod ToldRunning
 pub mod Words

@@ -1,6 +1,6 @@
 //! The program `uipd`: it serves a line, works on the images of sites and plays schedules. It reads its words, and reaches its files,
-//! its line and its output through the traits of `uip_edge` alone, so that everything it does is said of `run`. This file
-//! only makes the real adapters and turns the answer of `run` into the process's status.
+//! its line and its output through the traits of `uip_edge` alone, so that everything it does is said of `run_told`.
+//! This file only makes the real adapters and turns the answer of `run_told` into the process's status.
 #![tactic(auto)]
 
 #[cfg(test)]
@@ -15,7 +15,11 @@ mod parts;
 #[cfg(test)]
 mod replay_tests;
 mod replay_work;
+#[cfg(test)]
+mod resolve_tests;
+mod resolve_words;
 mod run;
+mod run_told;
 mod serve;
 #[cfg(test)]
 mod site_tests;
@@ -27,7 +31,7 @@ mod words;
 
 use adapters::{ReaderLink, WriterSink};
 use file_shelf::FileShelf;
-use run::run;
+use run_told::run_told;
 use status::Status;
 use std::process::ExitCode;
 use std::{env, io};
@@ -43,7 +47,15 @@ fn run_words(rt: HostRuntime) -> io::Result<Status> {
     let mut shelf = FileShelf::new(&rt);
     let mut link = ReaderLink::new(rt.stdin(), says_tty(&words));
     let mut out = WriterSink::new(rt.stdout());
-    Ok(run(rt.alloc(), &words, &mut shelf, &mut link, &mut out))
+    let mut tell = WriterSink::new(rt.stderr());
+    Ok(run_told(
+        rt.alloc(),
+        &words,
+        &mut shelf,
+        &mut link,
+        &mut out,
+        &mut tell,
+    ))
 }
 
 /// The status where the words could not be read: words that are not text are no words of the program.

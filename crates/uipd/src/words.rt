@@ -295,7 +295,7 @@ fn slip_words(words: &[String]) -> Option<Command<'_>>
 }
 
 /// A number below 2^64 in decimal digits, without a leading zero.
-fn number_of(text: &str) -> Option<u64>
+pub(crate) fn number_of(text: &str) -> Option<u64>
     ensures { result ≡ number_meant text.now }
 {
     if !is_number(text.as_bytes()) {

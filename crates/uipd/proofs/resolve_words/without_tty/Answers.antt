@@ -1,0 +1,10 @@
+use Rattle.std.proofs.Common.{◌≡◌, ◌∙◌, ◌-◌, if◌then◌else◌, sym, ap, length, map, take, string_bytes}
+use Rattle.std.proofs.lemmas.List.{length-map, take-map}
+use Rattle.uipd.proofs.resolve_words.without_tty.Goals as goal
+
+pub returns-then-says_tty : goal.returns-then-says_tty
+returns-then-says_tty c =
+    let words = c.args.words.now in
+    let texts = map string_bytes words in
+    sym (ap (λ b. if b then take (length texts - 1) texts else texts) (sym c.says_tty.ensures ∙ c.if-says_tty.true)
+    ∙ ap (λ n. take (n - 1) texts) (length-map words string_bytes) ∙ take-map string_bytes (length words - 1) words)

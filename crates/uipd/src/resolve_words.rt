@@ -1,0 +1,114 @@
+ghost use Rattle.std.specs.Prelude.{◌≡◌, map, option_map, string_bytes};
+ghost use Rattle.uipd.specs.ResolveWords as meant;
+
+use crate::words::{number_of, says_tty};
+use arrayvec::ArrayVec;
+use std::marker::Model;
+use udp_resolver::{MOST_NAMES, Name};
+use uip_wire::Addr;
+
+/// What the words of `resolve` ask for: to ask a server at an address for names, the first of them under this id, up to so many
+/// items.
+#[derive(Drop)]
+pub struct Resolving {
+    pub own: Addr,
+    pub server: Addr,
+    pub id: u16,
+    pub names: ArrayVec<Name, MOST_NAMES>,
+    pub items: u64,
+}
+
+impl Model for Resolving {
+    ghost use Rattle.uipd.specs.ResolveWords.{Resolving as Plain};
+
+    ghost Value = { Plain };
+
+    ghost view = { λ r. record { own = r.own; server = r.server; id = r.id; names = r.names.items; items = r.items } };
+}
+
+/// What words ask for that begin with `resolve`, if they have its form.
+pub fn resolving_of(words: &[String]) -> Option<Resolving>
+    ensures { result ≡ meant.resolving_of (map string_bytes words.now) }
+{
+    match words {
+        [command, words @ ..] if command.as_str() == "resolve" => resolve_words(words),
+        _ => None,
+    }
+}
+
+/// The words behind `resolve`: `OWN SERVER ID`, and further words.
+fn resolve_words(words: &[String]) -> Option<Resolving>
+    ensures { result ≡ meant.resolve_words (map string_bytes words.now) }
+{
+    match words {
+        [own, server, id, words @ ..] => asked_by(own, server, id, words),
+        _ => None,
+    }
+}
+
+/// Optionally `items N`, then the names, then optionally `tty`.
+fn asked_by(own: &str, server: &str, id: &str, words: &[String]) -> Option<Resolving>
+    ensures { result ≡ meant.asked_by own.now server.now id.now (map string_bytes words.now) }
+{
+    match words {
+        [word, number, rest @ ..] => {
+            if word.as_str() == "items" {
+                return asked_at(own, server, id, number_of(number), rest);
+            }
+            asked_at(own, server, id, Some(u64::MAX), words)
+        }
+        _ => asked_at(own, server, id, Some(u64::MAX), words),
+    }
+}
+
+/// The addresses, the id, the number of items and the words behind it.
+fn asked_at(
+    own: &str,
+    server: &str,
+    id: &str,
+    items: Option<u64>,
+    words: &[String],
+) -> Option<Resolving>
+    ensures { result ≡ meant.asked_at own.now server.now id.now items (map string_bytes words.now) }
+{
+    Some(Resolving {
+        own: Addr::parse(own.as_bytes())?,
+        server: Addr::parse(server.as_bytes())?,
+        id: id_of(id)?,
+        items: items?,
+        names: names_of(without_tty(words))?,
+    })
+}
+
+/// An id: a number below 65536.
+fn id_of(text: &str) -> Option<u16>
+    ensures { result ≡ meant.id_of text.now }
+{
+    let id = number_of(text)?;
+    if id < 65536 { Some(id as u16) } else { None }
+}
+
+/// The words in front of a last `tty`, at which `main` looks.
+fn without_tty(words: &[String]) -> &[String]
+    ensures { map string_bytes result.now ≡ meant.without_tty (map string_bytes words.now) }
+{
+    if says_tty(words) {
+        &words[..words.len() - 1]
+    } else {
+        words
+    }
+}
+
+/// One to four names.
+fn names_of(words: &[String]) -> Option<ArrayVec<Name, MOST_NAMES>>
+    ensures { option_map (λ names. names.items) result ≡ meant.names_of (map string_bytes words.now) }
+{
+    if words.is_empty() || words.len() > MOST_NAMES {
+        return None;
+    }
+    let mut names: ArrayVec<Name, MOST_NAMES> = ArrayVec::new();
+    for word in words {
+        names.push(Name::parse(word.as_bytes())?);
+    }
+    Some(names)
+}

@@ -1,0 +1,69 @@
+ghost use Rattle.std.specs.Prelude.{◌≡◌, None, map, string_bytes};
+ghost use Rattle.udp_resolver.specs.Streams.{streams};
+ghost use Rattle.uipd.specs.ResolveWords.{resolving_of};
+ghost use Rattle.uipd.specs.Surroundings.{surroundings};
+ghost use Rattle.uipd.specs.ToldRunning.{ResolveRuns, ToldRuns};
+ghost use Rattle.uipd.specs.declared.status.Status.TheVariants.{BadWords};
+
+use crate::resolve_words::{Resolving, resolving_of};
+use crate::run::run;
+use crate::status::Status;
+use packet_buffer::Packet;
+use std::alloc::Global;
+use udp_resolver::resolve;
+use uip_edge::{Link, Shelf, Sink};
+use uip_wire::LARGEST_DATAGRAM;
+
+/// Does what the words say, those of `resolve` too. What became of the names is told at a sink of its own.
+pub fn run_told<H: Shelf, L: Link, K: Sink, T: Sink>(
+    alloc: Global,
+    words: &[String],
+    shelf: &mut H,
+    link: &mut L,
+    out: &mut K,
+    tell: &mut T,
+) -> Status
+    ensures runs { ToldRuns (map string_bytes words.now)
+        (surroundings H.held L.coming K.written H.faults L.faults K.faults shelf.old link.old out.old)
+        (surroundings H.held L.coming K.written H.faults L.faults K.faults shelf.new link.new out.new)
+        (streams L.coming K.written T.written L.faults K.faults T.faults link.old out.old tell.old)
+        (streams L.coming K.written T.written L.faults K.faults T.faults link.new out.new tell.new) result }
+    ensures untold { resolving_of (map string_bytes words.now) ≡ None → tell.new ≡ tell.old }
+    ensures unread { ¬ (resolving_of (map string_bytes words.now) ≡ None) → shelf.new ≡ shelf.old }
+    ensures untouched { result ≡ BadWords → (shelf.new ≡ shelf.old) × (link.new ≡ link.old) × (out.new ≡ out.old) × (tell.new ≡ tell.old) }
+    ensures kept { H.held shelf.new ≡ H.held shelf.old }
+{
+    match resolving_of(words) {
+        None => run(alloc, words, shelf, link, out),
+        Some(resolving) => resolve_names(alloc, &resolving, link, out, tell),
+    }
+}
+
+/// Asks for names. Memory is taken before the first query alone.
+fn resolve_names<L: Link, K: Sink, T: Sink>(
+    alloc: Global,
+    resolving: &Resolving,
+    link: &mut L,
+    out: &mut K,
+    tell: &mut T,
+) -> Status
+    ensures runs { ResolveRuns resolving.now
+        (streams L.coming K.written T.written L.faults K.faults T.faults link.old out.old tell.old)
+        (streams L.coming K.written T.written L.faults K.faults T.faults link.new out.new tell.new) result }
+    ensures known { ¬ (result ≡ BadWords) }
+{
+    match Packet::new(alloc, LARGEST_DATAGRAM) {
+        Ok(mut packet) => Status::from(resolve(
+            &mut packet,
+            resolving.own,
+            resolving.server,
+            resolving.id,
+            &resolving.names,
+            link,
+            out,
+            tell,
+            resolving.items,
+        )),
+        Err(_) => Status::NoMemory,
+    }
+}
