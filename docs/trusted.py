@@ -5,7 +5,7 @@
     python3 docs/trusted.py write      writes the lists of that page anew
     python3 docs/trusted.py NAME ..    prints what a definition rests on, as link_world.specs.Headline.Tick
 
-It follows the names of specs/ through their imports, from the clauses of `run_told` in crates/uipd/src/run.rt (of `run` where there is none).
+It follows the names of specs/ through their imports, from the clauses of `run_told` in crates/uipd/src/run_told.rt.
 A definition belongs to the part of its file; a file that no part names is told as one that the page lacks.
 """
 import collections
@@ -116,9 +116,9 @@ class Sources:
 
     def top(self):
         """The definitions that the contract of the top call names."""
-        with open(os.path.join(CRATES, "uipd", "src", "run.rt"), encoding="utf8") as file:
+        with open(os.path.join(CRATES, "uipd", "src", "run_told.rt"), encoding="utf8") as file:
             text = file.read()
-        call = re.search(r"pub fn run_told\b.*?^\{", text, re.S | re.M) or re.search(r"pub fn run\b.*?^\{", text, re.S | re.M)
+        call = re.search(r"pub fn run_told\b.*?^\{", text, re.S | re.M)
         return self.named(call.group(0), "", *imports_of(text))
 
 
