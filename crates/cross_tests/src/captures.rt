@@ -153,14 +153,7 @@ fn other_files_are_refused(rt: HostRuntime) -> Result<(), Fail> {
     let longest = changed(alloc, &[(53, 5), (54, 0xDC)])?;
     let cut = bad(2, CaptureWhy::Cut);
     check(&rt, alloc, &longest, 7, u64::MAX, cut, &LINE[..6])?;
-    let empty = changed(alloc, &[(54, 0)])?;
-    check(
-        &rt,
-        alloc,
-        &empty[..59],
-        7,
-        u64::MAX,
-        SlipEnd::End,
-        &LINE[..6],
-    )
+    let mut empty = changed(alloc, &[(54, 0)])?;
+    empty.truncate(59);
+    check(&rt, alloc, &empty, 7, u64::MAX, SlipEnd::End, &LINE[..6])
 }
