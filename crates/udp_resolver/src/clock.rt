@@ -29,8 +29,10 @@ impl Clock {
     pub fn tick(&mut self) -> bool
         requires tries { self.old.timer.tries ≤ TEXT_LIMIT }
         ensures tries { self.new.timer.tries ≤ TEXT_LIMIT }
-        ensures at { (happened : List Event) → is_given_up happened ≡ false → IsAt happened self.old → IsAt (happened ++ Silence ∷ []) self.new }
-        ensures again { (happened : List Event) → is_given_up happened ≡ false → IsAt happened self.old → result ≡ is_due (silences happened + 1) }
+        ensures at { (happened : List Event) → is_given_up happened ≡ false → IsAt happened self.old
+            → IsAt (happened ++ Silence ∷ []) self.new }
+        ensures again { (happened : List Event) → is_given_up happened ≡ false → IsAt happened self.old
+            → result ≡ is_due (silences happened + 1) }
     {
         match self.timer.tick(TEXT_LIMIT) {
             Beat::Wait => false,

@@ -18,14 +18,18 @@ pub fn addresses_are_from_replies()
 
 /// The end is told wherever nothing failed and all questions are settled, or the link tells fewer items than are allowed.
 pub fn end_is_told()
-    ensures settled { (asked : List Question) (n : ℕ) (old new : Streams) (taken : List Item) (end : AnyEnd) → EndsBy asked n old new taken end
+    ensures settled { (asked : List Question) (n : ℕ) (old new : Streams) (taken : List Item) (end : AnyEnd)
+        → EndsBy asked n old new taken end
         → Calm old new → Below old → IsSettled asked taken → end ≡ End }
-    ensures dry { (asked : List Question) (n : ℕ) (old new : Streams) (all taken : List Item) (end : AnyEnd) → EndsBy asked n old new taken end
-        → Calm old new → Below old → old.coming ≡ Some all → length all < n → Consumes old.coming new.coming taken → end ≡ End }
+    ensures dry { (asked : List Question) (n : ℕ) (old new : Streams) (all taken : List Item) (end : AnyEnd)
+        → EndsBy asked n old new taken end
+        → Calm old new → Below old → old.coming ≡ Some all → length all < n
+        → Consumes old.coming new.coming taken → end ≡ End }
 {}
 
 /// The budget is told wherever nothing failed, as many items were taken as were allowed, and a question is open.
 pub fn budget_is_told()
-    ensures { (asked : List Question) (n : ℕ) (old new : Streams) (taken : List Item) (end : AnyEnd) → EndsBy asked n old new taken end
+    ensures { (asked : List Question) (n : ℕ) (old new : Streams) (taken : List Item) (end : AnyEnd)
+        → EndsBy asked n old new taken end
         → Calm old new → Below old → IsOpen asked taken → length taken ≡ n → end ≡ Budget }
 {}

@@ -76,8 +76,10 @@ impl Run {
         ensures area { length packet.new.area ≡ LARGEST_DATAGRAM }
         ensures each { length self.new.answers.items ≡ length names.now }
         ensures knows { OnOk result (Knows (questions asking names.now) [] self.new) }
-        ensures ok { OnOk result (Appends (K.written out.old) (K.written out.new) (line_text (questions asking names.now) [])) }
-        ensures err { OnErr result (AppendsPrefix (K.written out.old) (K.written out.new) (line_text (questions asking names.now) [])) }
+        ensures ok { OnOk result (Appends (K.written out.old) (K.written out.new)
+            (line_text (questions asking names.now) [])) }
+        ensures err { OnErr result (AppendsPrefix (K.written out.old) (K.written out.new)
+            (line_text (questions asking names.now) [])) }
         ensures cause { HasCause (K.faults out.old) (K.faults out.new) result }
     {
         self.sender
@@ -97,8 +99,8 @@ impl Run {
         requires { length self.old.answers.items ≡ length names.now }
         ensures each { length self.new.answers.items ≡ length names.now }
         ensures clock { self.new.clock ≡ self.old.clock }
-        ensures knows { (items : List Item) → is_given_up (events items) ≡ false → Knows (questions asking names.now) items self.old
-            → Knows (questions asking names.now) (items ++ Byte byte ∷ []) self.new }
+        ensures knows { (items : List Item) → is_given_up (events items) ≡ false
+            → Knows (questions asking names.now) items self.old → Knows (questions asking names.now) (items ++ Byte byte ∷ []) self.new }
     {
         if let Fed::Datagram(count) = self.decoder.feed(byte) {
             hear(
@@ -115,8 +117,8 @@ impl Run {
         requires { length self.old.answers.items ≡ length names.now }
         ensures each { length self.new.answers.items ≡ length names.now }
         ensures clock { self.new.clock ≡ self.old.clock }
-        ensures knows { (items : List Item) → is_given_up (events items) ≡ false → Knows (questions asking names.now) items self.old
-            → Knows (questions asking names.now) (items ++ map Byte bytes.now) self.new }
+        ensures knows { (items : List Item) → is_given_up (events items) ≡ false
+            → Knows (questions asking names.now) items self.old → Knows (questions asking names.now) (items ++ map Byte bytes.now) self.new }
     {
         for byte in bytes {
             self.take_byte(asking, names, *byte);
@@ -137,12 +139,16 @@ impl Run {
         ensures tries { self.new.clock.timer.tries ≤ TEXT_LIMIT }
         ensures area { length packet.new.area ≡ LARGEST_DATAGRAM }
         ensures each { length self.new.answers.items ≡ length names.now }
-        ensures knows { OnOk result ((items : List Item) → is_given_up (events items) ≡ false → Knows (questions asking names.now) items self.old
-            → Knows (questions asking names.now) (items ++ Quiet ∷ []) self.new) }
-        ensures ok { OnOk result ((items : List Item) → is_given_up (events items) ≡ false → Knows (questions asking names.now) items self.old
-            → Appends (K.written out.old) (K.written out.new) (query_texts self.old.sender.ident (asked_next (questions asking names.now) (events items)))) }
-        ensures err { OnErr result ((items : List Item) → is_given_up (events items) ≡ false → Knows (questions asking names.now) items self.old
-            → AppendsPrefix (K.written out.old) (K.written out.new) (query_texts self.old.sender.ident (asked_next (questions asking names.now) (events items)))) }
+        ensures knows { OnOk result ((items : List Item) → is_given_up (events items) ≡ false
+            → Knows (questions asking names.now) items self.old → Knows (questions asking names.now) (items ++ Quiet ∷ []) self.new) }
+        ensures ok { OnOk result ((items : List Item) → is_given_up (events items) ≡ false
+            → Knows (questions asking names.now) items self.old
+            → Appends (K.written out.old) (K.written out.new)
+            (query_texts self.old.sender.ident (asked_next (questions asking names.now) (events items)))) }
+        ensures err { OnErr result ((items : List Item) → is_given_up (events items) ≡ false
+            → Knows (questions asking names.now) items self.old
+            → AppendsPrefix (K.written out.old) (K.written out.new)
+            (query_texts self.old.sender.ident (asked_next (questions asking names.now) (events items)))) }
         ensures cause { HasCause (K.faults out.old) (K.faults out.new) result }
     {
         if !self.clock.tick() {

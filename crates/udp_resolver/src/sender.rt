@@ -44,8 +44,10 @@ impl Sender {
         requires { length packet.old.area ≡ LARGEST_DATAGRAM }
         ensures area { length packet.new.area ≡ LARGEST_DATAGRAM }
         ensures ident { self.new.ident ≡ next_ident self.old.ident }
-        ensures ok { OnOk result (Appends (K.written out.old) (K.written out.new) (slip_text (query_datagram asking name.now self.new.ident))) }
-        ensures err { OnErr result (AppendsPrefix (K.written out.old) (K.written out.new) (slip_text (query_datagram asking name.now self.new.ident))) }
+        ensures ok { OnOk result (Appends (K.written out.old) (K.written out.new)
+            (slip_text (query_datagram asking name.now self.new.ident))) }
+        ensures err { OnErr result (AppendsPrefix (K.written out.old) (K.written out.new)
+            (slip_text (query_datagram asking name.now self.new.ident))) }
         ensures cause { HasCause (K.faults out.old) (K.faults out.new) result }
     {
         self.ident = self.ident.wrapping_add(1);
@@ -64,9 +66,12 @@ impl Sender {
     ) -> Result<(), Failed>
         requires { length packet.old.area ≡ LARGEST_DATAGRAM }
         ensures area { length packet.new.area ≡ LARGEST_DATAGRAM }
-        ensures ident { self.new.ident ≡ last_ident self.old.ident (unless_answered (record { asking = asking; text = name.now }) answer) }
-        ensures ok { OnOk result (Appends (K.written out.old) (K.written out.new) (query_texts self.old.ident (unless_answered (record { asking = asking; text = name.now }) answer))) }
-        ensures err { OnErr result (AppendsPrefix (K.written out.old) (K.written out.new) (query_texts self.old.ident (unless_answered (record { asking = asking; text = name.now }) answer))) }
+        ensures ident { self.new.ident
+            ≡ last_ident self.old.ident (unless_answered (record { asking = asking; text = name.now }) answer) }
+        ensures ok { OnOk result (Appends (K.written out.old) (K.written out.new)
+            (query_texts self.old.ident (unless_answered (record { asking = asking; text = name.now }) answer))) }
+        ensures err { OnErr result (AppendsPrefix (K.written out.old) (K.written out.new)
+            (query_texts self.old.ident (unless_answered (record { asking = asking; text = name.now }) answer))) }
         ensures cause { HasCause (K.faults out.old) (K.faults out.new) result }
     {
         if answer.is_some() {
@@ -87,9 +92,12 @@ impl Sender {
         requires area { length packet.old.area ≡ LARGEST_DATAGRAM }
         requires each { length answers.now ≡ length names.now }
         ensures area { length packet.new.area ≡ LARGEST_DATAGRAM }
-        ensures ident { OnOk result (self.new.ident ≡ last_ident self.old.ident (unanswered (questions asking names.now) answers.now)) }
-        ensures ok { OnOk result (Appends (K.written out.old) (K.written out.new) (query_texts self.old.ident (unanswered (questions asking names.now) answers.now))) }
-        ensures err { OnErr result (AppendsPrefix (K.written out.old) (K.written out.new) (query_texts self.old.ident (unanswered (questions asking names.now) answers.now))) }
+        ensures ident { OnOk result (self.new.ident
+            ≡ last_ident self.old.ident (unanswered (questions asking names.now) answers.now)) }
+        ensures ok { OnOk result (Appends (K.written out.old) (K.written out.new)
+            (query_texts self.old.ident (unanswered (questions asking names.now) answers.now))) }
+        ensures err { OnErr result (AppendsPrefix (K.written out.old) (K.written out.new)
+            (query_texts self.old.ident (unanswered (questions asking names.now) answers.now))) }
         ensures cause { HasCause (K.faults out.old) (K.faults out.new) result }
     {
         let mut asking = asking;
