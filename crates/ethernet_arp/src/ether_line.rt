@@ -10,7 +10,7 @@ ghost use Rattle.ethernet_arp.specs.Table.{Knows, host_of};
 use crate::arp::Arp;
 use crate::frame_part::FramePart;
 use crate::framing::{frame_datagram, frame_reply};
-use crate::sizes::{LARGEST_FRAME, LARGEST_TEXT, SMALLEST_DATAGRAM, SMALLEST_FRAME};
+use crate::sizes::{LARGEST_FRAME, LARGEST_FRAMED, SMALLEST_DATAGRAM, SMALLEST_FRAME};
 use crate::taking::{Sorted, sort};
 use line_medium::{Brought, BroughtRun, Medium};
 use uip_edge::{Failed, Sink};
@@ -21,7 +21,7 @@ use uip_wire::LARGEST_DATAGRAM;
 pub(crate) struct EtherLine {
     pub arp: Arp,
     part: FramePart,
-    out: [u8; LARGEST_TEXT],
+    out: [u8; LARGEST_FRAMED],
     replied: bool,
     count: usize,
 }
@@ -35,7 +35,7 @@ impl EtherLine {
         EtherLine {
             arp,
             part: FramePart::new(),
-            out: [0; LARGEST_TEXT],
+            out: [0; LARGEST_FRAMED],
             replied: false,
             count: 0,
         }

@@ -6,7 +6,7 @@ ghost use Rattle.ethernet_arp.specs.Table.{Knows, host_of};
 use crate::arp::Arp;
 use crate::mac::Mac;
 use crate::packets::put_front;
-use crate::sizes::{ARP_FRAME, LARGEST_TEXT, SMALLEST_DATAGRAM};
+use crate::sizes::{ARP_FRAME, LARGEST_FRAMED, SMALLEST_DATAGRAM};
 use crate::taking::reply;
 use crate::wrapping::wrap;
 use uip_wire::{Addr, LARGEST_DATAGRAM, put16};
@@ -15,9 +15,10 @@ use uip_wire::{Addr, LARGEST_DATAGRAM, put16};
 pub(crate) fn frame_datagram(arp: &Arp, datagram: &[u8], out: &mut [u8]) -> usize
     requires least { SMALLEST_DATAGRAM ≤ length datagram.now }
     requires most { length datagram.now ≤ LARGEST_DATAGRAM }
-    requires room { LARGEST_TEXT ≤ length out.old }
+    requires room { LARGEST_FRAMED ≤ length out.old }
     ensures within { result ≤ length out.new }
-    ensures text { (acts : List Act) → Knows arp.now acts → take result out.new ≡ framed (wrapped (host_of arp.now) acts datagram.now) }
+    ensures text { (acts : List Act) → Knows arp.now acts
+        → take result out.new ≡ framed (wrapped (host_of arp.now) acts datagram.now) }
 {
     let (length, frame) = out.split_at_mut(2);
     let len = wrap(arp, datagram, frame);
@@ -27,9 +28,10 @@ pub(crate) fn frame_datagram(arp: &Arp, datagram: &[u8], out: &mut [u8]) -> usiz
 
 /// Writes the reply to a request from this pair behind its length, and tells how long that is.
 pub(crate) fn frame_reply(arp: &Arp, addr: Addr, mac: Mac, out: &mut [u8]) -> usize
-    requires { LARGEST_TEXT ≤ length out.old }
+    requires { LARGEST_FRAMED ≤ length out.old }
     ensures len { result ≡ ARP_FRAME + 2 }
-    ensures text { take result out.new ≡ framed (reply_to (host_of arp.now) (record { addr = addr.0; mac = mac.0 })) }
+    ensures text { take result out.new
+        ≡ framed (reply_to (host_of arp.now) (record { addr = addr.0; mac = mac.0 })) }
 {
     let (length, frame) = out.split_at_mut(2);
     put_front(frame, &reply(arp, addr, mac));

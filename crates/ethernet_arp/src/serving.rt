@@ -34,8 +34,8 @@ pub fn serve_ether<A: App, L: Link, K: Sink>(
     ensures whole { IsWhole A.App node.new }
     ensures same { A.kept node.new.shared ≡ A.kept node.old.shared }
     ensures host { host_of arp.new ≡ host_of arp.old }
-    ensures serves { ServesOver A.App (ether_way (host_of arp.old)) (λ acts. Knows arp.old acts) (λ acts. Knows arp.new acts)
-        pace items node.old node.new
+    ensures serves { ServesOver A.App (ether_way (host_of arp.old))
+        (λ acts. Knows arp.old acts) (λ acts. Knows arp.new acts) pace items node.old node.new
         (outside L.coming K.written L.faults K.faults link.old sink.old)
         (outside L.coming K.written L.faults K.faults link.new sink.new) result }
 {

@@ -16,5 +16,5 @@ pub const ARP_TICKS: u16 = 2400;
 /// The shortest datagram that is sent, which is its header alone, in bytes.
 pub const SMALLEST_DATAGRAM: usize = 20;
 
-/// The longest text of a frame: its length in two bytes, and the longest frame.
-pub const LARGEST_TEXT: usize = LARGEST_FRAME + 2;
+/// The longest frame behind its length in two bytes.
+pub const LARGEST_FRAMED: usize = LARGEST_FRAME + 2;

@@ -2,7 +2,8 @@ ghost use Rattle.std.specs.Prelude.{◌≡◌, ◌≤◌, ◌-◌, ◌++◌, ◌
 ghost use Rattle.std.specs.Str.{bytes_eq};
 ghost use Rattle.uip_wire.specs.Fields.{word_at};
 ghost use Rattle.line_medium.specs.Ways.{acts_of};
-ghost use Rattle.ethernet_arp.specs.Frames.{arp_brings, broadcast, frame_brings, is_arp, is_arp_for, is_datagram, payload_brings, reply_to, sender_of};
+ghost use Rattle.ethernet_arp.specs.Frames.{arp_brings, broadcast, frame_brings, is_arp, is_arp_for, is_datagram};
+ghost use Rattle.ethernet_arp.specs.Frames.{payload_brings, reply_to, sender_of};
 ghost use Rattle.ethernet_arp.specs.Learning.{Act};
 ghost use Rattle.ethernet_arp.specs.Table.{Knows, host_of};
 ghost use Rattle.ethernet_arp.specs.Taking.{Answers, HasBytes, came_of};
@@ -43,7 +44,8 @@ pub fn take(arp: &mut Arp, frame: &[u8], out: &mut [u8]) -> Taken
     requires most { length frame.now ≤ LARGEST_FRAME }
     requires room { ARP_FRAME ≤ length out.old }
     ensures host { host_of arp.new ≡ host_of arp.old }
-    ensures told { Answers (host_of arp.old) frame.now result (frame_brings (host_of arp.old) frame.now) out.old out.new }
+    ensures told { Answers (host_of arp.old) frame.now result
+        (frame_brings (host_of arp.old) frame.now) out.old out.new }
     ensures knows { (acts : List Act) → Knows arp.old acts
         → Knows arp.new (acts ++ acts_of (frame_brings (host_of arp.old) frame.now)) }
 {
@@ -86,7 +88,8 @@ fn is_for(to: Mac, own: Mac) -> bool
 
 /// What a payload of this type is, to the host at this address.
 fn sort_payload(kind: u16, payload: &[u8], own: Addr) -> Sorted
-    ensures brings { (mac : List ℕ) → payload_brings (record { addr = own.0; mac = mac }) kind payload.now ≡ came_of payload.now result }
+    ensures brings { (mac : List ℕ) → payload_brings (record { addr = own.0; mac = mac }) kind payload.now
+        ≡ came_of payload.now result }
     ensures some { HasBytes result payload.now }
 {
     if holds_datagram(kind, payload) {
@@ -127,7 +130,8 @@ fn is_arp_for(packet: &[u8], own: Addr) -> bool
 /// What a packet is that is sound.
 fn sort_packet(packet: &[u8]) -> Sorted
     requires { ARP_FRAME - SMALLEST_FRAME ≤ length packet.now }
-    ensures { (payload : List ℕ) → arp_brings (word_at packet.now 6) (sender_of packet.now) ≡ came_of payload result }
+    ensures { (payload : List ℕ) → arp_brings (word_at packet.now 6) (sender_of packet.now)
+        ≡ came_of payload result }
 {
     let addr = Addr::get(packet, 14);
     let mac = Mac::get(packet, 8);

@@ -10,7 +10,7 @@ use Rattle.std.specs.Str.Parse.{digits_value, ParsesUnsigned}
 use Rattle.std.proofs.lemmas.Bool.{ltb-true, lt-ltb}
 use Rattle.std.proofs.lemmas.Str.Parse.{IsNumeralModel, numerals_by_value, parse_digits}
 use Rattle.link_schedule.specs.Numbers.{is_number, leads_badly}
-use Rattle.uipd.specs.Words.{is_tty, limits_at, limits_of, load_words, number_of, says_tty}
+use Rattle.uipd.specs.Words.{ether_words, is_tty, limits_at, limits_of, load_words, number_of, says_tty}
 
 own : IsNumeralModel (λ ds. list_all is_ascii_digit ds ≡ true) (digits_value 10)
 own = numerals_by_value _ (search rules)
@@ -42,6 +42,13 @@ pub few : {A : Type 0} (f : A → List ℕ) (words : List A) → length words < 
 few f [] h = refl
 few f (a ∷ []) h = refl
 few f (a ∷ b ∷ words) h = absurd (omega arith)
+
+-- and fewer than three no hardware address
+pub few_for_ether : {A : Type 0} (f : A → List ℕ) (words : List A) → length words < 3 → None ≡ ether_words (map f words)
+few_for_ether f [] h = refl
+few_for_ether f (a ∷ []) h = refl
+few_for_ether f (a ∷ b ∷ []) h = refl
+few_for_ether f (a ∷ b ∷ c ∷ words) h = absurd (omega arith)
 
 -- the last word says whether the line is a terminal
 pub last_told : (words : List (String Global)) (found : Option (String Global)) → found ≡ slice_get words (length words - 1) → is_tty (option_map string_bytes found) ≡ says_tty (map string_bytes words)
