@@ -27,11 +27,14 @@ abbrev pub record_behind : List ℕ → Option (Record × List ℕ)
 record_behind bytes =
     if nat_lt (length bytes) 10 then None
     else if nat_lt (length bytes) (10 + word_at bytes 8) then None
-    else Some (record {
-      kind = word_at bytes 0;
-      class = word_at bytes 2;
-      content = slice_range bytes 10 (10 + word_at bytes 8);
-    }, drop (10 + word_at bytes 8) bytes)
+    else Some (
+      record {
+        kind = word_at bytes 0;
+        class = word_at bytes 2;
+        content = slice_range bytes 10 (10 + word_at bytes 8);
+      },
+      drop (10 + word_at bytes 8) bytes,
+    )
 
 -- the record at the front, and what stands behind it
 abbrev pub first_record : List ℕ → Option (Record × List ℕ)

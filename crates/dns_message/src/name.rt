@@ -90,7 +90,5 @@ fn is_label(label: &[u8]) -> bool
 fn are_label_bytes(label: &[u8]) -> bool
     ensures { result ≡ list_all is_label_byte label.now }
 {
-    label
-        .iter()
-        .all(|byte| byte.is_ascii_alphanumeric() || *byte == b'-' || *byte == b'_')
+    label.iter().all(|byte| byte.is_ascii_alphanumeric() || *byte == b'-' || *byte == b'_')
 }

@@ -35,9 +35,9 @@ closes_by : (s c : ℕ) → c ≡ 65535 - folded s → folded (s + sent_sum c) �
 closes_by s c is =
     elim (eqb c 0) as (λ v. eqb c 0 ≡ v → folded (s + (if v then 65535 else c)) ≡ 65535) [
       | true ↦ λ zero. elim (folded_cases s) [
-          | inl p ↦ absurd (omega (arith, is, p.1, none_of c zero))
-          | inr p ↦ same_folded s (s + 65535) 1 (omega arith) p.0 ∙ omega (arith, is, none_of c zero, folded_most s)
-        ]
+        | inl p ↦ absurd (omega (arith, is, p.1, none_of c zero))
+        | inr p ↦ same_folded s (s + 65535) 1 (omega arith) p.0 ∙ omega (arith, is, none_of c zero, folded_most s)
+      ]
       | false ↦ λ some. ap (λ k. folded (s + k)) is ∙ folded_closes s
     ] refl
 

@@ -54,7 +54,9 @@ fn header_without_sum(way: Way, len: usize) -> [u8; 8]
     let [from_high, from_low] = way.from.0.to_be_bytes();
     let [to_high, to_low] = way.to.0.to_be_bytes();
     let [len_high, len_low] = (8 + len as u16).to_be_bytes();
-    [from_high, from_low, to_high, to_low, len_high, len_low, 0, 0]
+    [
+        from_high, from_low, to_high, to_low, len_high, len_low, 0, 0,
+    ]
 }
 
 /// A checksum of 0 is sent as 65535, since 0 says that none was made.

@@ -46,25 +46,7 @@ fn head_without_sum(total: u16, id: u16, number: u8, source: Addr, target: Addr)
     let [source0, source1, source2, source3] = source.0;
     let [target0, target1, target2, target3] = target.0;
     [
-        0x45,
-        0,
-        total_high,
-        total_low,
-        id_high,
-        id_low,
-        0,
-        0,
-        64,
-        number,
-        0,
-        0,
-        source0,
-        source1,
-        source2,
-        source3,
-        target0,
-        target1,
-        target2,
-        target3,
+        0x45, 0, total_high, total_low, id_high, id_low, 0, 0, 64, number, 0, 0, source0, source1,
+        source2, source3, target0, target1, target2, target3,
     ]
 }
