@@ -1,36 +1,46 @@
 #!/usr/bin/env python3
 """Measures the program on recorded lines, and prints the figures beside those of its peers. It asserts nothing.
 
-    python3 bench/run.py [PROGRAM]
+    python3 bench/run.py [PROGRAM] [--markdown]
 
-PROGRAM is the built `uipd`, crates/uipd/out/uipd where none is named (`rt run` in crates/uipd builds it). The inputs are
-made anew each time in bench/out: the same echo request of 84 or of 1006 bytes, again and again, over SLIP and in Ethernet
-frames, and clients that get a page, one after another, each from its SYN to the end of its connection: a page of one byte, and
-pages of 40,000 at three segment sizes. Instructions are those that `valgrind --tool=callgrind` counts, where it is there, less
-those of a run on an empty line; they repeat to a small fraction of a percent. Nanoseconds are wall time, the least of some
-runs, and move with the machine.
+PROGRAM is the built `uipd`, crates/uipd/out/uipd where none is named (`rt run` in crates/uipd builds it). A client of its own talks to the
+program over pipes and its side of each line is recorded anew in bench/out; then the program is run on what was recorded, and
+`valgrind --tool=callgrind` counts its instructions, less those of a run on an empty line. Two runs differ by less than a thousandth.
+
+    ping84, ping1006     echo requests whose payload has every byte value
+    small                a file of one byte, from SYN to the last acknowledgement
+    big, big536, big100  a text of 200,000 bytes in segments of 1460 (the peers: 966), 536 and 100
+    escapes              a page of 20,000 bytes of which four in five are END, ESC and their stand-ins
+    ten                  ten clients at once, 20,000 bytes each
+    script               a script page with all generators
+
+The peers are uIP 1.0's own C code with a plain SLIP around it and lwIP 2.2.1, each with a client that did the same work on lines of the same
+kinds, measured in the same way. With --markdown the table is printed as README has it.
 """
 import os
+import random
 import re
+import shutil
 import subprocess
 import sys
-import time
 
 HERE = os.path.dirname(os.path.abspath(__file__))
 OUT = os.path.join(HERE, "out")
 SITE = os.path.join(OUT, "bench.site")
-WORDS = ["serve", SITE, "10.0.0.1"]
-ETHER_WORDS = ["ether", SITE, "10.0.0.1", "02:00:00:00:00:01"]
+END, ESC = 0xC0, 0xDB
+FIN, SYN, RST, PSH, ACK = 1, 2, 4, 8, 16
+NODE, PEER = bytes([10, 0, 0, 1]), bytes([10, 0, 0, 2])
 
-# Instructions per ping of the peers behind the same recorded line: uIP 1.0 in C with a byte-by-byte SLIP, lwIP 2.2.1 with
-# its slipif, and a C program that answers pings and does nothing else, eight bytes at a time.
-PEERS = {84: (3272, 8066, 1227), 1006: (35823, 86449, 11409)}
-
-# Instructions of the two stacks per byte of a page, by the segment size, and per request for a page of one byte.
-PAGE_PEERS = {966: (16.3, 36.7), 536: (18.5, 46.3), 100: (39.1, 98.5)}
-REQUEST_PEERS = (21462, 32336)
-
-FILES = {"/one.html": b"1", "/long.html": b"The quick brown fox jumps over the lazy dog. " * 889}
+# What the peers need on lines of the same kind, uIP and lwIP.
+PEERS = {"ping84": (3272, 8067), "ping1006": (35824, 86451), "small": (21494, 32337), "big": (16.3, 36.7), "big536": (18.5, 46.3),
+         "big100": (38.8, 98.5), "escapes": (17.0, 45.6), "ten": (17.2, 37.9), "script": (141922, 44707)}
+WORDS = {"ping84": ("an echo request of 84 bytes with every byte value", "request"),
+         "ping1006": ("an echo request of 1006 bytes with every byte value", "request"),
+         "small": ("a file of one byte, from SYN to the last acknowledgement", "request"),
+         "big": ("a text of 200,000 bytes, in segments of 1460 (the peers: 966)", "byte"),
+         "big536": ("the same in segments of 536", "byte"), "big100": ("the same in segments of 100", "byte"),
+         "escapes": ("a page of which four in five bytes are END, ESC and their stand-ins", "byte"),
+         "ten": ("ten clients at once", "byte"), "script": ("a script page with all generators", "request")}
 
 
 def checksum(data):
@@ -42,149 +52,148 @@ def checksum(data):
     return (65535 - total).to_bytes(2, "big")
 
 
+def datagram(proto, payload):
+    head = bytes([0x45, 0]) + (20 + len(payload)).to_bytes(2, "big") + bytes([0, 1, 0, 0, 64, proto, 0, 0]) + PEER + NODE
+    return head[:10] + checksum(head) + head[12:] + payload
+
+
 def ping(size):
-    """An echo request of so many bytes in all, with text in its payload."""
-    head = bytes([0x45, 0]) + size.to_bytes(2, "big") + bytes([0, 1, 0, 0, 64, 1, 0, 0, 10, 0, 0, 2, 10, 0, 0, 1])
-    head = head[:10] + checksum(head) + head[12:]
-    text = b"The quick brown fox jumps over the lazy dog. "
-    payload = (text * (size // len(text) + 1))[:size - 28]
-    message = bytes([8, 0, 0, 0, 0, 1, 0, 1]) + payload
-    return head + message[:2] + checksum(message) + message[4:]
-
-
-FIN, SYN, PSH, ACK = 1, 2, 8, 16
+    """An echo request of so many bytes in all."""
+    message = bytes([8, 0, 0, 0, 0, 1, 0, 1]) + bytes(i % 256 for i in range(size - 28))
+    return datagram(1, message[:2] + checksum(message) + message[4:])
 
 
 def segment(port, number, expected, flags, text=b"", options=b""):
-    """A segment of a client at 10.0.0.2 to port 80."""
-    source, target = bytes([10, 0, 0, 2]), bytes([10, 0, 0, 1])
     fields = port.to_bytes(2, "big") + (80).to_bytes(2, "big") + number.to_bytes(4, "big") + expected.to_bytes(4, "big")
-    body = fields + bytes([0x50 + 4 * len(options), flags]) + (8192).to_bytes(2, "big") + bytes(4) + options + text
-    pseudo = source + target + bytes([0, 6]) + len(body).to_bytes(2, "big")
-    body = body[:16] + checksum(pseudo + body) + body[18:]
-    head = bytes([0x45, 0]) + (20 + len(body)).to_bytes(2, "big") + bytes([0, 1, 0, 0, 64, 6, 0, 0]) + source + target
-    return head[:10] + checksum(head) + head[12:] + body
+    body = fields + bytes([0x50 + 4 * len(options), flags]) + (65535).to_bytes(2, "big") + bytes(4) + options + text
+    pseudo = PEER + NODE + bytes([0, 6]) + len(body).to_bytes(2, "big")
+    return datagram(6, body[:16] + checksum(pseudo + body) + body[18:])
 
 
-def site_image():
-    """The image of the files, in version 1."""
-    image = b"UIPSITE1" + len(FILES).to_bytes(2, "big")
-    for name, content in FILES.items():
-        image += bytes([len(name)]) + name.encode() + len(content).to_bytes(4, "big") + content
-    return image
+def slip(data):
+    return b"\xc0" + data.replace(b"\xdb", b"\xdb\xdd").replace(b"\xc0", b"\xdb\xdc") + b"\xc0"
 
 
-def page_length(name):
-    """The head, the line of the content type `text/html`, and the file."""
-    return 53 + 27 + len(FILES[name])
+class Fetch:
+    """One client: it asks for a page and closes behind the server. `answer` gives what it sends to a segment."""
+
+    def __init__(self, port, name, mss):
+        self.port, self.request, self.mss = port, b"GET " + name + b" HTTP/1.0\r\n\r\n", mss
+        self.number, self.expected, self.page, self.is_done, self.is_open = 1000, 0, b"", False, False
+
+    def first(self):
+        return segment(self.port, self.number, 0, SYN, options=bytes([2, 4]) + self.mss.to_bytes(2, "big"))
+
+    def answer(self, data):
+        number, flags = int.from_bytes(data[24:28], "big"), data[33]
+        text = data[20 + 4 * (data[32] >> 4):]
+        if flags & SYN:
+            self.number, self.expected, self.is_open = 1001, number + 1, True
+            sent = segment(self.port, self.number, self.expected, ACK | PSH, self.request)
+            self.number += len(self.request)
+            return sent
+        if self.is_done or number != self.expected:
+            return None
+        self.page += text
+        self.expected += len(text) + (1 if flags & FIN else 0)
+        if flags & FIN:
+            self.is_done = True
+            return segment(self.port, self.number, self.expected, FIN | ACK)
+        return segment(self.port, self.number, self.expected, ACK) if text else None
 
 
-def conversation(port, name, mss):
-    """A client that opens, asks for a file, acknowledges each segment of its page, and closes after the server."""
-    request = b"GET " + name.encode() + b" HTTP/1.0\r\n\r\n"
-    taken = 1001 + len(request)
-    datagrams = [segment(port, 1000, 0, SYN, options=bytes([2, 4]) + mss.to_bytes(2, "big")), segment(port, 1001, 1, ACK | PSH, request)]
-    for at in range(mss, page_length(name), mss):
-        datagrams.append(segment(port, taken, 1 + at, ACK))
-    datagrams.append(segment(port, taken, 1 + page_length(name), ACK))
-    datagrams.append(segment(port, taken, 2 + page_length(name), FIN | ACK))
-    return b"".join(slip(datagram) for datagram in datagrams)
+def record(program, fetches, at_once=1):
+    """The line of clients, of which so many are served at a time, and the bytes of their pages."""
+    server = subprocess.Popen([program, "serve", SITE, "10.0.0.1"], stdin=subprocess.PIPE, stdout=subprocess.PIPE, bufsize=0)
+    line, rest = b"", b""
+
+    def send(data):
+        nonlocal line
+        text = slip(data)
+        line += text
+        server.stdin.write(text)
+
+    waiting = list(fetches)
+    by_port = {fetch.port: fetch for fetch in fetches}
+    while not all(fetch.is_done for fetch in fetches):
+        while waiting and sum(not fetch.is_done for fetch in fetches) - len(waiting) < at_once:
+            send(waiting.pop(0).first())
+        data = server.stdout.read(65536)
+        if not data:
+            sys.exit("run.py: the program ended while a line was recorded")
+        *frames, rest = (rest + data).split(b"\xc0")
+        for frame in filter(None, frames):
+            frame = re.sub(b"\xdb(.)", lambda m: {0xDC: b"\xc0", 0xDD: b"\xdb"}.get(m[1][0], m[1]), frame, flags=re.S)
+            sent = by_port[int.from_bytes(frame[22:24], "big")].answer(frame)
+            if sent:
+                send(sent)
+    server.stdin.close()
+    server.wait()
+    return line, sum(len(fetch.page) for fetch in fetches)
 
 
-def conversations(count, name, mss):
-    return b"".join(conversation(1025 + client % 60000, name, mss) for client in range(count))
+def image(files):
+    parts = [b"UIPSITE1", len(files).to_bytes(2, "big")]
+    for name, content in files.items():
+        parts += [bytes([len(name)]), name, len(content).to_bytes(4, "big"), content]
+    return b"".join(parts)
 
 
-def slip(datagram):
-    body = datagram.replace(b"\xdb", b"\xdb\xdd").replace(b"\xc0", b"\xdb\xdc")
-    return b"\xc0" + body + b"\xc0"
+def site():
+    some = random.Random(1)
+    text = (b"The quick brown fox jumps over the lazy dog. " * 4445)[:200000]
+    marks = bytes(some.choice((0xC0, 0xDB, 0xDC, 0xDD)) if some.random() < 0.8 else some.randrange(256) for _ in range(20000))
+    script = b"<html>\n%! ticks\n%! file-stats /one\n%! net-stats\n%! tcp-connections\n</html>\n"
+    return image({b"/one": b"1", b"/big.txt": text, b"/marks": marks, b"/some.txt": text[:20000], b"/s.shtml": script})
 
 
-NODE_MAC, PEER_MAC = bytes([2, 0, 0, 0, 0, 1]), bytes([2, 0, 0, 0, 0, 2])
+def lines(program):
+    """Each line's name, its bytes, and how many units it has."""
+    yield "ping84", slip(ping(84)) * 2000, 2000
+    yield "ping1006", slip(ping(1006)) * 500, 500
+    for name, page, mss, count in (("small", b"/one", 1460, 200), ("big", b"/big.txt", 1460, 5), ("big536", b"/big.txt", 536, 5),
+                                   ("big100", b"/big.txt", 100, 2), ("escapes", b"/marks", 1460, 10), ("script", b"/s.shtml", 1460, 40)):
+        line, length = record(program, [Fetch(1025 + k, page, mss) for k in range(count)])
+        yield name, line, count if WORDS[name][1] == "request" else length
+    line, length = record(program, [Fetch(1025 + k, b"/some.txt", 1460) for k in range(10)], at_once=10)
+    yield "ten", line, length
 
 
-def framed(payload, kind=b"\x08\x00", target=NODE_MAC):
-    """An Ethernet frame of the peer behind its length in two bytes."""
-    frame = target + PEER_MAC + kind + payload
-    return len(frame).to_bytes(2, "big") + frame
-
-
-def arp_request():
-    """The peer's request for the address of the node, which teaches the node the peer's."""
-    packet = bytes([0, 1, 8, 0, 6, 4, 0, 1]) + PEER_MAC + bytes([10, 0, 0, 2]) + bytes(6) + bytes([10, 0, 0, 1])
-    return framed(packet, b"\x08\x06", bytes([255] * 6))
-
-
-def record(name, data):
-    path = os.path.join(OUT, name)
-    with open(path, "wb") as f:
-        f.write(data)
-    return path
-
-
-def run(program, line, before=(), words=WORDS):
-    with open(line, "rb") as stdin:
-        return subprocess.run([*before, program, *words], stdin=stdin, stdout=subprocess.PIPE, stderr=subprocess.PIPE, check=True)
-
-
-def instructions(program, line, words=WORDS):
-    profile = os.path.join(OUT, "callgrind.out")
-    done = run(program, line, ["valgrind", "--tool=callgrind", "--callgrind-out-file=" + profile], words)
+def instructions(program, data):
+    path = os.path.join(OUT, "line")
+    with open(path, "wb") as file:
+        file.write(data)
+    with open(path, "rb") as stdin:
+        done = subprocess.run(["valgrind", "--tool=callgrind", "--callgrind-out-file=/dev/null", program, "serve", SITE, "10.0.0.1"],
+                              stdin=stdin, stdout=subprocess.PIPE, stderr=subprocess.PIPE, check=True)
     return int(re.search(rb"Collected : (\d+)", done.stderr).group(1))
 
 
-def nanoseconds(program, line, words=WORDS):
-    best = None
-    for _ in range(7):
-        start = time.perf_counter_ns()
-        run(program, line, (), words)
-        spent = time.perf_counter_ns() - start
-        best = spent if best is None else min(best, spent)
-    return best
+def figure(value, unit):
+    return f"{value:,.1f}" if unit == "byte" else f"{value:,.0f}"
 
 
 def main():
     if "--help" in sys.argv or "-h" in sys.argv:
         sys.exit(print(__doc__))
-    program = os.path.abspath(sys.argv[1] if len(sys.argv) > 1 else os.path.join(HERE, "..", "crates", "uipd", "out", "uipd"))
+    words = [word for word in sys.argv[1:] if word != "--markdown"]
+    program = os.path.abspath(words[0] if words else os.path.join(HERE, "..", "crates", "uipd", "out", "uipd"))
     if not os.access(program, os.X_OK):
-        sys.exit("no program at %s: run `rt run` in crates/uipd first, or name one" % program)
+        sys.exit(f"run.py: no program at {program}: `rt run` in crates/uipd builds it, or name one")
+    if not shutil.which("valgrind"):
+        sys.exit("run.py: no command valgrind here, which counts the instructions")
     os.makedirs(OUT, exist_ok=True)
-    record("bench.site", site_image())
-    empty = record("empty.slip", b"")
-    has_valgrind = subprocess.run(["which", "valgrind"], stdout=subprocess.DEVNULL).returncode == 0
-    base = instructions(program, empty) if has_valgrind else None
-    print("per ping          instructions      uIP     lwIP    floor   nanoseconds")
-    for size, count in ((84, 2000), (1006, 500)):
-        few = record("ping%d.slip" % size, slip(ping(size)) * count)
-        many = record("pings%d.slip" % size, slip(ping(size)) * (count * 20))
-        counted = "%d" % round((instructions(program, few) - base) / count) if has_valgrind else "-"
-        spent = (nanoseconds(program, many) - nanoseconds(program, empty)) / (count * 20)
-        print("%4d bytes %20s %8d %8d %8d %13d" % (size, counted, *PEERS[size], round(spent)))
-    print("per ping in a frame                                    nanoseconds")
-    taught = record("taught.frames", arp_request())
-    base_taught = instructions(program, taught, ETHER_WORDS) if has_valgrind else None
-    for size, count in ((84, 2000), (1006, 500)):
-        few = record("ping%d.frames" % size, arp_request() + framed(ping(size)) * count)
-        many = record("pings%d.frames" % size, arp_request() + framed(ping(size)) * (count * 20))
-        counted = "%d" % round((instructions(program, few, ETHER_WORDS) - base_taught) / count) if has_valgrind else "-"
-        spent = (nanoseconds(program, many, ETHER_WORDS) - nanoseconds(program, taught, ETHER_WORDS)) / (count * 20)
-        print("%4d bytes %20s %41d" % (size, counted, round(spent)))
-    print("per page byte     instructions      uIP     lwIP             nanoseconds")
-    for mss, peers in PAGE_PEERS.items():
-        count, size = 10, page_length("/long.html")
-        few = record("pages%d.slip" % mss, conversations(count, "/long.html", mss))
-        many = record("many_pages%d.slip" % mss, conversations(count * 20, "/long.html", mss))
-        counted = "%.1f" % ((instructions(program, few) - base) / (count * size)) if has_valgrind else "-"
-        spent = (nanoseconds(program, many) - nanoseconds(program, empty)) / (count * 20 * size)
-        print("  MSS %4d %20s %8.1f %8.1f %22.2f" % (mss, counted, *peers, spent))
-    print("per request       instructions      uIP     lwIP             nanoseconds")
-    count = 500
-    few = record("requests.slip", conversations(count, "/one.html", 536))
-    many = record("many_requests.slip", conversations(count * 20, "/one.html", 536))
-    counted = "%d" % round((instructions(program, few) - base) / count) if has_valgrind else "-"
-    spent = (nanoseconds(program, many) - nanoseconds(program, empty)) / (count * 20)
-    print("    1 byte %19s %8d %8d %22d" % (counted, *REQUEST_PEERS, round(spent)))
+    with open(SITE, "wb") as file:
+        file.write(site())
+    empty = instructions(program, b"")
+    print("| line | unit | Lowunbisa | uIP | lwIP |\n|---|---|---|---|---|" if "--markdown" in sys.argv else
+          "line       unit      Lowunbisa        uIP       lwIP")
+    for name, data, units in lines(program):
+        spent = (instructions(program, data) - empty) / units
+        text, unit = WORDS[name]
+        ours, *peers = (figure(value, unit) for value in (spent, *PEERS[name]))
+        print(f"| {text} | {unit} | {ours} | {peers[0]} | {peers[1]} |" if "--markdown" in sys.argv else
+              f"{name:10} {unit:8} {ours:>10} {peers[0]:>10} {peers[1]:>10}")
 
 
 main()

@@ -68,8 +68,9 @@ fn query_texts(alloc: Global, count: usize) -> Result<MemSink, Fail> {
     let mut texts = sink(alloc, &[])?;
     for at in 0..count {
         let mut query = QUERY;
-        query[5] = (at + 1) as u8;
-        query[11] = 0xB9 - at as u8;
+        let again = (at % 16) as u8;
+        query[5] = again + 1;
+        query[11] = 0xB9 - again;
         if encode(&query, &mut texts).is_err() {
             return Err("no room".into());
         }
@@ -282,16 +283,19 @@ fn takes_random_records(rt: HostRuntime) -> Result<(), Fail> {
         to: Port(4096),
     };
     let mut state = 1;
-    let mut said = 0;
+    let mut said = 0u32;
     for _ in 0..500 {
         let message = random_reply(alloc, &mut state)?;
-        let items = framed(alloc, &udp_datagram(way, 1, &message))?;
+        let items = framed(
+            alloc,
+            &udp_datagram(way, 1, &message[..message.len().min(1400)]),
+        )?;
         let (end, out, tell) = told_by(alloc, &row_of(&items, ServeEnd::End, 1, b""))?;
         assert_eq!(&rt; end, ServeEnd::End);
         let told = tell.written();
         assert!(&rt; told.starts_with(b"a.b "));
         if told != b"a.b open\n".as_slice() {
-            said += 1;
+            said = u32::saturating_add(said, 1);
         }
         let queries = query_texts(alloc, 1)?;
         assert_eq!(&rt; out.written(), queries.written());
