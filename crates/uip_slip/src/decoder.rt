@@ -32,6 +32,11 @@ impl Model for Decoder {
 /// So many bytes go one by one behind a run that was shorter.
 const SHORT_RUN: usize = 8;
 
+/// A byte in front of which there is no run to search for.
+fn is_mark(byte: u8) -> bool {
+    byte == END || byte == ESC
+}
+
 /// How many more bytes go one by one, behind a front of `count` bytes that ends with this one. An END stands at each frame's front.
 fn still_dense(dense: usize, count: usize, last: u8) -> usize {
     if dense > 0 {
@@ -89,10 +94,10 @@ impl Decoder {
         let mut count = 0;
         let mut dense = 0;
         while count < bytes.len() {
-            let waited = self.waits;
-            let front = self.feed_part(&bytes[count..], waited || dense > 0);
+            let is_alone = self.waits || is_mark(bytes[count]);
+            let front = self.feed_part(&bytes[count..], is_alone || dense > 0);
             count += front.count;
-            if !waited {
+            if !is_alone {
                 dense = still_dense(dense, front.count, bytes[count - 1]);
             }
             match front.fed {
