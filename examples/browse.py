@@ -9,7 +9,6 @@ its status; else it says how to open the pages and waits for Ctrl-C. It needs Li
 
     --line DEVICE RATE   no server is started: the node is at the other end of a serial port, as /dev/ttyUSB0 115200
     --ether              Ethernet frames over a TAP interface, with Linux's own ARP, in place of SLIP (`UIPD ether`)
-    --desk               the shell on port 23 beside the web server (`UIPD desk`)
     --record DIR         writes the bytes of the line to DIR/to-node and DIR/from-node
     --help               this text
 
@@ -185,13 +184,13 @@ class Words:
             sys.exit(print(__doc__))
         self.command = words[words.index("--") + 1:] if "--" in words else []
         words = words[:words.index("--")] if "--" in words else words
-        self.ether = self.desk = False
+        self.ether = False
         self.line = self.folder = None
         plain = []
         while words:
             word, words = words[0], words[1:]
-            if word in ("--ether", "--desk"):
-                setattr(self, word[2:], True)
+            if word == "--ether":
+                self.ether = True
             elif word == "--record" and words:
                 self.folder, words = words[0], words[1:]
             elif word == "--line" and len(words) > 1 and words[1].isdigit():
@@ -214,7 +213,7 @@ class Words:
             fail(f"no command {self.command[0]} here")
 
     def server_words(self, rate):
-        kind = "ether" if self.ether else "desk" if self.desk else "serve"
+        kind = "ether" if self.ether else "serve"
         mac = [NODE_MAC] if self.ether else []
         return [self.uipd, kind, self.site, "10.0.0.1", *mac, "pace", str(rate // 2), "tty"]
 
