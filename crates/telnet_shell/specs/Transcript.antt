@@ -1,0 +1,78 @@
+-- What the shell says: the joined texts of its commands, each that needs a capture made from the next one. It stops before the
+-- first such command that has none left.
+use Rattle.std.specs.Prelude.{ℕ, ◌-◌, ◌||◌, Bool, true, false, List, [], ◌∷◌, ◌++◌, codes, length, nat_le, if◌then◌else◌}
+use Rattle.script_lang.specs.declared.function.Function.{Function}
+use Rattle.script_lang.specs.declared.function.Function.TheVariants as function
+use Rattle.generators.specs.Captures.{capture_of}
+use Rattle.generators.specs.Text.{capture_text}
+use Rattle.generators.specs.declared.capture.Capture.{Capture}
+use Rattle.generators.specs.declared.capture.Capture.TheVariants.{Empty}
+use Rattle.app_events.specs.Part.{Moment}
+use Rattle.telnet_shell.specs.declared.command.Command.{Command}
+use Rattle.telnet_shell.specs.declared.command.Command.TheVariants.{Refuse, Help, Stats, Conns, Ticks, Quit, Blank, Other}
+
+-- the function whose capture a command shows; the others show none
+abbrev pub function_of : Command → Function
+function_of Stats = function.NetStats
+function_of Conns = function.TcpConnections
+function_of Ticks = function.Ticks
+function_of (Refuse verb option) = function.Unknown
+function_of Help = function.Unknown
+function_of Quit = function.Unknown
+function_of Blank = function.Unknown
+function_of Other = function.Unknown
+
+abbrev pub needs_capture : Command → Bool
+needs_capture Stats = true
+needs_capture Conns = true
+needs_capture Ticks = true
+needs_capture (Refuse verb option) = false
+needs_capture Help = false
+needs_capture Quit = false
+needs_capture Blank = false
+needs_capture Other = false
+
+-- what a command says with its capture
+abbrev pub said_with : Command → Capture → List ℕ
+said_with (Refuse verb option) capture = 255 ∷ verb ∷ option ∷ []
+said_with Help capture = codes "help stats conns ticks quit\r\n> "
+said_with Stats capture = capture_text capture ++ codes "> "
+said_with Conns capture = capture_text capture ++ codes "> "
+said_with Ticks capture = capture_text capture ++ codes "\r\n> "
+said_with Quit capture = codes "bye\r\n"
+said_with Blank capture = codes "> "
+said_with Other capture = codes "?\r\n> "
+
+-- what a command that needs no capture says
+abbrev pub said_plainly : Command → List ℕ
+said_plainly command = said_with command Empty
+
+-- what a command says at a moment
+abbrev pub said_at : Command → Moment → List ℕ
+said_at command moment = said_with command (capture_of (function_of command) 0 moment.now)
+
+abbrev pub transcript : List Command → List Moment → List ℕ
+transcript [] captures = []
+transcript (command ∷ more) [] = if needs_capture command then [] else said_plainly command ++ transcript more []
+transcript (command ∷ more) (capture ∷ later) =
+    if needs_capture command then said_at command capture ++ transcript more later
+    else said_plainly command ++ transcript more (capture ∷ later)
+
+-- a command needs a capture, and none is left
+abbrev pub lacks_capture : List Command → List Moment → Bool
+lacks_capture [] captures = false
+lacks_capture (command ∷ more) [] = needs_capture command || lacks_capture more []
+lacks_capture (command ∷ more) (capture ∷ later) =
+    if needs_capture command then lacks_capture more later else lacks_capture more (capture ∷ later)
+
+-- the commands whose texts are not wholly among the first bytes
+abbrev pub unfinished : List Command → List Moment → ℕ → List Command
+unfinished [] captures bytes = []
+unfinished (command ∷ more) [] bytes =
+    if needs_capture command then command ∷ more
+    else if nat_le (length (said_plainly command)) bytes then unfinished more [] (bytes - length (said_plainly command))
+    else command ∷ more
+unfinished (command ∷ more) (capture ∷ later) bytes =
+    if needs_capture command
+    then (if nat_le (length (said_at command capture)) bytes then unfinished more later (bytes - length (said_at command capture)) else command ∷ more)
+    else (if nat_le (length (said_plainly command)) bytes then unfinished more (capture ∷ later) (bytes - length (said_plainly command)) else command ∷ more)

@@ -1,0 +1,69 @@
+-- Talks with the shell, worked by hand.
+use Rattle.std.specs.Prelude.{◌≡◌, ℕ, true, false, List, [], ◌∷◌, ◌++◌, codes, length, replicate}
+use Rattle.std.specs.List.{concat}
+use Rattle.app_events.specs.Part.{Part, Moment}
+use Rattle.app_events.specs.Laws.{IsLawful, StartsAnew}
+use Rattle.app_events.specs.declared.want.Want.TheVariants.{Nothing, Send, Close, Abort}
+use Rattle.telnet_shell.specs.declared.command.Command.TheVariants.{Refuse, Help, Stats, Conns, Ticks, Quit, Blank, Other}
+use Rattle.telnet_shell.specs.Reading.{commands_in}
+use Rattle.telnet_shell.specs.Transcript.{transcript, unfinished}
+use Rattle.telnet_shell.specs.ShellMeaning.{shell_meaning, talk, waiting}
+
+-- a moment at which nothing has happened but these ticks
+abbrev pub at_tick : ℕ → Moment
+at_tick ticks = record { numbers = []; now = record { ticks = ticks; net = replicate 20 0; rows = [] } }
+
+abbrev pub opened : Part
+opened = (shell_meaning.connected [] 23).part
+
+abbrev pub heard : List ℕ → Part
+heard piece = (shell_meaning.newdata [] opened piece).part
+
+abbrev pub prepared : List ℕ → Part
+prepared piece = shell_meaning.prepare [] (heard piece) (at_tick 0).now
+
+abbrev pub acked : Part → ℕ → Part
+acked part count = (shell_meaning.acked [] part count).part
+
+-- an offer of an option, and then the end
+abbrev pub offer_and_quit : List ℕ
+offer_and_quit = 255 ∷ 251 ∷ 1 ∷ codes "quit\n"
+
+abbrev pub many_helps : ℕ → List ℕ
+many_helps count = concat (replicate count (codes "help\n"))
+
+pub record AreWorkedTalks : Type 0 where
+  -- a capture is taken where its text comes next
+  pub ticks : talk (prepared (codes "ticks\r\n")) ≡ codes "         0\r\n> "
+  pub ticks_before : talk (heard (codes "ticks\r\n")) ≡ []
+  pub ticks_length : length (talk (prepared (codes "ticks\r\n"))) ≡ 14
+  pub ticks_once : (shell_meaning.prepare [] (prepared (codes "ticks\r\n")) (at_tick 7).now).captures ≡ at_tick 0 ∷ []
+  pub two_ticks : transcript (Ticks ∷ Ticks ∷ []) (at_tick 0 ∷ at_tick 7 ∷ []) ≡ codes "         0\r\n>          7\r\n> "
+  -- an option is refused, and `quit` closes once its text is acknowledged
+  pub quit : talk (heard offer_and_quit) ≡ 255 ∷ 254 ∷ 1 ∷ codes "bye\r\n"
+  pub quit_length : length (talk (heard offer_and_quit)) ≡ 8
+  pub quit_sends : shell_meaning.want [] (heard offer_and_quit) ≡ Send 8
+  pub quit_waits : shell_meaning.want [] (acked (heard offer_and_quit) 7) ≡ Send 1
+  pub quit_closes : shell_meaning.want [] (acked (heard offer_and_quit) 8) ≡ Close
+  pub behind_quit : commands_in (codes "quit\nhelp\n") ≡ Quit ∷ []
+  -- 32 commands are taken, and the next one ends the connection; what was said before stays
+  pub full : shell_meaning.want [] (heard (many_helps 32)) ≡ Send 992
+  pub lost : shell_meaning.want [] (heard (many_helps 33)) ≡ Abort
+  pub lost_keeps : talk (heard (many_helps 33)) ≡ talk (heard (many_helps 32))
+  pub room_again : (shell_meaning.newdata [] (acked (heard (many_helps 32)) 31) (codes "help\n")).part.own ≡ 0
+  -- the table of the protocol's sequences
+  pub byte_255 : commands_in (255 ∷ 255 ∷ 10 ∷ []) ≡ Other ∷ []
+  pub offers : commands_in (255 ∷ 251 ∷ 3 ∷ 255 ∷ 253 ∷ 24 ∷ []) ≡ Refuse 254 3 ∷ Refuse 252 24 ∷ []
+  pub no_answer : commands_in (255 ∷ 252 ∷ 3 ∷ 255 ∷ 254 ∷ 24 ∷ []) ≡ []
+  pub inside_a_line : commands_in (codes "he" ++ 255 ∷ 253 ∷ 1 ∷ codes "lp\n") ≡ Refuse 252 1 ∷ Help ∷ []
+  pub two_taken_out : commands_in (codes "he" ++ 255 ∷ 10 ∷ codes "lp\n") ≡ Help ∷ []
+  -- lines
+  pub words : commands_in (codes "help\nstats\nconns\r\nticks\n\nhelp \n") ≡ Help ∷ Stats ∷ Conns ∷ Ticks ∷ Blank ∷ Other ∷ []
+  pub returns_drop : commands_in (codes "\rh\relp\r\r\n\r\n") ≡ Help ∷ Blank ∷ []
+  pub long_line : commands_in (replicate 17 104 ++ codes "\nhelp\n") ≡ Other ∷ Help ∷ []
+  pub open_line : commands_in (codes "help") ≡ []
+
+-- What the shell owes the transport: it never takes back text that it said. This holds of every part.
+pub record KeepsLaws : Type 0 where
+  pub lawful : IsLawful shell_meaning (λ part. Unit {0})
+  pub starts : StartsAnew shell_meaning

@@ -1,0 +1,14 @@
+//! A shell over Telnet (RFC 854): what a list of bytes says, and what the shell answers.
+#![tactic(auto)]
+
+mod command;
+mod laws;
+
+pub use command::Command;
+pub use laws::{shell_laws, worked_talks};
+
+/// After so many ticks with nothing outstanding and no other event between them the connection is given up.
+pub const MOST_SILENT_POLLS: u16 = 1200;
+
+/// The most commands that are not wholly acknowledged.
+pub const MOST_COMMANDS: usize = 32;
