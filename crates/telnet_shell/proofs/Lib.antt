@@ -1,1 +1,6 @@
 pub mod WorkedTalks
+pub mod Opening
+pub mod Advancing
+pub mod Standing
+pub mod Opened
+pub mod Asking

@@ -4,3 +4,8 @@ pub mod ShellMeaning
 pub mod Growing
 pub mod ShellLaws
 pub mod WorkedTalks
+pub mod Hearing
+pub mod Saying
+pub mod Speaking
+pub mod ShellStands
+pub mod SameLeft

@@ -94,5 +94,9 @@ has_quit [] = false
 has_quit (command ∷ more) = if is_quit command then true else has_quit more
 
 -- all commands of what was heard
+abbrev pub all_commands : List ℕ → List Command
+all_commands heard = commands [] (tokens Text heard)
+
+-- those that count
 abbrev pub commands_in : List ℕ → List Command
-commands_in heard = until_quit (commands [] (tokens Text heard))
+commands_in heard = until_quit (all_commands heard)

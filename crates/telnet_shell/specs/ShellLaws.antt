@@ -11,7 +11,7 @@ use Rattle.telnet_shell.specs.declared.TheConstants.{MOST_SILENT_POLLS, MOST_COM
 use Rattle.telnet_shell.specs.Reading.{commands_in}
 use Rattle.telnet_shell.specs.Transcript.{transcript}
 use Rattle.telnet_shell.specs.Growing.{commands_grow, further, transcript_grows}
-use Rattle.telnet_shell.specs.ShellMeaning.{talk, waiting, with_byte, hear_byte, hear_all, is_acknowledged, is_stopped, is_whole, left_of, shell_want, take_capture, shell_meaning}
+use Rattle.telnet_shell.specs.ShellMeaning.{talk, waiting, with_byte, hear_byte, hear_all, is_stopped, has_ended, left_of, shell_want, take_capture, shell_meaning}
 
 same_prefix : (xs : List ℕ) → IsPrefixOf xs xs
 same_prefix xs = record { rest = []; joined = append-nil xs }
@@ -94,14 +94,14 @@ sends_by left false false = sends_left left (nat_lt 0 left) refl
 pub can_send : (p : Part) → CanSend (shell_want p) (length (drop p.acked (talk p)))
 can_send p =
     subst (λ (left : ℕ). CanSend (shell_want p) left) (sym (length-drop p.acked (talk p)))
-    (sends_by (left_of p) ((p.own == 1) || (p.polls == MOST_SILENT_POLLS)) (is_whole p && is_acknowledged p))
+    (sends_by (left_of p) ((p.own == 1) || (p.polls == MOST_SILENT_POLLS)) (has_ended p))
 
 -- ---- the laws
 
 pub shell_lawful : (stands : Part → Type 0) → IsLawful shell_meaning stands
 shell_lawful stands = record {
   newdata_grows = λ numbers p piece s. unpolled_grows p piece;
-  prepare_grows = λ numbers p now s. either_grows p (record { numbers = numbers; now = now }) (is_acknowledged p && is_stopped p);
+  prepare_grows = λ numbers p now s. either_grows p (record { numbers = numbers; now = now }) (is_stopped p);
   acked_moves = λ numbers p n s h. (refl, refl);
   polled_keeps = λ numbers p s. (refl, refl);
   sends = λ numbers p s. can_send p;

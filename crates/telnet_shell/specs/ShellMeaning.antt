@@ -8,8 +8,8 @@ use Rattle.app_events.specs.declared.want.Want.TheVariants.{Nothing, Send, Close
 use Rattle.web_pages.specs.declared.TheConstants.{LARGEST_SEGMENT}
 use Rattle.telnet_shell.specs.declared.command.Command.{Command}
 use Rattle.telnet_shell.specs.declared.TheConstants.{MOST_SILENT_POLLS, MOST_COMMANDS}
-use Rattle.telnet_shell.specs.Reading.{commands_in, has_quit}
-use Rattle.telnet_shell.specs.Transcript.{transcript, lacks_capture, unfinished}
+use Rattle.telnet_shell.specs.Reading.{all_commands, commands_in, has_quit}
+use Rattle.telnet_shell.specs.Transcript.{transcript, unfinished}
 
 -- the text so far
 abbrev pub talk : Part → List ℕ
@@ -36,13 +36,17 @@ hear_all part (byte ∷ more) = hear_all (hear_byte part byte) more
 abbrev pub is_acknowledged : Part → Bool
 is_acknowledged part = part.acked == length (talk part)
 
--- a command without a capture stops the transcript
-abbrev pub is_stopped : Part → Bool
-is_stopped part = lacks_capture (commands_in part.heard) part.captures
+-- every command is wholly acknowledged
+abbrev pub is_settled : Part → Bool
+is_settled part = length (waiting part) == 0
 
--- `quit` was heard, and nothing stops the transcript before its text ends
-abbrev pub is_whole : Part → Bool
-is_whole part = has_quit (commands_in part.heard) && not (is_stopped part)
+-- all that was said is acknowledged, and a command is left: it waits for its capture
+abbrev pub is_stopped : Part → Bool
+is_stopped part = is_acknowledged part && not (is_settled part)
+
+-- the text has come to the end of that of `quit`, and all of it is acknowledged
+abbrev pub has_ended : Part → Bool
+has_ended part = has_quit (all_commands part.heard) && is_settled part
 
 abbrev pub left_of : Part → ℕ
 left_of part = length (talk part) - part.acked
@@ -50,7 +54,7 @@ left_of part = length (talk part) - part.acked
 abbrev pub shell_want : Part → Want
 shell_want part =
     if (part.own == 1) || (part.polls == MOST_SILENT_POLLS) then Abort
-    else if is_whole part && is_acknowledged part then Close
+    else if has_ended part then Close
     else if nat_lt 0 (left_of part) then Send (min LARGEST_SEGMENT (left_of part))
     else Nothing
 
@@ -65,7 +69,7 @@ shell_meaning = record {
     numbers = numbers;
   };
   newdata = λ numbers part piece. record { part = hear_all (record part { polls = 0 }) piece; numbers = numbers };
-  prepare = λ numbers part now. if is_acknowledged part && is_stopped part then take_capture numbers part now else part;
+  prepare = λ numbers part now. if is_stopped part then take_capture numbers part now else part;
   want = λ numbers part. shell_want part;
   acked = λ numbers part count. record { part = record part { acked = part.acked + count; polls = 0 }; numbers = numbers };
   polled = λ numbers part. record { part = record part { polls = min MOST_SILENT_POLLS (part.polls + 1) }; numbers = numbers };

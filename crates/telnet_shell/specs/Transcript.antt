@@ -58,13 +58,6 @@ transcript (command ∷ more) (capture ∷ later) =
     if needs_capture command then said_at command capture ++ transcript more later
     else said_plainly command ++ transcript more (capture ∷ later)
 
--- a command needs a capture, and none is left
-abbrev pub lacks_capture : List Command → List Moment → Bool
-lacks_capture [] captures = false
-lacks_capture (command ∷ more) [] = needs_capture command || lacks_capture more []
-lacks_capture (command ∷ more) (capture ∷ later) =
-    if needs_capture command then lacks_capture more later else lacks_capture more (capture ∷ later)
-
 -- the commands whose texts are not wholly among the first bytes
 abbrev pub unfinished : List Command → List Moment → ℕ → List Command
 unfinished [] captures bytes = []

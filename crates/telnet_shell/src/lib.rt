@@ -2,10 +2,14 @@
 #![tactic(auto)]
 
 mod command;
+mod hearing;
 mod laws;
+mod saying;
+mod shell;
 
 pub use command::Command;
 pub use laws::{shell_laws, worked_talks};
+pub use shell::{Shell, TELNET_PORT};
 
 /// After so many ticks with nothing outstanding and no other event between them the connection is given up.
 pub const MOST_SILENT_POLLS: u16 = 1200;

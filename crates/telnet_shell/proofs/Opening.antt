@@ -1,0 +1,48 @@
+-- One more byte: what is open behind it, and the commands that it brings.
+use Rattle.std.proofs.Common.{◌≡◌, ℕ, Bool, true, false, List, [], ◌∷◌, ◌++◌, ◌==◌, if◌then◌else◌, refl, sym, ap, subst, ◌∙◌, append-nil}
+use Rattle.telnet_shell.specs.declared.command.Command.{Command}
+use Rattle.telnet_shell.specs.Reading.{Awaits, Token, tokens, told, next_awaits, awaits_after, commands, line_after, all_commands}
+use Rattle.telnet_shell.specs.Reading.Awaits.{Text}
+use Rattle.telnet_shell.specs.Reading.Token.{Byte, Answer}
+use Rattle.telnet_shell.specs.Hearing.{IsLine, IsOpen, awaited}
+use Rattle.telnet_shell.specs.Growing.{tokens_joined, commands_joined}
+
+pub awaits_one : (awaits : Awaits) (xs : List ℕ) (byte : ℕ) → awaits_after awaits (xs ++ byte ∷ []) ≡ next_awaits (awaits_after awaits xs) byte
+awaits_one awaits [] byte = refl
+awaits_one awaits (x ∷ xs) byte = awaits_one (next_awaits awaits x) xs byte
+
+pub tokens_one : (heard : List ℕ) (byte : ℕ) → tokens Text (heard ++ byte ∷ []) ≡ tokens Text heard ++ told (awaits_after Text heard) byte
+tokens_one heard byte =
+    tokens_joined Text heard (byte ∷ []) ∙ ap (λ (ts : List Token). tokens Text heard ++ ts) (append-nil (told (awaits_after Text heard) byte))
+
+byte_line : (line : List ℕ) (byte : ℕ) (ts us : List Token) (ends drops : Bool)
+    → ((l : List ℕ) → line_after l (ts ++ us) ≡ line_after (line_after l ts) us)
+    → (if ends then line_after [] (ts ++ us) else if drops then line_after line (ts ++ us) else line_after (line ++ byte ∷ []) (ts ++ us))
+    ≡ line_after (if ends then line_after [] ts else if drops then line_after line ts else line_after (line ++ byte ∷ []) ts) us
+byte_line line byte ts us true drops rest = rest []
+byte_line line byte ts us false true rest = rest line
+byte_line line byte ts us false false rest = rest (line ++ byte ∷ [])
+
+pub line_joined : (line : List ℕ) (ts us : List Token) → line_after line (ts ++ us) ≡ line_after (line_after line ts) us
+line_joined line [] us = refl
+line_joined line (Answer command ∷ ts) us = line_joined line ts us
+line_joined line (Byte byte ∷ ts) us = byte_line line byte ts us (byte == 10) (byte == 13) (λ l. line_joined l ts us)
+
+pub goes_on : (kept kept' : List ℕ) (over over' : Bool) (iac iac' heard : List ℕ) (byte : ℕ) (ts : List Token)
+    → awaited iac' ≡ next_awaits (awaited iac) byte → ts ≡ told (awaited iac) byte
+    → ((line : List ℕ) → IsLine kept over line → IsLine kept' over' (line_after line ts))
+    → IsOpen kept over iac heard → IsOpen kept' over' iac' (heard ++ byte ∷ [])
+goes_on kept kept' over over' iac iac' heard byte ts next told_is keeps is =
+    let line_is : line_after [] (tokens Text (heard ++ byte ∷ [])) ≡ line_after (line_after [] (tokens Text heard)) ts =
+        ap (λ (us : List Token). line_after [] us) (tokens_one heard byte)
+        ∙ line_joined [] (tokens Text heard) (told (awaits_after Text heard) byte)
+        ∙ ap (λ (us : List Token). line_after (line_after [] (tokens Text heard)) us) (sym (told_is ∙ ap (λ (a : Awaits). told a byte) is.awaits)) in
+    record {
+      awaits = next ∙ ap (λ (a : Awaits). next_awaits a byte) is.awaits ∙ sym (awaits_one Text heard byte);
+      line = subst (λ (line : List ℕ). IsLine kept' over' line) (sym line_is) (keeps (line_after [] (tokens Text heard)) is.line);
+    }
+
+-- all commands behind one more byte
+pub commands_one : (heard : List ℕ) (byte : ℕ) → all_commands (heard ++ byte ∷ []) ≡ all_commands heard ++ commands (line_after [] (tokens Text heard)) (told (awaits_after Text heard) byte)
+commands_one heard byte =
+    ap (λ (ts : List Token). commands [] ts) (tokens_one heard byte) ∙ commands_joined [] (tokens Text heard) (told (awaits_after Text heard) byte)

@@ -1,0 +1,5 @@
+use Rattle.std.proofs.Common.{length}
+use Rattle.telnet_shell.proofs.saying.+fill_rest.Given as goal
+
+abbrev pub decreases-fill_rest : goal.decreases-fill_rest
+decreases-fill_rest l = length l.queue.now

@@ -1,0 +1,13 @@
+use Rattle.std.proofs.Common.{refl}
+use Rattle.telnet_shell.proofs.Opened.{opened_behind, opened_place}
+use Rattle.telnet_shell.proofs.shell.Shell.new.Goals as goal
+
+pub returns : goal.returns
+returns c = λ port. record {
+  polls = refl;
+  lost = refl;
+  done = refl;
+  hears = λ e. record { awaits = refl; line = record { front = c.new.ensures; more = refl } };
+  behind = opened_behind c.new-2.result.items port c.new-2.ensures;
+  place = opened_place c.new-2.result.items c.new-2.ensures;
+}

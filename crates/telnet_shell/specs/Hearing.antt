@@ -1,0 +1,34 @@
+-- How far the shell has heard: what its fields tell of the bytes so far.
+use Rattle.std.specs.Prelude.{◌≡◌, ℕ, ◌==◌, Bool, List, [], ◌∷◌, length, take, nat_lt, slice_index, if◌then◌else◌, Option, None, Some}
+use Rattle.telnet_shell.specs.declared.command.Command.{Command}
+use Rattle.telnet_shell.specs.declared.hearing.Told.{Told}
+use Rattle.telnet_shell.specs.declared.hearing.Told.TheVariants as told
+use Rattle.telnet_shell.specs.Reading.{Awaits, Token, tokens, awaits_after, line_after}
+use Rattle.telnet_shell.specs.Reading.Awaits.{Text, Second, Choice}
+use Rattle.telnet_shell.specs.Reading.Token.{Byte, Answer}
+
+-- the open sequence, in two bytes
+abbrev pub awaited : List ℕ → Awaits
+awaited iac =
+    if slice_index iac 0 == 0 then Text
+    else if slice_index iac 1 == 0 then Second
+    else Choice (slice_index iac 1)
+
+abbrev pub tokens_of : Told → List Token
+tokens_of told.Nothing = []
+tokens_of (told.Byte byte) = Byte byte ∷ []
+tokens_of (told.Answer command) = Answer command ∷ []
+
+abbrev pub command_in : Option Command → List Command
+command_in None = []
+command_in (Some command) = command ∷ []
+
+-- 16 bytes of a line are kept, and whether there were more
+pub record IsLine (kept : List ℕ) (over : Bool) (line : List ℕ) : Type 0 where
+  pub front : kept ≡ take 16 line
+  pub more : over ≡ nat_lt 16 (length line)
+
+-- the sequence and the line that are open behind the bytes
+pub record IsOpen (kept : List ℕ) (over : Bool) (iac : List ℕ) (heard : List ℕ) : Type 0 where
+  pub awaits : awaited iac ≡ awaits_after Text heard
+  pub line : IsLine kept over (line_after [] (tokens Text heard))

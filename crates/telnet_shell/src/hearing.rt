@@ -1,0 +1,146 @@
+//! What is heard, byte by byte.
+
+ghost use Rattle.std.specs.Prelude.{◌≡◌, ◌++◌, ◌∷◌, [], ℕ, List};
+ghost use Rattle.telnet_shell.specs.Reading.{command_of, commands, line_after, next_awaits, refusal, told, tokens, awaits_after};
+ghost use Rattle.telnet_shell.specs.Reading.Awaits.{Text};
+ghost use Rattle.telnet_shell.specs.Reading.Token.{Byte};
+ghost use Rattle.telnet_shell.specs.Hearing.{IsLine, IsOpen, awaited, command_in, tokens_of};
+
+use crate::command::Command;
+use arrayvec::ArrayVec;
+
+/// The byte that begins a sequence of the protocol (RFC 854).
+const IAC: u8 = 255;
+const WILL: u8 = 251;
+const DO: u8 = 253;
+const WONT: u8 = 252;
+const DONT: u8 = 254;
+
+/// What a byte tells.
+pub(crate) enum Told {
+    Nothing,
+    /// A byte of the text.
+    Byte(u8),
+    /// An option is to be refused.
+    Answer(Command),
+}
+
+/// What a byte tells behind an open sequence.
+fn heard_as(iac: [u8; 2], byte: u8) -> Told
+    ensures { tokens_of result ≡ told (awaited iac) byte }
+{
+    if iac[0] == 0 {
+        if byte == IAC { Told::Nothing } else { Told::Byte(byte) }
+    } else if iac[1] == 0 {
+        if byte == IAC { Told::Byte(IAC) } else { Told::Nothing }
+    } else {
+        refuse(iac[1], byte)
+    }
+}
+
+/// The answer to an option.
+fn refuse(verb: u8, choice: u8) -> Told
+    ensures { tokens_of result ≡ refusal verb choice }
+{
+    if verb == WILL {
+        Told::Answer(Command::Refuse(DONT, choice))
+    } else if verb == DO {
+        Told::Answer(Command::Refuse(WONT, choice))
+    } else {
+        Told::Nothing
+    }
+}
+
+/// The sequence that is open behind a byte.
+fn sequence_after(iac: [u8; 2], byte: u8) -> [u8; 2]
+    ensures { awaited result ≡ next_awaits (awaited iac) byte }
+{
+    if iac[0] == 0 {
+        if byte == IAC { [IAC, 0] } else { [0, 0] }
+    } else if iac[1] == 0 {
+        if byte > 250 && byte < IAC { [IAC, byte] } else { [0, 0] }
+    } else {
+        [0, 0]
+    }
+}
+
+/// The command of a whole line.
+fn command_named(line: &[u8]) -> Command
+    ensures { result ≡ command_of line.now }
+{
+    let empty: &[u8] = b"";
+    let help: &[u8] = b"help";
+    let stats: &[u8] = b"stats";
+    let conns: &[u8] = b"conns";
+    let ticks: &[u8] = b"ticks";
+    let quit: &[u8] = b"quit";
+    if line == empty {
+        Command::Blank
+    } else if line == help {
+        Command::Help
+    } else if line == stats {
+        Command::Stats
+    } else if line == conns {
+        Command::Conns
+    } else if line == ticks {
+        Command::Ticks
+    } else if line == quit {
+        Command::Quit
+    } else {
+        Command::Other
+    }
+}
+
+/// The command of the line whose front is kept.
+fn line_ended(kept: &[u8], over: bool) -> Command
+    ensures { (line : List ℕ) → IsLine kept.now over line → result ≡ command_of line }
+{
+    if over {
+        Command::Other
+    } else {
+        command_named(kept)
+    }
+}
+
+/// The line goes on with a byte.
+fn keep(kept: &mut ArrayVec<u8, 16>, over: &mut bool, byte: u8)
+    ensures { (line : List ℕ) → IsLine kept.old.items over.old line → IsLine kept.new.items over.new (line ++ byte ∷ []) }
+{
+    if kept.is_full() {
+        *over = true;
+    } else {
+        kept.push(byte);
+    }
+}
+
+/// A byte of the text, which ends the line or goes on with it.
+fn hear_text(kept: &mut ArrayVec<u8, 16>, over: &mut bool, byte: u8) -> Option<Command>
+    ensures open { (line : List ℕ) → IsLine kept.old.items over.old line → IsLine kept.new.items over.new (line_after line (Byte byte ∷ [])) }
+    ensures command { (line : List ℕ) → IsLine kept.old.items over.old line → command_in result ≡ commands line (Byte byte ∷ []) }
+{
+    if byte == b'\n' {
+        let command = line_ended(kept.as_slice(), *over);
+        kept.clear();
+        *over = false;
+        Some(command)
+    } else {
+        if byte != b'\r' {
+            keep(kept, over, byte);
+        }
+        None
+    }
+}
+
+/// The bytes go on with one, which may complete a command.
+pub(crate) fn hear(kept: &mut ArrayVec<u8, 16>, over: &mut bool, iac: &mut [u8; 2], byte: u8) -> Option<Command>
+    ensures open { (heard : List ℕ) → IsOpen kept.old.items over.old iac.old heard → IsOpen kept.new.items over.new iac.new (heard ++ byte ∷ []) }
+    ensures command { (heard : List ℕ) → IsOpen kept.old.items over.old iac.old heard → command_in result ≡ commands (line_after [] (tokens Text heard)) (told (awaits_after Text heard) byte) }
+{
+    let told = heard_as(*iac, byte);
+    *iac = sequence_after(*iac, byte);
+    match told {
+        Told::Nothing => None,
+        Told::Answer(command) => Some(command),
+        Told::Byte(byte) => hear_text(kept, over, byte),
+    }
+}

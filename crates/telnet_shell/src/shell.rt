@@ -1,0 +1,195 @@
+//! The shell on one connection.
+
+ghost use Rattle.std.specs.Prelude.{◌≡◌, ◌==◌, ◌&&◌, ◌+◌, ℕ, length};
+ghost use Rattle.app_events.specs.Part.{Part};
+ghost use Rattle.telnet_shell.specs.Reading.{is_quit};
+ghost use Rattle.telnet_shell.specs.ShellMeaning.{hear_all, hear_byte};
+
+use crate::MOST_SILENT_POLLS;
+use crate::command::Command;
+use crate::hearing::hear;
+use crate::saying::{advance, due, fill_left, left_len};
+use app_events::{App, Ending, Now, Want};
+use arrayvec::ArrayVec;
+use generators::{Capture, take};
+use httpd::Web;
+use uip_wire::Port;
+use web_pages::LARGEST_SEGMENT;
+
+/// The port of Telnet.
+pub const TELNET_PORT: u16 = 23;
+
+/// The shell on one connection: the line that is open, the commands whose texts are not wholly acknowledged, and the capture
+/// of the one that is being said.
+#[derive(Drop)]
+pub struct Shell {
+    /// The first bytes of the open line.
+    pub line: ArrayVec<u8, 16>,
+    /// The line has more bytes than are kept.
+    pub over: bool,
+    /// The open sequence of the protocol: nothing, its first byte, or its first two.
+    pub iac: [u8; 2],
+    /// The front is the command whose text is being said.
+    pub queue: ArrayVec<Command, 32>,
+    /// A command came for which there was no room.
+    pub lost: bool,
+    /// `quit` came.
+    pub done: bool,
+    /// The capture of the front.
+    pub capture: Capture,
+    /// The acknowledged bytes of the front's text.
+    pub at: u32,
+    /// The ticks with nothing outstanding since the connection last heard or was heard.
+    pub polls: u16,
+}
+
+/// Whether a command is `quit`.
+fn is_quit(command: Command) -> bool
+    ensures { result ≡ is_quit command }
+{
+    match command {
+        Command::Quit => true,
+        _ => false,
+    }
+}
+
+impl Shell {
+    ghost use Rattle.telnet_shell.specs.ShellStands.{ShellStands, opening};
+
+    /// A shell that has heard nothing.
+    fn new() -> Shell
+        ensures { (port : ℕ) → ShellStands result (opening port) }
+    {
+        Shell {
+            line: ArrayVec::new(),
+            over: false,
+            iac: [0, 0],
+            queue: ArrayVec::new(),
+            lost: false,
+            done: false,
+            capture: Capture::Empty,
+            at: 0,
+            polls: 0,
+        }
+    }
+
+    /// Hears a byte.
+    fn hear(&mut self, byte: u8)
+        ensures { (p : Part) → ShellStands self.old p → ShellStands self.new (hear_byte p byte) }
+    {
+        let full = self.queue.is_full();
+        if self.lost || self.done {
+            return;
+        }
+        match hear(&mut self.line, &mut self.over, &mut self.iac, byte) {
+            None => {}
+            Some(command) => {
+                if full {
+                    self.lost = true;
+                } else {
+                    self.queue.push(command);
+                    self.done = is_quit(command);
+                }
+            }
+        }
+    }
+
+    /// Whether all was said and acknowledged, to the end of `quit`.
+    fn has_ended(&self) -> bool
+        ensures { result ≡ (self.now.done && (length self.now.queue.items == 0)) }
+    {
+        self.done && self.queue.is_empty()
+    }
+
+    /// Hears each byte of a piece.
+    fn hear_piece(&mut self, piece: &[u8])
+        ensures { (p : Part) → ShellStands self.old p → ShellStands self.new (hear_all p piece.now) }
+    {
+        for byte in piece {
+            self.hear(*byte);
+        }
+    }
+}
+
+impl App for Shell {
+    ghost use Rattle.file_tree.specs.Site.{SiteContent};
+    ghost use Rattle.telnet_shell.specs.declared.shell.TheConstants.{TELNET_PORT};
+    ghost use Rattle.telnet_shell.specs.ShellMeaning.{shell_meaning};
+    ghost use Rattle.telnet_shell.specs.ShellLaws.{shell_lawful, shell_starts};
+    ghost use Rattle.telnet_shell.specs.ShellStands.{ShellStands};
+    ghost use Rattle.telnet_shell.specs.SameLeft.{same_left};
+
+    type Shared = Web;
+
+    ghost Kept = { SiteContent };
+
+    ghost kept = { λ web. web.site };
+
+    ghost numbers = { λ web. web.hits };
+
+    ghost meaning = { λ _. shell_meaning };
+
+    ghost stands_for = { λ a _ p. ShellStands a p };
+
+    ghost served = { λ port. port == TELNET_PORT };
+
+    fn serves(port: Port) -> bool {
+        port.0 == TELNET_PORT
+    }
+
+    fn idle() -> Shell {
+        Shell::new()
+    }
+
+    fn connected(&mut self, _shared: &mut Web, _port: Port) {
+        *self = Shell::new();
+    }
+
+    fn newdata(&mut self, _shared: &mut Web, piece: &[u8]) {
+        self.polls = 0;
+        self.hear_piece(piece);
+    }
+
+    fn prepare(&mut self, _shared: &Web, now: &Now) {
+        match due(self.queue.as_slice(), &self.capture) {
+            Some(function) => self.capture = take(function, 0, now),
+            None => {}
+        }
+    }
+
+    fn want(&self, _shared: &Web) -> Want {
+        if self.lost || self.polls == MOST_SILENT_POLLS {
+            return Want::Abort;
+        }
+        if self.has_ended() {
+            return Want::Close;
+        }
+        let left = left_len(self.queue.as_slice(), &self.capture) - self.at as usize;
+        if left > 0 {
+            Want::Send(LARGEST_SEGMENT.min(left))
+        } else {
+            Want::Nothing
+        }
+    }
+
+    fn fill(&self, _shared: &Web, out: &mut [u8]) {
+        fill_left(self.queue.as_slice(), &self.capture, self.at as usize, out);
+    }
+
+    fn acked(&mut self, _shared: &mut Web, count: usize) {
+        self.polls = 0;
+        self.at = advance(&mut self.queue, &mut self.capture, self.at, count);
+    }
+
+    fn polled(&mut self, _shared: &mut Web) {
+        self.polls = MOST_SILENT_POLLS.min(self.polls.saturating_add(1));
+    }
+
+    fn ended(&mut self, _shared: &mut Web, _how: Ending) {}
+
+    ghost lawful = { λ a _. shell_lawful (ShellStands a) };
+
+    ghost starts = { λ _. shell_starts };
+
+    ghost same_left = { λ a _ p q. same_left a p q };
+}
