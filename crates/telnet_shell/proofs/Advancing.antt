@@ -7,7 +7,7 @@ use Rattle.app_events.specs.Part.{Part, Moment}
 use Rattle.telnet_shell.specs.declared.command.Command.{Command}
 use Rattle.telnet_shell.specs.Reading.{commands_in}
 use Rattle.telnet_shell.specs.Transcript.{needs_capture, said_with, transcript}
-use Rattle.telnet_shell.specs.Saying.{is_taken, stops_at, left_said, IsInFront, Shows, needed, IsBehind, is_past, Passes}
+use Rattle.telnet_shell.specs.Saying.{stops_at, left_said, IsInFront, Shows, needed, IsBehind, is_past, Passes}
 use Rattle.telnet_shell.specs.ShellMeaning.{with_byte}
 use Rattle.telnet_shell.specs.Speaking.{split, front_left, empty_stops, said_some}
 
@@ -58,11 +58,11 @@ passed_on (c ∷ cs) new capture held at place p past w b =
     let goes : stops_at c capture ≡ false = not_true (stops_at c capture) (and_parts (not (stops_at c capture)) (nat_le (length (said_with c capture)) at) past).0 in
     let took : length b.front ≡ needed (c ∷ []) = front_took c cs capture b.front b.shows goes in
     let text : transcript (b.before ++ c ∷ []) (b.spoken ++ b.front) ≡ transcript b.before b.spoken ++ said_with c capture =
-        split b.before (c ∷ []) b.spoken b.front b.took
-        ∙ ap (λ (xs : List ℕ). transcript b.before b.spoken ++ xs) (front_left (c ∷ []) capture b.front (same_front c cs capture b.front b.shows)
-          ∙ ap (λ (s : Bool). if s then [] else said_with c capture ++ []) goes ∙ append-nil (said_with c capture)) in
+    split b.before (c ∷ []) b.spoken b.front b.took
+    ∙ ap (λ (xs : List ℕ). transcript b.before b.spoken ++ xs) (front_left (c ∷ []) capture b.front (same_front c cs capture b.front b.shows)
+    ∙ ap (λ (s : Bool). if s then [] else said_with c capture ++ []) goes ∙ append-nil (said_with c capture)) in
     let size : length (transcript (b.before ++ c ∷ []) (b.spoken ++ b.front)) ≡ length (transcript b.before b.spoken) + length (said_with c capture) =
-        ap (λ (xs : List ℕ). length xs) text ∙ length-append (transcript b.before b.spoken) (said_with c capture) in
+    ap (λ (xs : List ℕ). length xs) text ∙ length-append (transcript b.before b.spoken) (said_with c capture) in
     record {
       before = b.before ++ c ∷ [];
       spoken = b.spoken ++ b.front;
@@ -81,9 +81,9 @@ enough_left [] new capture held at place past w h = elim (true≢false (sym past
 enough_left (c ∷ cs) new capture held at place past w h =
     let goes : stops_at c capture ≡ false = not_true (stops_at c capture) (and_parts (not (stops_at c capture)) (nat_le (length (said_with c capture)) at) past).0 in
     let left : length (left_said (c ∷ cs) capture) ≡ length (said_with c capture) + length (transcript cs []) =
-        ap (λ (s : Bool). length (if s then [] else said_with c capture ++ transcript cs [])) goes ∙ length-append (said_with c capture) (transcript cs []) in
+    ap (λ (s : Bool). length (if s then [] else said_with c capture ++ transcript cs [])) goes ∙ length-append (said_with c capture) (transcript cs []) in
     let next : length (transcript cs []) ≡ length (left_said new held) =
-        ap (λ (xs : List ℕ). length xs) (front_left cs Empty [] refl) ∙ ap (λ (ds : List Command). length (left_said ds Empty)) (sym w.0) ∙ ap (λ (d : Capture). length (left_said new d)) (sym w.1) in
+    ap (λ (xs : List ℕ). length xs) (front_left cs Empty [] refl) ∙ ap (λ (ds : List Command). length (left_said ds Empty)) (sym w.0) ∙ ap (λ (d : Capture). length (left_said new d)) (sym w.1) in
     omega (arith, h, left, next, w.2)
 
 pub shorter : (q new : List Command) (capture held : Capture) (at place : ℕ) → Passes q capture at new held place → length new < length q
@@ -97,9 +97,10 @@ nearer (c ∷ cs) new capture held at place w = omega (arith, w.2)
 -- where the front is not passed, the place is in it
 pub in_front : (q : List Command) (capture : Capture) (at : ℕ) → is_past q capture at ≡ false → at ≤ length (left_said q capture) → IsInFront q capture at
 in_front [] capture at e h = omega (arith, h)
-in_front (c ∷ cs) capture at e h =
-    ((λ s. let z : length (left_said (c ∷ cs) capture) ≡ 0 = ap (λ (b : Bool). length (if b then [] else said_with c capture ++ transcript cs [])) s in omega (arith, h, z)),
-     (λ g. leb-false (length (said_with c capture)) at (sym (ap (λ (b : Bool). not b && nat_le (length (said_with c capture)) at) g) ∙ e)))
+in_front (c ∷ cs) capture at e h = (
+  (λ s. let z : length (left_said (c ∷ cs) capture) ≡ 0 = ap (λ (b : Bool). length (if b then [] else said_with c capture ++ transcript cs [])) s in omega (arith, h, z)),
+  (λ g. leb-false (length (said_with c capture)) at (sym (ap (λ (b : Bool). not b && nat_le (length (said_with c capture)) at) g) ∙ e)),
+)
 
 -- ---- commands come
 
@@ -116,13 +117,16 @@ front_more (c ∷ cs) extra capture at i = i
 
 pub come : (q extra : List Command) (capture : Capture) (at : ℕ) (p : Part) (byte : ℕ) → commands_in (p.heard ++ byte ∷ []) ≡ commands_in p.heard ++ extra
     → IsBehind q capture at p → IsInFront q capture at → IsBehind (q ++ extra) capture at (with_byte p byte) × IsInFront (q ++ extra) capture at
-come q extra capture at p byte more b i = (record {
-  before = b.before;
-  spoken = b.spoken;
-  front = b.front;
-  commands = more ∙ ap (λ (cs : List Command). cs ++ extra) b.commands ∙ append_assoc b.before q extra;
-  captures = b.captures;
-  took = b.took;
-  acked = b.acked;
-  shows = shows_more q extra capture b.front b.shows;
-}, front_more q extra capture at i)
+come q extra capture at p byte more b i = (
+  record {
+    before = b.before;
+    spoken = b.spoken;
+    front = b.front;
+    commands = more ∙ ap (λ (cs : List Command). cs ++ extra) b.commands ∙ append_assoc b.before q extra;
+    captures = b.captures;
+    took = b.took;
+    acked = b.acked;
+    shows = shows_more q extra capture b.front b.shows;
+  },
+  front_more q extra capture at i,
+)

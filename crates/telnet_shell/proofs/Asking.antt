@@ -1,5 +1,5 @@
 -- When a capture is taken, and what is wanted.
-use Rattle.std.proofs.Common.{◌≡◌, ℕ, suc, ◌+◌, ◌-◌, ◌==◌, ◌≤◌, ◌<◌, Bool, true, false, ◌&&◌, ◌||◌, not, min, nat_lt, List, [], ◌∷◌, ◌++◌, length, take, get_or, if◌then◌else◌, refl, sym, ap, subst, ◌∙◌, arith, append-nil, length-append, true≢false, Option, None, Some}
+use Rattle.std.proofs.Common.{◌≡◌, ℕ, suc, ◌+◌, ◌-◌, ◌==◌, ◌<◌, Bool, true, false, ◌&&◌, ◌||◌, not, min, nat_lt, List, [], ◌∷◌, ◌++◌, length, take, get_or, if◌then◌else◌, refl, sym, ap, subst, ◌∙◌, arith, append-nil, length-append, true≢false, None, Some}
 use Rattle.std.proofs.lemmas.Bool.{eqb-true, eqb-false, and_parts}
 use Rattle.std.proofs.Math.Seq.{take-suc}
 use Rattle.app_events.specs.Part.{Part, Moment}
@@ -11,25 +11,24 @@ use Rattle.generators.specs.declared.capture.Capture.{Capture}
 use Rattle.script_lang.specs.declared.function.Function.{Function}
 use Rattle.telnet_shell.specs.declared.command.Command.{Command}
 use Rattle.telnet_shell.specs.declared.shell.Shell.{Shell}
-use Rattle.telnet_shell.specs.Reading.{all_commands, has_quit}
 use Rattle.telnet_shell.specs.Transcript.{function_of, needs_capture, said_with, transcript}
 use Rattle.telnet_shell.specs.Saying.{IsBehind, IsInFront, Shows, stops_at, is_taken, left_said, due}
 use Rattle.telnet_shell.specs.Speaking.{talk_is, waiting_is, said_some, held_goes}
-use Rattle.telnet_shell.specs.ShellMeaning.{talk, waiting, is_acknowledged, is_settled, is_stopped, has_ended, left_of, shell_want, take_capture, hear_byte, hear_all}
+use Rattle.telnet_shell.specs.ShellMeaning.{talk, is_acknowledged, is_settled, is_stopped, has_ended, left_of, shell_want, take_capture, hear_byte, hear_all}
 use Rattle.telnet_shell.specs.ShellStands.{ShellStands}
 use Rattle.telnet_shell.proofs.Standing.{own_is}
 
 eq_yes : (a b : ℕ) → a ≡ b → (a == b) ≡ true
 eq_yes a b h = elim (a == b) as (λ t. (a == b) ≡ t → t ≡ true) [
-    | true ↦ λ e. refl
-    | false ↦ λ e. absurd (eqb-false a b e h)
-  ] refl
+  | true ↦ λ e. refl
+  | false ↦ λ e. absurd (eqb-false a b e h)
+] refl
 
 pub eq_no : (a b : ℕ) → (a ≡ b → ⊥) → (a == b) ≡ false
 eq_no a b h = elim (a == b) as (λ t. (a == b) ≡ t → t ≡ false) [
-    | true ↦ λ e. absurd (h (eqb-true a b e))
-    | false ↦ λ e. refl
-  ] refl
+  | true ↦ λ e. absurd (h (eqb-true a b e))
+  | false ↦ λ e. refl
+] refl
 
 talk_size : (q : List Command) (capture : Capture) (at : ℕ) (p : Part) (b : IsBehind q capture at p) → length (talk p) ≡ length (transcript b.before b.spoken) + length (left_said q capture)
 talk_size q capture at p b = ap (λ (xs : List ℕ). length xs) (talk_is q capture at p b) ∙ length-append (transcript b.before b.spoken) (left_said q capture)
@@ -58,7 +57,7 @@ no_and false = refl
 goes_on_not : (c : Command) (cs : List Command) (capture : Capture) (at : ℕ) (p : Part) → IsBehind (c ∷ cs) capture at p → IsInFront (c ∷ cs) capture at → stops_at c capture ≡ false → is_stopped p ≡ false
 goes_on_not c cs capture at p b i goes =
     let left : length (left_said (c ∷ cs) capture) ≡ length (said_with c capture) + length (transcript cs []) =
-        ap (λ (s : Bool). length (if s then [] else said_with c capture ++ transcript cs [])) goes ∙ length-append (said_with c capture) (transcript cs []) in
+    ap (λ (s : Bool). length (if s then [] else said_with c capture ++ transcript cs [])) goes ∙ length-append (said_with c capture) (transcript cs []) in
     let short = i.1 goes in
     ap (λ (x : Bool). x && not (is_settled p)) (unacknowledged (c ∷ cs) capture at p b (omega (arith, left, short)))
 
@@ -126,14 +125,14 @@ pub wanted : (a : Shell) (p : Part) → a.lost ≡ false → (a.polls ≡ 1200 �
     → want_from (a.done && (length a.queue.items == 0)) (length (left_said a.queue.items a.capture) - a.at) ≡ shell_want p
 wanted a p lost polls s =
     let stays : ((p.own == 1) || (p.polls == 1200)) ≡ false =
-        ap (λ (b : Bool). b || (p.polls == 1200)) (own_is a p s ∙ lost) ∙ ap (λ (n : ℕ). n == 1200) (sym s.polls) ∙ eq_no a.polls 1200 polls in
+    ap (λ (b : Bool). b || (p.polls == 1200)) (own_is a p s ∙ lost) ∙ ap (λ (n : ℕ). n == 1200) (sym s.polls) ∙ eq_no a.polls 1200 polls in
     let ended : has_ended p ≡ (a.done && (length a.queue.items == 0)) =
-        ap (λ (b : Bool). b && is_settled p) (sym s.done) ∙ ap (λ (ds : List Command). a.done && (length ds == 0)) (waiting_is a.queue.items a.capture a.at p s.behind s.place) in
+    ap (λ (b : Bool). b && is_settled p) (sym s.done) ∙ ap (λ (ds : List Command). a.done && (length ds == 0)) (waiting_is a.queue.items a.capture a.at p s.behind s.place) in
     let left : left_of p ≡ length (left_said a.queue.items a.capture) - a.at =
-        (let size = talk_size a.queue.items a.capture a.at p s.behind in let at_is = s.behind.acked in omega (arith, size, at_is)) in
+    (let size = talk_size a.queue.items a.capture a.at p s.behind in let at_is = s.behind.acked in omega (arith, size, at_is)) in
     sym (ap (λ (b : Bool). if b then Abort else want_from (has_ended p) (left_of p)) stays
-      ∙ ap (λ (b : Bool). want_from b (left_of p)) ended
-      ∙ ap (λ (n : ℕ). want_from (a.done && (length a.queue.items == 0)) n) left)
+    ∙ ap (λ (b : Bool). want_from b (left_of p)) ended
+    ∙ ap (λ (n : ℕ). want_from (a.done && (length a.queue.items == 0)) n) left)
 
 -- ---- a piece
 

@@ -2,7 +2,7 @@
 use Rattle.std.proofs.Common.{◌≡◌, ℕ, ◌+◌, ◌≤◌, ◌<◌, Bool, true, false, List, [], ◌∷◌, ◌++◌, length, refl, sym, ap, subst, ◌∙◌, arith, length-drop, length-append, if◌then◌else◌}
 use Rattle.std.proofs.Math.Logic.{∥∥₁_elim}
 use Rattle.std.specs.Coded.{le_prop}
-use Rattle.app_events.specs.Part.{Part, Meaning, text_left, CanSay, HasPart}
+use Rattle.app_events.specs.Part.{Part, text_left, CanSay, HasPart}
 use Rattle.generators.specs.declared.capture.Capture.{Capture}
 use Rattle.generators.specs.declared.capture.Capture.TheVariants.{Empty}
 use Rattle.telnet_shell.specs.declared.command.Command.{Command}
@@ -45,8 +45,8 @@ pub room : {K : Type 0} (a : Shell) (k : K) (n : ℕ) → CanSay {A = Shell} {K 
 room a k n can =
     let fits = place_of a k n can in
     ∥∥₁_elim can le_prop (λ c.
-      let e : length (text_left shell_meaning c.0) ≡ length (Rattle.std.proofs.Common.drop a.at (left_said a.queue.items a.capture)) = ap (λ (xs : List ℕ). length xs) (left_of_value a c.0 c.1) in
-      omega (arith, c.2, e, length-drop a.at (left_said a.queue.items a.capture), fits, size_fits a.queue.items a.capture))
+    let e : length (text_left shell_meaning c.0) ≡ length (Rattle.std.proofs.Common.drop a.at (left_said a.queue.items a.capture)) = ap (λ (xs : List ℕ). length xs) (left_of_value a c.0 c.1) in
+    omega (arith, c.2, e, length-drop a.at (left_said a.queue.items a.capture), fits, size_fits a.queue.items a.capture))
 
 pub acked_behind : (q : List Command) (capture : Capture) (at n : ℕ) (p : Part) → IsBehind q capture at p → IsBehind q capture (at + n) (record p { acked = p.acked + n; polls = 0 })
 acked_behind q capture at n p b = record {

@@ -1,6 +1,5 @@
 -- One more byte: what is open behind it, and the commands that it brings.
 use Rattle.std.proofs.Common.{◌≡◌, ℕ, Bool, true, false, List, [], ◌∷◌, ◌++◌, ◌==◌, if◌then◌else◌, refl, sym, ap, subst, ◌∙◌, append-nil}
-use Rattle.telnet_shell.specs.declared.command.Command.{Command}
 use Rattle.telnet_shell.specs.Reading.{Awaits, Token, tokens, told, next_awaits, awaits_after, commands, line_after, all_commands}
 use Rattle.telnet_shell.specs.Reading.Awaits.{Text}
 use Rattle.telnet_shell.specs.Reading.Token.{Byte, Answer}
@@ -34,9 +33,9 @@ pub goes_on : (kept kept' : List ℕ) (over over' : Bool) (iac iac' heard : List
     → IsOpen kept over iac heard → IsOpen kept' over' iac' (heard ++ byte ∷ [])
 goes_on kept kept' over over' iac iac' heard byte ts next told_is keeps is =
     let line_is : line_after [] (tokens Text (heard ++ byte ∷ [])) ≡ line_after (line_after [] (tokens Text heard)) ts =
-        ap (λ (us : List Token). line_after [] us) (tokens_one heard byte)
-        ∙ line_joined [] (tokens Text heard) (told (awaits_after Text heard) byte)
-        ∙ ap (λ (us : List Token). line_after (line_after [] (tokens Text heard)) us) (sym (told_is ∙ ap (λ (a : Awaits). told a byte) is.awaits)) in
+    ap (λ (us : List Token). line_after [] us) (tokens_one heard byte)
+    ∙ line_joined [] (tokens Text heard) (told (awaits_after Text heard) byte)
+    ∙ ap (λ (us : List Token). line_after (line_after [] (tokens Text heard)) us) (sym (told_is ∙ ap (λ (a : Awaits). told a byte) is.awaits)) in
     record {
       awaits = next ∙ ap (λ (a : Awaits). next_awaits a byte) is.awaits ∙ sym (awaits_one Text heard byte);
       line = subst (λ (line : List ℕ). IsLine kept' over' line) (sym line_is) (keeps (line_after [] (tokens Text heard)) is.line);

@@ -1,16 +1,15 @@
 -- A shell hears a byte.
-use Rattle.std.proofs.Common.{◌≡◌, ℕ, ◌+◌, ◌==◌, ◌≤◌, ◌<◌, Bool, true, false, ◌&&◌, ◌||◌, List, [], ◌∷◌, ◌++◌, length, nat_lt, if◌then◌else◌, refl, sym, ap, subst, ◌∙◌, arith, append-nil, length-append, true≢false}
+use Rattle.std.proofs.Common.{◌≡◌, ℕ, ◌+◌, ◌==◌, ◌≤◌, ◌<◌, Bool, true, false, ◌||◌, List, [], ◌∷◌, ◌++◌, length, nat_lt, if◌then◌else◌, refl, sym, ap, subst, ◌∙◌, arith, append-nil, length-append, true≢false}
 use Rattle.std.proofs.lemmas.Bool.{le-ltb, lt-ltb, eqb-true, eqb-false}
 use Rattle.arrayvec.specs.ArrayVec.{ArrayVec}
 use Rattle.app_events.specs.Part.{Part}
-use Rattle.generators.specs.declared.capture.Capture.{Capture}
 use Rattle.telnet_shell.specs.declared.command.Command.{Command}
 use Rattle.telnet_shell.specs.declared.shell.Shell.{Shell}
 use Rattle.telnet_shell.specs.Reading.{all_commands, commands_in, commands, tokens, told, awaits_after, line_after, has_quit, is_quit, until_quit}
 use Rattle.telnet_shell.specs.Reading.Awaits.{Text}
 use Rattle.telnet_shell.specs.Hearing.{IsOpen}
 use Rattle.telnet_shell.specs.Saying.{IsBehind, IsInFront}
-use Rattle.telnet_shell.specs.Growing.{commands_grow, until_quit_joined}
+use Rattle.telnet_shell.specs.Growing.{until_quit_joined}
 use Rattle.telnet_shell.specs.Speaking.{waiting_is}
 use Rattle.telnet_shell.specs.ShellMeaning.{waiting, with_byte, hear_byte}
 use Rattle.telnet_shell.specs.ShellStands.{ShellStands}
@@ -68,8 +67,8 @@ hear_done a p byte lost done room s =
     let over : has_quit (all_commands p.heard) ≡ true = sym s.done ∙ done in
     let cs : List Command = commands (line_after [] (tokens Text p.heard)) (told (awaits_after Text p.heard) byte) in
     let none : commands_in (p.heard ++ byte ∷ []) ≡ commands_in p.heard ++ [] =
-        counted p.heard byte (commands (line_after [] (tokens Text p.heard)) (told (awaits_after Text p.heard) byte)) refl
-        ∙ ap (λ (b : Bool). commands_in p.heard ++ (if b then [] else until_quit (commands (line_after [] (tokens Text p.heard)) (told (awaits_after Text p.heard) byte)))) over in
+    counted p.heard byte (commands (line_after [] (tokens Text p.heard)) (told (awaits_after Text p.heard) byte)) refl
+    ∙ ap (λ (b : Bool). commands_in p.heard ++ (if b then [] else until_quit (commands (line_after [] (tokens Text p.heard)) (told (awaits_after Text p.heard) byte)))) over in
     let both = come a.queue.items [] a.capture a.at p byte none s.behind s.place in
     let behind : IsBehind a.queue.items a.capture a.at (with_byte p byte) = subst (λ (q : List Command). IsBehind q a.capture a.at (with_byte p byte)) (append-nil a.queue.items) both.0 in
     subst (λ (q : Part). ShellStands a q) (sym (hears_it a p byte a.queue.items lost s (waiting_is a.queue.items a.capture a.at (with_byte p byte) behind s.place) room)) (record {
@@ -98,7 +97,7 @@ hear_none a p byte kept over iac lost done room goes brings s =
     let heard = s.hears (is_open a lost done) in
     let going : has_quit (all_commands p.heard) ≡ false = sym s.done ∙ done in
     let none : commands_in (p.heard ++ byte ∷ []) ≡ commands_in p.heard ++ [] =
-        counted p.heard byte [] (brings p.heard heard) ∙ ap (λ (b : Bool). commands_in p.heard ++ (if b then [] else [])) going in
+    counted p.heard byte [] (brings p.heard heard) ∙ ap (λ (b : Bool). commands_in p.heard ++ (if b then [] else [])) going in
     let both = come a.queue.items [] a.capture a.at p byte none s.behind s.place in
     let behind : IsBehind a.queue.items a.capture a.at (with_byte p byte) = subst (λ (q : List Command). IsBehind q a.capture a.at (with_byte p byte)) (append-nil a.queue.items) both.0 in
     subst (λ (q : Part). ShellStands (record a { line = kept; over = over; iac = iac }) q) (sym (hears_it a p byte a.queue.items lost s (waiting_is a.queue.items a.capture a.at (with_byte p byte) behind s.place) room)) (record {
@@ -119,12 +118,12 @@ hear_full a p byte c kept over iac lost done full is count brings s =
     let heard = s.hears (is_open a lost done) in
     let going : has_quit (all_commands p.heard) ≡ false = sym s.done ∙ done in
     let one : commands_in (p.heard ++ byte ∷ []) ≡ commands_in p.heard ++ until_quit (c ∷ []) =
-        counted p.heard byte (c ∷ []) (brings p.heard heard) ∙ ap (λ (b : Bool). commands_in p.heard ++ (if b then [] else until_quit (c ∷ []))) going in
+    counted p.heard byte (c ∷ []) (brings p.heard heard) ∙ ap (λ (b : Bool). commands_in p.heard ++ (if b then [] else until_quit (c ∷ []))) going in
     let both = come a.queue.items (until_quit (c ∷ [])) a.capture a.at p byte one s.behind s.place in
     let size : length a.queue.items ≡ 32 = eqb-true (length a.queue.items) 32 (sym count ∙ is) in
     subst (λ (q : Part). ShellStands (record a { line = kept; over = over; iac = iac; lost = true }) q)
     (sym (gives_up a p byte (a.queue.items ++ until_quit (c ∷ [])) lost s (waiting_is (a.queue.items ++ until_quit (c ∷ [])) a.capture a.at (with_byte p byte) both.0 both.1)
-      (omega (arith, size, length-append a.queue.items (until_quit (c ∷ [])))))) (record {
+    (omega (arith, size, length-append a.queue.items (until_quit (c ∷ [])))))) (record {
       polls = s.polls;
       lost = refl;
       done = s.done;
@@ -144,14 +143,14 @@ hear_command a p byte c kept over iac queue quit lost done full is count room go
     let heard = s.hears (is_open a lost done) in
     let going : has_quit (all_commands p.heard) ≡ false = sym s.done ∙ done in
     let one : commands_in (p.heard ++ byte ∷ []) ≡ commands_in p.heard ++ c ∷ [] =
-        counted p.heard byte (c ∷ []) (brings p.heard heard) ∙ ap (λ (b : Bool). commands_in p.heard ++ (if b then [] else until_quit (c ∷ []))) going
-        ∙ ap (λ (cs : List Command). commands_in p.heard ++ c ∷ cs) (nothing_more (is_quit c)) in
+    counted p.heard byte (c ∷ []) (brings p.heard heard) ∙ ap (λ (b : Bool). commands_in p.heard ++ (if b then [] else until_quit (c ∷ []))) going
+    ∙ ap (λ (cs : List Command). commands_in p.heard ++ c ∷ cs) (nothing_more (is_quit c)) in
     let both = come a.queue.items (c ∷ []) a.capture a.at p byte one s.behind s.place in
     let behind : IsBehind queue.items a.capture a.at (with_byte p byte) = subst (λ (q : List Command). IsBehind q a.capture a.at (with_byte p byte)) (sym pushed) both.0 in
     let place : IsInFront queue.items a.capture a.at = subst (λ (q : List Command). IsInFront q a.capture a.at) (sym pushed) both.1 in
     let size : length queue.items ≤ 32 =
-        (let e : length queue.items ≡ length a.queue.items + 1 = ap (λ (q : List Command). length q) pushed ∙ length-append a.queue.items (c ∷ []) in
-         let d = eqb-false (length a.queue.items) 32 (sym count ∙ is) in omega (arith, e, d, room)) in
+    (let e : length queue.items ≡ length a.queue.items + 1 = ap (λ (q : List Command). length q) pushed ∙ length-append a.queue.items (c ∷ []) in
+    let d = eqb-false (length a.queue.items) 32 (sym count ∙ is) in omega (arith, e, d, room)) in
     subst (λ (q : Part). ShellStands (record a { line = kept; over = over; iac = iac; queue = queue; done = quit }) q)
     (sym (hears_it a p byte queue.items lost s (waiting_is queue.items a.capture a.at (with_byte p byte) behind place) size)) (record {
       polls = s.polls;
@@ -165,6 +164,7 @@ hear_command a p byte c kept over iac queue quit lost done full is count room go
     nothing_more : (b : Bool) → (if b then [] else until_quit []) ≡ []
     nothing_more true = refl
     nothing_more false = refl
+
     only : (b : Bool) → (if b then true else false) ≡ b
     only true = refl
     only false = refl

@@ -1,5 +1,5 @@
 -- More bytes only append commands, and more commands and captures only append to the transcript.
-use Rattle.std.proofs.Common.{◌≡◌, ℕ, Bool, true, false, List, [], ◌∷◌, ◌++◌, ◌==◌, if◌then◌else◌, refl, sym, ap, ◌∙◌, append_assoc, append-nil}
+use Rattle.std.proofs.Common.{◌≡◌, ℕ, Bool, true, false, List, [], ◌∷◌, ◌++◌, ◌==◌, if◌then◌else◌, refl, sym, ap, ◌∙◌, append_assoc}
 use Rattle.app_events.specs.Part.{Moment}
 use Rattle.app_events.specs.Laws.{IsPrefixOf}
 use Rattle.telnet_shell.specs.declared.command.Command.{Command}

@@ -1,5 +1,5 @@
 -- What is left to be said is told by the value alone.
-use Rattle.std.proofs.Common.{◌≡◌, ℕ, ◌+◌, List, [], ◌++◌, length, drop, refl, sym, ap, ◌∙◌}
+use Rattle.std.proofs.Common.{◌≡◌, ℕ, ◌+◌, List, length, drop, sym, ap, ◌∙◌}
 use Rattle.std.proofs.Math.Seq.{drop-append-add}
 use Rattle.app_events.specs.Part.{Part, text_left}
 use Rattle.telnet_shell.specs.declared.shell.Shell.{Shell}

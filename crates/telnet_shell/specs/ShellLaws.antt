@@ -1,9 +1,8 @@
 -- The shell keeps the laws of an application, at every offset.
-use Rattle.std.proofs.Common.{◌≡◌, ℕ, ◌≤◌, ◌==◌, min, Bool, true, false, ◌&&◌, ◌||◌, List, [], ◌∷◌, ◌++◌, length, drop, nat_lt, refl, sym, ap, subst, ◌∙◌, arith, append-nil, append_assoc, length-drop, if◌then◌else◌}
+use Rattle.std.proofs.Common.{◌≡◌, ℕ, ◌≤◌, ◌==◌, min, Bool, true, false, ◌||◌, List, [], ◌∷◌, ◌++◌, length, drop, nat_lt, refl, sym, ap, subst, ◌∙◌, arith, append-nil, append_assoc, length-drop, if◌then◌else◌}
 use Rattle.std.proofs.lemmas.Bool.{ltb-true}
 use Rattle.app_events.specs.Part.{Part, Moment}
 use Rattle.app_events.specs.Laws.{IsLawful, StartsAnew, IsPrefixOf, Grows, CanSend}
-use Rattle.app_events.specs.declared.want.Want.{Want}
 use Rattle.app_events.specs.declared.want.Want.TheVariants.{Nothing, Send, Close, Abort}
 use Rattle.web_pages.specs.declared.TheConstants.{LARGEST_SEGMENT}
 use Rattle.telnet_shell.specs.declared.command.Command.{Command}
@@ -11,7 +10,7 @@ use Rattle.telnet_shell.specs.declared.TheConstants.{MOST_SILENT_POLLS, MOST_COM
 use Rattle.telnet_shell.specs.Reading.{commands_in}
 use Rattle.telnet_shell.specs.Transcript.{transcript}
 use Rattle.telnet_shell.specs.Growing.{commands_grow, further, transcript_grows}
-use Rattle.telnet_shell.specs.ShellMeaning.{talk, waiting, with_byte, hear_byte, hear_all, is_stopped, has_ended, left_of, shell_want, take_capture, shell_meaning}
+use Rattle.telnet_shell.specs.ShellMeaning.{talk, waiting, with_byte, hear_byte, hear_all, is_stopped, has_ended, left_of, shell_want, shell_meaning}
 
 same_prefix : (xs : List ℕ) → IsPrefixOf xs xs
 same_prefix xs = record { rest = []; joined = append-nil xs }
@@ -31,7 +30,7 @@ grows_on p q r g h = record { text = prefix_of_prefix (talk p) (talk q) (talk r)
 byte_grows : (p : Part) (byte : ℕ) → Grows shell_meaning p (with_byte p byte)
 byte_grows p byte =
     let t : IsPrefixOf (transcript (commands_in p.heard) p.captures) (transcript (commands_in p.heard ++ further p.heard (byte ∷ [])) (p.captures ++ [])) =
-        transcript_grows (commands_in p.heard) (further p.heard (byte ∷ [])) p.captures [] in
+    transcript_grows (commands_in p.heard) (further p.heard (byte ∷ [])) p.captures [] in
     record {
       text = record {
         rest = t.rest;
@@ -62,7 +61,7 @@ unpolled_grows p piece =
 capture_grows : (p : Part) (k : Moment) → Grows shell_meaning p (record p { captures = p.captures ++ k ∷ [] })
 capture_grows p k =
     let t : IsPrefixOf (transcript (commands_in p.heard) p.captures) (transcript (commands_in p.heard ++ []) (p.captures ++ k ∷ [])) =
-        transcript_grows (commands_in p.heard) [] p.captures (k ∷ []) in
+    transcript_grows (commands_in p.heard) [] p.captures (k ∷ []) in
     record {
       text = record {
         rest = t.rest;

@@ -1,5 +1,5 @@
 -- The parts that a shell stands for.
-use Rattle.std.specs.Prelude.{◌≡◌, ℕ, ◌||◌, false, List, [], if◌then◌else◌}
+use Rattle.std.specs.Prelude.{◌≡◌, ℕ, ◌||◌, false, [], if◌then◌else◌}
 use Rattle.app_events.specs.Part.{Part}
 use Rattle.telnet_shell.specs.declared.shell.Shell.{Shell}
 use Rattle.telnet_shell.specs.Reading.{all_commands, has_quit}

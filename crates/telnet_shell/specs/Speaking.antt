@@ -10,7 +10,6 @@ use Rattle.generators.specs.declared.capture.Capture.TheVariants.{Empty}
 use Rattle.app_events.specs.Part.{Part, Moment}
 use Rattle.telnet_shell.specs.declared.command.Command.{Command}
 use Rattle.telnet_shell.specs.declared.command.Command.TheVariants.{Refuse, Help, Stats, Conns, Ticks, Quit, Blank, Other}
-use Rattle.telnet_shell.specs.Reading.{commands_in}
 use Rattle.telnet_shell.specs.Transcript.{function_of, needs_capture, said_with, said_plainly, said_at, transcript, unfinished}
 use Rattle.telnet_shell.specs.Saying.{is_taken, stops_at, left_said, IsInFront, Shows, needed, IsBehind}
 use Rattle.telnet_shell.specs.ShellMeaning.{talk, waiting}
@@ -56,14 +55,14 @@ none_past false s x at n go held other stay r e f = past_said s x at go stay ∙
 
 none_past_with : (b : Bool) (s t x : List ℕ) (at n : ℕ) (go gone : ℕ → List Command) (stay r : List Command) → 0 ≡ (if b then n + 1 else n) → (0 ≡ n → go (length x + at) ≡ r)
     → (if b then (if nat_le (length t) (length (if b then [] else s ++ x) + at) then gone (length (if b then [] else s ++ x) + at - length t) else stay)
-       else (if nat_le (length s) (length (if b then [] else s ++ x) + at) then go (length (if b then [] else s ++ x) + at - length s) else stay)) ≡ r
+    else (if nat_le (length s) (length (if b then [] else s ++ x) + at) then go (length (if b then [] else s ++ x) + at - length s) else stay)) ≡ r
 none_past_with true s t x at n go gone stay r e f = absurd (omega (arith, e))
 none_past_with false s t x at n go gone stay r e f = past_said s x at go stay ∙ f e
 
 each_past : (b : Bool) (t x s z : List ℕ) (at len l n : ℕ) (gone go : ℕ → List Command) (stay r : List Command) → l ≡ len + 1 → l ≡ (if b then n + 1 else n)
     → (len ≡ n → gone (length x + at) ≡ r) → (l ≡ n → go (length z + at) ≡ r)
     → (if b then (if nat_le (length t) (length (if b then t ++ x else s ++ z) + at) then gone (length (if b then t ++ x else s ++ z) + at - length t) else stay)
-       else (if nat_le (length s) (length (if b then t ++ x else s ++ z) + at) then go (length (if b then t ++ x else s ++ z) + at - length s) else stay)) ≡ r
+    else (if nat_le (length s) (length (if b then t ++ x else s ++ z) + at) then go (length (if b then t ++ x else s ++ z) + at - length s) else stay)) ≡ r
 each_past true t x s z at len l n gone go stay r d e f g = past_said t x at gone stay ∙ f (omega (arith, d, e))
 each_past false t x s z at len l n gone go stay r d e f g = past_said s z at go stay ∙ g e
 

@@ -1,13 +1,13 @@
 -- Talks with the shell, worked by hand.
-use Rattle.std.specs.Prelude.{◌≡◌, ℕ, true, false, List, [], ◌∷◌, ◌++◌, codes, length, replicate}
+use Rattle.std.specs.Prelude.{◌≡◌, ℕ, List, [], ◌∷◌, ◌++◌, codes, length, replicate}
 use Rattle.std.specs.List.{concat}
 use Rattle.app_events.specs.Part.{Part, Moment}
 use Rattle.app_events.specs.Laws.{IsLawful, StartsAnew}
-use Rattle.app_events.specs.declared.want.Want.TheVariants.{Nothing, Send, Close, Abort}
+use Rattle.app_events.specs.declared.want.Want.TheVariants.{Send, Close, Abort}
 use Rattle.telnet_shell.specs.declared.command.Command.TheVariants.{Refuse, Help, Stats, Conns, Ticks, Quit, Blank, Other}
 use Rattle.telnet_shell.specs.Reading.{commands_in}
-use Rattle.telnet_shell.specs.Transcript.{transcript, unfinished}
-use Rattle.telnet_shell.specs.ShellMeaning.{shell_meaning, talk, waiting}
+use Rattle.telnet_shell.specs.Transcript.{transcript}
+use Rattle.telnet_shell.specs.ShellMeaning.{shell_meaning, talk}
 
 -- a moment at which nothing has happened but these ticks
 abbrev pub at_tick : ℕ → Moment

@@ -11,9 +11,13 @@ use arrayvec::ArrayVec;
 
 /// The byte that begins a sequence of the protocol (RFC 854).
 const IAC: u8 = 255;
+
 const WILL: u8 = 251;
+
 const DO: u8 = 253;
+
 const WONT: u8 = 252;
+
 const DONT: u8 = 254;
 
 /// What a byte tells.
@@ -30,9 +34,17 @@ fn heard_as(iac: [u8; 2], byte: u8) -> Told
     ensures { tokens_of result ≡ told (awaited iac) byte }
 {
     if iac[0] == 0 {
-        if byte == IAC { Told::Nothing } else { Told::Byte(byte) }
+        if byte == IAC {
+            Told::Nothing
+        } else {
+            Told::Byte(byte)
+        }
     } else if iac[1] == 0 {
-        if byte == IAC { Told::Byte(IAC) } else { Told::Nothing }
+        if byte == IAC {
+            Told::Byte(IAC)
+        } else {
+            Told::Nothing
+        }
     } else {
         refuse(iac[1], byte)
     }
@@ -58,7 +70,11 @@ fn sequence_after(iac: [u8; 2], byte: u8) -> [u8; 2]
     if iac[0] == 0 {
         if byte == IAC { [IAC, 0] } else { [0, 0] }
     } else if iac[1] == 0 {
-        if byte > 250 && byte < IAC { [IAC, byte] } else { [0, 0] }
+        if byte > 250 && byte < IAC {
+            [IAC, byte]
+        } else {
+            [0, 0]
+        }
     } else {
         [0, 0]
     }
@@ -132,7 +148,12 @@ fn hear_text(kept: &mut ArrayVec<u8, 16>, over: &mut bool, byte: u8) -> Option<C
 }
 
 /// The bytes go on with one, which may complete a command.
-pub(crate) fn hear(kept: &mut ArrayVec<u8, 16>, over: &mut bool, iac: &mut [u8; 2], byte: u8) -> Option<Command>
+pub(crate) fn hear(
+    kept: &mut ArrayVec<u8, 16>,
+    over: &mut bool,
+    iac: &mut [u8; 2],
+    byte: u8,
+) -> Option<Command>
     ensures open { (heard : List ℕ) → IsOpen kept.old.items over.old iac.old heard → IsOpen kept.new.items over.new iac.new (heard ++ byte ∷ []) }
     ensures command { (heard : List ℕ) → IsOpen kept.old.items over.old iac.old heard → command_in result ≡ commands (line_after [] (tokens Text heard)) (told (awaits_after Text heard) byte) }
 {

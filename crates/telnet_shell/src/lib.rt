@@ -16,3 +16,6 @@ pub const MOST_SILENT_POLLS: u16 = 1200;
 
 /// The most commands that are not wholly acknowledged.
 pub const MOST_COMMANDS: usize = 32;
+
+#[cfg(test)]
+mod tests;

@@ -13,9 +13,13 @@ use generators::{Capture, fill_at, text_len};
 use script_lang::Function;
 
 const HELP: &[u8] = b"help stats conns ticks quit\r\n> ";
+
 const PROMPT: &[u8] = b"> ";
+
 const LINE_END: &[u8] = b"\r\n> ";
+
 const BYE: &[u8] = b"bye\r\n";
+
 const UNKNOWN: &[u8] = b"?\r\n> ";
 
 /// The function whose capture a command shows.
@@ -204,7 +208,12 @@ fn pass_front(queue: &mut ArrayVec<Command, 32>, capture: &mut Capture, at: usiz
 }
 
 /// Drops the commands whose texts are wholly among the first bytes, and answers the place in the front that is left.
-pub(crate) fn advance(queue: &mut ArrayVec<Command, 32>, capture: &mut Capture, at: u32, count: usize) -> u32
+pub(crate) fn advance(
+    queue: &mut ArrayVec<Command, 32>,
+    capture: &mut Capture,
+    at: u32,
+    count: usize,
+) -> u32
     requires { at + count ≤ length (left_said queue.old.items capture.old) }
     ensures behind { (p : Part) → IsBehind queue.old.items capture.old (at + count) p → IsBehind queue.new.items capture.new result p }
     ensures place { IsInFront queue.new.items capture.new result }

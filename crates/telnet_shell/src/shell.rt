@@ -102,7 +102,7 @@ impl Shell {
     }
 
     /// Hears each byte of a piece.
-    fn hear_piece(&mut self, piece: &[u8])
+    pub(crate) fn hear_piece(&mut self, piece: &[u8])
         ensures { (p : Part) → ShellStands self.old p → ShellStands self.new (hear_all p piece.now) }
     {
         for byte in piece {

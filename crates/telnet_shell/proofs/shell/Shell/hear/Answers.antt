@@ -1,4 +1,3 @@
-use Rattle.std.proofs.Common.{sym, ap, ◌∙◌, arith, refl, true, false}
 use Rattle.telnet_shell.proofs.Standing.{hear_lost, hear_done, hear_none, hear_full, hear_command}
 use Rattle.telnet_shell.proofs.shell.Shell.hear.Goals as goal
 use Rattle.telnet_shell.proofs.shell.Shell.hear.Goals.{then-self-via-then-self, then-self-via-else-self+then-self-2}
