@@ -13,6 +13,7 @@ program over pipes and its side of each line is recorded anew in bench/out; then
     escapes              a page of 20,000 bytes of which four in five are END, ESC and their stand-ins
     ten                  ten clients at once, 20,000 bytes each
     script               a script page with all generators
+    ether84              the requests of ping84 in Ethernet frames (`uipd ether`); the peers were not measured on it
 
 The peers are uIP 1.0's own C code with a plain SLIP around it and lwIP 2.2.1, each with a client that did the same work on lines of the same
 kinds, measured in the same way. With --markdown the table is printed as README has it.
@@ -30,6 +31,8 @@ SITE = os.path.join(OUT, "bench.site")
 END, ESC = 0xC0, 0xDB
 FIN, SYN, RST, PSH, ACK = 1, 2, 4, 8, 16
 NODE, PEER = bytes([10, 0, 0, 1]), bytes([10, 0, 0, 2])
+NODE_MAC, PEER_MAC = bytes([2, 0, 0, 0, 0, 1]), bytes([2, 0, 0, 0, 0, 2])
+ETHER = ("ether", SITE, "10.0.0.1", "02:00:00:00:00:01")
 
 # What the peers need on lines of the same kind, uIP and lwIP.
 PEERS = {"ping84": (3272, 8067), "ping1006": (35824, 86451), "small": (21494, 32337), "big": (16.3, 36.7), "big536": (18.5, 46.3),
@@ -159,12 +162,25 @@ def lines(program):
     yield "ten", line, length
 
 
-def instructions(program, data):
+def framed(data):
+    """A datagram in an Ethernet frame behind its length."""
+    frame = NODE_MAC + PEER_MAC + bytes([8, 0]) + data
+    return len(frame).to_bytes(2, "big") + frame
+
+
+def pings_in_frames(count):
+    """The peer asks for the node's hardware address, and then for echoes of 84 bytes."""
+    arp = bytes([0, 1, 8, 0, 6, 4, 0, 1]) + PEER_MAC + PEER + bytes(6) + NODE
+    frame = b"\xff" * 6 + PEER_MAC + bytes([8, 6]) + arp
+    return len(frame).to_bytes(2, "big") + frame + framed(ping(84)) * count
+
+
+def instructions(program, data, words=("serve", SITE, "10.0.0.1")):
     path = os.path.join(OUT, "line")
     with open(path, "wb") as file:
         file.write(data)
     with open(path, "rb") as stdin:
-        done = subprocess.run(["valgrind", "--tool=callgrind", "--callgrind-out-file=/dev/null", program, "serve", SITE, "10.0.0.1"],
+        done = subprocess.run(["valgrind", "--tool=callgrind", "--callgrind-out-file=/dev/null", program, *words],
                               stdin=stdin, stdout=subprocess.PIPE, stderr=subprocess.PIPE, check=True)
     return int(re.search(rb"Collected : (\d+)", done.stderr).group(1))
 
@@ -194,6 +210,9 @@ def main():
         ours, *peers = (figure(value, unit) for value in (spent, *PEERS[name]))
         print(f"| {text} | {unit} | {ours} | {peers[0]} | {peers[1]} |" if "--markdown" in sys.argv else
               f"{name:10} {unit:8} {ours:>10} {peers[0]:>10} {peers[1]:>10}")
+    spent = (instructions(program, pings_in_frames(2000), ETHER) - instructions(program, pings_in_frames(0), ETHER)) / 2000
+    if "--markdown" not in sys.argv:
+        print(f"{'ether84':10} {'request':8} {figure(spent, 'request'):>10}     (ping84 in Ethernet frames)")
 
 
 main()
