@@ -1,5 +1,5 @@
 #!/usr/bin/env python3
-"""Measures the program on recorded lines, and prints the figures beside those of its peers. It asserts nothing.
+"""Measures the program on recorded lines, and prints the figures. It asserts nothing.
 
     python3 bench/run.py [PROGRAM] [--markdown]
 
@@ -15,8 +15,7 @@ program over pipes and its side of each line is recorded anew in bench/out; then
     script               a script page with all generators
     ether84              the requests of ping84 in Ethernet frames (`uipd ether`); the peers were not measured on it
 
-The peers are uIP 1.0's own C code with a plain SLIP around it and lwIP 2.2.1, each with a client that did the same work on lines of the same
-kinds, measured in the same way. With --markdown the table is printed as README has it.
+Peers were measured on other recordings, so their figures stand in README beside ours on those, and not here. With --markdown it prints a table.
 """
 import os
 import random
@@ -34,9 +33,6 @@ NODE, PEER = bytes([10, 0, 0, 1]), bytes([10, 0, 0, 2])
 NODE_MAC, PEER_MAC = bytes([2, 0, 0, 0, 0, 1]), bytes([2, 0, 0, 0, 0, 2])
 ETHER = ("ether", SITE, "10.0.0.1", "02:00:00:00:00:01")
 
-# What the peers need on lines of the same kind, uIP and lwIP.
-PEERS = {"ping84": (3272, 8067), "ping1006": (35824, 86451), "small": (21494, 32337), "big": (16.3, 36.7), "big536": (18.5, 46.3),
-         "big100": (38.8, 98.5), "escapes": (17.0, 45.6), "ten": (17.2, 37.9), "script": (141922, 44707)}
 WORDS = {"ping84": ("an echo request of 84 bytes with every byte value", "request"),
          "ping1006": ("an echo request of 1006 bytes with every byte value", "request"),
          "small": ("a file of one byte, from SYN to the last acknowledgement", "request"),
@@ -202,14 +198,14 @@ def main():
     with open(SITE, "wb") as file:
         file.write(site())
     empty = instructions(program, b"")
-    print("| line | unit | Lowunbisa | uIP | lwIP |\n|---|---|---|---|---|" if "--markdown" in sys.argv else
-          "line       unit      Lowunbisa        uIP       lwIP")
+    print("| line | unit | Lowunbisa |\n|---|---|---|" if "--markdown" in sys.argv else
+          "line       unit      Lowunbisa")
     for name, data, units in lines(program):
         spent = (instructions(program, data) - empty) / units
         text, unit = WORDS[name]
-        ours, *peers = (figure(value, unit) for value in (spent, *PEERS[name]))
-        print(f"| {text} | {unit} | {ours} | {peers[0]} | {peers[1]} |" if "--markdown" in sys.argv else
-              f"{name:10} {unit:8} {ours:>10} {peers[0]:>10} {peers[1]:>10}")
+        ours = figure(spent, unit)
+        print(f"| {text} | {unit} | {ours} |" if "--markdown" in sys.argv else
+              f"{name:10} {unit:8} {ours:>10}")
     spent = (instructions(program, pings_in_frames(2000), ETHER) - instructions(program, pings_in_frames(0), ETHER)) / 2000
     if "--markdown" not in sys.argv:
         print(f"{'ether84':10} {'request':8} {figure(spent, 'request'):>10}     (ping84 in Ethernet frames)")
