@@ -4,3 +4,4 @@ pub mod Advancing
 pub mod Standing
 pub mod Opened
 pub mod Asking
+pub mod DeskParts

@@ -9,3 +9,6 @@ pub mod Saying
 pub mod Speaking
 pub mod ShellStands
 pub mod SameLeft
+pub mod DeskMeaning
+pub mod DeskStands
+pub mod DeskLaws

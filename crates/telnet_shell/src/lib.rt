@@ -2,12 +2,14 @@
 #![tactic(auto)]
 
 mod command;
+mod desk;
 mod hearing;
 mod laws;
 mod saying;
 mod shell;
 
 pub use command::Command;
+pub use desk::Desk;
 pub use laws::{shell_laws, worked_talks};
 pub use shell::{Shell, TELNET_PORT};
 
