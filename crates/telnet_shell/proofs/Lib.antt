@@ -5,3 +5,4 @@ pub mod Standing
 pub mod Opened
 pub mod Asking
 pub mod DeskParts
+pub mod TwoApplications

@@ -69,7 +69,7 @@ lawful_at files port = by_port IsLawfulAnywhere files (port == TELNET_PORT) (web
 starts_at : (files : List File) (port : ℕ) → StartsAnew (meaning_at files port)
 starts_at files port = by_port StartsAnew files (port == TELNET_PORT) (web_starts files) shell_starts
 
-port_at : (files : List File) (port : ℕ) → KeepsPort (meaning_at files port)
+pub port_at : (files : List File) (port : ℕ) → KeepsPort (meaning_at files port)
 port_at files port = by_port KeepsPort files (port == TELNET_PORT) (web_port files) shell_port
 
 -- at the same port the desk says what the application of that port says

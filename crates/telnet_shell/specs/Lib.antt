@@ -12,3 +12,4 @@ pub mod SameLeft
 pub mod DeskMeaning
 pub mod DeskStands
 pub mod DeskLaws
+pub mod DeskPorts

@@ -1,6 +1,7 @@
 //! What holds of every talk.
 
 ghost use Rattle.telnet_shell.specs.WorkedTalks.{AreWorkedTalks, KeepsLaws};
+ghost use Rattle.telnet_shell.specs.DeskPorts.{IsTwoApplications};
 
 /// Talks that were worked by hand go as the definitions say.
 #[tactic(auto, using(crate::proofs::WorkedTalks::worked))]
@@ -11,4 +12,10 @@ pub fn worked_talks()
 /// More bytes and more captures only append to what is said, and what is asked to be sent is there to be sent.
 pub fn shell_laws()
     ensures { KeepsLaws }
+{}
+
+/// On port 80 the desk is the web server, call by call, and on port 23 the shell.
+#[tactic(auto, using(crate::proofs::TwoApplications::two_applications))]
+pub fn desk_is_two_applications()
+    ensures { IsTwoApplications }
 {}
