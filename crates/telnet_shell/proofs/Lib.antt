@@ -6,3 +6,4 @@ pub mod Opened
 pub mod Asking
 pub mod DeskParts
 pub mod TwoApplications
+pub mod TalkLaws

@@ -40,7 +40,7 @@ gives_up a p byte queue lost s w h =
     ∙ ap (λ (cs : List Command). if nat_lt 32 (length cs) then record p { own = 1 } else with_byte p byte) w
     ∙ ap (λ (b : Bool). if b then record p { own = 1 } else with_byte p byte) (lt-ltb 32 (length queue) h)
 
-quit_joins : (xs ys : List Command) → has_quit (xs ++ ys) ≡ (has_quit xs || has_quit ys)
+pub quit_joins : (xs ys : List Command) → has_quit (xs ++ ys) ≡ (has_quit xs || has_quit ys)
 quit_joins [] ys = refl
 quit_joins (x ∷ xs) ys = by_quit (is_quit x) (quit_joins xs ys)
   where

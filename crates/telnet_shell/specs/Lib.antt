@@ -13,3 +13,4 @@ pub mod DeskMeaning
 pub mod DeskStands
 pub mod DeskLaws
 pub mod DeskPorts
+pub mod Talks

@@ -2,6 +2,7 @@
 
 ghost use Rattle.telnet_shell.specs.WorkedTalks.{AreWorkedTalks, KeepsLaws};
 ghost use Rattle.telnet_shell.specs.DeskPorts.{IsTwoApplications};
+ghost use Rattle.telnet_shell.specs.Talks.{KeepsTalk};
 
 /// Talks that were worked by hand go as the definitions say.
 #[tactic(auto, using(crate::proofs::WorkedTalks::worked))]
@@ -18,4 +19,10 @@ pub fn shell_laws()
 #[tactic(auto, using(crate::proofs::TwoApplications::two_applications))]
 pub fn desk_is_two_applications()
     ensures { IsTwoApplications }
+{}
+
+/// A talk only grows, a whole one stays whole, and a connection is closed at the end of a whole talk alone.
+#[tactic(auto, using(crate::proofs::TalkLaws::keeps_talk))]
+pub fn shell_keeps_its_talk()
+    ensures { KeepsTalk }
 {}
