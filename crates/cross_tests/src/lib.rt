@@ -20,6 +20,8 @@ mod lines;
 #[cfg(test)]
 mod loads;
 #[cfg(test)]
+mod shell;
+#[cfg(test)]
 mod site;
 #[cfg(test)]
 mod sites;
