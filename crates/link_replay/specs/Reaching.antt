@@ -1,11 +1,11 @@
 -- The worlds that a replay goes through, and what an act of the code does.
 use Rattle.std.specs.List.{All}
-use Rattle.std.specs.Prelude.{◌≡◌, ℕ, Bool, List, Result, Ok, Err, ⊤}
+use Rattle.std.specs.Prelude.{◌≡◌, ℕ, Bool, List, ◌∷◌, ◌++◌, Result, Ok, Err, ⊤}
 use Rattle.uip_wire.specs.declared.addr.Addr.{Addr}
 use Rattle.app_events.specs.Part.{Meaning}
 use Rattle.app_events.specs.Pages.{Pages, IsPaged, IsWord, IsAddr}
 use Rattle.link_world.specs.World.{World}
-use Rattle.link_world.specs.Acts.{runs}
+use Rattle.link_world.specs.Acts.{acts, runs}
 use Rattle.link_world.specs.History.{Planned, IsPlan, opening_world}
 use Rattle.link_world.specs.declared.act.Act.{Act}
 use Rattle.link_world.specs.declared.step_fault.StepFault.{StepFault}
@@ -56,3 +56,23 @@ ActsEnd Now (Err NoByte) meant = meant ≡ Err NoByte
 ActsEnd Now (Err AlreadyOpen) meant = meant ≡ Err AlreadyOpen
 ActsEnd Now (Err NotOpen) meant = meant ≡ Err NotOpen
 ActsEnd Now (Err Full) meant = meant ≡ Err Full
+
+-- Acts in turn stopped before one of them: the world of the code stands for the one that those before it reach.
+pub record StopsAt (m : Meaning) (served : ℕ → Bool) (Now : World → Type 0) (all : List Act) (w : World) (fault : StepFault) : Type 0 where
+  pub before : List Act
+  pub act : Act
+  pub after : List Act
+  pub joined : before ++ act ∷ after ≡ all
+  pub world : World
+  pub reached : runs m served before w ≡ Ok world
+  pub refused : acts m served world act ≡ Err fault
+  pub now : Now world
+
+abbrev pub Stops : Meaning → (ℕ → Bool) → (World → Type 0) → List Act → World → Result (Unit {0}) StepFault → Type 0
+Stops m served Now all w (Ok done) = ⊤
+Stops m served Now all w (Err NoMemory) = ⊤
+Stops m served Now all w (Err NoDatagram) = StopsAt m served Now all w NoDatagram
+Stops m served Now all w (Err NoByte) = StopsAt m served Now all w NoByte
+Stops m served Now all w (Err AlreadyOpen) = StopsAt m served Now all w AlreadyOpen
+Stops m served Now all w (Err NotOpen) = StopsAt m served Now all w NotOpen
+Stops m served Now all w (Err Full) = StopsAt m served Now all w Full

@@ -1,6 +1,6 @@
 //! What an act does that is not refused.
 
-ghost use Rattle.std.specs.Prelude.{◌≡◌, ◌<◌, ◌≤◌, ℕ, false, None, OnOk, length};
+ghost use Rattle.std.specs.Prelude.{◌≡◌, ◌<◌, ◌≤◌, ℕ, false, None, Ok, OnOk, length};
 ghost use Rattle.uip_node.specs.Edge.{event_of};
 ghost use Rattle.uip_node.specs.Events.{tick};
 ghost use Rattle.uip_node.specs.Events.Event.{Periodic};
@@ -193,6 +193,7 @@ impl<A: App> World<A> {
         ensures kept { IsKept A.App self.new }
         ensures same { A.kept self.new.node.shared ≡ A.kept self.old.node.shared }
         ensures mark { self.new.mark ≡ self.old.mark }
+        ensures window { (number size : ℕ) → act.now ≡ Act.Window number size → result ≡ Ok tt }
         ensures done { OnOk result ((w : PlainWorld) → IsAt (A.meaning (A.kept self.old.node.shared)) A.served w → fault_of w act.now ≡ None → WorldStands A.App self.old w
             → WorldStands A.App self.new (does (A.meaning (A.kept self.old.node.shared)) A.served w act.now)) }
     {

@@ -1,6 +1,6 @@
 //! Why an act is refused.
 
-ghost use Rattle.std.specs.Prelude.{◌≡◌, ℕ, List, IfSome, length};
+ghost use Rattle.std.specs.Prelude.{◌≡◌, ◌≤◌, ℕ, List, IfSome, None, length};
 ghost use Rattle.link_world.specs.Acts.{fault_of, if_idle, is_idle, named_fault, no_byte, no_datagram, or_full, state_at};
 ghost use Rattle.link_world.specs.World.{Side as PlainSide, World as PlainWorld, numbered};
 ghost use Rattle.link_replay.specs.Matched.{Matched};
@@ -84,6 +84,7 @@ impl Link {
 
     /// Why an act is refused, apart from want of numbers.
     fn named_fault(&self, act: &Act) -> Option<StepFault>
+        ensures window { (number size : ℕ) → act.now ≡ Act.Window number size → result ≡ None }
         ensures exact { (w : PlainWorld) → LinkStands self.now w → result ≡ named_fault w act.now }
         ensures named { IfSome result IsNamed }
     {
@@ -106,6 +107,7 @@ impl Link {
 
     /// Why an act is refused.
     pub(crate) fn fault_of(&self, act: &Act) -> Option<StepFault>
+        ensures window { (number size : ℕ) → act.now ≡ Act.Window number size → length self.now.sent.items ≤ 65535 → result ≡ None }
         ensures exact { (w : PlainWorld) → LinkStands self.now w → result ≡ fault_of w act.now }
         ensures named { IfSome result IsNamed }
     {

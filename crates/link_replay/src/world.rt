@@ -1,14 +1,14 @@
 //! A world and its acts.
 
 ghost use Rattle.std.specs.List.{All};
-ghost use Rattle.std.specs.Prelude.{◌≡◌, ℕ, true, OnErr, OnOk, Ok, Err, None, IfOk, length};
+ghost use Rattle.std.specs.Prelude.{◌≡◌, ℕ, true, false, OnErr, OnOk, Ok, Err, None, IfErr, IfOk, length};
 ghost use Rattle.app_events.specs.Part.{Meaning};
 ghost use Rattle.uip_wire.specs.declared.addr.Addr.{Addr as Address};
 ghost use Rattle.link_world.specs.Acts.{acts as acted, runs};
-ghost use Rattle.link_world.specs.Schedule.{plays_line};
+ghost use Rattle.link_world.specs.Schedule.{acts_of as lines_acts, plays_line};
 ghost use Rattle.link_world.specs.World.{World as PlainWorld};
 ghost use Rattle.link_world.specs.Headline.{IsAct, OfLine};
-ghost use Rattle.link_replay.specs.Reaching.{ActsEnd, IsAt, ActSteps};
+ghost use Rattle.link_replay.specs.Reaching.{ActsEnd, IsAt, IsNamed, ActSteps, Stops};
 ghost use Rattle.link_replay.specs.Stands.{IsKept, WorldStands};
 
 use crate::acts::{acts_of, mark_after};
@@ -40,6 +40,8 @@ impl<A: App> World<A> {
         ensures mark { self.new.mark ≡ self.old.mark }
         ensures spent { self.old.spent ≡ true → result ≡ Err StepFault.NoMemory }
         ensures spends { result ≡ Err StepFault.NoMemory → self.new.spent ≡ true }
+        ensures refused { IfErr result (λ fault. IsNamed fault → self.new ≡ self.old) }
+        ensures window { (number size : ℕ) → act.now ≡ Act.Window number size → self.old.spent ≡ false → result ≡ Ok tt }
         ensures step { (w : PlainWorld) → IsAt (A.meaning (A.kept self.old.node.shared)) A.served w → WorldStands A.App self.old w
             → ActSteps (WorldStands A.App self.new) w result (acted (A.meaning (A.kept self.old.node.shared)) A.served w act.now) }
     {
@@ -64,6 +66,8 @@ impl<A: App> World<A> {
         ensures same { A.kept self.new.node.shared ≡ A.kept self.old.node.shared }
         ensures mark { self.new.mark ≡ self.old.mark }
         ensures spends { result ≡ Err StepFault.NoMemory → self.new.spent ≡ true }
+        ensures stops { (w : PlainWorld) → IsAt (A.meaning (A.kept self.old.node.shared)) A.served w → WorldStands A.App self.old w
+            → Stops (A.meaning (A.kept self.old.node.shared)) A.served (WorldStands A.App self.new) acts.now w result }
         ensures run { (w : PlainWorld) → IsAt (A.meaning (A.kept self.old.node.shared)) A.served w → WorldStands A.App self.old w
             → ActsEnd (WorldStands A.App self.new) result (runs (A.meaning (A.kept self.old.node.shared)) A.served acts.now w) }
     {
@@ -83,6 +87,8 @@ impl<A: App> World<A> {
         ensures mark { OnErr result (self.new.mark ≡ self.old.mark) }
         ensures spent { self.old.spent ≡ true → result ≡ Err StepFault.NoMemory }
         ensures spends { result ≡ Err StepFault.NoMemory → self.new.spent ≡ true }
+        ensures stops { (w : PlainWorld) → IsAt (A.meaning (A.kept self.old.node.shared)) A.served w → WorldStands A.App self.old w
+            → Stops (A.meaning (A.kept self.old.node.shared)) A.served (WorldStands A.App self.new) (lines_acts w event.now) w result }
         ensures line { (w : PlainWorld) → IsAt (A.meaning (A.kept self.old.node.shared)) A.served w → WorldStands A.App self.old w
             → ActsEnd (WorldStands A.App self.new) result (plays_line (A.meaning (A.kept self.old.node.shared)) A.served w event.now) }
     {

@@ -23,7 +23,7 @@ use Rattle.link_world.proofs.SoundWorlds.SoundSent.{of_segment, of_ping, of_echo
 use Rattle.link_world.proofs.Whole.{datagram_whole, ping_whole}
 
 -- what a datagram's bytes are: whole, none at all, or meant for nobody
-data Bytes (w : World) (who : Who) (content : Content) : Type 0 where
+pub data Bytes (w : World) (who : Who) (content : Content) : Type 0 where
   wholly : IsWholeDatagram (bytes_by w who content) → Bytes w who content
   nothing : bytes_by w who content ≡ [] → Bytes w who content
   nobody : who ≡ FromNode 0 → Bytes w who content
@@ -52,7 +52,7 @@ segment_bytes_are w (FromNode zero) id s l g h = nothing refl
 segment_bytes_are w (FromNode (suc n)) id s l g h = told w (FromNode (suc n)) (OfSegment id s) (node_whole w.node.addr id s (slice_get w.sides n) h.addr l g (λ x e. h.sides n x e))
 segment_bytes_are w Pinger id s l g h = nothing refl
 
-bytes_are : (w : World) (who : Who) (content : Content) → SoundWorld w → SoundSent w.node.addr who content → Bytes w who content
+pub bytes_are : (w : World) (who : Who) (content : Content) → SoundWorld w → SoundSent w.node.addr who content → Bytes w who content
 bytes_are w who content h s = elim s [
   | of_segment id t q l g ↦ subst (λ c. Bytes w who c) (sym q) (segment_bytes_are w who id t l g h)
   | of_ping source r q a ↦ subst (λ x. Bytes w x content) (sym r) (subst (λ c. Bytes w Pinger c) (sym q) (wholly (ping_whole source w.node.addr a h.addr)))
@@ -64,7 +64,7 @@ byte_there : (w : World) (act : Act) (b : Bool) → or_full w act (if b then Non
 byte_there w act true h = refl
 byte_there w act false h = absurd (cc)
 
-not_in_nothing : (at : ℕ) (bytes : List ℕ) → bytes ≡ [] → at < length bytes → ⊥
+pub not_in_nothing : (at : ℕ) (bytes : List ℕ) → bytes ≡ [] → at < length bytes → ⊥
 not_in_nothing at bytes e h = let z : length bytes ≡ 0 = ap (λ (x : List ℕ). length x) e in omega (arith, z, h)
 
 module _ (m : Meaning) (served : ℕ → Bool) where

@@ -46,3 +46,7 @@ pub mod Reading
 pub mod OneMore
 pub mod Growing
 pub mod Accepting
+
+pub mod DamageThere
+pub mod Eras
+pub mod Bounds

@@ -33,16 +33,16 @@ arrives d b addr e =
     ∙ ap (by_segment (head_of d) (datagram_bytes d)) b.fields
     ∙ ap (λ s. Arrived (record { peer = record { 0 = d.source }; peer_port = record { 0 = d.from }; own_port = record { 0 = d.to } }) s) b.segment
 
-abbrev to_node : Side → ℕ → PlainSegment → Datagram
+abbrev pub to_node : Side → ℕ → PlainSegment → Datagram
 to_node side id s = datagram_to side.client.setup.addr (server_of side.client.setup) id s
 
-abbrev to_client : Addr → Side → ℕ → PlainSegment → Datagram
+abbrev pub to_client : Addr → Side → ℕ → PlainSegment → Datagram
 to_client addr side id s = datagram_to addr (client_sockets side) id s
 
-to_node_place : (side : Side) (id : ℕ) (s : PlainSegment) → id < 65536 → IsSoundClient side.client → IsPlace (to_node side id s)
+pub to_node_place : (side : Side) (id : ℕ) (s : PlainSegment) → id < 65536 → IsSoundClient side.client → IsPlace (to_node side id s)
 to_node_place side id s l c = record { source = c.addr.four; target = c.server.four; source_bytes = c.addr.all_bytes; target_bytes = c.server.all_bytes; from = c.port; to = c.server_port; id = l }
 
-to_client_place : (addr : Addr) (side : Side) (id : ℕ) (s : PlainSegment) → IsAddr addr → id < 65536 → IsSoundClient side.client → IsPlace (to_client addr side id s)
+pub to_client_place : (addr : Addr) (side : Side) (id : ℕ) (s : PlainSegment) → IsAddr addr → id < 65536 → IsSoundClient side.client → IsPlace (to_client addr side id s)
 to_client_place addr side id s a l c = record { source = a.four; target = c.addr.four; source_bytes = a.all_bytes; target_bytes = c.addr.all_bytes; from = c.server_port; to = c.port; id = l }
 
 address : (a b : Addr) → a ≡ b → b.0 ≡ a.0
@@ -113,7 +113,7 @@ ping_good : (w : World) (source : Addr) → IsAddr source → SoundWorld w → I
 ping_good w source a h = let b : IsPingBack source w.node.addr = ping_back source w.node.addr a h.addr in (ping_reads source w.node.addr b, omega (arith, b.long))
 
 -- a request that was sent is a ping
-ping_long : (addr : Addr) (who : Who) (content : Content) (request : List ℕ) → IsAddr addr → content ≡ OfPing request → SoundSent addr who content → length request ≡ 28
+pub ping_long : (addr : Addr) (who : Who) (content : Content) (request : List ℕ) → IsAddr addr → content ≡ OfPing request → SoundSent addr who content → length request ≡ 28
 ping_long addr who content request a e s = elim s [
   | of_segment id t q l g ↦ absurd (let z : OfSegment id t ≡ OfPing request = sym q ∙ e in cc)
   | of_ping source r q b ↦ (let z : OfPing request ≡ OfPing (ping_from source addr) = sym e ∙ q in let y : request ≡ ping_from source addr = cc in ap (λ (x : List ℕ). length x) y ∙ (ping_back source addr b a).long)

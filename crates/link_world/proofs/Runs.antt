@@ -11,6 +11,7 @@ use Rattle.link_world.specs.declared.act.Act.{Act}
 use Rattle.link_world.specs.declared.step_fault.StepFault.{StepFault}
 use Rattle.link_world.specs.History.{Planned, IsPlanned, IsPlan, fresh_side, opening_world}
 use Rattle.link_world.specs.Headline.{IsAct, IsPlainAct, HasBytes, IsReached}
+use Rattle.link_world.specs.Times.{IsLater}
 use Rattle.link_world.proofs.Tables.{get_map}
 use Rattle.link_world.proofs.Fits.{FitConn, all_nil}
 use Rattle.link_world.proofs.FitWorlds.{FitSide, FitWorld, closed_fits}
@@ -70,7 +71,7 @@ module _ (m : Meaning) (served : ℕ → Bool) (Fine : Act → Type 0) (P : Worl
       rest u (subst P (done_world (does m served v act) u (fault_of v act) q) (step v act f (no_fault (does m served v act) u (fault_of v act) q) p)) e
   one_keeps v w act more (Err f) q g p rest e = absurd (cc)
 
-  run_keeps : (schedule : List Act) (v w : World) → All Fine schedule → P v → runs m served schedule v ≡ Ok w → P w
+  pub run_keeps : (schedule : List Act) (v w : World) → All Fine schedule → P v → runs m served schedule v ≡ Ok w → P w
   run_keeps [] v w a p e = subst P (let z : v ≡ w = cc in z) p
   run_keeps (act ∷ more) v w a p e =
       one_keeps v w act more (acts m served v act) refl (a 0 act (omega arith)) p
@@ -119,3 +120,13 @@ pub reached_sound : (m : Meaning) (pages : Pages) → IsPaged m pages → HasByt
 reached_sound m pages lawful page w r =
     (schedule_keeps m pages lawful r.served (λ v. Unit {0}) (λ v act h p f. tt) r.addr r.numbers r.plan r.schedule w r.is_addr r.in_range r.is_plan
     (fine m pages lawful r.served (λ v. Unit {0}) (λ v act h p f. tt) r.schedule r.are_acts r.bytes) r.accepted tt).sound page
+
+-- any fact that each harmless act keeps, from a world that is reached to a later one
+pub reached_on : (m : Meaning) (pages : Pages) → IsPaged m pages → (P : World → Type 0) → ((served : ℕ → Bool) (w : World) (act : Act) → Harmless m served w act → P w → FitWorld w → P (does m served w act)) →
+    (v w : World) → IsLater m pages v w → P v → P w
+reached_on m pages lawful P step v w l p =
+    let r : IsReached m pages v = l.reached in
+    let k = schedule_keeps m pages lawful r.served (λ u. Unit {0}) (λ u act h q f. tt) r.addr r.numbers r.plan r.schedule v r.is_addr r.in_range r.is_plan
+    (fine m pages lawful r.served (λ u. Unit {0}) (λ u act h q f. tt) r.schedule r.are_acts r.bytes) r.accepted tt in
+    (run_keeps m r.served (Fine m pages lawful r.served P (step r.served)) (Kept m pages lawful r.served P (step r.served)) (act_keeps m pages lawful r.served P (step r.served)) l.more v w
+    (fine m pages lawful r.served P (step r.served) l.more l.are_acts l.bytes) record { fact = p; fits = k.fits; sound = k.sound } l.accepted).fact

@@ -116,7 +116,7 @@ unfolding datagram_bytes
 bytes_low d p h =
     All-append IsByte (head_bytes (20 + length (segment_bytes d)) d.id Tcp d.source d.target) (segment_bytes d) (head_bytes_low (20 + length (segment_bytes d)) d.id Tcp d.source d.target (let z = size_low d h in omega (arith, z)) p.id p.source_bytes p.target_bytes) (segment_low d p.from p.to h)
 
-whole_length : (d : Datagram) → IsPlace d → length (datagram_bytes d) ≡ 20 + length (segment_bytes d)
+pub whole_length : (d : Datagram) → IsPlace d → length (datagram_bytes d) ≡ 20 + length (segment_bytes d)
 unfolding datagram_bytes
 whole_length d p =
     length-append (head_bytes (20 + length (segment_bytes d)) d.id Tcp d.source d.target) (segment_bytes d)

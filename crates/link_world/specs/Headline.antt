@@ -288,3 +288,10 @@ abbrev pub DamageIsLoss : Type 0
 DamageIsLoss =
     (m : Meaning) (served : ℕ → Bool) (w : World) (k at mask : ℕ) (e : Sent) → numbered w.sent k ≡ Some e → IsWholeDatagram (sent_bytes w e) → at < length (sent_bytes w e) → 1 ≤ mask → mask < 256 →
     IsLoss w (does m served w (Act.Damage k at mask)) × CountsBy e.who w (does m served w (Act.Damage k at mask))
+
+-- So it is in every world that is reached: each datagram there would have passed every check.
+abbrev pub DamageIsLossThere : Type 0
+DamageIsLossThere =
+    (m : Meaning) (pages : Pages) → IsPaged m pages → HasBytes pages → (w : World) → IsReached m pages w →
+    (served : ℕ → Bool) (k at mask : ℕ) (e : Sent) → numbered w.sent k ≡ Some e → at < length (sent_bytes w e) → 1 ≤ mask → mask < 256 →
+    IsLoss w (does m served w (Act.Damage k at mask)) × CountsBy e.who w (does m served w (Act.Damage k at mask))

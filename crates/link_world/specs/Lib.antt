@@ -7,3 +7,4 @@ pub mod Headline
 pub mod Parts
 pub mod Honest
 pub mod Reading
+pub mod Times

@@ -5,7 +5,8 @@
 ghost use Rattle.link_world.specs.Parts.{CleanParts};
 ghost use Rattle.link_world.specs.Honest.{HonestLink};
 ghost use Rattle.link_world.specs.Reading.{BytesAreRead, SentToClients};
-ghost use Rattle.link_world.specs.Headline.{PrefixAndWhole, SameBytes, AgainExactly, Tick, DamageIsLoss, OneSegment, LinesAreActs};
+ghost use Rattle.link_world.specs.Headline.{PrefixAndWhole, SameBytes, AgainExactly, Tick, DamageIsLoss, DamageIsLossThere, OneSegment, LinesAreActs};
+ghost use Rattle.link_world.specs.Times.{AcknowledgedLater, EpochsAreFew, MarkIsLow, NoneIsEmpty, OneConnection};
 
 /// A clean client has received a prefix of its page, and the whole page where it took the server's FIN in sequence.
 pub fn prefix_and_whole()
@@ -61,4 +62,34 @@ pub fn bytes_are_read()
 /// Each segment is of a client or to one: the node speaks to clients alone.
 pub fn sent_to_clients()
     ensures { SentToClients }
+{}
+
+/// In a world that is reached a damaged datagram changes no client, no connection, no number and no list.
+pub fn damage_is_loss_there()
+    ensures { DamageIsLossThere }
+{}
+
+/// As long as a client's epoch is the same, a connection with it that lives goes on living, and its first number stays.
+pub fn one_connection()
+    ensures { OneConnection }
+{}
+
+/// What a client acknowledges is sent after every world in which it was clean and had not opened.
+pub fn acknowledged_later()
+    ensures { AcknowledgedLater }
+{}
+
+/// A client has no more epochs than there are datagrams.
+pub fn epochs_are_few()
+    ensures { EpochsAreFew }
+{}
+
+/// The mark is at most the number of datagrams.
+pub fn mark_is_low()
+    ensures { MarkIsLow }
+{}
+
+/// Each datagram has at least one byte.
+pub fn none_is_empty()
+    ensures { NoneIsEmpty }
 {}

@@ -1,0 +1,179 @@
+-- The mark, the bytes of each datagram, and what a client sends only after it opened.
+use Rattle.std.specs.List.{All}
+use Rattle.std.proofs.Common.{◌≡◌, ℕ, zero, suc, ◌+◌, ◌<◌, ◌≤◌, Bool, true, false, inl, inr, List, [], ◌∷◌, ◌++◌, length, max, refl, sym, ap, ◌∙◌, subst, arith, Option, Some, None, Result, Ok, Err, slice_get, is_some, length-append, length-take, length-drop}
+use Rattle.std.proofs.lemmas.Bool.{cases_lt}
+use Rattle.uip_wire.specs.declared.addr.Addr.{Addr}
+use Rattle.app_events.specs.Part.{Meaning}
+use Rattle.app_events.specs.Pages.{Pages, IsPaged, IsMoment, IsNow, IsWord, IsAddr}
+use Rattle.app_events.specs.declared.now.Now.{Now}
+use Rattle.icmp_echo.specs.Echo.{echo_reply}
+use Rattle.tcp_segment.specs.Segments.{PlainSegment, datagram_bytes, has_syn, has_fin, has_rst}
+use Rattle.tcp_machine.specs.Connection.{Sockets, Connection, closed, is_live}
+use Rattle.tcp_machine.specs.Segments.{is_plain_syn, syn_ack}
+use Rattle.tcp_machine.specs.Ask.{Outcome, asked}
+use Rattle.tcp_machine.specs.OnSegment.{accepted, on_segment}
+use Rattle.tcp_machine.specs.OnTick.{on_tick}
+use Rattle.link_client.specs.Client.{AbstractClient, ClientStep, client_takes, client_opens, client_again, client_closes, client_aborts, tells_window}
+use Rattle.link_world.specs.World.{World, Side, Sent, Content, is_clean, marked}
+use Rattle.link_world.specs.World.Content.{OfSegment, OfPing, OfEcho}
+use Rattle.link_world.specs.Bytes.{client_bytes, node_bytes, bytes_by, ping_from, sent_bytes}
+use Rattle.link_world.specs.Acts.{runs}
+use Rattle.link_world.specs.Schedule.{BadLine, acts_of, goes_on_with, mark_after, plays_from, plays_line, with_mark}
+use Rattle.link_schedule.specs.declared.event.Event.{Event}
+use Rattle.link_schedule.specs.declared.event.Event.TheVariants.{Opens, Again, Closes, Aborts, Window, Ping, Give, Damage, Tick, Round, Twice, Reverse, Half, Lose}
+use Rattle.link_world.specs.declared.act.Act.{Act}
+use Rattle.link_world.specs.declared.step_fault.StepFault.{StepFault}
+use Rattle.link_world.specs.declared.who.Who.{Who}
+use Rattle.link_world.specs.declared.who.Who.TheVariants.{FromClient, FromNode, Pinger}
+use Rattle.link_world.specs.History.{opening_world}
+use Rattle.link_world.specs.Headline.{IsReached}
+use Rattle.link_world.specs.Reading.{IsNumberOf, IsSentBy}
+use Rattle.link_world.specs.Times.{IsLater, AcknowledgedLater, MarkIsLow, NoneIsEmpty}
+use Rattle.link_world.proofs.Good.{seg, from, to}
+use Rattle.link_world.proofs.Fits.{FitConn}
+use Rattle.link_world.proofs.Any.{Framed, Steps, Takes, older, speech, entry, does_framed}
+use Rattle.link_world.proofs.Growing.{does_grows}
+use Rattle.link_world.proofs.Parts.{clean_parts}
+use Rattle.link_world.proofs.Prefix.{all_good}
+use Rattle.link_world.proofs.Reading.{to_node, to_client, to_node_place, to_client_place, ping_long}
+use Rattle.link_world.proofs.Runs.{reached_on, reached_sound, run_keeps}
+use Rattle.link_world.proofs.Same.{get_older}
+use Rattle.link_world.proofs.Senders.{IsAsked, has_senders, sent_to_clients}
+use Rattle.link_world.proofs.Sound.{IsSoundClient}
+use Rattle.link_world.proofs.SoundWorlds.{SoundSent, SoundWorld}
+use Rattle.link_world.proofs.SoundWorlds.SoundSent.{of_segment, of_ping, of_echo}
+use Rattle.link_world.proofs.Whole.{ping_back, whole_length}
+
+-- ---- the mark
+
+module _ (m : Meaning) (served : ℕ → Bool) where
+  runs_grow : (all : List Act) (w v : World) → runs m served all w ≡ Ok v → length w.sent ≤ length v.sent
+  runs_grow all w v e =
+      run_keeps m served (λ act. Unit {0}) (λ u. length w.sent ≤ length u.sent) (λ u act f n p. omega (arith, p, (does_grows m served u act).sent)) all w v (λ k d l. tt) (omega arith) e
+
+  low_after : (w : World) (event : Event) → w.mark ≤ length w.sent → mark_after w event ≤ length w.sent
+  low_after w Round h = omega arith
+  low_after w Twice h = omega arith
+  low_after w Reverse h = omega arith
+  low_after w Half h = omega arith
+  low_after w Lose h = omega arith
+  low_after w (Opens n) h = h
+  low_after w (Again n) h = h
+  low_after w (Closes n) h = h
+  low_after w (Aborts n) h = h
+  low_after w (Window n x) h = h
+  low_after w (Ping source) h = h
+  low_after w (Give k) h = h
+  low_after w (Damage k at mask) h = h
+  low_after w (Tick n) h = h
+
+  abbrev Low : World → Type 0
+  Low w = w.mark ≤ length w.sent
+
+  line_low : (place : ℕ) (w v : World) (event : Event) (next : World → Result World BadLine) (r : Result World StepFault) → runs m served (acts_of w event) w ≡ r → Low w → ((u : World) → Low u → next u ≡ Ok v → Low v)
+      → goes_on_with place next (with_mark (mark_after w event) r) ≡ Ok v → Low v
+  line_low place w v event next (Ok u) q h rest e =
+      let grown = runs_grow (acts_of w event) w u q in
+      let low = low_after w event h in
+      rest (record u { mark = mark_after w event }) (omega (arith, grown, low)) e
+  line_low place w v event next (Err f) q h rest e = absurd (cc)
+
+  lines_low : (lines : List Event) (place : ℕ) (w v : World) → Low w → plays_from m served place lines w ≡ Ok v → Low v
+  lines_low [] place w v h e = subst Low (let z : w ≡ v = cc in z) h
+  lines_low (event ∷ more) place w v h e =
+      line_low place w v event (plays_from m served (place + 1) more) (runs m served (acts_of w event) w) refl h (λ u l q. lines_low more (place + 1) u v l q) e
+
+pub mark_is_low : MarkIsLow
+mark_is_low m pages w r = lines_low m r.served r.lines 0 (opening_world r.addr r.numbers r.plan) w (omega arith) r.accepted
+
+-- ---- the bytes
+
+abbrev HasByte : List ℕ → Type 0
+HasByte bytes = 1 ≤ length bytes
+
+client_has : (id : ℕ) (s : PlainSegment) (at : Option Side) → id < 65536 → ((x : Side) → at ≡ Some x → IsSoundClient x.client) → (x : Side) → at ≡ Some x → HasByte (client_bytes id s at)
+client_has id s None l h x e = absurd (cc)
+client_has id s (Some side) l h x e = let n = whole_length (to_node side id s) (to_node_place side id s l (h side refl)) in omega (arith, n)
+
+node_has : (addr : Addr) (id : ℕ) (s : PlainSegment) (at : Option Side) → IsAddr addr → id < 65536 → ((x : Side) → at ≡ Some x → IsSoundClient x.client) → (x : Side) → at ≡ Some x → HasByte (node_bytes addr id s at)
+node_has addr id s None a l h x e = absurd (cc)
+node_has addr id s (Some side) a l h x e = let n = whole_length (to_client addr side id s) (to_client_place addr side id s a l (h side refl)) in omega (arith, n)
+
+segment_has : (w : World) (who : Who) (id : ℕ) (s : PlainSegment) → id < 65536 → SoundWorld w → IsSentBy w.sides who (OfSegment id s) → HasByte (bytes_by w who (OfSegment id s))
+segment_has w (FromClient zero) id s l h b = absurd (let e = b.1 in cc)
+segment_has w (FromClient (suc n)) id s l h b = client_has id s (slice_get w.sides n) l (λ x e. h.sides n x e) b.0 b.1
+segment_has w (FromNode zero) id s l h b = absurd (let e = b.1 in cc)
+segment_has w (FromNode (suc n)) id s l h b = node_has w.node.addr id s (slice_get w.sides n) h.addr l (λ x e. h.sides n x e) b.0 b.1
+segment_has w Pinger id s l h b = absurd b
+
+echo_has : (request : List ℕ) → length request ≡ 28 → HasByte (echo_reply request)
+echo_has request h = simp (length-append, length-take, length-drop) (omega (arith, h))
+
+pub none_is_empty : NoneIsEmpty
+none_is_empty m pages lawful page w r k e x =
+    let h : SoundWorld w = reached_sound m pages lawful page w r in
+    let by : IsSentBy w.sides e.who e.content = sent_to_clients m pages lawful w r k e x in
+    elim (h.sent k e x) [
+      | of_segment id t q l g ↦ subst (λ c. HasByte (bytes_by w e.who c)) (sym q) (segment_has w e.who id t l h (subst (λ c. IsSentBy w.sides e.who c) q by))
+      | of_ping source p q b ↦ subst (λ y. HasByte (bytes_by w y e.content)) (sym p) (subst (λ c. HasByte (bytes_by w Pinger c)) (sym q) (let z = (ping_back source w.node.addr b h.addr).long in omega (arith, z)))
+      | of_echo request p q ↦ (let a : IsAsked w.sent request = subst (λ c. Rattle.link_world.proofs.Senders.Asked w.sent c) q ((has_senders m pages lawful w r).sent k e x).1 in
+          let long : length request ≡ 28 = ping_long w.node.addr a.asker.who a.asker.content request h.addr a.is (h.sent a.index a.asker a.get) in
+          subst (λ y. HasByte (bytes_by w y e.content)) (sym p) (subst (λ c. HasByte (bytes_by w (FromNode 0) c)) (sym q) (echo_has request long)))
+    ]
+
+-- ---- what was sent stays
+
+module _ (m : Meaning) (n : ℕ) (it : Sent) where
+  abbrev There : ℕ → Side → Connection → List Sent → Type 0
+  There k side c sent = slice_get sent n ≡ Some it
+
+  there_other : (k : ℕ) (side : Side) (c : Connection) (sent : List Sent) (e : Sent) → There k side c sent → (e.who ≡ to k → ⊥) → (e.who ≡ from k → ⊥) → There k side c (sent ++ e ∷ [])
+  there_other k side c sent e g t f = get_older sent e it n g
+
+  there_reset : (k : ℕ) (side : Side) (c : Connection) (sent : List Sent) (e : Sent) → There k side c sent → e.epoch ≡ length side.past → has_syn (seg e).flags ≡ false → has_fin (seg e).flags ≡ false → (seg e).text ≡ [] → has_rst (seg e).flags ≡ true → e.again ≡ false → e.who ≡ to k → There k side c (sent ++ e ∷ [])
+  there_reset k side c sent e g q sy fi te rs ag w = get_older sent e it n g
+
+  there_evict : (k : ℕ) (side : Side) (c : Connection) (sent : List Sent) → is_live c.state ≡ true → There k side c sent → There k (older side c) closed sent
+  there_evict k side c sent l g = g
+
+  there_mark : (k : ℕ) (side : Side) (c : Connection) (sent : List Sent) (i : ℕ) (e : Sent) → There k side c sent → There k (marked side i e) c sent
+  there_mark k side c sent i e g = g
+
+  there_steps : (w : World) (o : Outcome) (k : ℕ) (side : Side) → slice_get w.sent n ≡ Some it → Steps m There there_other there_reset there_evict there_mark w o k side
+  there_steps w o k side g = record { quiet = λ x l. g; quiet_last = λ x l. g; says = λ s e l tick id. get_older w.sent _ it n g; says_last = λ s e l tick id. get_older w.sent _ it n g }
+
+  there_takes : (w : World) (k : ℕ) (base : Side) (c : Connection) (t : ClientStep) → slice_get w.sent n ≡ Some it → Takes m There there_other there_reset there_evict there_mark w k base c t
+  there_takes w k base c t g = record { quiet = λ x. g; says = λ s e tick. get_older w.sent _ it n g }
+
+  stays_there : (pages : Pages) → IsPaged m pages → (v w : World) → IsLater m pages v w → Framed m There there_other there_reset there_evict there_mark v → Framed m There there_other there_reset there_evict there_mark w
+  stays_there pages lawful v w l = reached_on m pages lawful (λ u. Framed m There there_other there_reset there_evict there_mark u)
+      (λ served u act harm g fits. does_framed m There there_other there_reset there_evict there_mark pages lawful served
+      (λ w old numbers now k j side e lv f n is sent who fresh g. there_steps w (asked m now (on_segment m old numbers (seg e))) k side g)
+      (λ w old numbers now k side lv f n is g. there_steps w (asked m now (on_tick m old numbers)) k side g)
+      (λ w first sockets k j side e sent who fresh plain fit g tick id. get_older w.sent _ it n g)
+      (λ w k j side c number e fit sent who g. there_takes w k (marked side number e) c (client_takes side.client (seg e)) g)
+      (λ w k side c fit g. there_takes w k side c (client_opens side.client) g)
+      (λ w k side c fit g. there_takes w k side c (client_again side.client) g)
+      (λ w k side c fit g. there_takes w k side c (client_closes side.client) g)
+      (λ w k side c fit g. there_takes w k side c (client_aborts side.client) g)
+      (λ x w k side c fit g. there_takes w k side c (tells_window x side.client) g)
+      u act harm g fits)
+      v w l
+
+some_at : {X : Type 0} (xs : List X) (i : ℕ) → i < length xs → (x : X) × (slice_get xs i ≡ Some x)
+some_at [] i l = absurd (omega arith)
+some_at (x ∷ xs) zero l = (x, refl)
+some_at (x ∷ xs) (suc i) l = some_at xs i (omega arith)
+
+pub acknowledged_later : AcknowledgedLater
+acknowledged_later m pages lawful v w l k a b x at clean unopened i e id s y who is nr ack =
+    elim (cases_lt i (length v.sent)) [
+      | inr h ↦ h
+      | inl h ↦ (let f = some_at v.sent i h in
+          let start = all_good m pages lawful v l.reached in
+          let now : slice_get w.sent i ≡ Some f.0 =
+          (stays_there m i f.0 pages lawful v w l record { apart = start.apart; single = start.single; each = λ j side z. f.1 }).each k b at in
+          let same : f.0 ≡ e = (let z : Some f.0 ≡ Some e = sym now ∙ y in cc) in
+          let opened : is_some a.opened ≡ true = (clean_parts m pages lawful v l.reached k a x clean).acknowledges i f.0 id s f.1 (ap (λ (z : Sent). z.who) same ∙ who) (ap (λ (z : Sent). z.content) same ∙ is) nr ack in
+          absurd (let z : false ≡ true = ap (λ (o : Option ℕ). is_some o) (sym unopened) ∙ opened in cc))
+    ]

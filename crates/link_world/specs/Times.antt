@@ -1,0 +1,59 @@
+-- What holds between a world and a later one, and what each world keeps of its numbers.
+use Rattle.std.specs.List.{All}
+use Rattle.std.specs.Prelude.{◌≡◌, ℕ, suc, ◌+◌, ◌≤◌, ◌⊎◌, true, false, List, length, Some, None, Ok, slice_get}
+use Rattle.tcp_segment.specs.Segments.{PlainSegment, has_rst, has_ack}
+use Rattle.app_events.specs.Part.{Meaning}
+use Rattle.app_events.specs.Pages.{Pages, IsPaged}
+use Rattle.tcp_machine.specs.Connection.{is_live}
+use Rattle.link_world.specs.World.{World, Side, Sent, epoch, is_clean}
+use Rattle.link_world.specs.World.Content.{OfSegment}
+use Rattle.link_world.specs.Bytes.{sent_bytes}
+use Rattle.link_world.specs.Acts.{runs}
+use Rattle.link_world.specs.declared.act.Act.{Act}
+use Rattle.link_world.specs.declared.who.Who.TheVariants.{FromClient}
+use Rattle.link_world.specs.Headline.{HasBytes, IsAct, IsPlainAct, IsReached, IsSchedulePlayed, server_side}
+
+-- A world that is reached, and one that further acts reach from it, each of them accepted.
+pub record IsLater (m : Meaning) (pages : Pages) (v w : World) : Type 0 where
+  pub reached : IsReached m pages v
+  pub more : List Act
+  pub are_acts : All IsAct more
+  pub bytes : HasBytes pages ⊎ All IsPlainAct more
+  pub accepted : runs m reached.served more v ≡ Ok w
+
+-- One connection an epoch: as long as a client's epoch is the same, a connection with it that lives goes on living, and its first
+-- number stays.
+abbrev pub OneConnection : Type 0
+OneConnection =
+    (m : Meaning) (pages : Pages) → IsPaged m pages → (v w : World) → IsLater m pages v w →
+    (k : ℕ) (a b : Side) → slice_get v.sides k ≡ Some a → slice_get w.sides k ≡ Some b → epoch a ≡ epoch b → is_live (server_side v a).state ≡ true →
+    (is_live (server_side w b).state ≡ true) × ((server_side w b).first ≡ (server_side v a).first)
+
+-- Acknowledged after opening: what a client acknowledges, without RST, is sent after every world in which it was clean and had not
+-- opened.
+abbrev pub AcknowledgedLater : Type 0
+AcknowledgedLater =
+    (m : Meaning) (pages : Pages) → IsPaged m pages → (v w : World) → IsLater m pages v w →
+    (k : ℕ) (a b : Side) → slice_get v.sides k ≡ Some a → slice_get w.sides k ≡ Some b → is_clean a ≡ true → a.opened ≡ None →
+    (i : ℕ) (e : Sent) (id : ℕ) (s : PlainSegment) → slice_get w.sent i ≡ Some e → e.who ≡ FromClient (suc k) → e.content ≡ OfSegment id s →
+    has_rst s.flags ≡ false → has_ack s.flags ≡ true → length v.sent ≤ i
+
+-- A client's connections that are CLOSED, and the one that lives, are no more than the datagrams that were sent.
+pub record HasFewEpochs (w : World) (side : Side) : Type 0 where
+  pub past : epoch side ≤ length w.sent
+  pub live : is_live (server_side w side).state ≡ true → epoch side + 1 ≤ length w.sent
+
+abbrev pub EpochsAreFew : Type 0
+EpochsAreFew =
+    (m : Meaning) (pages : Pages) → IsPaged m pages → (w : World) → IsReached m pages w →
+    (k : ℕ) (side : Side) → slice_get w.sides k ≡ Some side → HasFewEpochs w side
+
+-- The mark is at most the number of datagrams.
+abbrev pub MarkIsLow : Type 0
+MarkIsLow = (m : Meaning) (pages : Pages) (w : World) → IsSchedulePlayed m pages w → w.mark ≤ length w.sent
+
+-- Each datagram has at least one byte.
+abbrev pub NoneIsEmpty : Type 0
+NoneIsEmpty =
+    (m : Meaning) (pages : Pages) → IsPaged m pages → HasBytes pages → (w : World) → IsReached m pages w →
+    (k : ℕ) (e : Sent) → slice_get w.sent k ≡ Some e → 1 ≤ length (sent_bytes w e)
