@@ -14,7 +14,8 @@ use Rattle.link_world.specs.History.{era}
 use Rattle.link_world.specs.Headline.{server_side}
 use Rattle.link_world.specs.Parts.{IsSlice, SaysPage, AsksRequest, HasTaken, HasOneEpoch, CleanParts}
 use Rattle.link_world.proofs.Basics.{IsPart}
-use Rattle.link_world.proofs.Good.{seg, segment_in, StateGood, NodeSaid, ClientSaid, OpenedGood, Good}
+use Rattle.link_client.specs.declared.client_state.ClientState.TheVariants as Is
+use Rattle.link_world.proofs.Good.{is_unasked, seg, segment_in, StateGood, NodeSaid, ClientSaid, OpenedGood, Good}
 use Rattle.link_world.proofs.Good.NodeSaid.{node_reset, node_syn, node_ack, node_text, node_fin}
 use Rattle.link_world.proofs.Good.ClientSaid.{said_reset, said_syn, said_data}
 use Rattle.link_world.proofs.Prefix.{all_good}
@@ -68,11 +69,16 @@ not_past pages client c LastAck e l g = absurd (let z : false ≡ true = g.opene
 
 one_epoch : (pages : Pages) (side : Side) (c : Connection) (o : Option ℕ) → side.opened ≡ o → OpenedGood pages side.client side.past c o → (is_live c.state ≡ true → StateGood pages o side.client c c.state) → HasOneEpoch side c
 one_epoch pages side c None q h s = record {
+  unopened = λ early. q;
   nothing = λ e. h.nothing;
   waits = λ e l. not_past pages side.client c c.state refl l (s l);
   opened_in = λ n e l. absurd (let z : None ≡ Some n = sym q ∙ e in cc);
 }
 one_epoch pages side c (Some o) q h s = record {
+  unopened = λ early. absurd (let asked = h.asked in elim early [
+      | inl e ↦ (let z : is_unasked Is.Idle ≡ false = subst (λ st. is_unasked st ≡ false) e asked in cc)
+      | inr e ↦ (let z : is_unasked Is.Opening ≡ false = subst (λ st. is_unasked st ≡ false) e asked in cc)
+    ]);
   nothing = λ e. absurd (let z : Some o ≡ None = sym q ∙ e in cc);
   waits = λ e l. absurd (let z : Some o ≡ None = sym q ∙ e in cc);
   opened_in = λ n e l. (let z : Some o ≡ Some n = sym q ∙ e in let y : n ≡ o = cc in y ∙ h.live_then l);

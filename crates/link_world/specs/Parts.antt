@@ -8,6 +8,7 @@ use Rattle.app_events.specs.Pages.{Pages, IsPaged}
 use Rattle.app_events.specs.declared.state.State.TheVariants.{SynRcvd, Established, CloseWait}
 use Rattle.tcp_machine.specs.Connection.{Connection, is_live}
 use Rattle.link_client.specs.Client.{AbstractClient, own_first, fin_sent}
+use Rattle.link_client.specs.declared.client_state.ClientState.TheVariants.{Idle, Opening}
 use Rattle.link_world.specs.World.{World, Side, Sent, Era, is_clean}
 use Rattle.link_world.specs.World.Content.{OfSegment}
 use Rattle.link_world.specs.declared.who.Who.TheVariants.{FromClient, FromNode}
@@ -48,9 +49,10 @@ pub record AsksRequest (side : Side) (s : PlainSegment) : Type 0 where
   pub slice : IsSlice side.client.request s.text at
   pub seq : s.seq ≡ wrap (own_first side.client + 1 + at)
 
--- Before a client opens nothing is received, and its connection is not past SYN-RECEIVED. After it opened, its connection lives
--- in that epoch alone.
+-- While a client is idle or opening it has not opened. Before it opened it has received nothing, and its connection is not past
+-- SYN-RECEIVED. Once it has opened, its connection lives in that epoch alone.
 pub record HasOneEpoch (side : Side) (c : Connection) : Type 0 where
+  pub unopened : (side.client.state ≡ Idle) ⊎ (side.client.state ≡ Opening) → side.opened ≡ None
   pub nothing : side.opened ≡ None → side.client.received ≡ []
   pub waits : side.opened ≡ None → is_live c.state ≡ true → c.state ≡ SynRcvd
   pub opened_in : (o : ℕ) → side.opened ≡ Some o → is_live c.state ≡ true → o ≡ length side.past
