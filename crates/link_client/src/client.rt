@@ -1,5 +1,5 @@
-ghost use Rattle.std.specs.Prelude.{◌≡◌, ◌+◌, ◌≤◌, ◌++◌, ◌&&◌, not, nat_lt, ℕ, [], List, Some, is_some, length, slice_range};
-ghost use Rattle.link_client.specs.Calls.{Did, IsClient, can_abort, has_spoken, client_hears, is_opened, standing, client_hands};
+ghost use Rattle.std.specs.Prelude.{◌≡◌, ◌+◌, ◌≤◌, ◌++◌, ◌&&◌, ℕ, [], List, Some, is_some, length, slice_range};
+ghost use Rattle.link_client.specs.Calls.{Did, IsClient, can_abort, has_more_to_send, has_spoken, client_hears, is_opened, standing, client_hands};
 ghost use Rattle.link_client.specs.Client.{client_aborts, client_again, client_closes, client_opens, idle, tells_window};
 
 use crate::client_state::ClientState;
@@ -108,7 +108,7 @@ impl Client {
         ensures client { IsClient self.new request.now }
         ensures setup { self.new.setup ≡ self.old.setup }
         ensures room { length area.new ≡ length area.old }
-        ensures answers { self.old.fin ≡ FinAt.NotSent → is_some result ≡ (is_opened self.old.state && not (nat_lt 0 self.old.out)) }
+        ensures answers { is_some result ≡ (is_opened self.old.state && has_more_to_send (standing (record self.old { state = ClientState.Closing }) request.now [])) }
         ensures step { (received : List ℕ) → Did (client_closes (standing self.old request.now received)) (standing self.new request.now received) result area.new }
     {
         match self.state {
