@@ -352,9 +352,9 @@ module _ (m : Meaning) (pages : Pages) (lawful : IsPaged m pages) where
   syn_only c Established client l g = absurd (let z : false ≡ true = g.text.opened_is in cc)
   syn_only c CloseWait client l g = absurd (let z : false ≡ true = g.opened_is in cc)
   syn_only c FinWait1 client l g = absurd (let z : false ≡ true = g.opened_is in cc)
-  syn_only c FinWait2 client l g = absurd (let z : false ≡ true = g in cc)
+  syn_only c FinWait2 client l g = absurd (let z : false ≡ true = g.opened_is in cc)
   syn_only c Closing client l g = absurd (let z : false ≡ true = g.opened_is in cc)
-  syn_only c TimeWait client l g = absurd (let z : false ≡ true = g in cc)
+  syn_only c TimeWait client l g = absurd (let z : false ≡ true = g.opened_is in cc)
   syn_only c LastAck client l g = absurd (let z : false ≡ true = g.opened_is in cc)
 
   syn_seq : (client : AbstractClient) (P : Type 0) (first : ℕ) (captures : List Moment) (s : PlainSegment) → has_rst s.flags ≡ false → has_syn s.flags ≡ true → NodeSaid pages client P first captures s → s.seq ≡ wrap first

@@ -62,6 +62,7 @@ pub record AtSyn (c : Connection) : Type 0 where
   pub len : c.len ≡ 1
   pub captures : c.part.captures ≡ []
   pub acked : c.acked ≡ 0
+  pub heard : c.part.heard ≡ []
 
 pub record AtText (pages : Pages) (opened : Option ℕ) (client : AbstractClient) (c : Connection) : Type 0 where
   pub opened_is : is_some opened ≡ true
@@ -77,6 +78,11 @@ pub record AtFin (pages : Pages) (opened : Option ℕ) (client : AbstractClient)
   pub opened_is : is_some opened ≡ true
   pub ends : IsAll pages client c.part.captures c.part.acked
   pub count : c.acked ≡ 1 + c.part.acked
+  pub heard : IsPrefixOf c.part.heard client.request
+
+pub record AtRest (opened : Option ℕ) (client : AbstractClient) (c : Connection) : Type 0 where
+  pub opened_is : is_some opened ≡ true
+  pub heard : IsPrefixOf c.part.heard client.request
 
 abbrev pub StateGood : Pages → Option ℕ → AbstractClient → Connection → State → Type 0
 StateGood pages opened client c Closed = Unit {0}
@@ -84,9 +90,9 @@ StateGood pages opened client c SynRcvd = AtSyn c
 StateGood pages opened client c Established = AtOpen pages opened client c
 StateGood pages opened client c CloseWait = AtText pages opened client c
 StateGood pages opened client c FinWait1 = AtFin pages opened client c
-StateGood pages opened client c FinWait2 = is_some opened ≡ true
+StateGood pages opened client c FinWait2 = AtRest opened client c
 StateGood pages opened client c Closing = AtFin pages opened client c
-StateGood pages opened client c TimeWait = is_some opened ≡ true
+StateGood pages opened client c TimeWait = AtRest opened client c
 StateGood pages opened client c LastAck = AtFin pages opened client c
 
 pub record ConnGood (pages : Pages) (opened : Option ℕ) (client : AbstractClient) (c : Connection) : Type 0 where

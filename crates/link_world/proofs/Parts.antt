@@ -62,9 +62,9 @@ not_past pages client c SynRcvd e l g = e
 not_past pages client c Established e l g = absurd (let z : false ≡ true = g.text.opened_is in cc)
 not_past pages client c CloseWait e l g = absurd (let z : false ≡ true = g.opened_is in cc)
 not_past pages client c FinWait1 e l g = absurd (let z : false ≡ true = g.opened_is in cc)
-not_past pages client c FinWait2 e l g = absurd (let z : false ≡ true = g in cc)
+not_past pages client c FinWait2 e l g = absurd (let z : false ≡ true = g.opened_is in cc)
 not_past pages client c Closing e l g = absurd (let z : false ≡ true = g.opened_is in cc)
-not_past pages client c TimeWait e l g = absurd (let z : false ≡ true = g in cc)
+not_past pages client c TimeWait e l g = absurd (let z : false ≡ true = g.opened_is in cc)
 not_past pages client c LastAck e l g = absurd (let z : false ≡ true = g.opened_is in cc)
 
 one_epoch : (pages : Pages) (side : Side) (c : Connection) (o : Option ℕ) → side.opened ≡ o → OpenedGood pages side.client side.past c o → (is_live c.state ≡ true → StateGood pages o side.client c c.state) → HasOneEpoch side c

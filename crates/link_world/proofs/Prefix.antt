@@ -132,7 +132,7 @@ module _ (m : Meaning) (pages : Pages) (lawful : IsPaged m pages) where
       let c : Connection = accepted first sockets (seg e) in
       let good : G k side c w.sent = λ cl. (let y = born_by side e ((g cl).of_client j e sent who).said (plain_is (seg e) plain) in
       view_born m pages lawful k side.client side.opened side.past closed c w.sent (g cl) refl refl
-      record { peer_first = y.seq; state = record { taken = refl; len = refl; captures = refl; acked = refl } } (λ o p. subst (λ n. n ≤ o) (fresh cl) (y.before o p))) in
+      record { peer_first = y.seq; state = record { taken = refl; len = refl; captures = refl; acked = refl; heard = refl } } (λ o p. subst (λ n. n ≤ o) (fresh cl) (y.before o p))) in
       push k side c w.sent (entry (to k) side tick id (speech false (syn_ack c))) good
       (λ cl. (λ f. absurd (cc), λ t. entry_good k side.client side.opened side.past c c w.sent (entry (to k) side tick id (speech false (syn_ack c))) (good cl) refl (λ x. refl) (says_syn m pages lawful side.opened side.client c refl refl)))
 

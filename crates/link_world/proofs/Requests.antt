@@ -234,9 +234,9 @@ module _ (m : Meaning) (pages : Pages) (lawful : IsPaged m pages) where
   nothing_taken c Established client l g = absurd (let z : false ≡ true = g.text.opened_is in cc)
   nothing_taken c CloseWait client l g = absurd (let z : false ≡ true = g.opened_is in cc)
   nothing_taken c FinWait1 client l g = absurd (let z : false ≡ true = g.opened_is in cc)
-  nothing_taken c FinWait2 client l g = absurd (let z : false ≡ true = g in cc)
+  nothing_taken c FinWait2 client l g = absurd (let z : false ≡ true = g.opened_is in cc)
   nothing_taken c Closing client l g = absurd (let z : false ≡ true = g.opened_is in cc)
-  nothing_taken c TimeWait client l g = absurd (let z : false ≡ true = g in cc)
+  nothing_taken c TimeWait client l g = absurd (let z : false ≡ true = g.opened_is in cc)
   nothing_taken c LastAck client l g = absurd (let z : false ≡ true = g.opened_is in cc)
 
   never_asked : (client d : AbstractClient) (epoch : ℕ) (s : PlainSegment) → ClientSaid client None epoch s → EndsIn d s

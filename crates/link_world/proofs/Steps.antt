@@ -21,7 +21,7 @@ use Rattle.tcp_machine.specs.declared.step.Step.{Step}
 use Rattle.link_client.specs.Client.{AbstractClient, own_first}
 use Rattle.link_world.proofs.Basics.{IsPart, prefix_part, prefix_length, prefix_joins, and_true, same_place, empty_part, zero_or_more, ltb-zero, in_place, choose, append_nothing, cut_part, part_prefix}
 use Rattle.link_world.proofs.Later.{page_more, page_heard, front_grows, front_all}
-use Rattle.link_world.proofs.Good.{Spoken, spoken, AtSyn, AtText, AtOpen, AtFin, ConnGood, StateGood, Moved, StepGood, SentGood, ClientSaid, IsData, Steady}
+use Rattle.link_world.proofs.Good.{Spoken, spoken, AtSyn, AtText, AtOpen, AtFin, AtRest, ConnGood, StateGood, Moved, StepGood, SentGood, ClientSaid, IsData, Steady}
 use Rattle.link_world.proofs.Good.NodeSaid.{node_reset, node_syn, node_ack, node_text, node_fin}
 use Rattle.link_world.proofs.Good.ClientSaid.{said_reset, said_syn, said_data}
 
@@ -195,7 +195,7 @@ module _ (m : Meaning) (pages : Pages) (lawful : IsPaged m pages) where
     wanted_good Abort fresh c numbers o g h w = move_says c (closes c) (reset_of (closes c)) (closes_good c c refl refl) (says_reset (closes c) (closes c))
     wanted_good Close fresh c numbers o g h w =
         let d : Connection = sends_fin (after_own_fin c.state) c in
-        let a : AtFin pages opened client d = record { opened_is = h.opened_is; ends = front_all m pages lawful client c.part.heard c.part.captures c.part.acked h.heard w.0 w.1; count = h.count } in
+        let a : AtFin pages opened client d = record { opened_is = h.opened_is; ends = front_all m pages lawful client c.part.heard c.part.captures c.part.acked h.heard w.0 w.1; count = h.count; heard = h.heard } in
         move_says c d (fin_of d) (turns c d refl refl g.peer_first (fin_state d c.state o a)) (says_fin d (fin_lives c.state) a)
     wanted_good (Send n) fresh c numbers o g h w =
         let d : Connection = sends_text (min n c.mss) c in
@@ -392,27 +392,27 @@ module _ (m : Meaning) (pages : Pages) (lawful : IsPaged m pages) where
         move_silent c d (turns c d refl refl pf (state_at d CloseWait st u))
     by_state_good at_epoch FinWait1 true c numbers s steady said nr st pf h ac e lv =
         choose (λ (o : Outcome). OutGood c o) (has_fin s.flags) _ _
-        (λ f. let d : Connection = in_state TimeWait (takes (length s.text + 1) (rests c)) in move_says c d (bare_ack d) (turns c d refl refl pf h.opened_is) (says_ack d refl))
-        (λ f. let d : Connection = in_state FinWait2 (takes (length s.text) (rests c)) in move_silent c d (turns c d refl refl pf h.opened_is))
+        (λ f. let d : Connection = in_state TimeWait (takes (length s.text + 1) (rests c)) in move_says c d (bare_ack d) (turns c d refl refl pf record { opened_is = h.opened_is; heard = h.heard }) (says_ack d refl))
+        (λ f. let d : Connection = in_state FinWait2 (takes (length s.text) (rests c)) in move_silent c d (turns c d refl refl pf record { opened_is = h.opened_is; heard = h.heard }))
     by_state_good at_epoch FinWait1 false c numbers s steady said nr st pf h ac e lv =
         let g : ConnGood pages opened client c = record { peer_first = pf; state = state_at c FinWait1 st h } in
         choose (λ (o : Outcome). OutGood c o) (has_fin s.flags) _ _
         (λ f. let d : Connection = in_state Closing (takes (length s.text + 1) c) in
-        let a : AtFin pages opened client d = record { opened_is = h.opened_is; ends = h.ends; count = h.count } in
+        let a : AtFin pages opened client d = record { opened_is = h.opened_is; ends = h.ends; count = h.count; heard = h.heard } in
         move_says c d (bare_ack d) (turns c d refl refl pf a) (says_ack d refl))
         (λ f. choose (λ (o : Outcome). OutGood c o) (has_text s) _ _
         (λ i. let d : Connection = takes (length s.text) c in
-        let a : AtFin pages opened client d = record { opened_is = h.opened_is; ends = h.ends; count = h.count } in
+        let a : AtFin pages opened client d = record { opened_is = h.opened_is; ends = h.ends; count = h.count; heard = h.heard } in
         move_says c d (bare_ack d) (turns c d refl refl pf (state_at d FinWait1 st a)) (says_ack d (ap is_live st)))
         (λ i. move_silent c c (stays_good c g)))
     by_state_good at_epoch FinWait2 acked c numbers s steady said nr st pf h ac e lv =
         choose (λ (o : Outcome). OutGood c o) (has_fin s.flags) _ _
-        (λ f. let d : Connection = record (in_state TimeWait (takes (length s.text + 1) c)) { age = 0 } in move_says c d (bare_ack d) (turns c d refl refl pf h) (says_ack d refl))
+        (λ f. let d : Connection = record (in_state TimeWait (takes (length s.text + 1) c)) { age = 0 } in move_says c d (bare_ack d) (turns c d refl refl pf record { opened_is = h.opened_is; heard = h.heard }) (says_ack d refl))
         (λ f. choose (λ (o : Outcome). OutGood c o) (has_text s) _ _
-        (λ i. let d : Connection = takes (length s.text) c in move_says c d (bare_ack d) (turns c d refl refl pf (state_at d FinWait2 st h)) (says_ack d (ap is_live st)))
+        (λ i. let d : Connection = takes (length s.text) c in move_says c d (bare_ack d) (turns c d refl refl pf (state_at d FinWait2 st record { opened_is = h.opened_is; heard = h.heard })) (says_ack d (ap is_live st)))
         (λ i. move_silent c c (stays_good c record { peer_first = pf; state = state_at c FinWait2 st h })))
     by_state_good at_epoch Closing true c numbers s steady said nr st pf h ac e lv =
-        let d : Connection = in_state TimeWait (rests c) in move_silent c d (turns c d refl refl pf h.opened_is)
+        let d : Connection = in_state TimeWait (rests c) in move_silent c d (turns c d refl refl pf record { opened_is = h.opened_is; heard = h.heard })
     by_state_good at_epoch Closing false c numbers s steady said nr st pf h ac e lv = move_silent c c (stays_good c record { peer_first = pf; state = state_at c Closing st h })
     by_state_good at_epoch LastAck true c numbers s steady said nr st pf h ac e lv = move_silent c (closes (rests c)) (closes_good c (rests c) refl refl)
     by_state_good at_epoch LastAck false c numbers s steady said nr st pf h ac e lv = move_silent c c (stays_good c record { peer_first = pf; state = state_at c LastAck st h })
@@ -433,14 +433,14 @@ module _ (m : Meaning) (pages : Pages) (lawful : IsPaged m pages) where
     -- the timer
     older : (c : Connection) (st : State) → StateGood pages opened client c st → StateGood pages opened client (grows_older c) st
     older c Closed h = tt
-    older c SynRcvd h = record { taken = h.taken; len = h.len; captures = h.captures; acked = h.acked }
+    older c SynRcvd h = record { taken = h.taken; len = h.len; captures = h.captures; acked = h.acked; heard = h.heard }
     older c Established h = record { text = record { opened_is = h.text.opened_is; heard = h.text.heard; fits = h.text.fits; count = h.text.count }; taken = h.taken }
     older c CloseWait h = record { opened_is = h.opened_is; heard = h.heard; fits = h.fits; count = h.count }
-    older c FinWait1 h = record { opened_is = h.opened_is; ends = h.ends; count = h.count }
-    older c FinWait2 h = h
-    older c Closing h = record { opened_is = h.opened_is; ends = h.ends; count = h.count }
-    older c TimeWait h = h
-    older c LastAck h = record { opened_is = h.opened_is; ends = h.ends; count = h.count }
+    older c FinWait1 h = record { opened_is = h.opened_is; ends = h.ends; count = h.count; heard = h.heard }
+    older c FinWait2 h = record { opened_is = h.opened_is; heard = h.heard }
+    older c Closing h = record { opened_is = h.opened_is; ends = h.ends; count = h.count; heard = h.heard }
+    older c TimeWait h = record { opened_is = h.opened_is; heard = h.heard }
+    older c LastAck h = record { opened_is = h.opened_is; ends = h.ends; count = h.count; heard = h.heard }
 
     older_moved : (c : Connection) → ConnGood pages opened client c → Moved pages opened client c (grows_older c)
     older_moved c g = turns c (grows_older c) refl refl g.peer_first (older c c.state g.state)

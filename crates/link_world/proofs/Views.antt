@@ -15,7 +15,7 @@ use Rattle.link_world.proofs.Basics.{both_ways, append_nothing, get_push}
 use Rattle.link_world.proofs.Basics.AtEnd.{older, newest}
 use Rattle.link_world.proofs.Clients.{not_opening}
 use Rattle.link_world.proofs.Later.{part_later, all_later, node_later, client_later}
-use Rattle.link_world.proofs.Good.{is_some, seg, from, to, AtText, AtFin, StateGood, ConnGood, NodeSaid, Moved, FromGood, ToGood, HasOpened, OpenedGood, Good, TookGood}
+use Rattle.link_world.proofs.Good.{is_some, seg, from, to, AtText, AtFin, AtRest, StateGood, ConnGood, NodeSaid, Moved, FromGood, ToGood, HasOpened, OpenedGood, Good, TookGood}
 use Rattle.link_world.proofs.Good.NodeSaid.{node_reset}
 use Rattle.app_events.specs.Laws.{IsPrefixOf}
 
@@ -212,7 +212,10 @@ module _ (m : Meaning) (pages : Pages) (lawful : IsPaged m pages) where
   text_later client d opened next c r s h = record { opened_is = s h.opened_is; heard = subst (λ x. IsPrefixOf c.part.heard x) (sym r) h.heard; fits = h.fits; count = h.count }
 
   fin_later : (client d : AbstractClient) (opened next : Option ℕ) (c : Connection) → d.request ≡ client.request → (is_some opened ≡ true → is_some next ≡ true) → AtFin pages opened client c → AtFin pages next d c
-  fin_later client d opened next c r s h = record { opened_is = s h.opened_is; ends = all_later m pages lawful client d c.part.captures c.part.captures [] c.part.acked r (sym (append_nothing c.part.captures)) h.ends; count = h.count }
+  fin_later client d opened next c r s h = record { opened_is = s h.opened_is; ends = all_later m pages lawful client d c.part.captures c.part.captures [] c.part.acked r (sym (append_nothing c.part.captures)) h.ends; count = h.count; heard = subst (λ x. IsPrefixOf c.part.heard x) (sym r) h.heard }
+
+  rest_later : (client d : AbstractClient) (opened next : Option ℕ) (c : Connection) → d.request ≡ client.request → (is_some opened ≡ true → is_some next ≡ true) → AtRest opened client c → AtRest next d c
+  rest_later client d opened next c r s h = record { opened_is = s h.opened_is; heard = subst (λ x. IsPrefixOf c.part.heard x) (sym r) h.heard }
 
   conn_later : (client d : AbstractClient) (opened next : Option ℕ) (c : Connection) (st : State) → d.request ≡ client.request →
       (is_some opened ≡ true → is_some next ≡ true) → StateGood pages opened client c st → StateGood pages next d c st
@@ -221,9 +224,9 @@ module _ (m : Meaning) (pages : Pages) (lawful : IsPaged m pages) where
   conn_later client d opened next c Established r s h = record { text = text_later client d opened next c r s h.text; taken = h.taken }
   conn_later client d opened next c CloseWait r s h = text_later client d opened next c r s h
   conn_later client d opened next c FinWait1 r s h = fin_later client d opened next c r s h
-  conn_later client d opened next c FinWait2 r s h = s h
+  conn_later client d opened next c FinWait2 r s h = rest_later client d opened next c r s h
   conn_later client d opened next c Closing r s h = fin_later client d opened next c r s h
-  conn_later client d opened next c TimeWait r s h = s h
+  conn_later client d opened next c TimeWait r s h = rest_later client d opened next c r s h
   conn_later client d opened next c LastAck r s h = fin_later client d opened next c r s h
 
   kept_opened : (client : AbstractClient) (past : List Era) (c : Connection) (opened next : Option ℕ) (took : ClientStep) → OpenedGood pages client past c opened → TookGood pages client past c opened next took →

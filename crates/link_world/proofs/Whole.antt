@@ -126,8 +126,12 @@ whole_length d p =
 pub datagram_short : (d : Datagram) → IsPlace d → IsSoundSegment d.segment → length (datagram_bytes d) ≤ 1500
 datagram_short d p h = let n = whole_length d p in let s = size_low d h in omega (arith, n, s)
 
+above_zero : (o : Option ℕ) → IfSome o (λ n. (0 < n) × (n < 65536)) → IfSome o (λ n. 0 < n)
+above_zero None h = h
+above_zero (Some n) h = h.0
+
 pub datagram_back : (d : Datagram) → IsPlace d → IsSoundSegment d.segment → IsReadBack d
-datagram_back d p h = segment_back d record { source = p.source; target = p.target; from = p.from; to = p.to; id = p.id; seq = h.seq; ack = h.ack; flags = h.flags; window = h.window; mss = h.mss; size = size_low d h }
+datagram_back d p h = segment_back d record { source = p.source; target = p.target; flags = h.flags; mss = above_zero d.segment.mss h.mss }
 
 pub datagram_whole : (d : Datagram) → IsPlace d → IsSoundSegment d.segment → IsWholeDatagram (datagram_bytes d)
 datagram_whole d p h =

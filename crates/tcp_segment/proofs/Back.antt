@@ -165,7 +165,7 @@ back d (Some mss) sound =
       fields =
           ap (λ l. segment_in d.source d.target l) (payload_is sent sound.source sound.target)
           ∙ received 6 (516 ∷ mss ∷ []) sent (Some mss) sound.source sound.target sound.flags (omega arith) refl
-          (ap value_of (same_word mss) ∙ some_value mss sound.mss.0);
+          (ap value_of (same_word mss) ∙ some_value mss sound.mss);
       segment = ap (λ (l : List ℕ). record sent.segment { text = l }) (text_is sent 24 sound.source sound.target refl);
     }
 

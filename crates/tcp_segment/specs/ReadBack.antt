@@ -1,26 +1,18 @@
 -- What was sent is received: a sound datagram passes every check and is read back as it was.
-use Rattle.std.specs.Prelude.{◌≡◌, ◌<◌, ◌≤◌, ◌+◌, ◌*◌, IfSome, length, Ok}
+use Rattle.std.specs.Prelude.{◌≡◌, ◌<◌, ◌+◌, ◌*◌, IfSome, length, Ok}
 use Rattle.uip_ipv4.specs.Head.{head_or_fate}
 use Rattle.uip_ipv4.specs.declared.head.IpHead.{IpHead}
 use Rattle.uip_ipv4.specs.declared.proto.Proto.TheVariants.{Tcp}
-use Rattle.uip_wire.specs.declared.sizes.TheConstants.{LARGEST_DATAGRAM}
 use Rattle.tcp_segment.specs.Received.{plain_of, segment_or_fate}
 use Rattle.tcp_segment.specs.Segments.{Datagram, datagram_bytes, offset_of, segment_bytes}
 use Rattle.tcp_segment.specs.declared.segment.Segment.{Segment}
 
--- Each number fits its field, the option's value is not 0, and the whole is no longer than the largest datagram.
+-- Its addresses have four bytes, its flags are six bits, and the option's value is not 0.
 pub record IsSoundDatagram (d : Datagram) : Type 0 where
   pub source : length d.source ≡ 4
   pub target : length d.target ≡ 4
-  pub from : d.from < 65536
-  pub to : d.to < 65536
-  pub id : d.id < 65536
-  pub seq : d.segment.seq < 4294967296
-  pub ack : d.segment.ack < 4294967296
   pub flags : d.segment.flags < 64
-  pub window : d.segment.window < 65536
-  pub mss : IfSome d.segment.mss (λ mss. (0 < mss) × (mss < 65536))
-  pub size : 20 + length (segment_bytes d) ≤ LARGEST_DATAGRAM
+  pub mss : IfSome d.segment.mss (λ mss. 0 < mss)
 
 -- what its header says
 abbrev pub head_of : Datagram → IpHead
