@@ -23,6 +23,7 @@ use Rattle.link_world.proofs.Runs.{reached, reached_on}
 use Rattle.link_world.proofs.Views.{length_push}
 use Rattle.link_world.proofs.Moves.{asked_moves, segment_moves, tick_moves}
 use Rattle.link_world.proofs.Any.{Framed, Steps, Takes, older, speech, entry, does_framed}
+use Rattle.link_world.proofs.TextNumbers.{Num, accepted_num, closed_num, segment_num, tick_num}
 use Rattle.link_world.proofs.Prefix
 use Rattle.link_world.proofs.Prefix.{none_serves}
 use Rattle.link_world.proofs.Tables.{get_map, serving_free}
@@ -174,6 +175,49 @@ module _ (m : Meaning) where
         (λ x w k side c fit g. same_takes w k side c (tells_window x side.client) g)
         u act harm g fits)
         v w l
+
+  -- the numbers of the connection of each client
+  abbrev Numbered : ℕ → Side → Connection → List Sent → Type 0
+  Numbered k side c sent = Num c
+
+  num_other : (k : ℕ) (side : Side) (c : Connection) (sent : List Sent) (e : Sent) → Numbered k side c sent → (e.who ≡ to k → ⊥) → (e.who ≡ from k → ⊥) → Numbered k side c (sent ++ e ∷ [])
+  num_other k side c sent e g t x = g
+
+  num_reset : (k : ℕ) (side : Side) (c : Connection) (sent : List Sent) (e : Sent) → Numbered k side c sent → e.epoch ≡ length side.past → has_syn (seg e).flags ≡ false → has_fin (seg e).flags ≡ false → (seg e).text ≡ [] → has_rst (seg e).flags ≡ true → e.again ≡ false → e.who ≡ to k → Numbered k side c (sent ++ e ∷ [])
+  num_reset k side c sent e g q sy fi te rs ag w = g
+
+  num_evict : (k : ℕ) (side : Side) (c : Connection) (sent : List Sent) → is_live c.state ≡ true → Numbered k side c sent → Numbered k (older side c) closed sent
+  num_evict k side c sent l g = closed_num
+
+  num_mark : (k : ℕ) (side : Side) (c : Connection) (sent : List Sent) (i : ℕ) (e : Sent) → Numbered k side c sent → Numbered k (marked side i e) c sent
+  num_mark k side c sent i e g = g
+
+  num_steps : (w : World) (out : Outcome) (k : ℕ) (side : Side) → Num out.connection → Steps m Numbered num_other num_reset num_evict num_mark w out k side
+  num_steps w out k side g = record { quiet = λ x l. g; quiet_last = λ x l. closed_num; says = λ s e l tick id. g; says_last = λ s e l tick id. closed_num }
+
+  num_takes : (w : World) (k : ℕ) (base : Side) (c : Connection) (t : ClientStep) → Num c → Takes m Numbered num_other num_reset num_evict num_mark w k base c t
+  num_takes w k base c t g = record { quiet = λ x. g; says = λ s e tick. g }
+
+  pub all_numbered : (pages : Pages) → IsPaged m pages → (w : World) → IsReached m pages w → (k : ℕ) (side : Side) → slice_get w.sides k ≡ Some side → Num (server_side w side)
+  all_numbered pages lawful w r = (reached m pages lawful (λ v. Framed m Numbered num_other num_reset num_evict num_mark v)
+      (λ served v act harm g fits. does_framed m Numbered num_other num_reset num_evict num_mark pages lawful served
+      (λ w old numbers now k j side e lv f n is sent who fresh g. num_steps w (asked m now (on_segment m old numbers (seg e))) k side (segment_num m pages lawful now old numbers (seg e) g))
+      (λ w old numbers now k side lv f n is g. num_steps w (asked m now (on_tick m old numbers)) k side (tick_num m pages lawful now old numbers g))
+      (λ w first sockets k j side e sent who fresh plain fit g tick id. accepted_num first sockets (seg e))
+      (λ w k j side c number e fit sent who g. num_takes w k (marked side number e) c (client_takes side.client (seg e)) g)
+      (λ w k side c fit g. num_takes w k side c (client_opens side.client) g)
+      (λ w k side c fit g. num_takes w k side c (client_again side.client) g)
+      (λ w k side c fit g. num_takes w k side c (client_closes side.client) g)
+      (λ w k side c fit g. num_takes w k side c (client_aborts side.client) g)
+      (λ x w k side c fit g. num_takes w k side c (tells_window x side.client) g)
+      v act harm g fits)
+      (λ addr numbers plan is. let b = Prefix.opening_framed m pages lawful addr numbers plan is in
+      record {
+        apart = b.apart;
+        single = b.single;
+        each = λ k side x. subst Num (sym (serving_free (replicate 10 closed) (client_sockets side) (none_serves 10 (client_sockets side)))) closed_num;
+      })
+      w r).each
 
 only_side : (sides : List Side) (k : ℕ) (a b : Side) → slice_get sides k ≡ Some a → slice_get sides k ≡ Some b → a ≡ b
 only_side sides k a b x y = let z : Some a ≡ Some b = sym x ∙ y in cc

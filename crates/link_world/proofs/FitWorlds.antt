@@ -11,15 +11,17 @@ use Rattle.tcp_machine.specs.Ask.{Outcome}
 use Rattle.tcp_machine.specs.OnSegment.{accept, on_segment}
 use Rattle.tcp_machine.specs.OnTick.{on_tick}
 use Rattle.uip_node.specs.Events.{Event, Reply}
-use Rattle.uip_node.specs.Events.Event.{Arrived, Periodic}
+use Rattle.uip_node.specs.Events.Answer.{EchoReplied, Silent}
+use Rattle.uip_node.specs.Events.Event.{IpRefused, IcmpRefused, TcpRefused, EchoAsked, Arrived, Overlong, Periodic}
 use Rattle.uip_node.specs.Events.Reply.{Echo, Tcp}
 use Rattle.uip_node.specs.Counters.{initial_number}
-use Rattle.uip_node.specs.Node.{AbstractNode, NodeStep, moment, happened, connection_in, slot_for_syn, opens_in, opens, from_stranger, arrives_at, step}
+use Rattle.uip_node.specs.Node.{AbstractNode, NodeStep, moment, happened, connection_in, slot_for_syn, opens_in, opens, from_stranger, arrives_at, remembers, step}
 use Rattle.link_client.specs.Client.{ClientStep}
 use Rattle.link_world.specs.World.{World, Side, Era, Content, client_sockets, buries, buries_in, addressed, posts, posts_reply, node_stepped, node_handles, with_client, with_side, posts_of_client, client_stepped}
 use Rattle.link_world.specs.declared.who.Who.{Who}
 use Rattle.link_world.specs.declared.who.Who.TheVariants.{FromNode}
 use Rattle.link_world.specs.History.{no_era, era, serving}
+use Rattle.link_world.specs.Nodes.{IsEvent}
 use Rattle.link_world.proofs.Basics.{choose, only_some}
 use Rattle.link_world.proofs.Tables.{get_map, get_set}
 use Rattle.link_world.proofs.Tables.Written.{here, there}
@@ -169,6 +171,19 @@ module _ (m : Meaning) (pages : Pages) (lawful : IsPaged m pages) where
       happened_fits n (Arrived sockets s) slot (connection_in slot n) _ f
       (asked_fits m pages lawful (moment n (Arrived sockets s) slot) (node_moment n (Arrived sockets s) slot f) (on_segment m (connection_in slot n) n.numbers s)
       (on_segment_fits m pages lawful (connection_in slot n) n.numbers s (index_fits n.connections slot f.conns) f.numbers))
+
+  -- an event whose addresses and ports fit their types
+  pub event_fits : (served : ℕ → Bool) (n : AbstractNode) (event : Event) → IsEvent event → FitNode n → FitNode (step m served n event).node
+  event_fits served n (IpRefused fate) e f = (still_fits n (remembers n (IpRefused fate) Silent) None refl refl f).node
+  event_fits served n (IcmpRefused fate) e f = (still_fits n (remembers n (IcmpRefused fate) Silent) None refl refl f).node
+  event_fits served n (TcpRefused fate) e f = (still_fits n (remembers n (TcpRefused fate) Silent) None refl refl f).node
+  event_fits served n (EchoAsked datagram) e f = (still_fits n (remembers n (EchoAsked datagram) EchoReplied) None refl refl f).node
+  event_fits served n (Arrived sockets s) e f = (arrives_fits served n sockets s (position (serves sockets) n.connections) e.0 e.1 f).node
+  event_fits served n Overlong e f = (still_fits n (remembers n Overlong Silent) None refl refl f).node
+  event_fits served n (Periodic slot) e f =
+      (happened_fits n (Periodic slot) slot (connection_in slot n) _ f
+      (asked_fits m pages lawful (moment n (Periodic slot) slot) (node_moment n (Periodic slot) slot f) (on_tick m (connection_in slot n) n.numbers)
+      (on_tick_fits m pages lawful (connection_in slot n) n.numbers (index_fits n.connections slot f.conns) f.numbers))).node
 
   pub arrival_fits : (served : ℕ → Bool) (w : World) (sockets : Sockets) (s : PlainSegment) → IsAddr sockets.peer → sockets.peer_port.0 < 65536 → FitWorld w → FitWorld (node_handles m served w (Arrived sockets s))
   arrival_fits served w sockets s a p f = stepped_fit w (step m served w.node (Arrived sockets s)) f (arrives_fits served w.node sockets s (position (serves sockets) w.node.connections) a p f.node)

@@ -50,3 +50,5 @@ pub mod Accepting
 pub mod DamageThere
 pub mod Eras
 pub mod Bounds
+pub mod TextNumbers
+pub mod NodeRuns

@@ -19,7 +19,10 @@ use Rattle.link_world.proofs.Good.{is_unasked, seg, segment_in, StateGood, NodeS
 use Rattle.link_world.proofs.Good.NodeSaid.{node_reset, node_syn, node_ack, node_text, node_fin}
 use Rattle.link_world.proofs.Good.ClientSaid.{said_reset, said_syn, said_data}
 use Rattle.link_world.proofs.Prefix.{all_good}
+use Rattle.link_world.specs.Nodes.{HasTextNumbers}
+use Rattle.link_world.proofs.Eras.{all_numbered}
 use Rattle.link_world.proofs.Requests.{RequestedBy, all_requested}
+use Rattle.link_world.proofs.TextNumbers.{text_numbers}
 
 slice_of : (whole text : List ℕ) (at : ℕ) → IsPart whole text at → IsSlice whole text at
 slice_of whole text at p = record { fits = p.fits; same = p.same }
@@ -94,18 +97,24 @@ split_taken client taken true e l h =
       | inr i ↦ (taken, l, i, inl refl)
     ]
 
-at_established : (pages : Pages) (opened : Option ℕ) (client : AbstractClient) (c : Connection) → c.state ≡ Established → StateGood pages opened client c c.state → IsPrefixOf c.part.heard client.request × (c.taken ≡ length c.part.heard)
-at_established pages opened client c e g = (let h : StateGood pages opened client c Established = subst (λ s. StateGood pages opened client c s) e g in (h.text.heard, h.taken))
+-- what was heard is a front of the request
+heard_front : (pages : Pages) (opened : Option ℕ) (client : AbstractClient) (c : Connection) (st : State) → is_live st ≡ true → StateGood pages opened client c st → IsPrefixOf c.part.heard client.request
+heard_front pages opened client c Closed l g = absurd (cc)
+heard_front pages opened client c SynRcvd l g = subst (λ (xs : List ℕ). IsPrefixOf xs client.request) (sym g.heard) record { rest = client.request; joined = refl }
+heard_front pages opened client c Established l g = g.text.heard
+heard_front pages opened client c CloseWait l g = g.heard
+heard_front pages opened client c FinWait1 l g = g.heard
+heard_front pages opened client c FinWait2 l g = g.heard
+heard_front pages opened client c Closing l g = g.heard
+heard_front pages opened client c TimeWait l g = g.heard
+heard_front pages opened client c LastAck l g = g.heard
 
-at_close_wait : (pages : Pages) (opened : Option ℕ) (client : AbstractClient) (c : Connection) → c.state ≡ CloseWait → StateGood pages opened client c c.state → IsPrefixOf c.part.heard client.request
-at_close_wait pages opened client c e g = (let h : StateGood pages opened client c CloseWait = subst (λ s. StateGood pages opened client c s) e g in h.heard)
-
-has_taken : (pages : Pages) (k : ℕ) (client : AbstractClient) (c : Connection) (sent : List Sent) (opened : Option ℕ) → RequestedBy k client c sent opened → is_some opened ≡ true → is_live c.state ≡ true → StateGood pages opened client c c.state → HasTaken client c
-has_taken pages k client c sent None r s l g = absurd (cc)
-has_taken pages k client c sent (Some o) r s l g =
+has_taken : (pages : Pages) (k : ℕ) (client : AbstractClient) (c : Connection) (sent : List Sent) (opened : Option ℕ) → RequestedBy k client c sent opened → is_some opened ≡ true → is_live c.state ≡ true → StateGood pages opened client c c.state → HasTextNumbers c → HasTaken client c
+has_taken pages k client c sent None r s l g n = absurd (cc)
+has_taken pages k client c sent (Some o) r s l g n =
     let q = r l in
     let p = split_taken client c.taken (fin_sent client.fin) refl q.low q.high in
-    record { bytes = p.0; least = p.1; most = p.2; taken = p.3; established = λ e. at_established pages (Some o) client c e g; close_wait = λ e. at_close_wait pages (Some o) client c e g }
+    record { bytes = p.0; least = p.1; most = p.2; taken = p.3; heard = heard_front pages (Some o) client c c.state l g; numbers = n }
 
 pub clean_parts : CleanParts
 clean_parts m pages lawful w r k side x clean =
@@ -118,6 +127,6 @@ clean_parts m pages lawful w r k side x clean =
           subst (λ z. AsksRequest side z) q (asks_request side e.epoch (seg e) (ap (λ (z : PlainSegment). has_rst z.flags) q ∙ nr) (subst (λ (z : PlainSegment). 0 < length z.text) (sym q) l) (g.of_client i e y who).said));
       acknowledges = λ i e id s y who is nr a. (let q : seg e ≡ s = ap segment_in is in
           has_opened side e.epoch (seg e) (ap (λ (z : PlainSegment). has_rst z.flags) q ∙ nr) (ap (λ (z : PlainSegment). has_ack z.flags) q ∙ a) (g.of_client i e y who).said);
-      requested = λ l o. has_taken pages k side.client c w.sent side.opened (((all_requested m pages lawful w r).each k side x).asked_by clean) o l (g.connection l).state;
+      requested = λ l o. has_taken pages k side.client c w.sent side.opened (((all_requested m pages lawful w r).each k side x).asked_by clean) o l (g.connection l).state (text_numbers c (all_numbered m pages lawful w r k side x));
       epochs = one_epoch pages side c side.opened refl g.opened_good (λ l. (g.connection l).state);
     }

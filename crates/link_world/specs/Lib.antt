@@ -8,3 +8,4 @@ pub mod Parts
 pub mod Honest
 pub mod Reading
 pub mod Times
+pub mod Nodes

@@ -5,7 +5,7 @@ use Rattle.tcp_segment.specs.Segments.{PlainSegment, has_syn, has_fin, has_rst, 
 use Rattle.app_events.specs.Part.{Meaning}
 use Rattle.app_events.specs.Laws.{IsPrefixOf}
 use Rattle.app_events.specs.Pages.{Pages, IsPaged}
-use Rattle.app_events.specs.declared.state.State.TheVariants.{SynRcvd, Established, CloseWait}
+use Rattle.app_events.specs.declared.state.State.TheVariants.{SynRcvd}
 use Rattle.tcp_machine.specs.Connection.{Connection, is_live}
 use Rattle.link_client.specs.Client.{AbstractClient, own_first, fin_sent}
 use Rattle.link_client.specs.declared.client_state.ClientState.TheVariants.{Idle, Opening}
@@ -14,6 +14,7 @@ use Rattle.link_world.specs.World.Content.{OfSegment}
 use Rattle.link_world.specs.declared.who.Who.TheVariants.{FromClient, FromNode}
 use Rattle.link_world.specs.History.{era}
 use Rattle.link_world.specs.Headline.{IsReached, server_side}
+use Rattle.link_world.specs.Nodes.{HasTextNumbers}
 
 -- the text stands at this place of the whole
 pub record IsSlice (whole text : List ℕ) (at : ℕ) : Type 0 where
@@ -58,14 +59,15 @@ pub record HasOneEpoch (side : Side) (c : Connection) : Type 0 where
   pub opened_in : (o : ℕ) → side.opened ≡ Some o → is_live c.state ≡ true → o ≡ length side.past
 
 -- How much of the request the server has taken: so many bytes, from what is acknowledged up to what is outstanding, and maybe the
--- FIN behind them. As long as the application is handed text, that is a front of the request.
+-- FIN behind them. What the application was handed is a front of the request, and no more than was taken: in ESTABLISHED all that was
+-- taken, in CLOSE-WAIT all but the FIN.
 pub record HasTaken (client : AbstractClient) (c : Connection) : Type 0 where
   pub bytes : ℕ
   pub least : client.acked ≤ bytes
   pub most : bytes ≤ client.acked + client.out
   pub taken : (c.taken ≡ bytes) ⊎ ((fin_sent client.fin ≡ true) × (c.taken ≡ bytes + 1))
-  pub established : c.state ≡ Established → IsPrefixOf c.part.heard client.request × (c.taken ≡ length c.part.heard)
-  pub close_wait : c.state ≡ CloseWait → IsPrefixOf c.part.heard client.request
+  pub heard : IsPrefixOf c.part.heard client.request
+  pub numbers : HasTextNumbers c
 
 -- Every datagram of the node and of the client says what it may, a client acknowledges nothing before it opened, and its server has
 -- taken what it may of the request.

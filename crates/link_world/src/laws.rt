@@ -6,6 +6,7 @@ ghost use Rattle.link_world.specs.Parts.{CleanParts};
 ghost use Rattle.link_world.specs.Honest.{HonestLink};
 ghost use Rattle.link_world.specs.Reading.{BytesAreRead, SentToClients};
 ghost use Rattle.link_world.specs.Headline.{PrefixAndWhole, SameBytes, AgainExactly, Tick, DamageIsLoss, DamageIsLossThere, OneSegment, LinesAreActs};
+ghost use Rattle.link_world.specs.Nodes.{CapturesFit, TextNumbers, TextsAreShort};
 ghost use Rattle.link_world.specs.Times.{AcknowledgedLater, EpochsAreFew, MarkIsLow, NoneIsEmpty, OneConnection};
 
 /// A clean client has received a prefix of its page, and the whole page where it took the server's FIN in sequence.
@@ -92,4 +93,20 @@ pub fn mark_is_low()
 /// Each datagram has at least one byte.
 pub fn none_is_empty()
     ensures { NoneIsEmpty }
+{}
+
+/// At every node what a connection's peer has acknowledged is what its application counts, and what it was handed is what was
+/// taken.
+pub fn text_numbers()
+    ensures { TextNumbers }
+{}
+
+/// What an application captures at a node has rows and numbers in the ranges of their types.
+pub fn captures_fit()
+    ensures { CapturesFit }
+{}
+
+/// No connection of a node says 2^30 bytes.
+pub fn texts_are_short()
+    ensures { TextsAreShort }
 {}

@@ -1,0 +1,100 @@
+-- What holds of every connection of a node, whatever happens to it.
+use Rattle.std.specs.List.{All}
+use Rattle.std.proofs.Common.{◌≡◌, ℕ, zero, suc, ◌<◌, ◌≤◌, Bool, true, false, ◌&&◌, List, [], ◌∷◌, ◌++◌, length, replicate, position, set, refl, sym, subst, arith, Option, Some, None, slice_get, slice_index_or}
+use Rattle.uip_wire.specs.declared.addr.Addr.{Addr}
+use Rattle.tcp_segment.specs.Segments.{PlainSegment, has_rst}
+use Rattle.app_events.specs.Part.{Meaning}
+use Rattle.app_events.specs.Pages.{Pages, IsPaged, IsMoment, IsNow, IsWord}
+use Rattle.app_events.specs.declared.now.Now.{Now}
+use Rattle.tcp_machine.specs.Connection.{Connection, Sockets, closed, is_live, serves}
+use Rattle.tcp_machine.specs.Segments.{is_plain_syn, syn_ack}
+use Rattle.tcp_machine.specs.Ask.{Outcome, asked}
+use Rattle.tcp_machine.specs.OnSegment.{accept, accepted, on_segment}
+use Rattle.tcp_machine.specs.OnTick.{on_tick}
+use Rattle.uip_node.specs.Counters.{initial_number}
+use Rattle.uip_node.specs.Events.{Event}
+use Rattle.uip_node.specs.Events.Event.{IpRefused, IcmpRefused, TcpRefused, EchoAsked, Arrived, Overlong, Periodic}
+use Rattle.uip_node.specs.Node.{AbstractNode, NodeStep, arrives_at, connection_in, from_stranger, happened, moment, opening, opens, opens_in, run, slot_for_syn, step}
+use Rattle.link_world.specs.Nodes.{CapturesFit, IsEvent, IsOfNode, TextNumbers, TextsAreShort}
+use Rattle.link_world.proofs.Basics.{choose}
+use Rattle.link_world.proofs.Tables.{get_set}
+use Rattle.link_world.proofs.Tables.Written.{here, there}
+use Rattle.link_world.proofs.Fits.{FitConn}
+use Rattle.link_world.proofs.FitWorlds.{FitNode, closed_fits, event_fits}
+use Rattle.link_world.proofs.Runs.{all_closed}
+use Rattle.link_world.proofs.TextNumbers.{Num, accepted_num, closed_num, segment_num, text_numbers, tick_num}
+
+-- ---- a fact that each step of a connection keeps
+
+module _ (m : Meaning) (P : Connection → Type 0) (shut : P closed) (born : (first : ℕ) (sockets : Sockets) (s : PlainSegment) → P (accepted first sockets s))
+    (hears : (at : Connection → Now) (c : Connection) (numbers : List ℕ) (s : PlainSegment) → P c → P (asked m at (on_segment m c numbers s)).connection)
+    (ticks : (at : Connection → Now) (c : Connection) (numbers : List ℕ) → P c → P (asked m at (on_tick m c numbers)).connection) where
+  abbrev Each : List Connection → Type 0
+  Each cs = (i : ℕ) (c : Connection) → slice_get cs i ≡ Some c → P c
+
+  set_each : (cs : List Connection) (slot : ℕ) (new : Connection) → P new → Each cs → Each (set cs slot new)
+  set_each cs slot new p h i c x = elim (get_set cs slot new i c x) [ here e q ↦ subst P q p | there n g ↦ h i c g ]
+
+  index_each : (cs : List Connection) (i : ℕ) → Each cs → P (slice_index_or cs i closed)
+  index_each [] i h = shut
+  index_each (c ∷ cs) zero h = h zero c refl
+  index_each (c ∷ cs) (suc i) h = index_each cs i (λ j x g. h (suc j) x g)
+
+  happened_each : (n : AbstractNode) (event : Event) (slot : ℕ) (old : Connection) (o : Outcome) → P o.connection → Each n.connections → Each (happened m n event slot old o).node.connections
+  unfolding happened
+  happened_each n event slot old o p h = set_each n.connections slot o.connection p h
+
+  opens_each : (n : AbstractNode) (sockets : Sockets) (s : PlainSegment) (slot : Option ℕ) → Each n.connections → Each (opens m n sockets s slot).node.connections
+  unfolding opens_in
+  opens_each n sockets s None h = h
+  opens_each n sockets s (Some slot) h =
+      happened_each n (Arrived sockets s) slot (connection_in slot n) (accept (initial_number n.past) sockets s n.numbers) (born (initial_number n.past) sockets s) h
+
+  stranger_each : (served : ℕ → Bool) (n : AbstractNode) (sockets : Sockets) (s : PlainSegment) → Each n.connections → Each (from_stranger m served n sockets s).node.connections
+  unfolding from_stranger
+  stranger_each served n sockets s h =
+      choose (λ (x : NodeStep). Each x.node.connections) (is_plain_syn s && served sockets.own_port.0) _ _ (λ e. opens_each n sockets s (slot_for_syn n.connections) h)
+      (λ e. choose (λ (x : NodeStep). Each x.node.connections) (has_rst s.flags) _ _ (λ g. h) (λ g. h))
+
+  arrives_each : (served : ℕ → Bool) (n : AbstractNode) (sockets : Sockets) (s : PlainSegment) (found : Option ℕ) → Each n.connections → Each (arrives_at m served n sockets s found).node.connections
+  arrives_each served n sockets s None h = stranger_each served n sockets s h
+  arrives_each served n sockets s (Some slot) h =
+      happened_each n (Arrived sockets s) slot (connection_in slot n) _ (hears (moment n (Arrived sockets s) slot) (connection_in slot n) n.numbers s (index_each n.connections slot h)) h
+
+  step_each : (served : ℕ → Bool) (n : AbstractNode) (event : Event) → Each n.connections → Each (step m served n event).node.connections
+  step_each served n (IpRefused fate) h = h
+  step_each served n (IcmpRefused fate) h = h
+  step_each served n (TcpRefused fate) h = h
+  step_each served n (EchoAsked datagram) h = h
+  step_each served n (Arrived sockets s) h = arrives_each served n sockets s (position (serves sockets) n.connections) h
+  step_each served n Overlong h = h
+  step_each served n (Periodic slot) h = happened_each n (Periodic slot) slot (connection_in slot n) _ (ticks (moment n (Periodic slot) slot) (connection_in slot n) n.numbers (index_each n.connections slot h)) h
+
+  run_each : (served : ℕ → Bool) (events : List Event) (n : AbstractNode) → Each n.connections → Each (run m served events n).node.connections
+  run_each served [] n h = h
+  run_each served (e ∷ es) n h = run_each served es (step m served n e).node (step_each served n e h)
+
+  pub every : (served : ℕ → Bool) (events : List Event) (addr : Addr) (numbers : List ℕ) → Each (run m served events (opening addr numbers)).node.connections
+  every served events addr numbers = run_each served events (opening addr numbers) (λ i c x. subst P (all_closed 10 i c x) shut)
+
+pub text_numbers_hold : TextNumbers
+text_numbers_hold m pages lawful c r =
+    text_numbers c (every m Num closed_num accepted_num (segment_num m pages lawful) (tick_num m pages lawful) r.served r.events r.addr r.numbers r.slot c r.there)
+
+-- ---- captures
+
+module _ (m : Meaning) (pages : Pages) (lawful : IsPaged m pages) where
+  run_fits : (served : ℕ → Bool) (events : List Event) (n : AbstractNode) → All IsEvent events → FitNode n → FitNode (run m served events n).node
+  run_fits served [] n a f = f
+  run_fits served (e ∷ es) n a f = run_fits served es (step m served n e).node (λ k d l. a (suc k) d (omega (arith, l))) (event_fits m pages lawful served n e (a 0 e (omega arith)) f)
+
+  fits_of : (c : Connection) → IsOfNode m c → FitConn c
+  fits_of c r =
+      (run_fits r.served r.events (opening r.addr r.numbers) r.are_events record { size = omega arith; conns = λ i x y. subst FitConn (all_closed 10 i x y) closed_fits; numbers = r.in_range }).conns r.slot c r.there
+
+pub captures_fit : CapturesFit
+captures_fit m pages lawful c r = (fits_of m pages lawful c r).captures
+
+pub texts_are_short : TextsAreShort
+texts_are_short m pages lawful c r =
+    subst (λ (xs : List ℕ). length xs < 1073741824) (sym (lawful.said c.part)) (lawful.short c.part.heard c.part.captures (fits_of m pages lawful c r).captures)
