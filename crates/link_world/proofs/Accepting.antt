@@ -70,7 +70,7 @@ module _ (m : Meaning) (served : ℕ → Bool) where
   line_fine w event free =
       fine_mark (Grows w) (mark_after w event) (runs m served (acts_of w event) w)
       (fine_weaker (Grows w) (λ v. Grows w (record v { mark = mark_after w event })) (runs m served (acts_of w event) w)
-      (λ v g. record { sent = g.sent; spoken = g.spoken }) (runs_fine (acts_of w event) w w (grows_not w) free))
+      (λ v g. record { sent = g.sent; spoken = g.spoken; planned = g.planned }) (runs_fine (acts_of w event) w w (grows_not w) free))
 
 -- ---- which acts are free
 

@@ -1,6 +1,6 @@
 -- The mark, the bytes of each datagram, and what a client sends only after it opened.
 use Rattle.std.specs.List.{All}
-use Rattle.std.proofs.Common.{◌≡◌, ℕ, zero, suc, ◌+◌, ◌<◌, ◌≤◌, Bool, true, false, inl, inr, List, [], ◌∷◌, ◌++◌, length, max, refl, sym, ap, ◌∙◌, subst, arith, Option, Some, None, Result, Ok, Err, slice_get, is_some, length-append, length-take, length-drop}
+use Rattle.std.proofs.Common.{◌≡◌, ℕ, zero, suc, ◌+◌, ◌<◌, ◌≤◌, Bool, true, false, inl, inr, List, [], ◌∷◌, ◌++◌, length, map, max, refl, sym, ap, ◌∙◌, subst, arith, Option, Some, None, Result, Ok, Err, slice_get, is_some, length-append, length-take, length-drop}
 use Rattle.std.proofs.lemmas.Bool.{cases_lt}
 use Rattle.uip_wire.specs.declared.addr.Addr.{Addr}
 use Rattle.app_events.specs.Part.{Meaning}
@@ -17,7 +17,7 @@ use Rattle.link_client.specs.Client.{AbstractClient, ClientStep, client_takes, c
 use Rattle.link_world.specs.World.{World, Side, Sent, Content, is_clean, marked}
 use Rattle.link_world.specs.World.Content.{OfSegment, OfPing, OfEcho}
 use Rattle.link_world.specs.Bytes.{client_bytes, node_bytes, bytes_by, ping_from, sent_bytes}
-use Rattle.link_world.specs.Acts.{runs}
+use Rattle.link_world.specs.Acts.{does, runs}
 use Rattle.link_world.specs.Schedule.{BadLine, acts_of, goes_on_with, mark_after, plays_from, plays_line, with_mark}
 use Rattle.link_schedule.specs.declared.event.Event.{Event}
 use Rattle.link_schedule.specs.declared.event.Event.TheVariants.{Opens, Again, Closes, Aborts, Window, Ping, Give, Damage, Tick, Round, Twice, Reverse, Half, Lose}
@@ -25,14 +25,14 @@ use Rattle.link_world.specs.declared.act.Act.{Act}
 use Rattle.link_world.specs.declared.step_fault.StepFault.{StepFault}
 use Rattle.link_world.specs.declared.who.Who.{Who}
 use Rattle.link_world.specs.declared.who.Who.TheVariants.{FromClient, FromNode, Pinger}
-use Rattle.link_world.specs.History.{opening_world}
+use Rattle.link_world.specs.History.{Planned, fresh_side, opening_world, planned_of}
 use Rattle.link_world.specs.Headline.{IsReached}
 use Rattle.link_world.specs.Reading.{IsNumberOf, IsSentBy}
-use Rattle.link_world.specs.Times.{IsLater, AcknowledgedLater, MarkIsLow, NoneIsEmpty}
+use Rattle.link_world.specs.Times.{IsLater, AcknowledgedLater, MarkIsLow, NoneIsEmpty, SidesAsPlanned}
 use Rattle.link_world.proofs.Good.{seg, from, to}
 use Rattle.link_world.proofs.Fits.{FitConn}
 use Rattle.link_world.proofs.Any.{Framed, Steps, Takes, older, speech, entry, does_framed}
-use Rattle.link_world.proofs.Growing.{does_grows}
+use Rattle.link_world.proofs.Growing.{Grows, does_grows, grows_not, grows_on}
 use Rattle.link_world.proofs.Parts.{clean_parts}
 use Rattle.link_world.proofs.Prefix.{all_good}
 use Rattle.link_world.proofs.Reading.{to_node, to_client, to_node_place, to_client_place, ping_long}
@@ -47,9 +47,9 @@ use Rattle.link_world.proofs.Whole.{ping_back, whole_length}
 -- ---- the mark
 
 module _ (m : Meaning) (served : ℕ → Bool) where
-  runs_grow : (all : List Act) (w v : World) → runs m served all w ≡ Ok v → length w.sent ≤ length v.sent
+  runs_grow : (all : List Act) (w v : World) → runs m served all w ≡ Ok v → Grows w v
   runs_grow all w v e =
-      run_keeps m served (λ act. Unit {0}) (λ u. length w.sent ≤ length u.sent) (λ u act f n p. omega (arith, p, (does_grows m served u act).sent)) all w v (λ k d l. tt) (omega arith) e
+      run_keeps m served (λ act. Unit {0}) (λ u. Grows w u) (λ u act f n p. grows_on w u (does m served u act) p (does_grows m served u act)) all w v (λ k d l. tt) (grows_not w) e
 
   low_after : (w : World) (event : Event) → w.mark ≤ length w.sent → mark_after w event ≤ length w.sent
   low_after w Round h = omega arith
@@ -73,7 +73,7 @@ module _ (m : Meaning) (served : ℕ → Bool) where
   line_low : (place : ℕ) (w v : World) (event : Event) (next : World → Result World BadLine) (r : Result World StepFault) → runs m served (acts_of w event) w ≡ r → Low w → ((u : World) → Low u → next u ≡ Ok v → Low v)
       → goes_on_with place next (with_mark (mark_after w event) r) ≡ Ok v → Low v
   line_low place w v event next (Ok u) q h rest e =
-      let grown = runs_grow (acts_of w event) w u q in
+      let grown = (runs_grow (acts_of w event) w u q).sent in
       let low = low_after w event h in
       rest (record u { mark = mark_after w event }) (omega (arith, grown, low)) e
   line_low place w v event next (Err f) q h rest e = absurd (cc)
@@ -85,6 +85,15 @@ module _ (m : Meaning) (served : ℕ → Bool) where
 
 pub mark_is_low : MarkIsLow
 mark_is_low m pages w r = lines_low m r.served r.lines 0 (opening_world r.addr r.numbers r.plan) w (omega arith) r.accepted
+
+-- ---- the plan
+
+map_fresh : (plan : List Planned) → map planned_of (map fresh_side plan) ≡ plan
+map_fresh [] = refl
+map_fresh (p ∷ plan) = ap (λ ps. p ∷ ps) (map_fresh plan)
+
+pub sides_as_planned : SidesAsPlanned
+sides_as_planned m pages w r = (runs_grow m r.served r.schedule (opening_world r.addr r.numbers r.plan) w r.accepted).planned ∙ map_fresh r.plan
 
 -- ---- the bytes
 

@@ -1,4 +1,4 @@
--- Acts only add datagrams, and a client that has spoken is never idle again.
+-- Acts only add datagrams, a client that has spoken is never idle again, and every client stays as planned.
 use Rattle.std.proofs.Common.{◌≡◌, ℕ, zero, suc, ◌+◌, ◌≤◌, ◌&&◌, Bool, true, false, not, if◌then◌else◌, List, [], ◌∷◌, ◌++◌, length, map, set, Option, Some, None, slice_get, refl, sym, ap, subst, ◌∙◌, arith, eqb, ltb}
 use Rattle.std.proofs.lemmas.Option.{slice_get-map}
 use Rattle.std.specs.Prelude.{option_map}
@@ -20,11 +20,13 @@ use Rattle.link_world.specs.Acts.{client_acts, client_handed, damages_at, does, 
 use Rattle.link_world.specs.Bytes.{changed, hears_datagram, ping_from, sent_bytes}
 use Rattle.link_world.specs.World.{Content, Sent, Side, World, buries, buries_in, client_sockets, client_stepped, delivers, epoch_of, gives_client, gives_node, hands_to, marked, node_handles, node_stepped, numbered, posts, posts_of_client, posts_reply, with_client, with_side}
 use Rattle.link_world.specs.World.Content.{OfSegment, OfPing, OfEcho}
+use Rattle.link_world.specs.History.{planned_of}
 use Rattle.link_world.specs.declared.act.Act.{Act}
 use Rattle.link_world.specs.declared.who.Who.{Who}
 use Rattle.link_world.specs.declared.who.Who.TheVariants.{FromClient, FromNode, Pinger}
 use Rattle.link_world.proofs.Basics.{choose}
 use Rattle.link_world.proofs.Rounds.{one_longer}
+use Rattle.link_world.proofs.Setups.{SamePlan, again_plan, aborts_plan, closes_plan, opens_plan, planned_by, takes_plan}
 use Rattle.link_world.proofs.Tables.{get_set_other, get_set_same}
 
 -- the client in a place is not idle
@@ -34,18 +36,24 @@ Spoken sides k = is_idle (state_at (slice_get sides k)) ≡ false
 pub record Grows (w v : World) : Type 0 where
   pub sent : length w.sent ≤ length v.sent
   pub spoken : (k : ℕ) → Spoken w.sides k → Spoken v.sides k
+  pub planned : map planned_of v.sides ≡ map planned_of w.sides
 
 pub grows_not : (w : World) → Grows w w
-grows_not w = record { sent = omega arith; spoken = λ k s. s }
+grows_not w = record { sent = omega arith; spoken = λ k s. s; planned = refl }
 
 pub grows_on : (w v u : World) → Grows w v → Grows v u → Grows w u
-grows_on w v u g h = record { sent = omega (arith, g.sent, h.sent); spoken = λ k s. h.spoken k (g.spoken k s) }
+grows_on w v u g h = record { sent = omega (arith, g.sent, h.sent); spoken = λ k s. h.spoken k (g.spoken k s); planned = h.planned ∙ g.planned }
 
 -- ---- a client
 
 -- it is idle after a step only where it was before
 abbrev pub Stays : AbstractClient → ClientStep → Type 0
 Stays c x = is_idle c.state ≡ false → is_idle x.client.state ≡ false
+
+-- so a step of a client does
+record Keeps (c : AbstractClient) (x : ClientStep) : Type 0 where
+  stays : Stays c x
+  planned : SamePlan c x
 
 sends_stays : (owed : Bool) (c : AbstractClient) → Stays c (sends_next owed c)
 unfolding sends_next
@@ -148,7 +156,7 @@ aborts_stays Is.Reset c = λ h. h
 pub posts_grows : (w : World) (who : Who) (again : Bool) (content : Content) → Grows w (posts w who again content)
 posts_grows w who again content =
     let new : Sent = record { who = who; tick = ticks_of w.node.past; epoch = epoch_of who w.sides; again = again; content = content } in
-    record { sent = omega (arith, one_longer w.sent new); spoken = λ k s. s }
+    record { sent = omega (arith, one_longer w.sent new); spoken = λ k s. s; planned = refl }
 
 reply_grows : (w : World) (r : Option Reply) → Grows w (posts_reply w r)
 reply_grows w None = grows_not w
@@ -163,10 +171,21 @@ buries_spoken : (gone : Option Connection) (sides : List Side) (k : ℕ) → Spo
 buries_spoken None sides k s = s
 buries_spoken (Some g) sides k s = ap (λ o. is_idle (state_at o)) (slice_get-map (buries_in g) sides k) ∙ ap is_idle (buried_state g (slice_get sides k)) ∙ s
 
+buried_planned : (g : Connection) (side : Side) → planned_of (buries_in g side) ≡ planned_of side
+buried_planned g side = choose (λ (x : Side). planned_of x ≡ planned_of side) (same_sockets g.sockets (client_sockets side)) _ _ (λ e. refl) (λ e. refl)
+
+map_planned : (g : Connection) (sides : List Side) → map planned_of (map (buries_in g) sides) ≡ map planned_of sides
+map_planned g [] = refl
+map_planned g (side ∷ sides) = ap (λ p. p ∷ map planned_of (map (buries_in g) sides)) (buried_planned g side) ∙ ap (λ ps. planned_of side ∷ ps) (map_planned g sides)
+
+buries_planned : (gone : Option Connection) (sides : List Side) → map planned_of (buries gone sides) ≡ map planned_of sides
+buries_planned None sides = refl
+buries_planned (Some g) sides = map_planned g sides
+
 stepped_grows : (w : World) (r : NodeStep) → Grows w (node_stepped w r)
 stepped_grows w r =
     let v : World = record w { node = r.node; sides = buries r.gone w.sides } in
-    grows_on w v (node_stepped w r) (record { sent = omega arith; spoken = buries_spoken r.gone w.sides }) (reply_grows v r.sent)
+    grows_on w v (node_stepped w r) (record { sent = omega arith; spoken = buries_spoken r.gone w.sides; planned = buries_planned r.gone w.sides }) (reply_grows v r.sent)
 
 -- a side is put anew
 put_spoken : (sides : List Side) (n : ℕ) (side new : Side) → slice_get sides n ≡ Some side → (is_idle side.client.state ≡ false → is_idle new.client.state ≡ false)
@@ -177,17 +196,22 @@ put_spoken (x ∷ sides) zero side new at stays (suc k) s = s
 put_spoken (x ∷ sides) (suc n) side new at stays zero s = s
 put_spoken (x ∷ sides) (suc n) side new at stays (suc k) s = put_spoken sides n side new at stays k s
 
-put_grows : (w : World) (n : ℕ) (side new : Side) → slice_get w.sides n ≡ Some side → (is_idle side.client.state ≡ false → is_idle new.client.state ≡ false) → Grows w (with_side w (suc n) new)
-put_grows w n side new at stays = record { sent = omega arith; spoken = put_spoken w.sides n side new at stays }
+put_planned : (sides : List Side) (n : ℕ) (side new : Side) → slice_get sides n ≡ Some side → planned_of new ≡ planned_of side → map planned_of (set sides n new) ≡ map planned_of sides
+put_planned [] n side new at e = refl
+put_planned (x ∷ sides) zero side new at e = let q : x ≡ side = cc in ap (λ p. p ∷ map planned_of sides) (e ∙ ap planned_of (sym q))
+put_planned (x ∷ sides) (suc n) side new at e = ap (λ ps. planned_of x ∷ ps) (put_planned sides n side new at e)
+
+put_grows : (w : World) (n : ℕ) (side new : Side) → slice_get w.sides n ≡ Some side → (is_idle side.client.state ≡ false → is_idle new.client.state ≡ false) → planned_of new ≡ planned_of side → Grows w (with_side w (suc n) new)
+put_grows w n side new at stays same = record { sent = omega arith; spoken = put_spoken w.sides n side new at stays; planned = put_planned w.sides n side new at same }
 
 posted_grows : (w : World) (number : ℕ) (x : Option PlainSegment) → Grows w (posts_of_client w number x)
 posted_grows w number None = grows_not w
 posted_grows w number (Some s) = posts_grows w (FromClient number) false (OfSegment 0 s)
 
-client_grows : (w : World) (n : ℕ) (side base : Side) (took : ClientStep) → slice_get w.sides n ≡ Some side → base.client.state ≡ side.client.state → Stays base.client took → Grows w (client_stepped w (suc n) base took)
-client_grows w n side base took at same stays =
+client_grows : (w : World) (n : ℕ) (side base : Side) (took : ClientStep) → slice_get w.sides n ≡ Some side → base.client ≡ side.client → Keeps base.client took → Grows w (client_stepped w (suc n) base took)
+client_grows w n side base took at same keeps =
     let v = with_side w (suc n) (with_client base took.client) in
-    grows_on w v (client_stepped w (suc n) base took) (put_grows w n side (with_client base took.client) at (λ h. stays (ap is_idle same ∙ h))) (posted_grows v (suc n) took.sent)
+    grows_on w v (client_stepped w (suc n) base took) (put_grows w n side (with_client base took.client) at (λ h. keeps.stays (ap (λ (c : AbstractClient). is_idle c.state) same ∙ h)) (keeps.planned ∙ ap planned_by same)) (posted_grows v (suc n) took.sent)
 
 module _ (m : Meaning) (served : ℕ → Bool) where
   handles_grows : (w : World) (event : Event) → Grows w (node_handles m served w event)
@@ -201,11 +225,11 @@ module _ (m : Meaning) (served : ℕ → Bool) where
   node_grows w n k e s None at = grows_not w
   node_grows w n k e s (Some side) at =
       let v = with_side w (suc n) (marked side k e) in
-      grows_on w v (node_handles m served v (Arrived (client_sockets side) s)) (put_grows w n side (marked side k e) at (λ h. h)) (handles_grows v (Arrived (client_sockets side) s))
+      grows_on w v (node_handles m served v (Arrived (client_sockets side) s)) (put_grows w n side (marked side k e) at (λ h. h) refl) (handles_grows v (Arrived (client_sockets side) s))
 
   to_client_grows : (w : World) (n k : ℕ) (e : Sent) (s : PlainSegment) (side : Option Side) → slice_get w.sides n ≡ side → Grows w (gives_client w (suc n) k e s side)
   to_client_grows w n k e s None at = grows_not w
-  to_client_grows w n k e s (Some side) at = client_grows w n side (marked side k e) (client_takes side.client s) at refl (takes_stays side.client s)
+  to_client_grows w n k e s (Some side) at = client_grows w n side (marked side k e) (client_takes side.client s) at refl record { stays = takes_stays side.client s; planned = takes_plan side.client s }
 
   delivers_grows : (w : World) (k : ℕ) (e : Sent) (who : Who) (content : Content) → Grows w (delivers m served w k e who content)
   delivers_grows w k e (FromClient zero) (OfSegment id s) = grows_not w
@@ -224,17 +248,17 @@ module _ (m : Meaning) (served : ℕ → Bool) where
   hands_grows w k None = grows_not w
   hands_grows w k (Some e) = delivers_grows w k e e.who e.content
 
-  own_grows : (w : World) (n : ℕ) (act : AbstractClient → ClientStep) (side : Option Side) → slice_get w.sides n ≡ side → ((c : AbstractClient) → Stays c (act c)) → Grows w (client_acts w (suc n) act side)
-  own_grows w n act None at stays = grows_not w
-  own_grows w n act (Some side) at stays = client_grows w n side side (act side.client) at refl (stays side.client)
+  own_grows : (w : World) (n : ℕ) (act : AbstractClient → ClientStep) (side : Option Side) → slice_get w.sides n ≡ side → ((c : AbstractClient) → Keeps c (act c)) → Grows w (client_acts w (suc n) act side)
+  own_grows w n act None at keeps = grows_not w
+  own_grows w n act (Some side) at keeps = client_grows w n side side (act side.client) at refl (keeps side.client)
 
-  acts_grows : (w : World) (number : ℕ) (act : AbstractClient → ClientStep) → ((c : AbstractClient) → Stays c (act c)) → Grows w (client_acts w number act (numbered w.sides number))
-  acts_grows w zero act stays = grows_not w
-  acts_grows w (suc n) act stays = own_grows w n act (slice_get w.sides n) refl stays
+  acts_grows : (w : World) (number : ℕ) (act : AbstractClient → ClientStep) → ((c : AbstractClient) → Keeps c (act c)) → Grows w (client_acts w number act (numbered w.sides number))
+  acts_grows w zero act keeps = grows_not w
+  acts_grows w (suc n) act keeps = own_grows w n act (slice_get w.sides n) refl keeps
 
   heard_grows : (w : World) (n : ℕ) (side : Side) (s : Option PlainSegment) → slice_get w.sides n ≡ Some side → Grows w (client_handed w (suc n) side s)
   heard_grows w n side None at = grows_not w
-  heard_grows w n side (Some s) at = client_grows w n side side (client_takes side.client s) at refl (takes_stays side.client s)
+  heard_grows w n side (Some s) at = client_grows w n side side (client_takes side.client s) at refl record { stays = takes_stays side.client s; planned = takes_plan side.client s }
 
   handed_grows : (w : World) (n : ℕ) (bytes : List ℕ) (side : Option Side) → slice_get w.sides n ≡ side → Grows w (handed w (suc n) bytes side)
   handed_grows w n bytes None at = grows_not w
@@ -251,11 +275,11 @@ module _ (m : Meaning) (served : ℕ → Bool) where
   damages_grows w at mask (Some e) = over_grows w (changed (sent_bytes w e) at mask) e.who
 
   pub does_grows : (w : World) (act : Act) → Grows w (does m served w act)
-  does_grows w (Act.Opens n) = acts_grows w n client_opens (λ c. opens_stays c.state c)
-  does_grows w (Act.Again n) = acts_grows w n client_again (λ c. again_stays c.state c)
-  does_grows w (Act.Closes n) = acts_grows w n client_closes (λ c. closes_stays c.state c)
-  does_grows w (Act.Aborts n) = acts_grows w n client_aborts (λ c. aborts_stays c.state c)
-  does_grows w (Act.Window n x) = acts_grows w n (tells_window x) (λ c h. h)
+  does_grows w (Act.Opens n) = acts_grows w n client_opens (λ c. record { stays = opens_stays c.state c; planned = opens_plan c.state c })
+  does_grows w (Act.Again n) = acts_grows w n client_again (λ c. record { stays = again_stays c.state c; planned = again_plan c.state c })
+  does_grows w (Act.Closes n) = acts_grows w n client_closes (λ c. record { stays = closes_stays c.state c; planned = closes_plan c.state c })
+  does_grows w (Act.Aborts n) = acts_grows w n client_aborts (λ c. record { stays = aborts_stays c.state c; planned = aborts_plan c.state c })
+  does_grows w (Act.Window n x) = acts_grows w n (tells_window x) (λ c. record { stays = λ h. h; planned = refl })
   does_grows w (Act.Ping source) = posts_grows w Pinger false (OfPing (ping_from source w.node.addr))
   does_grows w (Act.Give k) = hands_grows w k (numbered w.sent k)
   does_grows w (Act.Damage k at mask) = damages_grows w at mask (numbered w.sent k)

@@ -45,6 +45,10 @@ pub record Planned : Type 0 where
   pub setup : Setup
   pub request : List ℕ
 
+-- what its plan says of a client
+abbrev pub planned_of : Side → Planned
+planned_of side = record { setup = side.client.setup; request = side.client.request }
+
 abbrev pub fresh_side : Planned → Side
 fresh_side p = record { client = idle p.setup p.request; past = []; opened = None; first_stale = None }
 

@@ -1,6 +1,6 @@
 -- What holds between a world and a later one, and what each world keeps of its numbers.
 use Rattle.std.specs.List.{All}
-use Rattle.std.specs.Prelude.{◌≡◌, ℕ, suc, ◌+◌, ◌≤◌, ◌⊎◌, true, false, List, length, Some, None, Ok, slice_get}
+use Rattle.std.specs.Prelude.{◌≡◌, ℕ, suc, ◌+◌, ◌≤◌, ◌⊎◌, true, false, List, length, map, Some, None, Ok, slice_get}
 use Rattle.tcp_segment.specs.Segments.{PlainSegment, has_rst, has_ack}
 use Rattle.app_events.specs.Part.{Meaning}
 use Rattle.app_events.specs.Pages.{Pages, IsPaged}
@@ -9,6 +9,7 @@ use Rattle.link_world.specs.World.{World, Side, Sent, epoch, is_clean}
 use Rattle.link_world.specs.World.Content.{OfSegment}
 use Rattle.link_world.specs.Bytes.{sent_bytes}
 use Rattle.link_world.specs.Acts.{runs}
+use Rattle.link_world.specs.History.{planned_of}
 use Rattle.link_world.specs.declared.act.Act.{Act}
 use Rattle.link_world.specs.declared.who.Who.TheVariants.{FromClient}
 use Rattle.link_world.specs.Headline.{HasBytes, IsAct, IsPlainAct, IsReached, IsSchedulePlayed, server_side}
@@ -57,3 +58,7 @@ abbrev pub NoneIsEmpty : Type 0
 NoneIsEmpty =
     (m : Meaning) (pages : Pages) → IsPaged m pages → HasBytes pages → (w : World) → IsReached m pages w →
     (k : ℕ) (e : Sent) → slice_get w.sent k ≡ Some e → 1 ≤ length (sent_bytes w e)
+
+-- As planned: the clients of a world are those of its plan, in order, with their setups and requests.
+abbrev pub SidesAsPlanned : Type 0
+SidesAsPlanned = (m : Meaning) (pages : Pages) (w : World) → (r : IsReached m pages w) → map planned_of w.sides ≡ r.plan

@@ -7,7 +7,7 @@ ghost use Rattle.link_world.specs.Honest.{HonestLink};
 ghost use Rattle.link_world.specs.Reading.{BytesAreRead, SentToClients};
 ghost use Rattle.link_world.specs.Headline.{PrefixAndWhole, SameBytes, AgainExactly, Tick, DamageIsLoss, DamageIsLossThere, OneSegment, LinesAreActs};
 ghost use Rattle.link_world.specs.Nodes.{CapturesFit, TextNumbers, TextsAreShort};
-ghost use Rattle.link_world.specs.Times.{AcknowledgedLater, EpochsAreFew, MarkIsLow, NoneIsEmpty, OneConnection};
+ghost use Rattle.link_world.specs.Times.{AcknowledgedLater, EpochsAreFew, MarkIsLow, NoneIsEmpty, OneConnection, SidesAsPlanned};
 
 /// A clean client has received a prefix of its page, and the whole page where it took the server's FIN in sequence.
 pub fn prefix_and_whole()
@@ -109,4 +109,9 @@ pub fn captures_fit()
 /// No connection of a node says 2^30 bytes.
 pub fn texts_are_short()
     ensures { TextsAreShort }
+{}
+
+/// The clients of a world are those of its plan, in order, with their setups and requests.
+pub fn sides_as_planned()
+    ensures { SidesAsPlanned }
 {}
