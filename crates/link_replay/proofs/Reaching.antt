@@ -10,9 +10,12 @@ use Rattle.link_world.specs.History.{opening_world}
 use Rattle.link_world.specs.declared.act.Act.{Act}
 use Rattle.link_world.specs.declared.step_fault.StepFault.{StepFault}
 use Rattle.link_world.specs.Headline.{IsAct, IsReached}
+use Rattle.link_world.proofs.DamageThere.{there}
 use Rattle.link_world.proofs.Lines.{runs_mark, runs_joined}
+use Rattle.link_world.proofs.Runs.{reached_sound}
+use Rattle.link_world.proofs.SoundWorlds.{sound_marked}
 use Rattle.link_world.proofs.Fits.{all_nil, all_cons}
-use Rattle.link_replay.specs.Reaching.{IsAt, ActsEnd, ActSteps, Stops, StopsAt}
+use Rattle.link_replay.specs.Reaching.{IsAt, ActsEnd, ActSteps, DamageLoses, Stops, StopsAt}
 use Rattle.link_world.specs.declared.step_fault.StepFault.TheVariants.{NoDatagram, NoByte, AlreadyOpen, NotOpen, Full, NoMemory}
 
 pub handed : (r : Result (Unit {0}) StepFault) (e : StepFault) → IsErr r → IsErrAnd r (λ f. f ≡ e) → r ≡ Err e
@@ -136,3 +139,7 @@ module _ (m : Meaning) (served : ℕ → Bool) where
   ended Before Now act left end AlreadyOpen f h = let t = f h.world h.at h.now in sym h.rest ∙ ap (λ (r : Result World StepFault). and_then (runs m served left) r) t.0
   ended Before Now act left end NotOpen f h = let t = f h.world h.at h.now in sym h.rest ∙ ap (λ (r : Result World StepFault). and_then (runs m served left) r) t.0
   ended Before Now act left end Full f h = let t = f h.world h.at h.now in sym h.rest ∙ ap (λ (r : Result World StepFault). and_then (runs m served left) r) t.0
+
+pub damage_loses : DamageLoses
+damage_loses m served w h k at mask e x l a b =
+    there m served w k at mask e x l a b (sound_marked w 0 (reached_sound m h.pages h.lawful h.bytes (record w { mark = 0 }) (reached_at m served w h)))

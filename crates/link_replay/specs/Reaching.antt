@@ -1,16 +1,17 @@
 -- The worlds that a replay goes through, and what an act of the code does.
 use Rattle.std.specs.List.{All}
-use Rattle.std.specs.Prelude.{◌≡◌, ℕ, Bool, List, ◌∷◌, ◌++◌, Result, Ok, Err, ⊤}
+use Rattle.std.specs.Prelude.{◌≡◌, ◌<◌, ◌≤◌, ℕ, Bool, List, ◌∷◌, ◌++◌, length, Some, Result, Ok, Err, ⊤}
 use Rattle.uip_wire.specs.declared.addr.Addr.{Addr}
 use Rattle.app_events.specs.Part.{Meaning}
 use Rattle.app_events.specs.Pages.{Pages, IsPaged, IsWord, IsAddr}
-use Rattle.link_world.specs.World.{World}
-use Rattle.link_world.specs.Acts.{acts, runs}
+use Rattle.link_world.specs.World.{World, Sent, numbered}
+use Rattle.link_world.specs.Bytes.{sent_bytes}
+use Rattle.link_world.specs.Acts.{acts, does, runs}
 use Rattle.link_world.specs.History.{Planned, IsPlan, opening_world}
 use Rattle.link_world.specs.declared.act.Act.{Act}
 use Rattle.link_world.specs.declared.step_fault.StepFault.{StepFault}
 use Rattle.link_world.specs.declared.step_fault.StepFault.TheVariants.{NoDatagram, NoByte, AlreadyOpen, NotOpen, Full, NoMemory}
-use Rattle.link_world.specs.Headline.{IsAct, HasBytes}
+use Rattle.link_world.specs.Headline.{CountsBy, HasBytes, IsAct, IsLoss}
 
 -- A world that accepted acts reach from the opening one, of a server whose pages are bytes. No act speaks of the mark.
 pub record IsAt (m : Meaning) (served : ℕ → Bool) (w : World) : Type 0 where
@@ -76,3 +77,11 @@ Stops m served Now all w (Err NoByte) = StopsAt m served Now all w NoByte
 Stops m served Now all w (Err AlreadyOpen) = StopsAt m served Now all w AlreadyOpen
 Stops m served Now all w (Err NotOpen) = StopsAt m served Now all w NotOpen
 Stops m served Now all w (Err Full) = StopsAt m served Now all w Full
+
+-- Damage is a loss in the worlds of a replay: it changes no client, no connection and no list, and the node counts one refused
+-- datagram where the damaged one was sent to it.
+abbrev pub DamageLoses : Type 0
+DamageLoses =
+    (m : Meaning) (served : ℕ → Bool) (w : World) → IsAt m served w →
+    (k at mask : ℕ) (e : Sent) → numbered w.sent k ≡ Some e → at < length (sent_bytes w e) → 1 ≤ mask → mask < 256 →
+    IsLoss w (does m served w (Act.Damage k at mask)) × CountsBy e.who w (does m served w (Act.Damage k at mask))

@@ -1,5 +1,6 @@
-//! What the definitions of a report and of a summary say of worlds worked by hand.
+//! A law of the worlds of a replay, and what the definitions of a report and of a summary say of worlds worked by hand.
 
+ghost use Rattle.link_replay.specs.Reaching.{DamageLoses};
 ghost use Rattle.link_replay.specs.WorkedReports.{AreWorkedReports};
 ghost use Rattle.link_replay.specs.WorkedSummaries.{AreWorkedSummaries};
 
@@ -13,4 +14,9 @@ pub fn worked_reports()
 #[tactic(auto, using(crate::proofs::WorkedSummaries::worked))]
 pub fn worked_summaries()
     ensures { AreWorkedSummaries }
+{}
+
+/// A damaged datagram that is handed over is a loss: no client, no connection and no list changes.
+pub fn damage_loses()
+    ensures { DamageLoses }
 {}

@@ -34,7 +34,7 @@ mod types;
 mod world;
 
 pub use kind::Kind;
-pub use laws::{worked_reports, worked_summaries};
+pub use laws::{damage_loses, worked_reports, worked_summaries};
 pub use link::Link;
 pub use playing::play;
 pub use sent::Sent;

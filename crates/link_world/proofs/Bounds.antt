@@ -67,24 +67,30 @@ module _ (m : Meaning) (served : ℕ → Bool) where
   low_after w (Damage k at mask) h = h
   low_after w (Tick n) h = h
 
-  abbrev Low : World → Type 0
-  Low w = w.mark ≤ length w.sent
+  -- a line only adds, and leaves the mark low
+  record Onward (w v : World) : Type 0 where
+    grows : Grows w v
+    low : w.mark ≤ length w.sent → v.mark ≤ length v.sent
 
-  line_low : (place : ℕ) (w v : World) (event : Event) (next : World → Result World BadLine) (r : Result World StepFault) → runs m served (acts_of w event) w ≡ r → Low w → ((u : World) → Low u → next u ≡ Ok v → Low v)
-      → goes_on_with place next (with_mark (mark_after w event) r) ≡ Ok v → Low v
-  line_low place w v event next (Ok u) q h rest e =
-      let grown = (runs_grow (acts_of w event) w u q).sent in
-      let low = low_after w event h in
-      rest (record u { mark = mark_after w event }) (omega (arith, grown, low)) e
-  line_low place w v event next (Err f) q h rest e = absurd (cc)
+  line_onward : (place : ℕ) (w v : World) (event : Event) (next : World → Result World BadLine) (r : Result World StepFault) → runs m served (acts_of w event) w ≡ r → ((u : World) → next u ≡ Ok v → Onward u v)
+      → goes_on_with place next (with_mark (mark_after w event) r) ≡ Ok v → Onward w v
+  line_onward place w v event next (Ok u) q rest e =
+      let grown = runs_grow (acts_of w event) w u q in
+      let x : World = record u { mark = mark_after w event } in
+      let more = rest x e in
+      record {
+        grows = grows_on w x v record { sent = grown.sent; spoken = grown.spoken; planned = grown.planned } more.grows;
+        low = λ h. (let a = low_after w event h in let b = grown.sent in more.low (omega (arith, a, b)));
+      }
+  line_onward place w v event next (Err f) q rest e = absurd (cc)
 
-  lines_low : (lines : List Event) (place : ℕ) (w v : World) → Low w → plays_from m served place lines w ≡ Ok v → Low v
-  lines_low [] place w v h e = subst Low (let z : w ≡ v = cc in z) h
-  lines_low (event ∷ more) place w v h e =
-      line_low place w v event (plays_from m served (place + 1) more) (runs m served (acts_of w event) w) refl h (λ u l q. lines_low more (place + 1) u v l q) e
+  lines_onward : (lines : List Event) (place : ℕ) (w v : World) → plays_from m served place lines w ≡ Ok v → Onward w v
+  lines_onward [] place w v e = subst (Onward w) (let z : w ≡ v = cc in z) record { grows = grows_not w; low = λ h. h }
+  lines_onward (event ∷ more) place w v e =
+      line_onward place w v event (plays_from m served (place + 1) more) (runs m served (acts_of w event) w) refl (λ u q. lines_onward more (place + 1) u v q) e
 
 pub mark_is_low : MarkIsLow
-mark_is_low m pages w r = lines_low m r.served r.lines 0 (opening_world r.addr r.numbers r.plan) w (omega arith) r.accepted
+mark_is_low m pages w r = (lines_onward m r.served r.lines 0 (opening_world r.addr r.numbers r.plan) w r.accepted).low (omega arith)
 
 -- ---- the plan
 
@@ -93,7 +99,10 @@ map_fresh [] = refl
 map_fresh (p ∷ plan) = ap (λ ps. p ∷ ps) (map_fresh plan)
 
 pub sides_as_planned : SidesAsPlanned
-sides_as_planned m pages w r = (runs_grow m r.served r.schedule (opening_world r.addr r.numbers r.plan) w r.accepted).planned ∙ map_fresh r.plan
+sides_as_planned m served addr numbers plan w = record {
+  by_acts = λ schedule e. (runs_grow m served schedule (opening_world addr numbers plan) w e).planned ∙ map_fresh plan;
+  by_lines = λ lines e. (lines_onward m served lines 0 (opening_world addr numbers plan) w e).grows.planned ∙ map_fresh plan;
+}
 
 -- ---- the bytes
 

@@ -22,7 +22,7 @@ by_nobody : (m : Meaning) (served : ℕ → Bool) (w : World) (bytes : List ℕ)
 by_nobody m served w bytes who y =
     subst (λ x. IsLoss w (hands_over m served w bytes x) × CountsBy x w (hands_over m served w bytes x)) (sym y) (same_world w, refl)
 
-there : (m : Meaning) (served : ℕ → Bool) (w : World) (k at mask : ℕ) (e : Sent) → numbered w.sent k ≡ Some e → at < length (sent_bytes w e) → 1 ≤ mask → mask < 256 → SoundWorld w
+pub there : (m : Meaning) (served : ℕ → Bool) (w : World) (k at mask : ℕ) (e : Sent) → numbered w.sent k ≡ Some e → at < length (sent_bytes w e) → 1 ≤ mask → mask < 256 → SoundWorld w
     → IsLoss w (does m served w (Act.Damage k at mask)) × CountsBy e.who w (does m served w (Act.Damage k at mask))
 there m served w zero at mask e x l a b h = absurd (cc)
 there m served w (suc j) at mask e x l a b h = elim (bytes_are w e.who e.content h (h.sent j e x)) [

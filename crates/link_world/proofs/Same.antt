@@ -394,6 +394,7 @@ same_bytes m pages lawful w r k side x i e id s g who content again =
         id = c.id;
         segment = c.segment;
         content = c.is;
+        placed = ap has_place (sym t) ∙ b.placed;
         seq = ap (λ n. n.seq) (sym t) ∙ b.seq ∙ ap (λ n. n.seq) q;
         alike = subst (λ n. Alike c.segment n) q (subst (λ n. Alike n (seg e)) t b.alike);
       },

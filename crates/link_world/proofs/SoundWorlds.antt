@@ -41,6 +41,10 @@ pub record SoundWorld (w : World) : Type 0 where
   pub sides : SoundSides w.sides
   pub sent : (k : ℕ) (e : Sent) → slice_get w.sent k ≡ Some e → SoundSent w.node.addr e.who e.content
 
+-- the mark says nothing of it
+pub sound_marked : (w : World) (mark : ℕ) → SoundWorld (record w { mark = mark }) → SoundWorld w
+sound_marked w mark h = record { addr = h.addr; conns = h.conns; sides = h.sides; sent = h.sent }
+
 posts_sound : (w : World) (who : Who) (again : Bool) (content : Content) → SoundSent w.node.addr who content → SoundWorld w → SoundWorld (posts w who again content)
 posts_sound w who again content s h = record {
   addr = h.addr;

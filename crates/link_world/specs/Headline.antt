@@ -135,7 +135,7 @@ pub record Alike (s t : PlainSegment) : Type 0 where
   pub text : s.text ≡ t.text
 
 -- Datagram j was sent earlier than datagram i by the same connection, in the same epoch of the same client, at the same number,
--- with the same flags and text.
+-- with the same flags and text. It carries SYN, text or FIN.
 pub record IsRepeatOf (w : World) (e : Sent) (s : PlainSegment) (i j : ℕ) : Type 0 where
   pub earlier : j < i
   pub sent : Sent
@@ -145,27 +145,33 @@ pub record IsRepeatOf (w : World) (e : Sent) (s : PlainSegment) (i j : ℕ) : Ty
   pub id : ℕ
   pub segment : PlainSegment
   pub content : sent.content ≡ OfSegment id segment
+  pub placed : has_place segment ≡ true
   pub seq : segment.seq ≡ s.seq
   pub alike : Alike segment s
 
--- Same bytes: what the node marks as sent again was sent before, with the same number, flags and text. This holds of clients
--- that are not clean too.
-abbrev pub SameBytes : Type 0
-SameBytes =
-    (m : Meaning) (pages : Pages) → IsPaged m pages → (w : World) → IsReached m pages w →
+-- What the node marks as sent again to a client was sent before, with the same number, flags and text.
+abbrev pub RepeatsSameBytes : World → Type 0
+RepeatsSameBytes w =
     (k : ℕ) (side : Side) → slice_get w.sides k ≡ Some side →
     (i : ℕ) (e : Sent) (id : ℕ) (s : PlainSegment) → slice_get w.sent i ≡ Some e → e.who ≡ FromNode (suc k) → e.content ≡ OfSegment id s → e.again ≡ true →
     (j : ℕ) × IsRepeatOf w e s i j
 
--- And it is marked exactly so: of two datagrams to a client in one epoch that carry SYN, text or FIN at one number, the later one
--- is marked, and they have the same flags and text.
-abbrev pub AgainExactly : Type 0
-AgainExactly =
-    (m : Meaning) (pages : Pages) → IsPaged m pages → (w : World) → IsReached m pages w →
+-- Same bytes: so it is in every world. This holds of clients that are not clean too.
+abbrev pub SameBytes : Type 0
+SameBytes = (m : Meaning) (pages : Pages) → IsPaged m pages → (w : World) → IsReached m pages w → RepeatsSameBytes w
+
+-- Of two datagrams to a client in one epoch that carry SYN, text or FIN at one number, the later one is marked, and they have the
+-- same flags and text.
+abbrev pub MarksRepeats : World → Type 0
+MarksRepeats w =
     (k : ℕ) (side : Side) → slice_get w.sides k ≡ Some side →
     (i j : ℕ) (e f : Sent) (id id' : ℕ) (s t : PlainSegment) → slice_get w.sent i ≡ Some e → slice_get w.sent j ≡ Some f → j < i → e.who ≡ FromNode (suc k) → f.who ≡ FromNode (suc k) →
     e.content ≡ OfSegment id s → f.content ≡ OfSegment id' t → e.epoch ≡ f.epoch → s.seq ≡ t.seq → has_place s ≡ true → has_place t ≡ true →
     (e.again ≡ true) × Alike t s
+
+-- And it is marked exactly so, in every world.
+abbrev pub AgainExactly : Type 0
+AgainExactly = (m : Meaning) (pages : Pages) → IsPaged m pages → (w : World) → IsReached m pages w → MarksRepeats w
 
 -- the connection that serves a client
 abbrev pub server_side : World → Side → Connection

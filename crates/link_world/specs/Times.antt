@@ -1,6 +1,7 @@
 -- What holds between a world and a later one, and what each world keeps of its numbers.
 use Rattle.std.specs.List.{All}
-use Rattle.std.specs.Prelude.{◌≡◌, ℕ, suc, ◌+◌, ◌≤◌, ◌⊎◌, true, false, List, length, map, Some, None, Ok, slice_get}
+use Rattle.std.specs.Prelude.{◌≡◌, ℕ, suc, ◌+◌, ◌≤◌, ◌⊎◌, Bool, true, false, List, length, map, Some, None, Ok, slice_get}
+use Rattle.uip_wire.specs.declared.addr.Addr.{Addr}
 use Rattle.tcp_segment.specs.Segments.{PlainSegment, has_rst, has_ack}
 use Rattle.app_events.specs.Part.{Meaning}
 use Rattle.app_events.specs.Pages.{Pages, IsPaged}
@@ -9,7 +10,9 @@ use Rattle.link_world.specs.World.{World, Side, Sent, epoch, is_clean}
 use Rattle.link_world.specs.World.Content.{OfSegment}
 use Rattle.link_world.specs.Bytes.{sent_bytes}
 use Rattle.link_world.specs.Acts.{runs}
-use Rattle.link_world.specs.History.{planned_of}
+use Rattle.link_world.specs.History.{Planned, opening_world, planned_of}
+use Rattle.link_world.specs.Schedule.{plays}
+use Rattle.link_schedule.specs.declared.event.Event.{Event}
 use Rattle.link_world.specs.declared.act.Act.{Act}
 use Rattle.link_world.specs.declared.who.Who.TheVariants.{FromClient}
 use Rattle.link_world.specs.Headline.{HasBytes, IsAct, IsPlainAct, IsReached, IsSchedulePlayed, server_side}
@@ -60,5 +63,9 @@ NoneIsEmpty =
     (k : ℕ) (e : Sent) → slice_get w.sent k ≡ Some e → 1 ≤ length (sent_bytes w e)
 
 -- As planned: the clients of a world are those of its plan, in order, with their setups and requests.
+pub record KeepsPlan (m : Meaning) (served : ℕ → Bool) (addr : Addr) (numbers : List ℕ) (plan : List Planned) (w : World) : Type 0 where
+  pub by_acts : (schedule : List Act) → runs m served schedule (opening_world addr numbers plan) ≡ Ok w → map planned_of w.sides ≡ plan
+  pub by_lines : (lines : List Event) → plays m served lines (opening_world addr numbers plan) ≡ Ok w → map planned_of w.sides ≡ plan
+
 abbrev pub SidesAsPlanned : Type 0
-SidesAsPlanned = (m : Meaning) (pages : Pages) (w : World) → (r : IsReached m pages w) → map planned_of w.sides ≡ r.plan
+SidesAsPlanned = (m : Meaning) (served : ℕ → Bool) (addr : Addr) (numbers : List ℕ) (plan : List Planned) (w : World) → KeepsPlan m served addr numbers plan w

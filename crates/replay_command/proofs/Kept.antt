@@ -1,6 +1,6 @@
 -- The promises that a world keeps which acts reach from the opening one.
 use Rattle.std.specs.List.{All}
-use Rattle.std.proofs.Common.{◌≡◌, ℕ, suc, Bool, true, Some, inl}
+use Rattle.std.proofs.Common.{◌≡◌, ℕ, Bool, true, Some, inl}
 use Rattle.std.specs.Prelude.{slice_get}
 use Rattle.app_events.specs.Pages.{IsByte}
 use Rattle.file_tree.specs.Site.{SiteContent, IsLoaded, files_of}
@@ -8,13 +8,10 @@ use Rattle.web_pages.specs.Pages.{pages_of}
 use Rattle.web_pages.specs.WebMeaning.{web_meaning}
 use Rattle.web_pages.proofs.PageLaws.{keeps_page_laws}
 use Rattle.web_pages.proofs.ByteLaws.{made_of_bytes}
-use Rattle.link_world.specs.World.{World, Side, Sent, is_clean}
-use Rattle.link_world.specs.World.Content.{OfSegment}
-use Rattle.link_world.specs.declared.who.Who.TheVariants.{FromNode}
-use Rattle.tcp_segment.specs.Segments.{PlainSegment}
-use Rattle.link_world.specs.Headline.{HasBytes, IsReached, IsRepeatOf, IsServed}
+use Rattle.link_world.specs.World.{World, Side, is_clean}
+use Rattle.link_world.specs.Headline.{HasBytes, IsReached, IsRepeatOf, IsServed, MarksRepeats, RepeatsSameBytes}
 use Rattle.link_world.proofs.Prefix.{prefix_and_whole}
-use Rattle.link_world.proofs.Same.{same_bytes}
+use Rattle.link_world.proofs.Same.{again_exactly, same_bytes}
 use Rattle.link_world.proofs.Ticks.{tick}
 use Rattle.link_replay.specs.Reaching.{IsAt}
 use Rattle.replay_command.specs.Promises.{KeepsPromises}
@@ -46,8 +43,7 @@ module _ (site : SiteContent) (loaded : IsLoaded site) (bytes : All IsByte site.
       prefix_and_whole (web_meaning (files_of site)) (pages_of (files_of site)) (keeps_page_laws site loaded) (record w { mark = 0 }) (reached h) k side there clean in
       record { prefix = is.prefix; all = is.all; whole = is.whole }
 
-  repeated : IsAt (web_meaning (files_of site)) served w → (k : ℕ) (side : Side) → slice_get w.sides k ≡ Some side → (i : ℕ) (e : Sent) (id : ℕ) (s : PlainSegment) → slice_get w.sent i ≡ Some e
-      → e.who ≡ FromNode (suc k) → e.content ≡ OfSegment id s → e.again ≡ true → (j : ℕ) × IsRepeatOf w e s i j
+  repeated : IsAt (web_meaning (files_of site)) served w → RepeatsSameBytes w
   repeated h k side there i e id s sent who content again =
       let was : (j : ℕ) × IsRepeatOf (record w { mark = 0 }) e s i j =
       same_bytes (web_meaning (files_of site)) (pages_of (files_of site)) (keeps_page_laws site loaded) (record w { mark = 0 }) (reached h) k side there i e id s sent who content again in (
@@ -61,14 +57,19 @@ module _ (site : SiteContent) (loaded : IsLoaded site) (bytes : All IsByte site.
           id = was.1.id;
           segment = was.1.segment;
           content = was.1.content;
+          placed = was.1.placed;
           seq = was.1.seq;
           alike = was.1.alike;
         },
       )
 
+  marks : IsAt (web_meaning (files_of site)) served w → MarksRepeats w
+  marks h k side there = again_exactly (web_meaning (files_of site)) (pages_of (files_of site)) (keeps_page_laws site loaded) (record w { mark = 0 }) (reached h) k side there
+
   pub keeps_promises : IsAt (web_meaning (files_of site)) served w → KeepsPromises (files_of site) w
   keeps_promises h = record {
     pages = λ k side there clean. received h k side there clean;
-    same_bytes = λ k side there i e id s sent who content again. repeated h k side there i e id s sent who content again;
+    same_bytes = repeated h;
+    marked = marks h;
     tick = tick;
   }
