@@ -1,6 +1,6 @@
 -- Lines that are refused for want of numbers alone, and what they leave.
 use Rattle.std.specs.List.{All, range_with_len}
-use Rattle.std.proofs.Common.{◌≡◌, ℕ, zero, suc, ◌+◌, ◌-◌, ◌<◌, ◌≤◌, ◌%◌, Bool, true, false, List, [], ◌∷◌, ◌++◌, length, map, set, filter, replicate, reverse, Option, Some, None, Result, Ok, Err, slice_get, refl, sym, ap, subst, ◌∙◌, arith, inl, inr, eqb, ltb}
+use Rattle.std.proofs.Common.{◌≡◌, ℕ, zero, suc, ◌+◌, ◌-◌, ◌<◌, ◌≤◌, ◌%◌, Bool, true, false, List, [], ◌∷◌, ◌++◌, length, map, set, filter, replicate, reverse, Option, Some, None, Result, Ok, Err, slice_get, refl, sym, ap, subst, ◌∙◌, arith, inl, inr, eqb}
 use Rattle.std.specs.Prelude.{if◌then◌else◌, flat_map, nat_lt, option_map, ⊤}
 use Rattle.std.proofs.lemmas.Option.{slice_get-map}
 use Rattle.uip_wire.specs.declared.addr.Addr.{Addr}
@@ -15,9 +15,9 @@ use Rattle.tcp_segment.specs.Segments.{PlainSegment}
 use Rattle.link_client.specs.Client.{AbstractClient, ClientStep, client_opens, opens_by}
 use Rattle.link_client.specs.declared.client_state.ClientState.TheVariants as Is
 use Rattle.link_world.specs.History.{Planned, fresh_side, opening_world}
-use Rattle.link_world.specs.Acts.{acts, and_then, client_acts, does, done_or, fault_of, if_idle, is_idle, most_datagrams, named_fault, needs, no_datagram, or_full, runs, state_at}
+use Rattle.link_world.specs.Acts.{and_then, client_acts, does, done_or, is_idle, most_datagrams, named_fault, needs, no_datagram, or_full, runs, state_at}
 use Rattle.link_world.specs.Schedule.{BadLine, acts_of, goes_on_with, mark_after, numbers_from, past_mark, plays_from, plays_line, with_mark}
-use Rattle.link_world.specs.World.{Sent, Side, World, numbered, posts_of_client, with_client, with_side}
+use Rattle.link_world.specs.World.{Side, World, posts_of_client, with_client, with_side}
 use Rattle.link_world.specs.declared.act.Act.{Act}
 use Rattle.link_world.specs.declared.step_fault.StepFault.{StepFault}
 use Rattle.link_world.specs.declared.step_fault.StepFault.TheVariants.{AlreadyOpen, Full, NotOpen}

@@ -1,24 +1,21 @@
 -- The mark, the bytes of each datagram, and what a client sends only after it opened.
-use Rattle.std.specs.List.{All}
-use Rattle.std.proofs.Common.{◌≡◌, ℕ, zero, suc, ◌+◌, ◌<◌, ◌≤◌, Bool, true, false, inl, inr, List, [], ◌∷◌, ◌++◌, length, map, max, refl, sym, ap, ◌∙◌, subst, arith, Option, Some, None, Result, Ok, Err, slice_get, is_some, length-append, length-take, length-drop}
+use Rattle.std.proofs.Common.{◌≡◌, ℕ, zero, suc, ◌+◌, ◌<◌, ◌≤◌, Bool, true, false, inl, inr, List, [], ◌∷◌, ◌++◌, length, map, refl, sym, ap, ◌∙◌, subst, arith, Option, Some, None, Result, Ok, Err, slice_get, is_some, length-append, length-take, length-drop}
 use Rattle.std.proofs.lemmas.Bool.{cases_lt}
 use Rattle.uip_wire.specs.declared.addr.Addr.{Addr}
 use Rattle.app_events.specs.Part.{Meaning}
-use Rattle.app_events.specs.Pages.{Pages, IsPaged, IsMoment, IsNow, IsWord, IsAddr}
-use Rattle.app_events.specs.declared.now.Now.{Now}
+use Rattle.app_events.specs.Pages.{Pages, IsPaged, IsAddr}
 use Rattle.icmp_echo.specs.Echo.{echo_reply}
-use Rattle.tcp_segment.specs.Segments.{PlainSegment, datagram_bytes, has_syn, has_fin, has_rst}
-use Rattle.tcp_machine.specs.Connection.{Sockets, Connection, closed, is_live}
-use Rattle.tcp_machine.specs.Segments.{is_plain_syn, syn_ack}
+use Rattle.tcp_segment.specs.Segments.{PlainSegment, has_syn, has_fin, has_rst}
+use Rattle.tcp_machine.specs.Connection.{Connection, closed, is_live}
 use Rattle.tcp_machine.specs.Ask.{Outcome, asked}
-use Rattle.tcp_machine.specs.OnSegment.{accepted, on_segment}
+use Rattle.tcp_machine.specs.OnSegment.{on_segment}
 use Rattle.tcp_machine.specs.OnTick.{on_tick}
-use Rattle.link_client.specs.Client.{AbstractClient, ClientStep, client_takes, client_opens, client_again, client_closes, client_aborts, tells_window}
-use Rattle.link_world.specs.World.{World, Side, Sent, Content, is_clean, marked}
-use Rattle.link_world.specs.World.Content.{OfSegment, OfPing, OfEcho}
-use Rattle.link_world.specs.Bytes.{client_bytes, node_bytes, bytes_by, ping_from, sent_bytes}
+use Rattle.link_client.specs.Client.{ClientStep, client_takes, client_opens, client_again, client_closes, client_aborts, tells_window}
+use Rattle.link_world.specs.World.{World, Side, Sent, marked}
+use Rattle.link_world.specs.World.Content.{OfSegment}
+use Rattle.link_world.specs.Bytes.{client_bytes, node_bytes, bytes_by}
 use Rattle.link_world.specs.Acts.{does, runs}
-use Rattle.link_world.specs.Schedule.{BadLine, acts_of, goes_on_with, mark_after, plays_from, plays_line, with_mark}
+use Rattle.link_world.specs.Schedule.{BadLine, acts_of, goes_on_with, mark_after, plays_from, with_mark}
 use Rattle.link_schedule.specs.declared.event.Event.{Event}
 use Rattle.link_schedule.specs.declared.event.Event.TheVariants.{Opens, Again, Closes, Aborts, Window, Ping, Give, Damage, Tick, Round, Twice, Reverse, Half, Lose}
 use Rattle.link_world.specs.declared.act.Act.{Act}
@@ -26,12 +23,10 @@ use Rattle.link_world.specs.declared.step_fault.StepFault.{StepFault}
 use Rattle.link_world.specs.declared.who.Who.{Who}
 use Rattle.link_world.specs.declared.who.Who.TheVariants.{FromClient, FromNode, Pinger}
 use Rattle.link_world.specs.History.{Planned, fresh_side, opening_world, planned_of}
-use Rattle.link_world.specs.Headline.{IsReached}
-use Rattle.link_world.specs.Reading.{IsNumberOf, IsSentBy}
+use Rattle.link_world.specs.Reading.{IsSentBy}
 use Rattle.link_world.specs.Times.{IsLater, AcknowledgedLater, MarkIsLow, NoneIsEmpty, SidesAsPlanned}
 use Rattle.link_world.proofs.Good.{seg, from, to}
-use Rattle.link_world.proofs.Fits.{FitConn}
-use Rattle.link_world.proofs.Any.{Framed, Steps, Takes, older, speech, entry, does_framed}
+use Rattle.link_world.proofs.Any.{Framed, Steps, Takes, older, does_framed}
 use Rattle.link_world.proofs.Growing.{Grows, does_grows, grows_not, grows_on}
 use Rattle.link_world.proofs.Parts.{clean_parts}
 use Rattle.link_world.proofs.Prefix.{all_good}
@@ -40,7 +35,7 @@ use Rattle.link_world.proofs.Runs.{reached_on, reached_sound, run_keeps}
 use Rattle.link_world.proofs.Same.{get_older}
 use Rattle.link_world.proofs.Senders.{IsAsked, has_senders, sent_to_clients}
 use Rattle.link_world.proofs.Sound.{IsSoundClient}
-use Rattle.link_world.proofs.SoundWorlds.{SoundSent, SoundWorld}
+use Rattle.link_world.proofs.SoundWorlds.{SoundWorld}
 use Rattle.link_world.proofs.SoundWorlds.SoundSent.{of_segment, of_ping, of_echo}
 use Rattle.link_world.proofs.Whole.{ping_back, whole_length}
 

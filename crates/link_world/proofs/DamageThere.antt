@@ -1,5 +1,5 @@
 -- Damage in a world that is reached.
-use Rattle.std.proofs.Common.{◌≡◌, ℕ, zero, suc, ◌<◌, ◌≤◌, Bool, List, length, refl, sym, subst, Option, Some, slice_get}
+use Rattle.std.proofs.Common.{◌≡◌, ℕ, zero, suc, ◌<◌, ◌≤◌, Bool, List, length, refl, sym, subst, Option, Some}
 use Rattle.app_events.specs.Part.{Meaning}
 use Rattle.link_world.specs.World.{World, Sent, numbered}
 use Rattle.link_world.specs.Bytes.{sent_bytes, changed}
@@ -11,7 +11,7 @@ use Rattle.link_world.specs.Headline.{IsLoss, CountsBy, DamageIsLossThere}
 use Rattle.link_world.proofs.Loss.{same_world, damage_is_loss}
 use Rattle.link_world.proofs.Runs.{reached_sound}
 use Rattle.link_world.proofs.SoundWorlds.{SoundWorld}
-use Rattle.link_world.proofs.Damages.{Bytes, bytes_are, not_in_nothing}
+use Rattle.link_world.proofs.Damages.{bytes_are, not_in_nothing}
 use Rattle.link_world.proofs.Damages.Bytes.{wholly, nothing, nobody}
 
 abbrev Lost : Meaning → (ℕ → Bool) → World → ℕ → ℕ → Who → Option Sent → Type 0

@@ -1,19 +1,19 @@
 -- The epochs of a client: how many there are, and that one connection lives in each.
 use Rattle.std.specs.List.{All}
-use Rattle.std.proofs.Common.{◌≡◌, ℕ, ◌+◌, ◌<◌, ◌≤◌, Bool, true, false, List, [], ◌∷◌, ◌++◌, length, replicate, refl, sym, ap, ◌∙◌, subst, arith, Option, Some, None, slice_get}
+use Rattle.std.proofs.Common.{◌≡◌, ℕ, ◌+◌, ◌≤◌, Bool, true, false, List, [], ◌∷◌, ◌++◌, length, replicate, refl, sym, ap, ◌∙◌, subst, arith, Some, slice_get}
 use Rattle.uip_wire.specs.declared.addr.Addr.{Addr}
-use Rattle.tcp_segment.specs.Segments.{PlainSegment, has_syn, has_fin, has_rst}
+use Rattle.tcp_segment.specs.Segments.{has_syn, has_fin, has_rst}
 use Rattle.app_events.specs.Part.{Meaning}
-use Rattle.app_events.specs.Pages.{Pages, IsPaged, IsMoment, IsNow, IsWord}
+use Rattle.app_events.specs.Pages.{Pages, IsPaged, IsNow, IsWord}
 use Rattle.app_events.specs.declared.now.Now.{Now}
 use Rattle.tcp_machine.specs.Connection.{Sockets, Connection, closed, is_live}
 use Rattle.tcp_machine.specs.Segments.{is_plain_syn, syn_ack}
 use Rattle.tcp_machine.specs.Ask.{Outcome, asked}
 use Rattle.tcp_machine.specs.OnSegment.{accepted, on_segment}
 use Rattle.tcp_machine.specs.OnTick.{on_tick}
-use Rattle.link_client.specs.Client.{AbstractClient, ClientStep, one_if, client_takes, client_opens, client_again, client_closes, client_aborts, tells_window}
+use Rattle.link_client.specs.Client.{ClientStep, one_if, client_takes, client_opens, client_again, client_closes, client_aborts, tells_window}
 use Rattle.link_world.specs.World.{World, Side, Sent, Era, client_sockets, is_clean, marked}
-use Rattle.link_world.specs.History.{Planned, IsPlan, era, era_of, fresh_side, serving, opening_world}
+use Rattle.link_world.specs.History.{Planned, IsPlan, era_of, fresh_side, serving, opening_world}
 use Rattle.link_world.specs.Headline.{IsReached, server_side}
 use Rattle.link_world.specs.Times.{IsLater, OneConnection, EpochsAreFew}
 use Rattle.link_world.proofs.Good.{seg, from, to}

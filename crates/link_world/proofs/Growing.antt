@@ -1,5 +1,5 @@
 -- Acts only add datagrams, a client that has spoken is never idle again, and every client stays as planned.
-use Rattle.std.proofs.Common.{◌≡◌, ℕ, zero, suc, ◌+◌, ◌≤◌, ◌&&◌, Bool, true, false, not, if◌then◌else◌, List, [], ◌∷◌, ◌++◌, length, map, set, Option, Some, None, slice_get, refl, sym, ap, subst, ◌∙◌, arith, eqb, ltb}
+use Rattle.std.proofs.Common.{◌≡◌, ℕ, zero, suc, ◌+◌, ◌≤◌, ◌&&◌, Bool, true, false, not, List, [], ◌∷◌, length, map, set, Option, Some, None, slice_get, refl, sym, ap, ◌∙◌, arith, eqb, ltb}
 use Rattle.std.proofs.lemmas.Option.{slice_get-map}
 use Rattle.std.specs.Prelude.{option_map}
 use Rattle.uip_wire.specs.Numbers.{wrap}
@@ -27,7 +27,6 @@ use Rattle.link_world.specs.declared.who.Who.TheVariants.{FromClient, FromNode, 
 use Rattle.link_world.proofs.Basics.{choose}
 use Rattle.link_world.proofs.Rounds.{one_longer}
 use Rattle.link_world.proofs.Setups.{SamePlan, again_plan, aborts_plan, closes_plan, opens_plan, planned_by, takes_plan}
-use Rattle.link_world.proofs.Tables.{get_set_other, get_set_same}
 
 -- the client in a place is not idle
 abbrev pub Spoken : List Side → ℕ → Type 0

@@ -46,7 +46,6 @@ pub mod Reading
 pub mod OneMore
 pub mod Growing
 pub mod Accepting
-
 pub mod DamageThere
 pub mod Eras
 pub mod Bounds

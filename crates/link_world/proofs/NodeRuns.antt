@@ -1,13 +1,13 @@
 -- What holds of every connection of a node, whatever happens to it.
 use Rattle.std.specs.List.{All}
-use Rattle.std.proofs.Common.{◌≡◌, ℕ, zero, suc, ◌<◌, ◌≤◌, Bool, true, false, ◌&&◌, List, [], ◌∷◌, ◌++◌, length, replicate, position, set, refl, sym, subst, arith, Option, Some, None, slice_get, slice_index_or}
+use Rattle.std.proofs.Common.{◌≡◌, ℕ, zero, suc, ◌<◌, Bool, ◌&&◌, List, [], ◌∷◌, length, position, set, refl, sym, subst, arith, Option, Some, None, slice_get, slice_index_or}
 use Rattle.uip_wire.specs.declared.addr.Addr.{Addr}
 use Rattle.tcp_segment.specs.Segments.{PlainSegment, has_rst}
 use Rattle.app_events.specs.Part.{Meaning}
-use Rattle.app_events.specs.Pages.{Pages, IsPaged, IsMoment, IsNow, IsWord}
+use Rattle.app_events.specs.Pages.{Pages, IsPaged}
 use Rattle.app_events.specs.declared.now.Now.{Now}
-use Rattle.tcp_machine.specs.Connection.{Connection, Sockets, closed, is_live, serves}
-use Rattle.tcp_machine.specs.Segments.{is_plain_syn, syn_ack}
+use Rattle.tcp_machine.specs.Connection.{Connection, Sockets, closed, serves}
+use Rattle.tcp_machine.specs.Segments.{is_plain_syn}
 use Rattle.tcp_machine.specs.Ask.{Outcome, asked}
 use Rattle.tcp_machine.specs.OnSegment.{accept, accepted, on_segment}
 use Rattle.tcp_machine.specs.OnTick.{on_tick}

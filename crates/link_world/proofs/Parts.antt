@@ -79,9 +79,9 @@ one_epoch pages side c None q h s = record {
 }
 one_epoch pages side c (Some o) q h s = record {
   unopened = λ early. absurd (let asked = h.asked in elim early [
-      | inl e ↦ (let z : is_unasked Is.Idle ≡ false = subst (λ st. is_unasked st ≡ false) e asked in cc)
-      | inr e ↦ (let z : is_unasked Is.Opening ≡ false = subst (λ st. is_unasked st ≡ false) e asked in cc)
-    ]);
+    | inl e ↦ (let z : is_unasked Is.Idle ≡ false = subst (λ st. is_unasked st ≡ false) e asked in cc)
+    | inr e ↦ (let z : is_unasked Is.Opening ≡ false = subst (λ st. is_unasked st ≡ false) e asked in cc)
+  ]);
   nothing = λ e. absurd (let z : Some o ≡ None = sym q ∙ e in cc);
   waits = λ e l. absurd (let z : Some o ≡ None = sym q ∙ e in cc);
   opened_in = λ n e l. (let z : Some o ≡ Some n = sym q ∙ e in let y : n ≡ o = cc in y ∙ h.live_then l);

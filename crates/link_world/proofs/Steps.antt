@@ -21,7 +21,7 @@ use Rattle.tcp_machine.specs.declared.step.Step.{Step}
 use Rattle.link_client.specs.Client.{AbstractClient, own_first}
 use Rattle.link_world.proofs.Basics.{IsPart, prefix_part, prefix_length, prefix_joins, and_true, same_place, empty_part, zero_or_more, ltb-zero, in_place, choose, append_nothing, cut_part, part_prefix}
 use Rattle.link_world.proofs.Later.{page_more, page_heard, front_grows, front_all}
-use Rattle.link_world.proofs.Good.{Spoken, spoken, AtSyn, AtText, AtOpen, AtFin, AtRest, ConnGood, StateGood, Moved, StepGood, SentGood, ClientSaid, IsData, Steady}
+use Rattle.link_world.proofs.Good.{Spoken, spoken, AtSyn, AtText, AtOpen, AtFin, ConnGood, StateGood, Moved, StepGood, SentGood, ClientSaid, IsData, Steady}
 use Rattle.link_world.proofs.Good.NodeSaid.{node_reset, node_syn, node_ack, node_text, node_fin}
 use Rattle.link_world.proofs.Good.ClientSaid.{said_reset, said_syn, said_data}
 

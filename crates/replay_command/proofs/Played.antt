@@ -13,7 +13,6 @@ use Rattle.link_schedule.specs.Answer.{ReadsSchedule}
 use Rattle.link_schedule.specs.Reading.{SchedulePlan, read_text}
 use Rattle.link_schedule.specs.declared.read_schedule.ReadSchedule.{ReadSchedule}
 use Rattle.link_schedule.specs.declared.read_schedule.ReadSchedule.TheVariants.{Bad, NoMemory}
-use Rattle.link_schedule.specs.declared.why.Why.{Why}
 use Rattle.link_world.specs.Headline.{HasBytes}
 use Rattle.link_world.specs.Schedule.{BadLine, plays}
 use Rattle.link_world.specs.World.{World}

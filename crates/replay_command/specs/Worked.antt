@@ -1,5 +1,5 @@
 -- Whole schedules of the web server, worked by hand: what each client has at the end.
-use Rattle.std.specs.Prelude.{◌≡◌, ℕ, ◌==◌, Bool, ◌+◌, List, [], ◌∷◌, ◌++◌, codes, flat_map, length, map, replicate, Option, Some, None, Result, Ok, Err}
+use Rattle.std.specs.Prelude.{◌≡◌, ℕ, ◌+◌, List, [], ◌∷◌, ◌++◌, codes, flat_map, length, map, replicate, Option, Some, None, Result, Ok, Err}
 use Rattle.site_image.specs.Files.{File}
 use Rattle.uip_node.specs.Counters.{ticks_of}
 use Rattle.link_client.specs.declared.client_state.ClientState.{ClientState}
