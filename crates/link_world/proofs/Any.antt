@@ -3,7 +3,8 @@ use Rattle.std.specs.List.{All}
 use Rattle.std.proofs.Common.{◌≡◌, ℕ, zero, suc, Bool, true, false, not, ◌&&◌, List, [], ◌∷◌, ◌++◌, length, map, set, refl, sym, ap, ◌∙◌, subst, arith, Option, Some, None, slice_get, slice_index_or, position, eqb, if◌then◌else◌}
 use Rattle.tcp_segment.specs.Segments.{PlainSegment, has_syn, has_fin, has_rst}
 use Rattle.app_events.specs.Part.{Meaning}
-use Rattle.app_events.specs.Pages.{Pages, IsPaged, IsMoment, IsNow, IsWord}
+use Rattle.link_world.specs.Steady.{IsSteady}
+use Rattle.app_events.specs.Pages.{IsMoment, IsNow, IsWord}
 use Rattle.app_events.specs.declared.now.Now.{Now}
 use Rattle.tcp_machine.specs.Connection.{Sockets, Connection, closed, is_live, serves, same_sockets}
 use Rattle.tcp_machine.specs.Segments.{segment_of, is_again, is_plain_syn, reset_to_none, syn_ack}
@@ -353,7 +354,7 @@ module _ (m : Meaning) (G : ℕ → Side → Connection → List Sent → Type 0
   Own act = (w : World) (k : ℕ) (side : Side) (c : Connection) → ((o : ℕ) → All IsMoment (era side.past c o).captures) → G k side c w.sent → Takes w k side c (act side.client)
 
   -- the acts
-  module _ (pages : Pages) (lawful : IsPaged m pages) (served : ℕ → Bool)
+  module _ (steady : IsSteady m) (served : ℕ → Bool)
       (segment : (w : World) (old : Connection) (numbers : List ℕ) (now : Connection → Now) (k j : ℕ) (side : Side) (e : Sent) → is_live old.state ≡ true → FitConn old → All IsWord numbers → ((c : Connection) → FitConn c → IsNow (now c)) →
       slice_get w.sent j ≡ Some e → e.who ≡ from k → (is_clean side ≡ true → e.epoch ≡ length side.past) → G k side old w.sent → Steps w (asked m now (on_segment m old numbers (seg e))) k side)
       (tick : (w : World) (old : Connection) (numbers : List ℕ) (now : Connection → Now) (k : ℕ) (side : Side) → is_live old.state ≡ true → FitConn old → All IsWord numbers → ((c : Connection) → FitConn c → IsNow (now c)) →
@@ -395,7 +396,7 @@ module _ (m : Meaning) (G : ℕ → Side → Connection → List Sent → Type 0
           node_framed w c.sockets (happened m w.node arrival i c o) _ g (happened_reacts w.node arrival i c o keeps)
           (effect_step w i c o g at live keeps
           (λ k x y p h. let r = is_here k x y (p ∙ q) in
-          segment w c w.node.numbers (moment w.node arrival i) k j x e live (fw.node.conns i c at) fw.node.numbers (node_moment m pages lawful w.node arrival i fw.node) sent (who ∙ ap (λ z. from z) r.number) (fresh_at k x r.side_is) h))
+          segment w c w.node.numbers (moment w.node arrival i) k j x e live (fw.node.conns i c at) fw.node.numbers (node_moment m steady w.node arrival i fw.node) sent (who ∙ ap (λ z. from z) r.number) (fresh_at k x r.side_is) h))
 
       opens_reacts : (slot : ℕ) (old : Connection) → slice_index_or w.node.connections slot closed ≡ old →
           Reaction (opens_in m w.node (client_sockets side) (seg e) slot) (client_sockets side)
@@ -409,7 +410,7 @@ module _ (m : Meaning) (G : ℕ → Side → Connection → List Sent → Type 0
           let new : Connection = accepted first (client_sockets side) (seg e) in
           node_framed w (client_sockets side) (opens_in m w.node (client_sockets side) (seg e) slot) _ g (opens_reacts slot old (index_of w.node.connections slot closed old at))
           (effect_born w slot old new (speech false (syn_ack new)) g at refl free
-          (λ k x y q c. let r = is_here k x y q in birth w first (client_sockets side) k j x e sent (who ∙ ap (λ z. from z) r.number) (fresh_at k x r.side_is) plain (accepted_fits m pages lawful first (client_sockets side) (seg e) (fw.sides n side seat).addr (fw.sides n side seat).port) c))
+          (λ k x y q c. let r = is_here k x y q in birth w first (client_sockets side) k j x e sent (who ∙ ap (λ z. from z) r.number) (fresh_at k x r.side_is) plain (accepted_fits m steady first (client_sockets side) (seg e) (fw.sides n side seat).addr (fw.sides n side seat).port) c))
 
       passes_framed : (answer : Rattle.uip_node.specs.Events.Answer) → Framed (node_stepped w (passes w.node arrival answer))
       passes_framed answer = node_framed w peer (passes w.node arrival answer) (record { table = w.node.connections; gone = None; said = None }) g record { table = refl; gone = refl; sends = sends_none refl refl } (effect_none w peer None g (λ x y. absurd (cc)))
@@ -510,7 +511,7 @@ module _ (m : Meaning) (G : ℕ → Side → Connection → List Sent → Type 0
         let o : Outcome = asked m (moment w.node (Periodic i) i) (on_tick m c w.node.numbers) in
         let keeps : o.connection.sockets ≡ c.sockets = asked_keeps m (moment w.node (Periodic i) i) c (on_tick m c w.node.numbers) (on_tick_keeps m c w.node.numbers) in
         node_framed w c.sockets (happened m w.node (Periodic i) i c o) _ g (happened_reacts w.node (Periodic i) i c o keeps)
-        (effect_step w i c o g at l keeps (λ k side x q h. tick w c w.node.numbers (moment w.node (Periodic i) i) k side l (fw.node.conns i c at) fw.node.numbers (node_moment m pages lawful w.node (Periodic i) i fw.node) h))
+        (effect_step w i c o g at l keeps (λ k side x q h. tick w c w.node.numbers (moment w.node (Periodic i) i) k side l (fw.node.conns i c at) fw.node.numbers (node_moment m steady w.node (Periodic i) i fw.node) h))
 
     some_slot : (w : World) (i : ℕ) (c : Connection) → slice_get w.node.connections i ≡ Some c → Framed w → FitWorld w → Framed (node_stepped w (happened m w.node (Periodic i) i c (asked m (moment w.node (Periodic i) i) (on_tick m c w.node.numbers))))
     some_slot w i c at g fw =
@@ -523,7 +524,7 @@ module _ (m : Meaning) (G : ℕ → Side → Connection → List Sent → Type 0
 
     slots_framed : (slots : List ℕ) (w : World) → Framed w → FitWorld w → Framed (handles_all m served (map Periodic slots) w)
     slots_framed [] w g fw = g
-    slots_framed (i ∷ slots) w g fw = slots_framed slots (node_handles m served w (Periodic i)) (slot_ticks w i (slice_get w.node.connections i) refl g fw) (periodic_fits m pages lawful served w i fw)
+    slots_framed (i ∷ slots) w g fw = slots_framed slots (node_handles m served w (Periodic i)) (slot_ticks w i (slice_get w.node.connections i) refl g fw) (periodic_fits m steady served w i fw)
 
     loss_framed : (w v : World) → IsLoss w v → Framed w → Framed v
     loss_framed w v l g = record {

@@ -25,6 +25,7 @@ use Rattle.link_world.specs.declared.who.Who.TheVariants.{FromClient, FromNode, 
 use Rattle.link_world.specs.History.{Planned, fresh_side, opening_world, planned_of}
 use Rattle.link_world.specs.Reading.{IsSentBy}
 use Rattle.link_world.specs.Times.{IsLater, AcknowledgedLater, MarkIsLow, NoneIsEmpty, SidesAsPlanned}
+use Rattle.link_world.proofs.Steadiness.{steady_of}
 use Rattle.link_world.proofs.Good.{seg, from, to}
 use Rattle.link_world.proofs.Any.{Framed, Steps, Takes, older, does_framed}
 use Rattle.link_world.proofs.Growing.{Grows, does_grows, grows_not, grows_on}
@@ -160,7 +161,7 @@ module _ (m : Meaning) (n : ℕ) (it : Sent) where
 
   stays_there : (pages : Pages) → IsPaged m pages → (v w : World) → IsLater m pages v w → Framed m There there_other there_reset there_evict there_mark v → Framed m There there_other there_reset there_evict there_mark w
   stays_there pages lawful v w l = reached_on m pages lawful (λ u. Framed m There there_other there_reset there_evict there_mark u)
-      (λ served u act harm g fits. does_framed m There there_other there_reset there_evict there_mark pages lawful served
+      (λ served u act harm g fits. does_framed m There there_other there_reset there_evict there_mark (steady_of m pages lawful) served
       (λ w old numbers now k j side e lv f n is sent who fresh g. there_steps w (asked m now (on_segment m old numbers (seg e))) k side g)
       (λ w old numbers now k side lv f n is g. there_steps w (asked m now (on_tick m old numbers)) k side g)
       (λ w first sockets k j side e sent who fresh plain fit g tick id. get_older w.sent _ it n g)

@@ -16,6 +16,7 @@ use Rattle.link_world.specs.World.{World, Side, Sent, Era, client_sockets, is_cl
 use Rattle.link_world.specs.History.{Planned, IsPlan, era_of, fresh_side, serving, opening_world}
 use Rattle.link_world.specs.Headline.{IsReached, server_side}
 use Rattle.link_world.specs.Times.{IsLater, OneConnection, EpochsAreFew}
+use Rattle.link_world.proofs.Steadiness.{steady_of}
 use Rattle.link_world.proofs.Good.{seg, from, to}
 use Rattle.link_world.proofs.Fits.{FitConn}
 use Rattle.link_world.proofs.Rounds.{one_longer}
@@ -103,7 +104,7 @@ module _ (m : Meaning) where
 
   all_few : (pages : Pages) → IsPaged m pages → (w : World) → IsReached m pages w → Framed m Few few_other few_reset few_evict few_mark w
   all_few pages lawful w r = reached m pages lawful (λ v. Framed m Few few_other few_reset few_evict few_mark v)
-      (λ served v act harm g fits. does_framed m Few few_other few_reset few_evict few_mark pages lawful served few_segment few_tick few_birth
+      (λ served v act harm g fits. does_framed m Few few_other few_reset few_evict few_mark (steady_of m pages lawful) served few_segment few_tick few_birth
       (λ w k j side c number e fit sent who g. few_takes w k (marked side number e) c (client_takes side.client (seg e)) g)
       (λ w k side c fit g. few_takes w k side c (client_opens side.client) g)
       (λ w k side c fit g. few_takes w k side c (client_again side.client) g)
@@ -166,7 +167,7 @@ module _ (m : Meaning) where
 
     goes_on_same : (pages : Pages) → IsPaged m pages → (v w : World) → IsLater m pages v w → Framed m Same same_other same_reset same_evict same_mark v → Framed m Same same_other same_reset same_evict same_mark w
     goes_on_same pages lawful v w l = reached_on m pages lawful (λ u. Framed m Same same_other same_reset same_evict same_mark u)
-        (λ served u act harm g fits. does_framed m Same same_other same_reset same_evict same_mark pages lawful served same_segment same_tick same_birth
+        (λ served u act harm g fits. does_framed m Same same_other same_reset same_evict same_mark (steady_of m pages lawful) served same_segment same_tick same_birth
         (λ w k j side c number e fit sent who g. same_takes w k (marked side number e) c (client_takes side.client (seg e)) g)
         (λ w k side c fit g. same_takes w k side c (client_opens side.client) g)
         (λ w k side c fit g. same_takes w k side c (client_again side.client) g)
@@ -200,7 +201,7 @@ module _ (m : Meaning) where
 
   pub all_numbered : (pages : Pages) → IsPaged m pages → (w : World) → IsReached m pages w → (k : ℕ) (side : Side) → slice_get w.sides k ≡ Some side → Num (server_side w side)
   all_numbered pages lawful w r = (reached m pages lawful (λ v. Framed m Numbered num_other num_reset num_evict num_mark v)
-      (λ served v act harm g fits. does_framed m Numbered num_other num_reset num_evict num_mark pages lawful served
+      (λ served v act harm g fits. does_framed m Numbered num_other num_reset num_evict num_mark (steady_of m pages lawful) served
       (λ w old numbers now k j side e lv f n is sent who fresh g. num_steps w (asked m now (on_segment m old numbers (seg e))) k side (segment_num m pages lawful now old numbers (seg e) g))
       (λ w old numbers now k side lv f n is g. num_steps w (asked m now (on_tick m old numbers)) k side (tick_num m pages lawful now old numbers g))
       (λ w first sockets k j side e sent who fresh plain fit g tick id. accepted_num first sockets (seg e))

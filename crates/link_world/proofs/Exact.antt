@@ -20,6 +20,7 @@ use Rattle.link_client.specs.declared.client_state.ClientState.TheVariants as Is
 use Rattle.link_world.specs.World.{World, Side, Sent, Era, becomes_opened, with_client, marked, is_clean}
 use Rattle.link_world.specs.History.{era, era_of, serving, Planned, IsPlan, opening_world}
 use Rattle.link_world.specs.Headline.{IsReached, IsInStep, OneSegment}
+use Rattle.link_world.proofs.Steadiness.{steady_of, IsShort, short_said}
 use Rattle.link_world.proofs.Basics.{and_true, eqb-eq, same_place, wrap_wrap, get_push, nothing_placed, not-true}
 use Rattle.link_world.proofs.Basics.AtEnd.{older, newest}
 use Rattle.link_world.proofs.Good.{seg, segment_in, from, to, StateGood, ToGood, ClientSaid, NodeSaid, OpenedGood, HasOpened, Good, is_unasked}
@@ -133,7 +134,7 @@ receiving_stays Is.Reset x h = absurd (cc)
 
 module _ (m : Meaning) (pages : Pages) (lawful : IsPaged m pages) where
   -- what is outstanding is no longer than it says
-  span : (c : Connection) (st : State) → SafeState m pages lawful c st → 0 < c.len → length (due m st c).text + one_if (has_fin (due m st c).flags) ≤ c.len
+  span : (c : Connection) (st : State) → SafeState m (steady_of m pages lawful) IsShort (short_said m pages lawful) c st → 0 < c.len → length (due m st c).text + one_if (has_fin (due m st c).flags) ≤ c.len
   span c Closed h l = absurd h
   span c SynRcvd h l = omega arith
   span c Established h l = (let e = length-take c.len (drop c.part.acked (m.said c.part)) in omega (arith, e))
@@ -144,29 +145,29 @@ module _ (m : Meaning) (pages : Pages) (lawful : IsPaged m pages) where
   span c TimeWait h l = omega arith
   span c LastAck h l = omega (arith, l)
 
-  top_low : (c : Connection) (st : State) → FitConn c → SafeState m pages lawful c st → c.acked + c.len < 4294967296
+  top_low : (c : Connection) (st : State) → FitConn c → SafeState m (steady_of m pages lawful) IsShort (short_said m pages lawful) c st → c.acked + c.len < 4294967296
   top_low c Closed f h = absurd h
   top_low c SynRcvd f h = omega (arith, h.len, h.acked)
-  top_low c Established f h = (let s = lawful.short c.part.heard c.part.captures f.captures in omega (arith, h.fits, h.count, s))
-  top_low c CloseWait f h = (let s = lawful.short c.part.heard c.part.captures f.captures in let a = h.text.fits in let b = h.text.count in omega (arith, a, b, s))
-  top_low c FinWait1 f h = omega (arith, h.len, h.low)
-  top_low c FinWait2 f h = omega (arith, h.len, h.low)
-  top_low c Closing f h = omega (arith, h.len, h.low)
-  top_low c TimeWait f h = omega (arith, h.len, h.low)
-  top_low c LastAck f h = omega (arith, h.len, h.low)
+  top_low c Established f h = (let s : length (m.said c.part) < 1073741824 = short_said m pages lawful c.part f.captures in omega (arith, h.fits, h.count, s))
+  top_low c CloseWait f h = (let s : length (m.said c.part) < 1073741824 = short_said m pages lawful c.part f.captures in let a = h.text.fits in let b = h.text.count in omega (arith, a, b, s))
+  top_low c FinWait1 f h = (let low : h.low.at < 1073741824 = h.low.low in omega (arith, h.len, low, h.low.near))
+  top_low c FinWait2 f h = (let low : h.low.at < 1073741824 = h.low.low in omega (arith, h.len, low, h.low.near))
+  top_low c Closing f h = (let low : h.low.at < 1073741824 = h.low.low in omega (arith, h.len, low, h.low.near))
+  top_low c TimeWait f h = (let low : h.low.at < 1073741824 = h.low.low in omega (arith, h.len, low, h.low.near))
+  top_low c LastAck f h = (let low : h.low.at < 1073741824 = h.low.low in omega (arith, h.len, low, h.low.near))
 
   -- what the connection just said ends where it says
-  new_ends : (d : Connection) (s : PlainSegment) → FitConn d → Safe m pages lawful d → (has_place s ≡ true → IsDue m pages lawful d s) → EndsBy d s
+  new_ends : (d : Connection) (s : PlainSegment) → FitConn d → Safe m (steady_of m pages lawful) IsShort (short_said m pages lawful) d → (has_place s ≡ true → IsDue m (steady_of m pages lawful) IsShort (short_said m pages lawful) d s) → EndsBy d s
   new_ends d s fit f n p at low q =
-      let w : IsDue m pages lawful d s = n p in
-      let here : at ≡ d.acked = same_place d.first at d.acked low (Same.off_low m pages lawful d d.state fit.captures f.state) (sym q ∙ w.seq) in
+      let w : IsDue m (steady_of m pages lawful) IsShort (short_said m pages lawful) d s = n p in
+      let here : at ≡ d.acked = same_place d.first at d.acked low (Same.off_low m (steady_of m pages lawful) IsShort (short_said m pages lawful) (λ n h. h) d d.state fit.captures f.state) (sym q ∙ w.seq) in
       let z = span d d.state f.state w.len in
       let t : length s.text ≡ length (due m d.state d).text = ap (λ (x : List ℕ). length x) w.alike.text in
       let u : one_if (has_fin s.flags) ≡ one_if (has_fin (due m d.state d).flags) = ap (λ n. one_if (has_fin n)) w.alike.flags in
       omega (arith, here, z, t, u)
 
   record G (k : ℕ) (side : Side) (c : Connection) (sent : List Sent) : Type 0 where
-    told : Same.Told m pages lawful k side c sent
+    told : Same.Told m (steady_of m pages lawful) IsShort (short_said m pages lawful) k side c sent
     good : Prefix.G m pages lawful k side c sent
     ends : Ends k side c sent
     exact : is_clean side ≡ true → ExactOpen k side.client side.past c sent side.opened
@@ -176,7 +177,7 @@ module _ (m : Meaning) (pages : Pages) (lawful : IsPaged m pages) where
 
   other : (k : ℕ) (side : Side) (c : Connection) (sent : List Sent) (e : Sent) → G k side c sent → (e.who ≡ to k → ⊥) → (e.who ≡ from k → ⊥) → G k side c (sent ++ e ∷ [])
   other k side c sent e g t f = record {
-    told = Same.other m pages lawful k side c sent e g.told t f;
+    told = Same.other m (steady_of m pages lawful) IsShort (short_said m pages lawful) k side c sent e g.told t f;
     good = Prefix.other m pages lawful k side c sent e g.good t f;
     ends = push_ends k side c sent e g.ends (λ l w. absurd (t w));
     exact = push_aside k side c sent e f g.exact;
@@ -187,7 +188,7 @@ module _ (m : Meaning) (pages : Pages) (lawful : IsPaged m pages) where
 
   reset : (k : ℕ) (side : Side) (c : Connection) (sent : List Sent) (e : Sent) → G k side c sent → e.epoch ≡ length side.past → has_syn (seg e).flags ≡ false → has_fin (seg e).flags ≡ false → (seg e).text ≡ [] → has_rst (seg e).flags ≡ true → e.again ≡ false → e.who ≡ to k → G k side c (sent ++ e ∷ [])
   reset k side c sent e g q sy fi te rs ag w = record {
-    told = Same.reset m pages lawful k side c sent e g.told q sy fi te rs ag w;
+    told = Same.reset m (steady_of m pages lawful) IsShort (short_said m pages lawful) k side c sent e g.told q sy fi te rs ag w;
     good = Prefix.reset m pages lawful k side c sent e g.good q sy fi te rs ag w;
     ends = push_ends k side c sent e g.ends (λ l x p. absurd (nothing_placed (seg e) sy fi te p));
     exact = push_aside k side c sent e (to_not_from k e w) g.exact;
@@ -201,7 +202,7 @@ module _ (m : Meaning) (pages : Pages) (lawful : IsPaged m pages) where
 
   evict : (k : ℕ) (side : Side) (c : Connection) (sent : List Sent) → is_live c.state ≡ true → G k side c sent → G k (Any.older side c) closed sent
   evict k side c sent l g = record {
-    told = Same.evict m pages lawful k side c sent l g.told;
+    told = Same.evict m (steady_of m pages lawful) IsShort (short_said m pages lawful) k side c sent l g.told;
     good = Prefix.evict m pages lawful k side c sent l g.good;
     ends = λ x. absurd (cc);
     exact = λ cl. dead_exact k side.client side.past c c sent side.opened refl (g.good cl).opened_good (g.exact cl);
@@ -209,7 +210,7 @@ module _ (m : Meaning) (pages : Pages) (lawful : IsPaged m pages) where
 
   mark : (k : ℕ) (side : Side) (c : Connection) (sent : List Sent) (n : ℕ) (e : Sent) → G k side c sent → G k (marked side n e) c sent
   mark k side c sent n e g = record {
-    told = Same.mark m pages lawful k side c sent n e g.told;
+    told = Same.mark m (steady_of m pages lawful) IsShort (short_said m pages lawful) k side c sent n e g.told;
     good = Prefix.mark m pages lawful k side c sent n e g.good;
     ends = g.ends;
     exact = λ cl. g.exact (clean_before side n e cl).0;
@@ -227,12 +228,12 @@ module _ (m : Meaning) (pages : Pages) (lawful : IsPaged m pages) where
       )) x
 
   abbrev ToldSteps : World → Outcome → ℕ → Side → Type 0
-  ToldSteps w o k side = Steps m (Same.Told m pages lawful) (Same.other m pages lawful) (Same.reset m pages lawful) (Same.evict m pages lawful) (Same.mark m pages lawful) w o k side
+  ToldSteps w o k side = Steps m (Same.Told m (steady_of m pages lawful) IsShort (short_said m pages lawful)) (Same.other m (steady_of m pages lawful) IsShort (short_said m pages lawful)) (Same.reset m (steady_of m pages lawful) IsShort (short_said m pages lawful)) (Same.evict m (steady_of m pages lawful) IsShort (short_said m pages lawful)) (Same.mark m (steady_of m pages lawful) IsShort (short_said m pages lawful)) w o k side
 
   abbrev GoodSteps : World → Outcome → ℕ → Side → Type 0
   GoodSteps w o k side = Steps m (Prefix.G m pages lawful) (Prefix.other m pages lawful) (Prefix.reset m pages lawful) (Prefix.evict m pages lawful) (Prefix.mark m pages lawful) w o k side
 
-  steps_by : (w : World) (old : Connection) (o : Outcome) (acked : Bool) (k : ℕ) (side : Side) → is_live old.state ≡ true → G k side old w.sent → FitConn o.connection → OutTold m pages lawful old o → Moves acked old o.connection →
+  steps_by : (w : World) (old : Connection) (o : Outcome) (acked : Bool) (k : ℕ) (side : Side) → is_live old.state ≡ true → G k side old w.sent → FitConn o.connection → OutTold m (steady_of m pages lawful) IsShort (short_said m pages lawful) old o → Moves acked old o.connection →
       ToldSteps w o k side → GoodSteps w o k side → (is_clean side ≡ true → (n : ℕ) → side.opened ≡ Some n → acked ≡ true → old.acked + old.len ≤ 1 + count side.client) → Steps m G other reset evict mark w o k side
   steps_by w old o acked k side lv g fit h mv t p a =
       let live : is_clean side ≡ true → ExactOpen k side.client side.past o.connection w.sent side.opened = λ cl. live_exact k side.client side.past old o.connection acked w.sent side.opened lv mv (g.exact cl) (a cl) in
@@ -259,7 +260,7 @@ module _ (m : Meaning) (pages : Pages) (lawful : IsPaged m pages) where
   first_here client past c o l h = ap (λ (z : Era). z.first) (era_now past c o (let q : o ≡ length past = h.live_then l in omega (arith, q)))
 
   -- an acknowledgement that counts was told by the client
-  acked_here : (c : Connection) (s : PlainSegment) (client : AbstractClient) → FitConn c → Safe m pages lawful c → 1 + count client ≤ c.acked + c.len → is_acked c s ≡ true → Acked client c.first s → c.acked + c.len ≤ 1 + count client
+  acked_here : (c : Connection) (s : PlainSegment) (client : AbstractClient) → FitConn c → Safe m (steady_of m pages lawful) IsShort (short_said m pages lawful) c → 1 + count client ≤ c.acked + c.len → is_acked c s ≡ true → Acked client c.first s → c.acked + c.len ≤ 1 + count client
   acked_here c s client fit f high h a =
       let y = and_true (has_ack s.flags) (ltb 0 c.len && eqb s.ack (wrap (snd_nxt c + c.len))) h in
       let z = and_true (ltb 0 c.len) (eqb s.ack (wrap (snd_nxt c + c.len))) y.1 in
@@ -271,7 +272,7 @@ module _ (m : Meaning) (pages : Pages) (lawful : IsPaged m pages) where
       let e : c.acked + c.len ≡ 1 + a.at = same_place c.first (c.acked + c.len) (1 + a.at) top (omega (arith, l, high, top)) (sym r ∙ sym q ∙ sym t) in
       omega (arith, l, e)
 
-  acked_by : (k : ℕ) (client : AbstractClient) (past : List Era) (c : Connection) (sent : List Sent) (opened : Option ℕ) (j : ℕ) (e : Sent) → slice_get sent j ≡ Some e → e.who ≡ from k → is_live c.state ≡ true → FitConn c → Safe m pages lawful c →
+  acked_by : (k : ℕ) (client : AbstractClient) (past : List Era) (c : Connection) (sent : List Sent) (opened : Option ℕ) (j : ℕ) (e : Sent) → slice_get sent j ≡ Some e → e.who ≡ from k → is_live c.state ≡ true → FitConn c → Safe m (steady_of m pages lawful) IsShort (short_said m pages lawful) c →
       OpenedGood pages client past c opened → ExactOpen k client past c sent opened → (o : ℕ) → opened ≡ Some o → not (has_rst (seg e).flags) && is_acked c (seg e) ≡ true → c.acked + c.len ≤ 1 + count client
   acked_by k client past c sent None j e x w l fit f h y o q a = absurd (cc)
   acked_by k client past c sent (Some p) j e x w l fit f h y o q a =
@@ -285,22 +286,22 @@ module _ (m : Meaning) (pages : Pages) (lawful : IsPaged m pages) where
       slice_get w.sent j ≡ Some e → e.who ≡ from k → (is_clean side ≡ true → e.epoch ≡ length side.past) → G k side old w.sent → Steps m G other reset evict mark w (asked m now (on_segment m old numbers (seg e))) k side
   segment w old numbers now k j side e lv f n is sent who fresh g =
       let o : Outcome = on_segment m old numbers (seg e) in
-      let fo : FitOut o = on_segment_fits m pages lawful old numbers (seg e) f n in
-      let fit : FitConn (asked m now o).connection = Same.stepped_fits m pages lawful now o is fo in
-      let h : OutTold m pages lawful old (asked m now o) = Same.stepped_tells m pages lawful now old o is fo (segment_tells m pages lawful old numbers (seg e) (g.told.safe lv)) in
+      let fo : FitOut o = on_segment_fits m (steady_of m pages lawful) old numbers (seg e) f n in
+      let fit : FitConn (asked m now o).connection = Same.stepped_fits m (steady_of m pages lawful) IsShort (short_said m pages lawful) now o is fo in
+      let h : OutTold m (steady_of m pages lawful) IsShort (short_said m pages lawful) old (asked m now o) = Same.stepped_tells m (steady_of m pages lawful) IsShort (short_said m pages lawful) now old o is fo (segment_tells m (steady_of m pages lawful) IsShort (short_said m pages lawful) old numbers (seg e) (g.told.safe lv)) in
       steps_by w old (asked m now o) (not (has_rst (seg e).flags) && is_acked old (seg e)) k side lv g fit h (asked_moves m _ old now o (segment_moves m old numbers (seg e)))
-      (Same.steps_by m pages lawful w old (asked m now o) k side lv fit h g.told) (Prefix.segment m pages lawful w old numbers now k j side e lv f n is sent who fresh g.good)
+      (Same.steps_by m (steady_of m pages lawful) IsShort (short_said m pages lawful) w old (asked m now o) k side lv fit h g.told) (Prefix.segment m pages lawful w old numbers now k j side e lv f n is sent who fresh g.good)
       (λ cl p q a. acked_by k side.client side.past old w.sent side.opened j e sent who lv f (g.told.safe lv) (g.good cl).opened_good (g.exact cl) p q a)
 
   tick : (w : World) (old : Connection) (numbers : List ℕ) (now : Connection → Now) (k : ℕ) (side : Side) → is_live old.state ≡ true → FitConn old → All IsWord numbers → ((c : Connection) → FitConn c → IsNow (now c)) →
       G k side old w.sent → Steps m G other reset evict mark w (asked m now (on_tick m old numbers)) k side
   tick w old numbers now k side lv f n is g =
       let o : Outcome = on_tick m old numbers in
-      let fo : FitOut o = on_tick_fits m pages lawful old numbers f n in
-      let fit : FitConn (asked m now o).connection = Same.stepped_fits m pages lawful now o is fo in
-      let h : OutTold m pages lawful old (asked m now o) = Same.stepped_tells m pages lawful now old o is fo (tick_tells m pages lawful old numbers (g.told.safe lv)) in
+      let fo : FitOut o = on_tick_fits m (steady_of m pages lawful) old numbers f n in
+      let fit : FitConn (asked m now o).connection = Same.stepped_fits m (steady_of m pages lawful) IsShort (short_said m pages lawful) now o is fo in
+      let h : OutTold m (steady_of m pages lawful) IsShort (short_said m pages lawful) old (asked m now o) = Same.stepped_tells m (steady_of m pages lawful) IsShort (short_said m pages lawful) now old o is fo (tick_tells m (steady_of m pages lawful) IsShort (short_said m pages lawful) old numbers (g.told.safe lv)) in
       steps_by w old (asked m now o) false k side lv g fit h (asked_moves m false old now o (tick_moves m old numbers))
-      (Same.steps_by m pages lawful w old (asked m now o) k side lv fit h g.told) (Prefix.tick m pages lawful w old numbers now k side lv f n is g.good) (λ cl p q a. absurd (cc))
+      (Same.steps_by m (steady_of m pages lawful) IsShort (short_said m pages lawful) w old (asked m now o) k side lv fit h g.told) (Prefix.tick m pages lawful w old numbers now k side lv f n is g.good) (λ cl p q a. absurd (cc))
 
   born_exact : (k : ℕ) (client : AbstractClient) (past : List Era) (d : Connection) (sent : List Sent) (opened : Option ℕ) → ((o : ℕ) → opened ≡ Some o → length past ≤ o) → OpenedGood pages client past closed opened → ExactOpen k client past d sent opened
   born_exact k client past d sent None b h = tt
@@ -311,7 +312,7 @@ module _ (m : Meaning) (pages : Pages) (lawful : IsPaged m pages) where
   birth w first sockets k j side e sent who fresh plain fit g tick id =
       let c : Connection = accepted first sockets (seg e) in
       let new : Sent = entry (to k) side tick id (speech false (syn_ack c)) in
-      let t : Same.Told m pages lawful k side c (w.sent ++ new ∷ []) = Same.birth m pages lawful w first sockets k j side e sent who fresh plain fit g.told tick id in
+      let t : Same.Told m (steady_of m pages lawful) IsShort (short_said m pages lawful) k side c (w.sent ++ new ∷ []) = Same.birth m (steady_of m pages lawful) IsShort (short_said m pages lawful) w first sockets k j side e sent who fresh plain fit g.told tick id in
       record {
         told = t;
         good = Prefix.birth m pages lawful w first sockets k j side e sent who fresh plain fit g.good tick id;
@@ -322,7 +323,7 @@ module _ (m : Meaning) (pages : Pages) (lawful : IsPaged m pages) where
             born_exact k side.client side.past c w.sent side.opened (λ o q. subst (λ n. n ≤ o) (fresh cl) (y.before o q)) (g.good cl).opened_good));
       }
 
-  text_exact : (k : ℕ) (client d : AbstractClient) (past : List Era) (c : Connection) (sent : List Sent) (opened : Option ℕ) (s : PlainSegment) → is_live c.state ≡ true → FitConn c → Safe m pages lawful c → EndsBy c s → OpenedGood pages client past c opened → is_receiving client.state ≡ true →
+  text_exact : (k : ℕ) (client d : AbstractClient) (past : List Era) (c : Connection) (sent : List Sent) (opened : Option ℕ) (s : PlainSegment) → is_live c.state ≡ true → FitConn c → Safe m (steady_of m pages lawful) IsShort (short_said m pages lawful) c → EndsBy c s → OpenedGood pages client past c opened → is_receiving client.state ≡ true →
       s.seq ≡ client.expected → has_place s ≡ true → d.received ≡ client.received ++ s.text → d.expected ≡ wrap (client.expected + length s.text + one_if (has_fin s.flags)) → has_closed d.state ≡ has_fin s.flags →
       ExactOpen k client past c sent opened → ExactOpen k d past c sent opened
   text_exact k client d past c sent None s l fit f en h i q p r e n x = tt
@@ -388,7 +389,7 @@ module _ (m : Meaning) (pages : Pages) (lawful : IsPaged m pages) where
       }
 
   -- the client takes a datagram
-  kind_exact : (k : ℕ) (client d : AbstractClient) (past : List Era) (c : Connection) (sent : List Sent) (opened : Option ℕ) (e : Sent) → Kind client (seg e) d → e.epoch ≡ length past → FitConn c → (is_live c.state ≡ true → Safe m pages lawful c) → (is_live c.state ≡ true → EndsBy c (seg e)) →
+  kind_exact : (k : ℕ) (client d : AbstractClient) (past : List Era) (c : Connection) (sent : List Sent) (opened : Option ℕ) (e : Sent) → Kind client (seg e) d → e.epoch ≡ length past → FitConn c → (is_live c.state ≡ true → Safe m (steady_of m pages lawful) IsShort (short_said m pages lawful) c) → (is_live c.state ≡ true → EndsBy c (seg e)) →
       ToGood pages client opened past c e → Good pages k client opened past c sent → ExactOpen k client past c sent opened → ExactOpen k d past c sent (if becomes_opened client.state d.state then Some (length past) else opened)
   kind_exact k client d past c sent opened e (kept r x n b) fresh fit f en t g y =
       subst (λ z. ExactOpen k d past c sent (if z then Some (length past) else opened)) (sym b) (kept_exact k client d past c sent opened x (count_kept client d r n) y)
@@ -407,7 +408,7 @@ module _ (m : Meaning) (pages : Pages) (lawful : IsPaged m pages) where
       exact_either false o = tt
 
   abbrev ToldTakes : World → ℕ → Side → Connection → ClientStep → Type 0
-  ToldTakes w k base c t = Takes m (Same.Told m pages lawful) (Same.other m pages lawful) (Same.reset m pages lawful) (Same.evict m pages lawful) (Same.mark m pages lawful) w k base c t
+  ToldTakes w k base c t = Takes m (Same.Told m (steady_of m pages lawful) IsShort (short_said m pages lawful)) (Same.other m (steady_of m pages lawful) IsShort (short_said m pages lawful)) (Same.reset m (steady_of m pages lawful) IsShort (short_said m pages lawful)) (Same.evict m (steady_of m pages lawful) IsShort (short_said m pages lawful)) (Same.mark m (steady_of m pages lawful) IsShort (short_said m pages lawful)) w k base c t
 
   abbrev GoodTakes : World → ℕ → Side → Connection → ClientStep → Type 0
   GoodTakes w k base c t = Takes m (Prefix.G m pages lawful) (Prefix.other m pages lawful) (Prefix.reset m pages lawful) (Prefix.evict m pages lawful) (Prefix.mark m pages lawful) w k base c t
@@ -415,7 +416,7 @@ module _ (m : Meaning) (pages : Pages) (lawful : IsPaged m pages) where
   took_by : (w : World) (k : ℕ) (base : Side) (c : Connection) (t : ClientStep) → G k base c w.sent → GoodTakes w k base c t → Acks t →
       (is_clean base ≡ true → ExactOpen k t.client base.past c w.sent (with_client base t.client).opened) → Takes m G other reset evict mark w k base c t
   took_by w k base c t g p a x =
-      let told : ToldTakes w k base c t = Same.takes m pages lawful w k base c t g.told in
+      let told : ToldTakes w k base c t = Same.takes m (steady_of m pages lawful) IsShort (short_said m pages lawful) w k base c t g.told in
       record {
         quiet = λ n. record { told = told.quiet n; good = p.quiet n; ends = g.ends; exact = x };
         says = λ s e tick. record {
@@ -448,7 +449,7 @@ module _ (m : Meaning) (pages : Pages) (lawful : IsPaged m pages) where
 
   opening_exact : (addr : Addr) (numbers : List ℕ) (plan : List Planned) → IsPlan plan → Framed m G other reset evict mark (opening_world addr numbers plan)
   opening_exact addr numbers plan is =
-      let a = Same.opening_told m pages lawful addr numbers plan is in
+      let a = Same.opening_told m (steady_of m pages lawful) IsShort (short_said m pages lawful) addr numbers plan is in
       let b = Prefix.opening_framed m pages lawful addr numbers plan is in
       record {
         apart = a.apart;
@@ -463,7 +464,7 @@ module _ (m : Meaning) (pages : Pages) (lawful : IsPaged m pages) where
 
   all_exact : (w : World) → IsReached m pages w → Framed m G other reset evict mark w
   all_exact w r = reached m pages lawful (λ v. Framed m G other reset evict mark v)
-      (λ served v act harm g fits. does_framed m G other reset evict mark pages lawful served segment tick birth took
+      (λ served v act harm g fits. does_framed m G other reset evict mark (steady_of m pages lawful) served segment tick birth took
       (λ w k side c fit g. own_by w k side c (client_opens side.client) g (opens_idles side.client.state side.client refl) (Prefix.own_open m pages lawful w k side c fit g.good))
       (λ w k side c fit g. own_by w k side c (client_again side.client) g (again_idles side.client.state side.client) (Prefix.own_again m pages lawful w k side c fit g.good))
       (λ w k side c fit g. own_by w k side c (client_closes side.client) g (closes_idles side.client.state side.client refl) (Prefix.own_close m pages lawful w k side c fit g.good))

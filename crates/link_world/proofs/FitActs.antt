@@ -3,7 +3,8 @@ use Rattle.std.specs.List.{All}
 use Rattle.std.proofs.Common.{◌≡◌, ◌≤◌, ℕ, zero, suc, Bool, List, [], ◌∷◌, length, map, refl, sym, subst, Option, Some, None, slice_get}
 use Rattle.tcp_segment.specs.Segments.{PlainSegment}
 use Rattle.app_events.specs.Part.{Meaning}
-use Rattle.app_events.specs.Pages.{Pages, IsPaged, IsWord}
+use Rattle.link_world.specs.Steady.{IsSteady}
+use Rattle.app_events.specs.Pages.{IsWord}
 use Rattle.tcp_machine.specs.Connection.{Connection}
 use Rattle.uip_node.specs.Events.Event.{EchoAsked, Periodic}
 use Rattle.uip_node.specs.Events.Answer.{EchoReplied}
@@ -31,11 +32,11 @@ loss_fits w v l f = record {
   sides = subst FitSides (sym l.sides) f.sides;
 }
 
-module _ (m : Meaning) (pages : Pages) (lawful : IsPaged m pages) (served : ℕ → Bool) where
+module _ (m : Meaning) (steady : IsSteady m) (served : ℕ → Bool) where
   gives_node_fit : (w : World) (n k : ℕ) (e : Sent) (s : PlainSegment) (side : Option Side) → slice_get w.sides n ≡ side → FitWorld w → FitWorld (gives_node m served w (suc n) k e s side)
   gives_node_fit w n k e s None at f = f
   gives_node_fit w n k e s (Some side) at f =
-      arrival_fits m pages lawful served (with_side w (suc n) (marked side k e)) (client_sockets side) s (f.sides n side at).addr (f.sides n side at).port (put_fits w n side (marked side k e) at refl refl f)
+      arrival_fits m steady served (with_side w (suc n) (marked side k e)) (client_sockets side) s (f.sides n side at).addr (f.sides n side at).port (put_fits w n side (marked side k e) at refl refl f)
 
   gives_client_fit : (w : World) (n k : ℕ) (e : Sent) (s : PlainSegment) (side : Option Side) → slice_get w.sides n ≡ side → FitWorld w → FitWorld (gives_client w (suc n) k e s side)
   gives_client_fit w n k e s None at f = f
@@ -46,7 +47,7 @@ module _ (m : Meaning) (pages : Pages) (lawful : IsPaged m pages) (served : ℕ 
   delivers_fit w k e (FromClient (suc n)) (OfSegment id s) f = gives_node_fit w n k e s (slice_get w.sides n) refl f
   delivers_fit w k e (FromNode zero) (OfSegment id s) f = f
   delivers_fit w k e (FromNode (suc n)) (OfSegment id s) f = gives_client_fit w n k e s (slice_get w.sides n) refl f
-  delivers_fit w k e Pinger (OfPing datagram) f = still_world m pages lawful served w (remembers w.node (EchoAsked datagram) EchoReplied) (Some (Echo datagram)) refl refl f
+  delivers_fit w k e Pinger (OfPing datagram) f = still_world m steady served w (remembers w.node (EchoAsked datagram) EchoReplied) (Some (Echo datagram)) refl refl f
   delivers_fit w k e (FromClient n) (OfPing datagram) f = f
   delivers_fit w k e (FromClient n) (OfEcho request) f = f
   delivers_fit w k e (FromNode n) (OfPing datagram) f = f
@@ -68,7 +69,7 @@ module _ (m : Meaning) (pages : Pages) (lawful : IsPaged m pages) (served : ℕ 
 
   pub slots_fit : (slots : List ℕ) (w : World) → FitWorld w → FitWorld (handles_all m served (map Periodic slots) w)
   slots_fit [] w f = f
-  slots_fit (slot ∷ slots) w f = slots_fit slots (node_handles m served w (Periodic slot)) (periodic_fits m pages lawful served w slot f)
+  slots_fit (slot ∷ slots) w f = slots_fit slots (node_handles m served w (Periodic slot)) (periodic_fits m steady served w slot f)
 
   pub does_fit : (w : World) (act : Act) → Harmless m served w act → FitWorld w → FitWorld (does m served w act)
   does_fit w (Act.Opens n) pl f = numbered_fit w n client_opens (λ c. opens_setup c.state c) f

@@ -4,7 +4,8 @@ use Rattle.std.proofs.lemmas.Iterator.Adapters.{position_from-zero}
 use Rattle.std.proofs.Common.{◌≡◌, ℕ, zero, suc, ◌+◌, ◌<◌, ◌≤◌, Bool, false, not, ◌&&◌, List, [], ◌∷◌, ◌++◌, length, get_or, refl, sym, ap, ◌∙◌, subst, arith, Option, Some, None, slice_get, slice_index_or, position, cond, ltb, length-set}
 use Rattle.tcp_segment.specs.Segments.{PlainSegment, has_rst}
 use Rattle.app_events.specs.Part.{Meaning}
-use Rattle.app_events.specs.Pages.{Pages, IsPaged, IsMoment, IsNow, IsWord, IsByte, IsAddr}
+use Rattle.link_world.specs.Steady.{IsSteady}
+use Rattle.app_events.specs.Pages.{IsMoment, IsNow, IsWord, IsByte, IsAddr}
 use Rattle.tcp_machine.specs.Connection.{Sockets, Connection, closed, is_live, serves, same_sockets}
 use Rattle.tcp_machine.specs.Segments.{is_plain_syn}
 use Rattle.tcp_machine.specs.Ask.{Outcome}
@@ -125,7 +126,7 @@ position_in p xs i h =
     let r = placed_from p 0 xs i (sym (position_from-zero p xs) ∙ h) in
     record { item = r.item; get = ap (slice_get xs) (let e : i ≡ r.index = omega (arith, r.is) in e) ∙ r.get }
 
-module _ (m : Meaning) (pages : Pages) (lawful : IsPaged m pages) where
+module _ (m : Meaning) (steady : IsSteady m) where
   happened_fits : (n : AbstractNode) (event : Event) (slot : ℕ) (old : Connection) (o : Outcome) → FitNode n → FitOut o → FitStep (happened m n event slot old o)
   unfolding happened
   happened_fits n event slot old o f h = record {
@@ -152,7 +153,7 @@ module _ (m : Meaning) (pages : Pages) (lawful : IsPaged m pages) where
   opens_fit n sockets s None a p f = still_fits n _ None refl refl f
   opens_fit n sockets s (Some slot) a p f =
       let h : FitStep (happened m n (Arrived sockets s) slot (connection_in slot n) (accept (initial_number n.past) sockets s n.numbers)) =
-      happened_fits n (Arrived sockets s) slot (connection_in slot n) (accept (initial_number n.past) sockets s n.numbers) f record { conn = accepted_fits m pages lawful (initial_number n.past) sockets s a p; numbers = f.numbers } in
+      happened_fits n (Arrived sockets s) slot (connection_in slot n) (accept (initial_number n.past) sockets s n.numbers) f record { conn = accepted_fits m steady (initial_number n.past) sockets s a p; numbers = f.numbers } in
       record {
         node = h.node;
         gone = choose (λ (x : Option Connection). (g : Connection) → x ≡ Some g → FitConn g) (is_live (connection_in slot n).state) _ _
@@ -169,8 +170,8 @@ module _ (m : Meaning) (pages : Pages) (lawful : IsPaged m pages) where
   arrives_fits served n sockets s None a p f = stranger_fits served n sockets s a p f
   arrives_fits served n sockets s (Some slot) a p f =
       happened_fits n (Arrived sockets s) slot (connection_in slot n) _ f
-      (asked_fits m pages lawful (moment n (Arrived sockets s) slot) (node_moment n (Arrived sockets s) slot f) (on_segment m (connection_in slot n) n.numbers s)
-      (on_segment_fits m pages lawful (connection_in slot n) n.numbers s (index_fits n.connections slot f.conns) f.numbers))
+      (asked_fits m steady (moment n (Arrived sockets s) slot) (node_moment n (Arrived sockets s) slot f) (on_segment m (connection_in slot n) n.numbers s)
+      (on_segment_fits m steady (connection_in slot n) n.numbers s (index_fits n.connections slot f.conns) f.numbers))
 
   -- an event whose addresses and ports fit their types
   pub event_fits : (served : ℕ → Bool) (n : AbstractNode) (event : Event) → IsEvent event → FitNode n → FitNode (step m served n event).node
@@ -182,8 +183,8 @@ module _ (m : Meaning) (pages : Pages) (lawful : IsPaged m pages) where
   event_fits served n Overlong e f = (still_fits n (remembers n Overlong Silent) None refl refl f).node
   event_fits served n (Periodic slot) e f =
       (happened_fits n (Periodic slot) slot (connection_in slot n) _ f
-      (asked_fits m pages lawful (moment n (Periodic slot) slot) (node_moment n (Periodic slot) slot f) (on_tick m (connection_in slot n) n.numbers)
-      (on_tick_fits m pages lawful (connection_in slot n) n.numbers (index_fits n.connections slot f.conns) f.numbers))).node
+      (asked_fits m steady (moment n (Periodic slot) slot) (node_moment n (Periodic slot) slot f) (on_tick m (connection_in slot n) n.numbers)
+      (on_tick_fits m steady (connection_in slot n) n.numbers (index_fits n.connections slot f.conns) f.numbers))).node
 
   pub arrival_fits : (served : ℕ → Bool) (w : World) (sockets : Sockets) (s : PlainSegment) → IsAddr sockets.peer → sockets.peer_port.0 < 65536 → FitWorld w → FitWorld (node_handles m served w (Arrived sockets s))
   arrival_fits served w sockets s a p f = stepped_fit w (step m served w.node (Arrived sockets s)) f (arrives_fits served w.node sockets s (position (serves sockets) w.node.connections) a p f.node)
@@ -192,8 +193,8 @@ module _ (m : Meaning) (pages : Pages) (lawful : IsPaged m pages) where
   periodic_fits served w slot f =
       stepped_fit w (step m served w.node (Periodic slot)) f
       (happened_fits w.node (Periodic slot) slot (connection_in slot w.node) _ f.node
-      (asked_fits m pages lawful (moment w.node (Periodic slot) slot) (node_moment w.node (Periodic slot) slot f.node) (on_tick m (connection_in slot w.node) w.node.numbers)
-      (on_tick_fits m pages lawful (connection_in slot w.node) w.node.numbers (index_fits w.node.connections slot f.node.conns) f.node.numbers)))
+      (asked_fits m steady (moment w.node (Periodic slot) slot) (node_moment w.node (Periodic slot) slot f.node) (on_tick m (connection_in slot w.node) w.node.numbers)
+      (on_tick_fits m steady (connection_in slot w.node) w.node.numbers (index_fits w.node.connections slot f.node.conns) f.node.numbers)))
 
   pub still_world : (served : ℕ → Bool) (w : World) (d : AbstractNode) (sent : Option Reply) → d.connections ≡ w.node.connections → d.numbers ≡ w.node.numbers → FitWorld w → FitWorld (node_stepped w (record { node = d; sent = sent; gone = None }))
   still_world served w d sent ec en f = stepped_fit w (record { node = d; sent = sent; gone = None }) f (still_fits w.node d sent ec en f.node)

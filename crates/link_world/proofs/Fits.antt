@@ -9,7 +9,8 @@ use Rattle.tcp_segment.specs.Segments.{PlainSegment, has_fin, has_rst}
 use Rattle.rexmit_timer.specs.Ages.{ages, tries_at, beat_at}
 use Rattle.rexmit_timer.specs.declared.timer.Beat.{Beat}
 use Rattle.app_events.specs.Part.{Part, Meaning}
-use Rattle.app_events.specs.Pages.{Pages, IsPaged, IsMoment, IsNow, IsRow, IsWord, IsAddr}
+use Rattle.link_world.specs.Steady.{IsSteady}
+use Rattle.app_events.specs.Pages.{IsMoment, IsNow, IsRow, IsWord, IsAddr}
 use Rattle.app_events.specs.declared.ending.Ending.{Ending}
 use Rattle.app_events.specs.declared.now.Now.{Now}
 use Rattle.app_events.specs.declared.row.Row.{Row}
@@ -29,7 +30,6 @@ use Rattle.uip_node.specs.Node.{AbstractNode, moment}
 use Rattle.link_world.proofs.Basics.{choose, wrap_low}
 use Rattle.link_world.proofs.Tables.{get_set}
 use Rattle.link_world.proofs.Tables.Written.{here, there}
-use Rattle.link_world.proofs.Steps.{hears_is}
 
 pub all_nil : {X : Type 0} (P : X → Type 0) → All P []
 all_nil P k d l = absurd (omega arith)
@@ -102,7 +102,7 @@ moment_fits n event slot c l h f =
       rows = rows_fit 0 (set n.connections slot c) (omega (arith, size)) (set_conns n.connections slot c f h);
     }
 
-module _ (m : Meaning) (pages : Pages) (lawful : IsPaged m pages) where
+module _ (m : Meaning) (steady : IsSteady m) where
   fit_like : (c d : Connection) → d.sockets ≡ c.sockets → d.part.captures ≡ c.part.captures → (is_resting d.state ≡ true → d.age < 120) → FitConn c → FitConn d
   fit_like c d s k r f = record {
     rest = r;
@@ -111,13 +111,17 @@ module _ (m : Meaning) (pages : Pages) (lawful : IsPaged m pages) where
     port = subst (λ (x : Sockets). x.peer_port.0 < 65536) (sym s) f.port;
   }
 
+  hears_captures : (numbers : List ℕ) (p : Part) (text : List ℕ) → (hears m numbers p text).part.captures ≡ p.captures
+  hears_captures numbers p [] = refl
+  hears_captures numbers p (x ∷ xs) = steady.newdata_captures numbers p (x ∷ xs)
+
   hears_numbers : (numbers : List ℕ) (p : Part) (text : List ℕ) → All IsWord numbers → All IsWord (hears m numbers p text).numbers
   hears_numbers numbers p [] h = h
-  hears_numbers numbers p (x ∷ xs) h = lawful.newdata_numbers numbers p (x ∷ xs) h
+  hears_numbers numbers p (x ∷ xs) h = steady.newdata_numbers numbers p (x ∷ xs) h
 
   told_numbers : (how : Ending) (st : State) (p : Part) (numbers : List ℕ) → All IsWord numbers → All IsWord (told_end m how st p numbers)
-  told_numbers how Established p numbers h = lawful.ended_numbers numbers p how h
-  told_numbers how CloseWait p numbers h = lawful.ended_numbers numbers p how h
+  told_numbers how Established p numbers h = steady.ended_numbers numbers p how h
+  told_numbers how CloseWait p numbers h = steady.ended_numbers numbers p how h
   told_numbers how Closed p numbers h = h
   told_numbers how SynRcvd p numbers h = h
   told_numbers how FinWait1 p numbers h = h
@@ -152,7 +156,7 @@ module _ (m : Meaning) (pages : Pages) (lawful : IsPaged m pages) where
 
   pub prepared_captures : (numbers : List ℕ) (p : Part) (now : Now) → All IsWord numbers → IsNow now → All IsMoment p.captures → All IsMoment (m.prepare numbers p now).captures
   prepared_captures numbers p now n is f =
-      elim (lawful.prepare_captures numbers p now) [
+      elim (steady.prepare_captures numbers p now) [
         | Rattle.std.proofs.Common.inl e ↦ subst (λ l. All IsMoment l) (sym e) f
         | Rattle.std.proofs.Common.inr e ↦ subst (λ l. All IsMoment l) (sym e) (All-push IsMoment p.captures (record { numbers = numbers; now = now }) f record { numbers = n; now = is })
       ]
@@ -181,18 +185,18 @@ module _ (m : Meaning) (pages : Pages) (lawful : IsPaged m pages) where
   closing_fits : (c : Connection) (numbers : List ℕ) (s : PlainSegment) → FitConn c → All IsWord numbers → FitOut (peer_closes m c numbers s)
   unfolding peer_closes
   closing_fits c numbers s f n =
-      let x = hears_is m pages lawful numbers c.part s.text in
+      let x : (hears m numbers c.part s.text).part.captures ≡ c.part.captures = hears_captures numbers c.part s.text in
       let d : Connection = in_state CloseWait (with_window s.window (with_part (hears m numbers c.part s.text).part (takes (length s.text + 1) c))) in
-      let g : FitConn d = fit_like c d refl x.captures (λ r. absurd (cc)) f in
+      let g : FitConn d = fit_like c d refl x (λ r. absurd (cc)) f in
       let k : All IsWord (hears m numbers c.part s.text).numbers = hears_numbers numbers c.part s.text n in
       choose (λ (o : Outcome). FitOut o) (ltb 0 c.len) _ _ (λ e. record { conn = g; numbers = k }) (λ e. record { conn = g; numbers = k })
 
   going_fits : (acked : Bool) (c : Connection) (numbers : List ℕ) (s : PlainSegment) → FitConn c → All IsWord numbers → FitOut (goes_on m acked c numbers s)
   unfolding goes_on
   going_fits acked c numbers s f n =
-      let x = hears_is m pages lawful numbers c.part s.text in
+      let x : (hears m numbers c.part s.text).part.captures ≡ c.part.captures = hears_captures numbers c.part s.text in
       let d : Connection = with_window s.window (with_part (hears m numbers c.part s.text).part (takes (length s.text) c)) in
-      let g : FitConn d = fit_like c d refl x.captures f.rest f in
+      let g : FitConn d = fit_like c d refl x f.rest f in
       let k : All IsWord (hears m numbers c.part s.text).numbers = hears_numbers numbers c.part s.text n in
       choose (λ (o : Outcome). FitOut o) (not acked && not (has_text s)) _ _ (λ e. record { conn = g; numbers = k })
       (λ e. choose (λ (o : Outcome). FitOut o) (ltb 0 c.len) _ _ (λ i. record { conn = g; numbers = k }) (λ i. record { conn = g; numbers = k }))
@@ -202,26 +206,26 @@ module _ (m : Meaning) (pages : Pages) (lawful : IsPaged m pages) where
   established_fits acked c numbers s f n = choose (λ (o : Outcome). FitOut o) (has_fin s.flags) _ _ (λ e. closing_fits c numbers s f n) (λ e. going_fits acked c numbers s f n)
 
   acked_fits : (c : Connection) (numbers : List ℕ) → FitConn c → FitConn (with_part (m.acked numbers c.part c.len).part (rests c))
-  acked_fits c numbers f = fit_like c _ refl (lawful.acked_captures numbers c.part c.len) (λ r. omega arith) f
+  acked_fits c numbers f = fit_like c _ refl (steady.acked_captures numbers c.part c.len) (λ r. omega arith) f
 
   by_state_fits : (st : State) (acked : Bool) (c : Connection) (numbers : List ℕ) (s : PlainSegment) → FitConn c → All IsWord numbers → FitOut (by_state m st acked c numbers s)
   unfolding fin_acked fin_waits in_fin_wait_2
   by_state_fits Closed acked c numbers s f n = record { conn = f; numbers = n }
   by_state_fits SynRcvd true c numbers s f n =
       let port : ℕ = c.sockets.own_port.0 in
-      let x = hears_is m pages lawful (m.connected numbers port).numbers (m.connected numbers port).part s.text in
-      let none : (hears m (m.connected numbers port).numbers (m.connected numbers port).part s.text).part.captures ≡ [] = x.captures ∙ lawful.connected_captures numbers port in
+      let x : (hears m (m.connected numbers port).numbers (m.connected numbers port).part s.text).part.captures ≡ (m.connected numbers port).part.captures = hears_captures (m.connected numbers port).numbers (m.connected numbers port).part s.text in
+      let none : (hears m (m.connected numbers port).numbers (m.connected numbers port).part s.text).part.captures ≡ [] = x ∙ steady.connected_captures numbers port in
       record {
         conn = record { rest = λ r. absurd (cc); captures = subst (λ l. All IsMoment l) (sym none) (all_nil IsMoment); addr = f.addr; port = f.port };
-        numbers = hears_numbers (m.connected numbers port).numbers (m.connected numbers port).part s.text (lawful.connected_numbers numbers port n);
+        numbers = hears_numbers (m.connected numbers port).numbers (m.connected numbers port).part s.text (steady.connected_numbers numbers port n);
       }
   by_state_fits SynRcvd false c numbers s f n = record { conn = f; numbers = n }
   by_state_fits Established true c numbers s f n =
-      established_fits true (with_part (m.acked numbers c.part c.len).part (rests c)) (m.acked numbers c.part c.len).numbers s (acked_fits c numbers f) (lawful.acked_numbers numbers c.part c.len n)
+      established_fits true (with_part (m.acked numbers c.part c.len).part (rests c)) (m.acked numbers c.part c.len).numbers s (acked_fits c numbers f) (steady.acked_numbers numbers c.part c.len n)
   by_state_fits Established false c numbers s f n = established_fits false c numbers s f n
   by_state_fits CloseWait true c numbers s f n =
       let g = acked_fits c numbers f in
-      record { conn = record { rest = g.rest; captures = g.captures; addr = g.addr; port = g.port }; numbers = lawful.acked_numbers numbers c.part c.len n }
+      record { conn = record { rest = g.rest; captures = g.captures; addr = g.addr; port = g.port }; numbers = steady.acked_numbers numbers c.part c.len n }
   by_state_fits CloseWait false c numbers s f n = record { conn = record { rest = f.rest; captures = f.captures; addr = f.addr; port = f.port }; numbers = n }
   by_state_fits FinWait1 true c numbers s f n =
       choose (λ (o : Outcome). FitOut o) (has_fin s.flags) _ _
@@ -266,7 +270,7 @@ module _ (m : Meaning) (pages : Pages) (lawful : IsPaged m pages) where
   unfolding ticks_established
   established_ticks c numbers r f n =
       choose (λ (o : Outcome). FitOut o) (ltb 0 c.len) _ _ (λ e. waits_fit c numbers r f n)
-      (λ e. record { conn = fit_like c _ refl (lawful.polled_like numbers c.part).captures f.rest f; numbers = lawful.polled_numbers numbers c.part n })
+      (λ e. record { conn = fit_like c _ refl (steady.polled_captures numbers c.part) f.rest f; numbers = steady.polled_numbers numbers c.part n })
 
   tick_by_fits : (st : State) (c : Connection) (numbers : List ℕ) → c.state ≡ st → FitConn c → All IsWord numbers → FitOut (tick_by m st c numbers)
   tick_by_fits Closed c numbers e f n = record { conn = f; numbers = n }

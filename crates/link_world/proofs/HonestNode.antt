@@ -34,6 +34,7 @@ use Rattle.link_client.specs.declared.client_state.ClientState.TheVariants as Is
 use Rattle.link_client.specs.declared.fin_at.FinAt.{FinAt}
 use Rattle.link_client.specs.declared.setup.Setup.{Setup}
 use Rattle.link_world.specs.Honest.{GoesOnBy, AnswersIn}
+use Rattle.link_world.proofs.Steadiness.{steady_of}
 use Rattle.link_world.proofs.Basics.{choose, both_ways, zero_or_more, ltb-yes, cut_length, wrap_wrap}
 use Rattle.link_world.proofs.SocketPairs.{same_self}
 use Rattle.link_world.proofs.Fits.{FitConn, FitOut, moment_fits, asked_fits, on_segment_fits}
@@ -340,7 +341,7 @@ module _ (m : Meaning) (pages : Pages) (lawful : IsPaged m pages) (served : ℕ 
         let heard : q.heard ≡ take taken request = lawful.prepare_heard numbers p now ∙ r.heard in
         let goes = answers.goes_on numbers p now (drop taken request) r.good (ap (λ l. l ++ drop taken request) r.heard ∙ take-append-drop taken request) n (is d k) (omega arith) in
         by_want old before numbers past event fresh taken first acked most q (m.want numbers q) f heard n (lawful.wants numbers q) (at_most_more q (left p) most (m.want numbers q) r.few goes)
-        (asked_fits m pages lawful (moment node event 0) is (leaves d numbers (Step.Ask fresh)) record { conn = k; numbers = n })
+        (asked_fits m (steady_of m pages lawful) (moment node event 0) is (leaves d numbers (Step.Ask fresh)) record { conn = k; numbers = n })
 
     -- What a segment brings is heard, and then the application is asked.
     asked_after : (state : State) (numbers next : List ℕ) (past : List Past) (taken first acked len at most : ℕ) (p q : Part) (s : PlainSegment) → 1 ≤ setup.seg → taken ≤ length request → s.text ≡ brought taken → is_live state ≡ true →
@@ -355,7 +356,7 @@ module _ (m : Meaning) (pages : Pages) (lawful : IsPaged m pages) (served : ℕ 
         let heard : After = hears m next q s.text in
         let d : Connection = conn_at Established (taken + length s.text) first at 0 heard.part in
         let size : length s.text ≡ next_out setup request taken = ap length text ∙ brought_length taken h in
-        let fit : FitOut (leaves d heard.numbers (Step.Ask (has_text s))) = subst (λ (o : Outcome). FitOut o) row (on_segment_fits m pages lawful c numbers s f n) in
+        let fit : FitOut (leaves d heard.numbers (Step.Ask (has_text s))) = subst (λ (o : Outcome). FitOut o) row (on_segment_fits m (steady_of m pages lawful) c numbers s f n) in
         let any : (has_text s ≡ true) ⊎ (length request ≤ taken + length s.text) =
         elim (zero_or_more (length s.text)) [ inl z ↦ inr (omega (arith, z, size, seg)) | inr l ↦ inl (ltb-yes (length s.text) l) ] in
         let comes = comes_to state numbers past taken first acked len p s live ∙ ap (λ o. happened m node event 0 c (asked m (moment node event 0) o)) row in

@@ -51,3 +51,4 @@ pub mod Eras
 pub mod Bounds
 pub mod TextNumbers
 pub mod NodeRuns
+pub mod Steadiness

@@ -16,6 +16,7 @@ use Rattle.uip_node.specs.Events.{Event}
 use Rattle.uip_node.specs.Events.Event.{IpRefused, IcmpRefused, TcpRefused, EchoAsked, Arrived, Overlong, Periodic}
 use Rattle.uip_node.specs.Node.{AbstractNode, NodeStep, arrives_at, connection_in, from_stranger, happened, moment, opening, opens, opens_in, run, slot_for_syn, step}
 use Rattle.link_world.specs.Nodes.{CapturesFit, IsEvent, IsOfNode, TextNumbers, TextsAreShort}
+use Rattle.link_world.proofs.Steadiness.{steady_of}
 use Rattle.link_world.proofs.Basics.{choose}
 use Rattle.link_world.proofs.Tables.{get_set}
 use Rattle.link_world.proofs.Tables.Written.{here, there}
@@ -86,7 +87,7 @@ text_numbers_hold m pages lawful c r =
 module _ (m : Meaning) (pages : Pages) (lawful : IsPaged m pages) where
   run_fits : (served : ℕ → Bool) (events : List Event) (n : AbstractNode) → All IsEvent events → FitNode n → FitNode (run m served events n).node
   run_fits served [] n a f = f
-  run_fits served (e ∷ es) n a f = run_fits served es (step m served n e).node (λ k d l. a (suc k) d (omega (arith, l))) (event_fits m pages lawful served n e (a 0 e (omega arith)) f)
+  run_fits served (e ∷ es) n a f = run_fits served es (step m served n e).node (λ k d l. a (suc k) d (omega (arith, l))) (event_fits m (steady_of m pages lawful) served n e (a 0 e (omega arith)) f)
 
   fits_of : (c : Connection) → IsOfNode m c → FitConn c
   fits_of c r =

@@ -20,6 +20,7 @@ use Rattle.link_client.specs.declared.client_state.ClientState.{ClientState}
 use Rattle.link_world.specs.World.{World, Side, Sent, Era, client_sockets, with_client, marked, is_clean}
 use Rattle.link_world.specs.History.{era, era_of, serving, captures_in, captures_of, page_of, Planned, IsPlanned, IsPlan, fresh_side, opening_world}
 use Rattle.link_world.specs.Headline.{IsReached, IsServed, PrefixAndWhole}
+use Rattle.link_world.proofs.Steadiness.{steady_of}
 use Rattle.link_world.proofs.Basics.{both_ways, append_nothing, part_prefix}
 use Rattle.link_world.proofs.Good.{is_some, seg, from, to, spoken, ClientSaid, IsSyn, SentGood, StepGood, FromGood, ToGood, OpenedGood, Good, is_early}
 use Rattle.link_world.proofs.Good.NodeSaid.{node_reset}
@@ -191,7 +192,7 @@ module _ (m : Meaning) (pages : Pages) (lawful : IsPaged m pages) where
 
   pub all_good : (w : World) → IsReached m pages w → Framed m G other reset evict mark w
   all_good w r = reached m pages lawful (λ v. Framed m G other reset evict mark v)
-      (λ served v act harm g fits. does_framed m G other reset evict mark pages lawful served segment tick birth took own_open own_again own_close own_abort own_window v act harm g fits)
+      (λ served v act harm g fits. does_framed m G other reset evict mark (steady_of m pages lawful) served segment tick birth took own_open own_again own_close own_abort own_window v act harm g fits)
       opening_framed w r
 
   not_early : (st : ClientState) → is_early st ≡ true → has_closed st ≡ true → ⊥

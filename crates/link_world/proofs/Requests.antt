@@ -18,6 +18,7 @@ use Rattle.link_client.specs.Client.{AbstractClient, ClientStep, one_if, fin_sen
 use Rattle.link_world.specs.World.{World, Side, Sent, Era, becomes_opened, with_client, marked, is_clean, client_sockets}
 use Rattle.link_world.specs.History.{era, serving, fresh_side, Planned, IsPlan, opening_world}
 use Rattle.link_world.specs.Headline.{IsReached}
+use Rattle.link_world.proofs.Steadiness.{steady_of}
 use Rattle.link_world.proofs.Basics.{same_place, get_push, zero_or_more}
 use Rattle.link_world.proofs.Basics.AtEnd.{older, newest}
 use Rattle.link_world.proofs.Good.{seg, no_segment, is_early, from, to, StateGood, ClientSaid, OpenedGood, Good, Steady}
@@ -328,7 +329,7 @@ module _ (m : Meaning) (pages : Pages) (lawful : IsPaged m pages) where
 
   pub all_requested : (w : World) → IsReached m pages w → Framed m G other reset evict mark w
   all_requested w r = reached m pages lawful (λ v. Framed m G other reset evict mark v)
-      (λ served v act harm g fits. does_framed m G other reset evict mark pages lawful served segment tick birth took
+      (λ served v act harm g fits. does_framed m G other reset evict mark (steady_of m pages lawful) served segment tick birth took
       (λ w k side c fit g. own_by w k side c (client_opens side.client) g (opens_asks side.client.state side.client) (Prefix.own_open m pages lawful w k side c fit g.good))
       (λ w k side c fit g. own_by w k side c (client_again side.client) g (again_asks side.client.state side.client) (Prefix.own_again m pages lawful w k side c fit g.good))
       (λ w k side c fit g. own_by w k side c (client_closes side.client) g (closes_asks side.client.state side.client) (Prefix.own_close m pages lawful w k side c fit g.good))

@@ -10,8 +10,10 @@ use Rattle.link_world.specs.Acts.{does, fault_of, done_or, acts, and_then, runs}
 use Rattle.link_world.specs.declared.act.Act.{Act}
 use Rattle.link_world.specs.declared.step_fault.StepFault.{StepFault}
 use Rattle.link_world.specs.History.{Planned, IsPlanned, IsPlan, fresh_side, opening_world}
-use Rattle.link_world.specs.Headline.{IsAct, IsPlainAct, HasBytes, IsReached}
+use Rattle.link_world.specs.Steady.{IsSteady}
+use Rattle.link_world.specs.Headline.{IsReachedPlainly, IsAct, IsPlainAct, HasBytes, IsReached}
 use Rattle.link_world.specs.Times.{IsLater}
+use Rattle.link_world.proofs.Steadiness.{steady_of}
 use Rattle.link_world.proofs.Tables.{get_map}
 use Rattle.link_world.proofs.Fits.{FitConn, all_nil}
 use Rattle.link_world.proofs.FitWorlds.{FitSide, FitWorld, closed_fits}
@@ -95,7 +97,7 @@ module _ (m : Meaning) (pages : Pages) (lawful : IsPaged m pages) (served : ℕ 
       let h : Harmless m served w act = harmless w act f n k in
       record {
         fact = step w act h k.fact k.fits;
-        fits = does_fit m pages lawful served w act h k.fits;
+        fits = does_fit m (steady_of m pages lawful) served w act h k.fits;
         sound = λ page. does_sound m pages lawful page served w act f.0 h k.fits (k.sound page);
       }
 
@@ -130,3 +132,11 @@ reached_on m pages lawful P step v w l p =
     (fine m pages lawful r.served (λ u. Unit {0}) (λ u act h q f. tt) r.schedule r.are_acts r.bytes) r.accepted tt in
     (run_keeps m r.served (Fine m pages lawful r.served P (step r.served)) (Kept m pages lawful r.served P (step r.served)) (act_keeps m pages lawful r.served P (step r.served)) l.more v w
     (fine m pages lawful r.served P (step r.served) l.more l.are_acts l.bytes) record { fact = p; fits = k.fits; sound = k.sound } l.accepted).fact
+
+-- any fact that each harmless act keeps, of a world that is reached with no damage
+pub reached_plainly : (m : Meaning) → IsSteady m → (P : World → Type 0) → ((served : ℕ → Bool) (w : World) (act : Act) → Harmless m served w act → P w → FitWorld w → P (does m served w act)) →
+    ((addr : Addr) (numbers : List ℕ) (plan : List Planned) → IsPlan plan → P (opening_world addr numbers plan)) → (w : World) → IsReachedPlainly m w → P w
+reached_plainly m steady P step opening w r =
+    (run_keeps m r.served IsPlainAct (λ v. P v × FitWorld v)
+    (λ v act plain ok k. (let h : Harmless m r.served v act = plain_harmless m r.served v act plain in (step r.served v act h k.0 k.1, does_fit m steady r.served v act h k.1)))
+    r.schedule (opening_world r.addr r.numbers r.plan) w r.plain (opening r.addr r.numbers r.plan r.is_plan, opening_fits r.addr r.numbers r.plan r.in_range r.is_plan) r.accepted).0

@@ -6,7 +6,7 @@ use Rattle.uip_wire.specs.Numbers.{wrap}
 use Rattle.uip_wire.specs.declared.addr.Addr.{Addr}
 use Rattle.uip_wire.specs.declared.sizes.TheConstants.{OWN_MSS}
 use Rattle.tcp_segment.specs.Segments.{PlainSegment, has_syn, has_fin, has_rst}
-use Rattle.app_events.specs.Part.{Meaning}
+use Rattle.app_events.specs.Part.{Part, Meaning}
 use Rattle.app_events.specs.Pages.{Pages, IsPaged, IsMoment, IsNow, IsWord}
 use Rattle.app_events.specs.declared.now.Now.{Now}
 use Rattle.app_events.specs.declared.state.State.{State}
@@ -19,18 +19,23 @@ use Rattle.tcp_machine.specs.OnTick.{on_tick}
 use Rattle.link_client.specs.Client.{ClientStep, client_takes}
 use Rattle.link_world.specs.World.{World, Side, Sent, Content, client_sockets, with_client, marked, is_clean}
 use Rattle.link_world.specs.World.Content.{OfSegment, OfPing, OfEcho}
+use Rattle.link_world.specs.Acts.{does}
+use Rattle.link_world.specs.declared.act.Act.{Act}
 use Rattle.link_world.specs.History.{era_of, serving, Planned, IsPlan, opening_world}
-use Rattle.link_world.specs.Headline.{Alike, IsReached, SameBytes, AgainExactly}
+use Rattle.link_world.specs.Headline.{Alike, IsReached, RepeatsSameBytes, MarksRepeats, SameBytes, SameBytesPlainly, AgainExactly}
+use Rattle.link_world.specs.Steady.{IsSteady}
+use Rattle.link_world.proofs.Steadiness.{steady_of, IsShort, short_said}
 use Rattle.link_world.proofs.Basics.{choose, same_place, get_push, nothing_placed, only_some}
 use Rattle.link_world.proofs.Basics.AtEnd.{older, newest}
 use Rattle.link_world.proofs.Good.{seg, segment_in, from, to}
 use Rattle.link_world.proofs.Views.{length_push}
 use Rattle.link_world.proofs.Tables.{serving_free}
 use Rattle.link_world.proofs.Fits.{FitConn, FitOut, asked_fits, on_segment_fits, on_tick_fits, prepared_captures}
-use Rattle.link_world.proofs.FitWorlds.{closed_fits}
-use Rattle.link_world.proofs.Told.{Safe, SafeState, IsDue, Onto, Tells, StepTells, OutTells, OutTold, due, alike_trans, alike_sym, alike_refl, asked_tells, segment_tells, tick_tells}
+use Rattle.link_world.proofs.Told.{IsNear, TextSafe, Safe, SafeState, IsDue, Onto, Tells, StepTells, OutTells, OutTold, due, alike_trans, alike_sym, alike_refl, asked_tells, segment_tells, tick_tells}
 use Rattle.link_world.proofs.Prefix.{none_serves, opening_apart}
-use Rattle.link_world.proofs.Runs.{reached}
+use Rattle.link_world.proofs.Harmless.{Harmless}
+use Rattle.link_world.proofs.FitWorlds.{FitWorld, closed_fits}
+use Rattle.link_world.proofs.Runs.{reached, reached_plainly}
 use Rattle.link_world.proofs.Any.{Framed, Steps, Takes, speech, entry, does_framed}
 use Rattle.link_world.proofs.Any
 
@@ -75,7 +80,11 @@ pub record IsOld (c : Connection) (s : PlainSegment) : Type 0 where
   pub seq : s.seq ≡ wrap (c.first + at)
   pub past : at < c.acked
 
-module _ (m : Meaning) (pages : Pages) (lawful : IsPaged m pages) where
+module _ (m : Meaning) (steady : IsSteady m) (Low : ℕ → Type 0) (low_text : (p : Part) → All IsMoment p.captures → Low (length (m.said p))) where
+  -- the low numbers are below 2^30
+  abbrev pub Few : Type 0
+  Few = (n : ℕ) → Low n → n < 1073741824
+
   -- what is outstanding was sent
   pub record WasSent (k : ℕ) (side : Side) (c : Connection) (sent : List Sent) : Type 0 where
     pub place : ℕ
@@ -84,28 +93,34 @@ module _ (m : Meaning) (pages : Pages) (lawful : IsPaged m pages) where
     pub who : it.who ≡ to k
     pub epoch : it.epoch ≡ length side.past
     pub placed : has_place (seg it) ≡ true
-    pub due_now : IsDue m pages lawful c (seg it)
+    pub due_now : IsDue m steady Low low_text c (seg it)
 
   pub record Told (k : ℕ) (side : Side) (c : Connection) (sent : List Sent) : Type 0 where
     pub fit : FitConn c
-    pub safe : is_live c.state ≡ true → Safe m pages lawful c
+    pub safe : is_live c.state ≡ true → Safe m steady Low low_text c
     pub was_sent : is_live c.state ≡ true → 0 < c.len → WasSent k side c sent
     pub time : (j : ℕ) (e : Sent) → slice_get sent j ≡ Some e → e.who ≡ to k → e.epoch ≤ length side.past
-    pub tells : (j : ℕ) (e : Sent) → slice_get sent j ≡ Some e → e.who ≡ to k → has_place (seg e) ≡ true → e.epoch ≡ length side.past → (is_live c.state ≡ true) × (IsOld c (seg e) ⊎ IsDue m pages lawful c (seg e))
+    pub tells : (j : ℕ) (e : Sent) → slice_get sent j ≡ Some e → e.who ≡ to k → has_place (seg e) ≡ true → e.epoch ≡ length side.past → (is_live c.state ≡ true) × (IsOld c (seg e) ⊎ IsDue m steady Low low_text c (seg e))
     pub repeats : (i : ℕ) (e : Sent) → slice_get sent i ≡ Some e → e.who ≡ to k → e.again ≡ true → Before sent e i
-    pub agree : (i j : ℕ) (e f : Sent) → slice_get sent i ≡ Some e → slice_get sent j ≡ Some f → j < i → e.who ≡ to k → f.who ≡ to k → e.epoch ≡ f.epoch →
+    pub agree : Few → (i j : ℕ) (e f : Sent) → slice_get sent i ≡ Some e → slice_get sent j ≡ Some f → j < i → e.who ≡ to k → f.who ≡ to k → e.epoch ≡ f.epoch →
         has_place (seg e) ≡ true → has_place (seg f) ≡ true → (seg e).seq ≡ (seg f).seq → (e.again ≡ true) × Alike (seg f) (seg e)
 
-  pub off_low : (c : Connection) (st : State) → All IsMoment c.part.captures → SafeState m pages lawful c st → c.acked < 4294967296
-  off_low c Closed f h = absurd h
-  off_low c SynRcvd f h = omega (arith, h.acked)
-  off_low c Established f h = (let s = lawful.short c.part.heard c.part.captures f in omega (arith, h.fits, h.count, s))
-  off_low c CloseWait f h = (let s = lawful.short c.part.heard c.part.captures f in let a = h.text.fits in let b = h.text.count in omega (arith, a, b, s))
-  off_low c FinWait1 f h = omega (arith, h.low)
-  off_low c FinWait2 f h = omega (arith, h.low)
-  off_low c Closing f h = omega (arith, h.low)
-  off_low c TimeWait f h = omega (arith, h.low)
-  off_low c LastAck f h = omega (arith, h.low)
+  near_low : Few → (n far : ℕ) → far ≤ 2 → IsNear Low n far → n < 4294967296
+  near_low few n far h near = (let l = few near.at near.low in omega (arith, h, l, near.near))
+
+  text_low : Few → (c : Connection) → All IsMoment c.part.captures → TextSafe m steady Low low_text c → c.acked < 4294967296
+  text_low few c f h = (let l = few (length (m.said c.part)) (low_text c.part f) in omega (arith, h.fits, h.count, l))
+
+  pub off_low : Few → (c : Connection) (st : State) → All IsMoment c.part.captures → SafeState m steady Low low_text c st → c.acked < 4294967296
+  off_low few c Closed f h = absurd h
+  off_low few c SynRcvd f h = omega (arith, h.acked)
+  off_low few c Established f h = text_low few c f h
+  off_low few c CloseWait f h = text_low few c f h.text
+  off_low few c FinWait1 f h = near_low few c.acked 1 (omega arith) h.low
+  off_low few c FinWait2 f h = near_low few c.acked 2 (omega arith) h.low
+  off_low few c Closing f h = near_low few c.acked 1 (omega arith) h.low
+  off_low few c TimeWait f h = near_low few c.acked 2 (omega arith) h.low
+  off_low few c LastAck f h = near_low few c.acked 1 (omega arith) h.low
 
   -- a list with one more, of which nothing has to be told
   record IsSilent (side : Side) (e : Sent) : Type 0 where
@@ -121,9 +136,9 @@ module _ (m : Meaning) (pages : Pages) (lawful : IsPaged m pages) where
     time = λ j e x w. elim (get_push sent new j e x) [ older h ↦ t.time j e h w | newest i h ↦ (let s = (q (ap (λ n. n.who) h ∙ w)).epoch in subst (λ n. n ≤ length side.past) (ap (λ n. n.epoch) h) s) ];
     tells = λ j e x w p y. elim (get_push sent new j e x) [ older h ↦ t.tells j e h w p y | newest i h ↦ absurd ((q (ap (λ n. n.who) h ∙ w)).unplaced (ap (λ n. has_place (seg n)) h ∙ p)) ];
     repeats = λ j e x w a. elim (get_push sent new j e x) [ older h ↦ before_more sent new e j (t.repeats j e h w a) | newest i h ↦ absurd ((q (ap (λ n. n.who) h ∙ w)).unmarked (ap (λ n. n.again) h ∙ a)) ];
-    agree = λ i j e f x y l we wf ep pe pf se. elim (get_push sent new i e x) [
+    agree = λ few i j e f x y l we wf ep pe pf se. elim (get_push sent new i e x) [
       | older h ↦ elim (get_push sent new j f y) [
-        | older g ↦ t.agree i j e f h g l we wf ep pe pf se
+        | older g ↦ t.agree few i j e f h g l we wf ep pe pf se
         | newest b g ↦ absurd ((q (ap (λ n. n.who) g ∙ wf)).unplaced (ap (λ n. has_place (seg n)) g ∙ pf))
       ]
       | newest b h ↦ absurd ((q (ap (λ n. n.who) h ∙ we)).unplaced (ap (λ n. has_place (seg n)) h ∙ pe))
@@ -166,8 +181,8 @@ module _ (m : Meaning) (pages : Pages) (lawful : IsPaged m pages) where
   mark k side c sent n e t = same_past k side (marked side n e) c sent refl t
 
   -- what was told of c holds of d, into which it goes on, apart from what is outstanding
-  module _ (k : ℕ) (side : Side) (c d : Connection) (sent : List Sent) (t : Told k side c sent) (live : is_live c.state ≡ true) (l : is_live d.state ≡ true) (o : Onto m pages lawful c d) (f : Safe m pages lawful d) (fit : FitConn d) where
-    tells_on : (j : ℕ) (e : Sent) → slice_get sent j ≡ Some e → e.who ≡ to k → has_place (seg e) ≡ true → e.epoch ≡ length side.past → (is_live d.state ≡ true) × (IsOld d (seg e) ⊎ IsDue m pages lawful d (seg e))
+  module _ (k : ℕ) (side : Side) (c d : Connection) (sent : List Sent) (t : Told k side c sent) (live : is_live c.state ≡ true) (l : is_live d.state ≡ true) (o : Onto m steady Low low_text c d) (f : Safe m steady Low low_text d) (fit : FitConn d) where
+    tells_on : (j : ℕ) (e : Sent) → slice_get sent j ≡ Some e → e.who ≡ to k → has_place (seg e) ≡ true → e.epoch ≡ length side.past → (is_live d.state ≡ true) × (IsOld d (seg e) ⊎ IsDue m steady Low low_text d (seg e))
     tells_on j e x w p q = (
       l,
       elim (t.tells j e x w p q).1 [
@@ -206,17 +221,17 @@ module _ (m : Meaning) (pages : Pages) (lawful : IsPaged m pages) where
     moves was = record { fit = fit; safe = λ x. f; was_sent = λ x z. was z; time = t.time; tells = tells_on; repeats = t.repeats; agree = t.agree }
 
     -- a new datagram that has a place
-    module _ (again : Bool) (new : Sent) (who : new.who ≡ to k) (epoch : new.epoch ≡ length side.past) (mark_is : new.again ≡ again) (placed : has_place (seg new) ≡ true) (h : Tells m pages lawful c d again (seg new)) where
-      low : d.acked < 4294967296
-      low = off_low d d.state fit.captures f.state
+    module _ (again : Bool) (new : Sent) (who : new.who ≡ to k) (epoch : new.epoch ≡ length side.past) (mark_is : new.again ≡ again) (placed : has_place (seg new) ≡ true) (h : Tells m steady Low low_text c d again (seg new)) where
+      low : Few → d.acked < 4294967296
+      low few = off_low few d d.state fit.captures f.state
 
       -- an earlier datagram at its number is the same, and then this one is a repetition
-      meets : (j : ℕ) (e : Sent) → slice_get sent j ≡ Some e → e.who ≡ to k → has_place (seg e) ≡ true → e.epoch ≡ length side.past → (seg e).seq ≡ (seg new).seq → (again ≡ true) × Alike (seg e) (seg new)
-      meets j e x w p q s =
+      meets : Few → (j : ℕ) (e : Sent) → slice_get sent j ≡ Some e → e.who ≡ to k → has_place (seg e) ≡ true → e.epoch ≡ length side.past → (seg e).seq ≡ (seg new).seq → (again ≡ true) × Alike (seg e) (seg new)
+      meets few j e x w p q s =
           elim (t.tells j e x w p q).1 [
-            | inl a ↦ (let z : a.at ≡ d.acked = same_place d.first a.at d.acked (let g = a.past in omega (arith, g, low, o.grows)) low (ap (λ n. wrap (n + a.at)) o.first ∙ sym a.seq ∙ s ∙ h.due_now.seq) in absurd (let g = a.past in omega (arith, g, o.grows, z)))
-            | inr n ↦ (let cl : c.acked < 4294967296 = omega (arith, low, o.grows) in
-                let z : c.acked ≡ d.acked = same_place d.first c.acked d.acked cl low (ap (λ x. wrap (x + c.acked)) o.first ∙ sym n.seq ∙ s ∙ h.due_now.seq) in
+            | inl a ↦ (let z : a.at ≡ d.acked = same_place d.first a.at d.acked (let g = a.past in let b = low few in omega (arith, g, b, o.grows)) (low few) (ap (λ n. wrap (n + a.at)) o.first ∙ sym a.seq ∙ s ∙ h.due_now.seq) in absurd (let g = a.past in omega (arith, g, o.grows, z)))
+            | inr n ↦ (let cl : c.acked < 4294967296 = (let b = low few in omega (arith, b, o.grows)) in
+                let z : c.acked ≡ d.acked = same_place d.first c.acked d.acked cl (low few) (ap (λ x. wrap (x + c.acked)) o.first ∙ sym n.seq ∙ s ∙ h.due_now.seq) in
                 let y = o.kept n.len (sym z) in (
                   must again (λ b. (let g = h.new b n.len in absurd (omega (arith, g, z)))),
                   alike_trans (seg e) (due m c.state c) (seg new) n.alike
@@ -242,7 +257,8 @@ module _ (m : Meaning) (pages : Pages) (lawful : IsPaged m pages) where
             epoch = x.epoch ∙ sym epoch;
             placed = x.placed;
             seq = s;
-            alike = (meets x.place x.it x.there x.who x.placed x.epoch s).1;
+            alike = alike_trans (seg x.it) (due m c.state c) (seg new) x.due_now.alike
+                (alike_trans (due m c.state c) (due m d.state d) (seg new) (alike_sym (due m d.state d) (due m c.state c) (o.kept r.0 r.1).1) (alike_sym (seg new) (due m d.state d) h.due_now.alike));
           }
 
       says_placed : Told k side d (sent ++ new ∷ [])
@@ -253,26 +269,26 @@ module _ (m : Meaning) (pages : Pages) (lawful : IsPaged m pages) where
         time = λ j e x w. elim (get_push sent new j e x) [ older g ↦ t.time j e g w | newest i g ↦ (let q : e.epoch ≡ length side.past = ap (λ n. n.epoch) (sym g) ∙ epoch in omega (arith, q)) ];
         tells = λ j e x w p q. elim (get_push sent new j e x) [
           | older g ↦ tells_on j e g w p q
-          | newest i g ↦ (l, inr (subst (λ n. IsDue m pages lawful d (seg n)) g h.due_now))
+          | newest i g ↦ (l, inr (subst (λ n. IsDue m steady Low low_text d (seg n)) g h.due_now))
         ];
         repeats = λ j e x w a. elim (get_push sent new j e x) [
           | older g ↦ before_more sent new e j (t.repeats j e g w a)
           | newest i g ↦ subst (λ n. Before (sent ++ new ∷ []) n j) g (subst (λ n. Before (sent ++ new ∷ []) new n) (sym i) (before_it (sym mark_is ∙ ap (λ n. n.again) g ∙ a)))
         ];
-        agree = λ i j e e' x y lt we wf ep pe pf se. elim (get_push sent new i e x) [
+        agree = λ few i j e e' x y lt we wf ep pe pf se. elim (get_push sent new i e x) [
           | older g ↦ elim (get_push sent new j e' y) [
-            | older g' ↦ t.agree i j e e' g g' lt we wf ep pe pf se
+            | older g' ↦ t.agree few i j e e' g g' lt we wf ep pe pf se
             | newest b g' ↦ absurd (let n = get_inside sent e i g in omega (arith, n, b, lt))
           ]
           | newest b g ↦ elim (get_push sent new j e' y) [
-            | older g' ↦ (let r = meets j e' g' wf pf (sym ep ∙ ap (λ n. n.epoch) (sym g) ∙ epoch) (sym se ∙ ap (λ n. (seg n).seq) (sym g)) in
+            | older g' ↦ (let r = meets few j e' g' wf pf (sym ep ∙ ap (λ n. n.epoch) (sym g) ∙ epoch) (sym se ∙ ap (λ n. (seg n).seq) (sym g)) in
                 (ap (λ n. n.again) (sym g) ∙ mark_is ∙ r.0, subst (λ n. Alike (seg e') (seg n)) g r.1))
             | newest b' g' ↦ absurd (omega (arith, b, b', lt))
           ]
         ];
       }
 
-  pub steps_by : (w : World) (old : Connection) (o : Outcome) (k : ℕ) (side : Side) → is_live old.state ≡ true → FitConn o.connection → StepTells m pages lawful old o.connection (segment_of m o.connection o.step) (is_again o.step) → Told k side old w.sent → Steps m Told other reset evict mark w o k side
+  pub steps_by : (w : World) (old : Connection) (o : Outcome) (k : ℕ) (side : Side) → is_live old.state ≡ true → FitConn o.connection → StepTells m steady Low low_text old o.connection (segment_of m o.connection o.step) (is_again o.step) → Told k side old w.sent → Steps m Told other reset evict mark w o k side
   steps_by w old o k side live fit h t = record {
     quiet = λ n l. moves k side old o.connection w.sent t live l (h.onto l) (h.safe l) fit
         (λ z. elim (h.still l z) [
@@ -305,18 +321,18 @@ module _ (m : Meaning) (pages : Pages) (lawful : IsPaged m pages) where
   birth w first sockets k j side e sent who fresh plain fit t tick id =
       let c : Connection = accepted first sockets (seg e) in
       let new : Sent = entry (to k) side tick id (speech false (syn_ack c)) in
-      let due_now : IsDue m pages lawful c (syn_ack c) = record { len = omega arith; seq = refl; alike = alike_refl (syn_ack c) } in
+      let due_now : IsDue m steady Low low_text c (syn_ack c) = record { len = omega arith; seq = refl; alike = alike_refl (syn_ack c) } in
       let none : (j : ℕ) (x : Sent) → slice_get w.sent j ≡ Some x → x.who ≡ to k → has_place (seg x) ≡ true → x.epoch ≡ length side.past → ⊥ = λ j x g w p q. absurd (let z = (t.tells j x g w p q).0 in cc) in
       record {
         fit = fit;
         safe = λ l. record { mss = mss_some (seg e).mss; initial = mss_some (seg e).mss; state = record { len = refl; acked = refl } };
         was_sent = λ x z. record { place = length w.sent; it = new; there = get_newest w.sent new; who = refl; epoch = refl; placed = refl; due_now = due_now };
         time = λ i x g wh. elim (get_push w.sent new i x g) [ older h ↦ t.time i x h wh | newest b h ↦ (let q : x.epoch ≡ length side.past = ap (λ n. n.epoch) (sym h) in omega (arith, q)) ];
-        tells = λ i x g wh p q. elim (get_push w.sent new i x g) [ older h ↦ absurd (none i x h wh p q) | newest b h ↦ (refl, inr (subst (λ n. IsDue m pages lawful c (seg n)) h due_now)) ];
+        tells = λ i x g wh p q. elim (get_push w.sent new i x g) [ older h ↦ absurd (none i x h wh p q) | newest b h ↦ (refl, inr (subst (λ n. IsDue m steady Low low_text c (seg n)) h due_now)) ];
         repeats = λ i x g wh a. elim (get_push w.sent new i x g) [ older h ↦ before_more w.sent new x i (t.repeats i x h wh a) | newest b h ↦ absurd (let z : false ≡ true = ap (λ n. n.again) h ∙ a in cc) ];
-        agree = λ i j x y g g' lt we wf ep pe pf se. elim (get_push w.sent new i x g) [
+        agree = λ few i j x y g g' lt we wf ep pe pf se. elim (get_push w.sent new i x g) [
           | older h ↦ elim (get_push w.sent new j y g') [
-            | older h' ↦ t.agree i j x y h h' lt we wf ep pe pf se
+            | older h' ↦ t.agree few i j x y h h' lt we wf ep pe pf se
             | newest b h' ↦ absurd (let n = get_inside w.sent x i h in omega (arith, n, b, lt))
           ]
           | newest b h ↦ elim (get_push w.sent new j y g') [
@@ -337,35 +353,34 @@ module _ (m : Meaning) (pages : Pages) (lawful : IsPaged m pages) where
     apart = opening_apart plan is;
     single = λ p i j x y a b u v. absurd (let z = none_serves 10 p i x a in cc);
     each = λ k side x. (let e : serving (client_sockets side) (replicate 10 closed) ≡ closed = serving_free (replicate 10 closed) (client_sockets side) (none_serves 10 (client_sockets side)) in
-        subst (λ c. Told k side c []) (sym e) (record { fit = closed_fits; safe = λ l. absurd (cc); was_sent = λ l. absurd (cc); time = λ j e' y. absurd (cc); tells = λ j e' y. absurd (cc); repeats = λ j e' y. absurd (cc); agree = λ i j e' f y. absurd (cc) }));
+        subst (λ c. Told k side c []) (sym e) (record { fit = closed_fits; safe = λ l. absurd (cc); was_sent = λ l. absurd (cc); time = λ j e' y. absurd (cc); tells = λ j e' y. absurd (cc); repeats = λ j e' y. absurd (cc); agree = λ few i j e' f y. absurd (cc) }));
   }
 
   asks_fit : (o : Outcome) → All IsWord o.numbers → FitConn o.connection → (now : Now) → IsNow now → All IsMoment (m.prepare o.numbers o.connection.part now).captures
-  asks_fit o n f now is = prepared_captures m pages lawful o.numbers o.connection.part now n is f.captures
+  asks_fit o n f now is = prepared_captures m steady o.numbers o.connection.part now n is f.captures
 
   pub stepped_fits : (now : Connection → Now) (o : Outcome) → ((c : Connection) → FitConn c → IsNow (now c)) → FitOut o → FitConn (asked m now o).connection
-  stepped_fits now o is fo = (asked_fits m pages lawful now is o fo).conn
+  stepped_fits now o is fo = (asked_fits m steady now is o fo).conn
 
-  pub stepped_tells : (now : Connection → Now) (old : Connection) (o : Outcome) → ((c : Connection) → FitConn c → IsNow (now c)) → FitOut o → OutTells m pages lawful old o.connection o.step → OutTold m pages lawful old (asked m now o)
-  stepped_tells now old o is fo h = asked_tells m pages lawful now old o (λ x q. asks_fit o fo.numbers fo.conn x (subst IsNow (sym q) (is o.connection fo.conn))) h
+  pub stepped_tells : (now : Connection → Now) (old : Connection) (o : Outcome) → ((c : Connection) → FitConn c → IsNow (now c)) → FitOut o → OutTells m steady Low low_text old o.connection o.step → OutTold m steady Low low_text old (asked m now o)
+  stepped_tells now old o is fo h = asked_tells m steady Low low_text now old o (λ x q. asks_fit o fo.numbers fo.conn x (subst IsNow (sym q) (is o.connection fo.conn))) h
 
-  told_all : (w : World) → IsReached m pages w → Framed m Told other reset evict mark w
-  told_all w r = reached m pages lawful (λ v. Framed m Told other reset evict mark v)
-      (λ served v act harm g fits. does_framed m Told other reset evict mark pages lawful served
+  told_step : (served : ℕ → Bool) (v : World) (act : Act) → Harmless m served v act → Framed m Told other reset evict mark v → FitWorld v → Framed m Told other reset evict mark (does m served v act)
+  told_step served v act harm g fits =
+      does_framed m Told other reset evict mark steady served
       (λ w old numbers now k j side e l f n is sent who fresh t.
       let o : Outcome = on_segment m old numbers (seg e) in
-      let fo : FitOut o = on_segment_fits m pages lawful old numbers (seg e) f n in
-      steps_by w old (asked m now o) k side l (stepped_fits now o is fo) (stepped_tells now old o is fo (segment_tells m pages lawful old numbers (seg e) (t.safe l))) t)
+      let fo : FitOut o = on_segment_fits m steady old numbers (seg e) f n in
+      steps_by w old (asked m now o) k side l (stepped_fits now o is fo) (stepped_tells now old o is fo (segment_tells m steady Low low_text old numbers (seg e) (t.safe l))) t)
       (λ w old numbers now k side l f n is t.
       let o : Outcome = on_tick m old numbers in
-      let fo : FitOut o = on_tick_fits m pages lawful old numbers f n in
-      steps_by w old (asked m now o) k side l (stepped_fits now o is fo) (stepped_tells now old o is fo (tick_tells m pages lawful old numbers (t.safe l))) t)
+      let fo : FitOut o = on_tick_fits m steady old numbers f n in
+      steps_by w old (asked m now o) k side l (stepped_fits now o is fo) (stepped_tells now old o is fo (tick_tells m steady Low low_text old numbers (t.safe l))) t)
       birth
       (λ w k j side c number e fit sent who t. takes w k (marked side number e) c (client_takes side.client (seg e)) (mark k side c w.sent number e t))
       (λ w k side c fit t. takes w k side c _ t) (λ w k side c fit t. takes w k side c _ t) (λ w k side c fit t. takes w k side c _ t) (λ w k side c fit t. takes w k side c _ t)
       (λ x w k side c fit t. takes w k side c _ t)
-      v act harm g fits)
-      opening_told w r
+      v act harm g fits
 
 -- a content with a place is a segment
 pub record IsSegment (content : Content) : Type 0 where
@@ -378,31 +393,58 @@ is_segment (OfSegment id s) h = record { id = id; segment = s; is = refl }
 is_segment (OfPing d) h = absurd (let z : false ≡ true = h in cc)
 is_segment (OfEcho d) h = absurd (let z : false ≡ true = h in cc)
 
+-- what is told of a world says that it repeats the same bytes, and, where the numbers are low, that it marks repeats
+module _ (m : Meaning) (steady : IsSteady m) (Low : ℕ → Type 0) (low_text : (p : Part) → All IsMoment p.captures → Low (length (m.said p))) (w : World)
+    (told : (k : ℕ) (side : Side) → slice_get w.sides k ≡ Some side → Told m steady Low low_text k side (serving (client_sockets side) w.node.connections) w.sent) where
+  repeats_bytes : RepeatsSameBytes w
+  repeats_bytes k side x i e id s g who content again =
+      let b = (told k side x).repeats i e g who again in
+      let q : seg e ≡ s = ap segment_in content in
+      let c = is_segment b.it.content b.placed in
+      let t : seg b.it ≡ c.segment = ap segment_in c.is in (
+        b.place,
+        record {
+          earlier = b.earlier;
+          sent = b.it;
+          there = b.there;
+          who = b.who;
+          epoch = b.epoch;
+          id = c.id;
+          segment = c.segment;
+          content = c.is;
+          placed = ap has_place (sym t) ∙ b.placed;
+          seq = ap (λ n. n.seq) (sym t) ∙ b.seq ∙ ap (λ n. n.seq) q;
+          alike = subst (λ n. Alike c.segment n) q (subst (λ n. Alike n (seg e)) t b.alike);
+        },
+      )
+
+  marks_repeats : Few m steady Low low_text → MarksRepeats w
+  marks_repeats few k side x i j e f id id' s t g h lt we wf ce cf ep se pe pf =
+      let q : seg e ≡ s = ap segment_in ce in
+      let q' : seg f ≡ t = ap segment_in cf in
+      let a = (told k side x).agree few i j e f g h lt we wf ep (ap has_place q ∙ pe) (ap has_place q' ∙ pf) (ap (λ n. n.seq) q ∙ se ∙ ap (λ n. n.seq) (sym q')) in
+      (a.0, subst (λ n. Alike n s) q' (subst (λ n. Alike (seg f) n) q a.1))
+
+module _ (m : Meaning) (pages : Pages) (lawful : IsPaged m pages) (w : World) (r : IsReached m pages w) where
+  told_paged : (k : ℕ) (side : Side) → slice_get w.sides k ≡ Some side
+      → Told m (steady_of m pages lawful) IsShort (short_said m pages lawful) k side (serving (client_sockets side) w.node.connections) w.sent
+  told_paged =
+      (reached m pages lawful
+      (λ v. Framed m (Told m (steady_of m pages lawful) IsShort (short_said m pages lawful)) (other m (steady_of m pages lawful) IsShort (short_said m pages lawful)) (reset m (steady_of m pages lawful) IsShort (short_said m pages lawful)) (evict m (steady_of m pages lawful) IsShort (short_said m pages lawful)) (mark m (steady_of m pages lawful) IsShort (short_said m pages lawful)) v)
+      (told_step m (steady_of m pages lawful) IsShort (short_said m pages lawful)) (opening_told m (steady_of m pages lawful) IsShort (short_said m pages lawful)) w r).each
+
 pub same_bytes : SameBytes
-same_bytes m pages lawful w r k side x i e id s g who content again =
-    let b = ((told_all m pages lawful w r).each k side x).repeats i e g who again in
-    let q : seg e ≡ s = ap segment_in content in
-    let c = is_segment b.it.content b.placed in
-    let t : seg b.it ≡ c.segment = ap segment_in c.is in (
-      b.place,
-      record {
-        earlier = b.earlier;
-        sent = b.it;
-        there = b.there;
-        who = b.who;
-        epoch = b.epoch;
-        id = c.id;
-        segment = c.segment;
-        content = c.is;
-        placed = ap has_place (sym t) ∙ b.placed;
-        seq = ap (λ n. n.seq) (sym t) ∙ b.seq ∙ ap (λ n. n.seq) q;
-        alike = subst (λ n. Alike c.segment n) q (subst (λ n. Alike n (seg e)) t b.alike);
-      },
-    )
+same_bytes m pages lawful w r = repeats_bytes m (steady_of m pages lawful) IsShort (short_said m pages lawful) w (told_paged m pages lawful w r)
 
 pub again_exactly : AgainExactly
-again_exactly m pages lawful w r k side x i j e f id id' s t g h lt we wf ce cf ep se pe pf =
-    let q : seg e ≡ s = ap segment_in ce in
-    let q' : seg f ≡ t = ap segment_in cf in
-    let a = ((told_all m pages lawful w r).each k side x).agree i j e f g h lt we wf ep (ap has_place q ∙ pe) (ap has_place q' ∙ pf) (ap (λ n. n.seq) q ∙ se ∙ ap (λ n. n.seq) (sym q')) in
-    (a.0, subst (λ n. Alike n s) q' (subst (λ n. Alike (seg f) n) q a.1))
+again_exactly m pages lawful w r = marks_repeats m (steady_of m pages lawful) IsShort (short_said m pages lawful) w (told_paged m pages lawful w r) (λ n h. h)
+
+-- any number is as low as is needed where marks are not spoken of
+abbrev Any_low : ℕ → Type 0
+Any_low n = Unit {0}
+
+pub same_bytes_plainly : SameBytesPlainly
+same_bytes_plainly m steady w r =
+    repeats_bytes m steady Any_low (λ p f. tt) w
+    (reached_plainly m steady (λ v. Framed m (Told m steady Any_low (λ p f. tt)) (other m steady Any_low (λ p f. tt)) (reset m steady Any_low (λ p f. tt)) (evict m steady Any_low (λ p f. tt)) (mark m steady Any_low (λ p f. tt)) v)
+    (told_step m steady Any_low (λ p f. tt)) (opening_told m steady Any_low (λ p f. tt)) w r).each

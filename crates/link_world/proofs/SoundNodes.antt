@@ -15,6 +15,7 @@ use Rattle.uip_node.specs.Events.Reply.{Echo, Tcp}
 use Rattle.uip_node.specs.Counters.{initial_number, ident_of}
 use Rattle.uip_node.specs.Node.{AbstractNode, NodeStep, answer_of, reply_of, moment, happened, connection_in, slot_for_syn, passes, refuses, opens_in, opens, from_stranger, arrives_at, step}
 use Rattle.link_world.specs.Headline.{HasBytes}
+use Rattle.link_world.proofs.Steadiness.{steady_of}
 use Rattle.link_world.proofs.Basics.{choose, only_some}
 use Rattle.link_world.proofs.Tables.{get_set}
 use Rattle.link_world.proofs.Tables.Written.{here, there}
@@ -67,7 +68,7 @@ module _ (m : Meaning) (pages : Pages) (lawful : IsPaged m pages) (page : HasByt
   opens_sound n sockets s None a p l = still_sound n (Arrived sockets s) NoSlot l
   opens_sound n sockets s (Some slot) a p l =
       let h : SoundNode n (happened m n (Arrived sockets s) slot (connection_in slot n) (accept (initial_number n.past) sockets s n.numbers)) =
-      happened_sound n (Arrived sockets s) slot (connection_in slot n) (accept (initial_number n.past) sockets s n.numbers) l (accepted_lens (initial_number n.past) sockets s) (accepted_fits m pages lawful (initial_number n.past) sockets s a p) in
+      happened_sound n (Arrived sockets s) slot (connection_in slot n) (accept (initial_number n.past) sockets s n.numbers) l (accepted_lens (initial_number n.past) sockets s) (accepted_fits m (steady_of m pages lawful) (initial_number n.past) sockets s a p) in
       record { addr = h.addr; conns = h.conns; said = h.said }
 
   refuses_sound : (n : AbstractNode) (sockets : Sockets) (s : PlainSegment) → IsSoundSegment s → LensAll n.connections → SoundNode n (refuses n sockets s)
@@ -90,8 +91,8 @@ module _ (m : Meaning) (pages : Pages) (lawful : IsPaged m pages) (page : HasByt
       let o : Outcome = on_segment m (connection_in slot n) n.numbers s in
       happened_sound n (Arrived sockets s) slot (connection_in slot n) (asked m (moment n (Arrived sockets s) slot) o) l
       (asked_lens m (moment n (Arrived sockets s) slot) o (on_segment_lens m (connection_in slot n) n.numbers s (index_lens n.connections slot l)))
-      (asked_fits m pages lawful (moment n (Arrived sockets s) slot) (node_moment m pages lawful n (Arrived sockets s) slot f) o
-      (on_segment_fits m pages lawful (connection_in slot n) n.numbers s (index_fits n.connections slot f.conns) f.numbers)).conn
+      (asked_fits m (steady_of m pages lawful) (moment n (Arrived sockets s) slot) (node_moment m (steady_of m pages lawful) n (Arrived sockets s) slot f) o
+      (on_segment_fits m (steady_of m pages lawful) (connection_in slot n) n.numbers s (index_fits n.connections slot f.conns) f.numbers)).conn
 
   pub arrival_node : (served : ℕ → Bool) (n : AbstractNode) (sockets : Sockets) (s : PlainSegment) → IsAddr sockets.peer → sockets.peer_port.0 < 65536 → IsSoundSegment s → FitNode n → LensAll n.connections → SoundNode n (step m served n (Arrived sockets s))
   arrival_node served n sockets s a p g f l = arrives_sound served n sockets s (position (serves sockets) n.connections) a p g f l
@@ -101,5 +102,5 @@ module _ (m : Meaning) (pages : Pages) (lawful : IsPaged m pages) (page : HasByt
       let o : Outcome = on_tick m (connection_in slot n) n.numbers in
       happened_sound n (Periodic slot) slot (connection_in slot n) (asked m (moment n (Periodic slot) slot) o) l
       (asked_lens m (moment n (Periodic slot) slot) o (on_tick_lens m (connection_in slot n) n.numbers (index_lens n.connections slot l)))
-      (asked_fits m pages lawful (moment n (Periodic slot) slot) (node_moment m pages lawful n (Periodic slot) slot f) o
-      (on_tick_fits m pages lawful (connection_in slot n) n.numbers (index_fits n.connections slot f.conns) f.numbers)).conn
+      (asked_fits m (steady_of m pages lawful) (moment n (Periodic slot) slot) (node_moment m (steady_of m pages lawful) n (Periodic slot) slot f) o
+      (on_tick_fits m (steady_of m pages lawful) (connection_in slot n) n.numbers (index_fits n.connections slot f.conns) f.numbers)).conn

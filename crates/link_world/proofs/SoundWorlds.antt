@@ -18,6 +18,7 @@ use Rattle.link_world.specs.declared.act.Act.{Act}
 use Rattle.link_world.specs.declared.who.Who.{Who}
 use Rattle.link_world.specs.declared.who.Who.TheVariants.{FromClient, FromNode, Pinger}
 use Rattle.link_world.specs.Headline.{IsAct, IsLoss, HasBytes}
+use Rattle.link_world.proofs.Steadiness.{steady_of}
 use Rattle.link_world.proofs.Basics.{choose, only_some, get_push}
 use Rattle.link_world.proofs.Basics.AtEnd.{older, newest}
 use Rattle.link_world.proofs.Tables.{get_map, get_set}
@@ -156,7 +157,7 @@ module _ (m : Meaning) (pages : Pages) (lawful : IsPaged m pages) (page : HasByt
   slots_sound : (slots : List ℕ) (w : World) → FitWorld w → SoundWorld w → SoundWorld (handles_all m served (map Periodic slots) w)
   slots_sound [] w f h = h
   slots_sound (slot ∷ slots) w f h =
-      slots_sound slots (node_handles m served w (Periodic slot)) (periodic_fits m pages lawful served w slot f)
+      slots_sound slots (node_handles m served w (Periodic slot)) (periodic_fits m (steady_of m pages lawful) served w slot f)
       (stepped_sound w (step m served w.node (Periodic slot)) (periodic_node m pages lawful page served w.node slot f.node h.conns) h)
 
   pub does_sound : (w : World) (act : Act) → IsAct act → Harmless m served w act → FitWorld w → SoundWorld w → SoundWorld (does m served w act)

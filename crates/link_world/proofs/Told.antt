@@ -1,14 +1,14 @@
 -- What a step tells of what is outstanding: it stays the same until it is acknowledged, and is sent again as it was.
 use Rattle.std.specs.List.{All}
-use Rattle.std.proofs.Common.{◌≡◌, ℕ, ◌+◌, ◌<◌, ◌≤◌, min, Bool, true, false, not, ◌&&◌, ◌||◌, ◌⊎◌, inl, inr, List, ◌++◌, length, take, drop, refl, sym, ap, ◌∙◌, subst, arith, Option, Some, None, eqb, ltb, if◌then◌else◌}
+use Rattle.std.proofs.Common.{◌≡◌, ℕ, ◌+◌, ◌<◌, ◌≤◌, min, Bool, true, false, not, ◌&&◌, ◌||◌, ◌⊎◌, inl, inr, List, [], ◌∷◌, ◌++◌, length, take, drop, length-drop, refl, sym, ap, ◌∙◌, subst, arith, Option, Some, None, eqb, ltb, if◌then◌else◌}
 use Rattle.std.proofs.lemmas.Grind.{common_steps}
 use Rattle.uip_wire.specs.Numbers.{wrap}
 use Rattle.tcp_segment.specs.Segments.{PlainSegment, has_fin, has_rst, has_syn}
 use Rattle.rexmit_timer.specs.Ages.{beat_at}
 use Rattle.rexmit_timer.specs.declared.timer.Beat.{Beat}
 use Rattle.app_events.specs.Part.{Part, Meaning}
-use Rattle.app_events.specs.Laws.{IsPrefixOf}
-use Rattle.app_events.specs.Pages.{Pages, IsPaged, IsMoment, MayWant}
+use Rattle.app_events.specs.Laws.{IsPrefixOf, Grows, CanSend}
+use Rattle.app_events.specs.Pages.{IsMoment}
 use Rattle.app_events.specs.declared.now.Now.{Now}
 use Rattle.app_events.specs.declared.state.State.{State}
 use Rattle.app_events.specs.declared.state.State.TheVariants.{Closed, SynRcvd, Established, CloseWait, FinWait1, FinWait2, Closing, TimeWait, LastAck}
@@ -21,9 +21,9 @@ use Rattle.tcp_machine.specs.OnSegment.{is_out_of_order, is_acked, rests, has_te
 use Rattle.tcp_machine.specs.OnTick.{outstanding, limit_of, grows_older, by_beat, waits_for_ack, rests_on, rest_time, ticks_established, tick_by, on_tick}
 use Rattle.tcp_machine.specs.declared.step.Step.{Step}
 use Rattle.link_world.specs.Headline.{Alike}
+use Rattle.link_world.specs.Steady.{IsSteady}
 use Rattle.link_world.proofs.Basics.{choose, append_nothing, only_some, ltb-zero, ltb-lt, ltb-yes, part_grows, cut_part, cut_length, IsPart, prefix_length}
-use Rattle.link_world.proofs.Later.{page_more, page_heard}
-use Rattle.link_world.proofs.Steps.{is_open, Heard, hears_is, prepare_is}
+use Rattle.link_world.proofs.Steps.{is_open}
 
 -- what is outstanding in a state
 abbrev pub due : Meaning → State → Connection → PlainSegment
@@ -62,19 +62,25 @@ window_some initial w h = choose (λ x. 0 < x) (eqb w 0) _ _ (λ e. h) (λ e. (l
 placed_by_length : (s : PlainSegment) → 0 < length s.text → has_place s ≡ true
 placed_by_length s h = ap (λ b. b || (has_syn s.flags || has_fin s.flags)) (ltb-yes (length s.text) h)
 
-module _ (m : Meaning) (pages : Pages) (lawful : IsPaged m pages) where
+-- a number that is at most so far above a low one
+pub record IsNear (Low : ℕ → Type 0) (n far : ℕ) : Type 0 where
+  pub at : ℕ
+  pub low : Low at
+  pub near : n ≤ at + far
+
+module _ (m : Meaning) (steady : IsSteady m) (Low : ℕ → Type 0) (low_text : (p : Part) → All IsMoment p.captures → Low (length (m.said p))) where
   -- in ESTABLISHED and CLOSE-WAIT
   pub record TextSafe (c : Connection) : Type 0 where
-    pub fits : c.part.acked + c.len ≤ length (pages.text c.part.heard c.part.captures)
+    pub fits : c.part.acked + c.len ≤ length (m.said c.part)
     pub count : c.acked ≡ 1 + c.part.acked
 
   pub record ControlSafe (c : Connection) : Type 0 where
     pub len : c.len ≡ 1
-    pub low : c.acked < 1073741826
+    pub low : IsNear Low c.acked 1
 
   pub record RestSafe (c : Connection) : Type 0 where
     pub len : c.len ≡ 0
-    pub low : c.acked < 1073741827
+    pub low : IsNear Low c.acked 2
 
   pub record SynSafe (c : Connection) : Type 0 where
     pub len : c.len ≡ 1
@@ -294,23 +300,22 @@ module _ (m : Meaning) (pages : Pages) (lawful : IsPaged m pages) where
 
   text_placed : (d : Connection) → TextSafe d → 0 < d.len → has_place (text_segment m d) ≡ true
   text_placed d h l =
-      let e : length (take d.len (drop d.part.acked (m.said d.part))) ≡ d.len = ap (λ t. length (take d.len (drop d.part.acked t))) (lawful.said d.part) ∙ cut_length (pages.text d.part.heard d.part.captures) d.part.acked d.len h.fits in
+      let e : length (take d.len (drop d.part.acked (m.said d.part))) ≡ d.len = cut_length (m.said d.part) d.part.acked d.len h.fits in
       placed_by_length (text_segment m d) (omega (arith, e, l))
 
-  wanted_tells : (w : Want) (fresh : Bool) (c : Connection) (numbers : List ℕ) → is_open c.state ≡ true → c.len ≡ 0 → 0 < c.mss → 0 < c.initial_mss → TextSafe c → All IsMoment c.part.captures → MayWant pages c.part w →
+  wanted_tells : (w : Want) (fresh : Bool) (c : Connection) (numbers : List ℕ) → is_open c.state ≡ true → c.len ≡ 0 → 0 < c.mss → 0 < c.initial_mss → TextSafe c → All IsMoment c.part.captures → CanSend w (length (drop c.part.acked (m.said c.part))) →
       OutTold c (does_as_wanted w fresh c numbers)
   unfolding idles
   wanted_tells Abort fresh c numbers o z ms ini h fit w = reset_tells c c
   wanted_tells Close fresh c numbers o z ms ini h fit w =
       let d : Connection = sends_fin (after_own_fin c.state) c in
-      let small : length (pages.text c.part.heard c.part.captures) < 1073741824 = lawful.short c.part.heard c.part.captures fit in
       new_tells c d (fin_of d) (onto_idle c d refl z refl) (fin_lives c.state o)
-      record { mss = ms; initial = ini; state = fin_safe d c.state o record { len = refl; low = omega (arith, h.count, w.1, small) } }
+      record { mss = ms; initial = ini; state = fin_safe d c.state o record { len = refl; low = record { at = length (m.said c.part); low = low_text c.part fit; near = omega (arith, h.count, h.fits) } } }
       record { len = omega arith; seq = refl; alike = fin_due d c.state o } (λ x. absurd (omega (arith, x, z))) refl
   wanted_tells (Send n) fresh c numbers o z ms ini h fit w =
       let d : Connection = sends_text (min n c.mss) c in
       let some : 0 < d.len = omega (arith, w.0, ms) in
-      let t : TextSafe d = record { fits = omega (arith, w.1); count = h.count } in
+      let t : TextSafe d = record { fits = omega (arith, w.0, w.1, length-drop c.part.acked (m.said c.part)); count = h.count } in
       new_tells c d (text_segment m d) (onto_idle c d refl z refl) (open_live c.state o)
       record { mss = ms; initial = ini; state = text_safe d c.state o t some }
       record { len = some; seq = refl; alike = text_due d c.state o } (λ x. absurd (omega (arith, x, z))) (text_placed d t some)
@@ -328,15 +333,14 @@ module _ (m : Meaning) (pages : Pages) (lawful : IsPaged m pages) where
 
   asking_tells : (c d : Connection) (now : Now) (fresh : Bool) (numbers : List ℕ) → AskTells c d → All IsMoment (m.prepare numbers d.part now).captures → OutTold c (ask m now fresh d numbers)
   asking_tells c d now fresh numbers a fit =
-      let p = prepare_is m pages lawful numbers d.part now in
       let q : Part = m.prepare numbers d.part now in
       let b : Connection = prepared m now d numbers in
-      let e : length (pages.text q.heard q.captures) ≡ length (pages.text d.part.heard (d.part.captures ++ p.more)) = ap (λ x. length (pages.text x q.captures)) p.heard ∙ ap (λ x. length (pages.text d.part.heard x)) p.captures in
-      let more : length (pages.text d.part.heard d.part.captures) ≤ length (pages.text d.part.heard (d.part.captures ++ p.more)) = prefix_length (pages.text d.part.heard d.part.captures) (pages.text d.part.heard (d.part.captures ++ p.more)) (page_more m pages lawful d.part.heard d.part.captures p.more) in
+      let p : Grows m d.part q = steady.lawful.prepare_grows numbers d.part now tt in
+      let more : length (m.said d.part) ≤ length (m.said q) = prefix_length (m.said d.part) (m.said q) p.text in
       let h : TextSafe d = a.text in
-      let t : TextSafe b = record { fits = omega (arith, e, more, h.fits, p.acked); count = omega (arith, h.count, p.acked) } in
+      let t : TextSafe b = record { fits = omega (arith, more, h.fits, p.offset); count = omega (arith, h.count, p.offset) } in
       let o : Outcome = ask m now fresh d numbers in
-      let w : OutTold b o = wanted_tells (m.want numbers q) fresh b numbers a.is_asked a.idle a.mss a.initial t fit (lawful.wants numbers q) in
+      let w : OutTold b o = wanted_tells (m.want numbers q) fresh b numbers a.is_asked a.idle a.mss a.initial t fit (steady.lawful.sends numbers q tt) in
       let n : is_again o.step ≡ false = wanted_again (m.want numbers q) fresh b numbers in
       let w' : StepTells b o.connection (segment_of m o.connection o.step) false = subst (λ x. StepTells b o.connection (segment_of m o.connection o.step) x) n w in
       subst (λ x. StepTells c o.connection (segment_of m o.connection o.step) x) (sym n)
@@ -355,23 +359,20 @@ module _ (m : Meaning) (pages : Pages) (lawful : IsPaged m pages) where
   asked_tells moment c o fit h = asked_for_tells moment c o.connection o.numbers o.step fit h
 
   -- text is heard while something may be outstanding
-  heard_due : (c d : Connection) (text : List ℕ) (st : State) → TextSafe c → Heard m pages lawful c.part d.part text → d.len ≡ c.len → take d.len (drop d.part.acked (m.said d.part)) ≡ take c.len (drop c.part.acked (m.said c.part))
-  heard_due c d text st h x el =
-      let grown : IsPrefixOf (pages.text c.part.heard c.part.captures) (pages.text (c.part.heard ++ text) c.part.captures) = page_heard m pages lawful c.part.heard text c.part.captures in
-      let same : take c.len (drop c.part.acked (pages.text (c.part.heard ++ text) c.part.captures)) ≡ take c.len (drop c.part.acked (pages.text c.part.heard c.part.captures)) = slice_same (pages.text c.part.heard c.part.captures) (pages.text (c.part.heard ++ text) c.part.captures) c.part.acked c.len grown h.fits in
-      ap (λ t. take d.len (drop d.part.acked t)) (lawful.said d.part)
-      ∙ ap (λ n. take n (drop d.part.acked (pages.text d.part.heard d.part.captures))) el
-      ∙ ap (λ n. take c.len (drop n (pages.text d.part.heard d.part.captures))) x.acked
-      ∙ ap (λ q. take c.len (drop c.part.acked (pages.text q d.part.captures))) x.heard
-      ∙ ap (λ k. take c.len (drop c.part.acked (pages.text (c.part.heard ++ text) k))) x.captures
-      ∙ same
-      ∙ ap (λ t. take c.len (drop c.part.acked t)) (sym (lawful.said c.part))
+  hears_grows : (numbers : List ℕ) (p : Part) (text : List ℕ) → Grows m p (hears m numbers p text).part
+  hears_grows numbers p [] = record { text = record { rest = []; joined = append_nothing (m.said p) }; offset = refl }
+  hears_grows numbers p (x ∷ xs) = steady.lawful.newdata_grows numbers p (x ∷ xs) tt
 
-  heard_text : (c d : Connection) (text : List ℕ) → TextSafe c → Heard m pages lawful c.part d.part text → d.acked ≡ c.acked → d.len ≡ c.len → TextSafe d
-  heard_text c d text h x ea el =
-      let e : length (pages.text d.part.heard d.part.captures) ≡ length (pages.text (c.part.heard ++ text) c.part.captures) = ap (λ q. length (pages.text q d.part.captures)) x.heard ∙ ap (λ q. length (pages.text (c.part.heard ++ text) q)) x.captures in
-      let more : length (pages.text c.part.heard c.part.captures) ≤ length (pages.text (c.part.heard ++ text) c.part.captures) = prefix_length (pages.text c.part.heard c.part.captures) (pages.text (c.part.heard ++ text) c.part.captures) (page_heard m pages lawful c.part.heard text c.part.captures) in
-      record { fits = omega (arith, e, more, h.fits, x.acked, el); count = omega (arith, h.count, x.acked, ea) }
+  heard_due : (c d : Connection) → TextSafe c → Grows m c.part d.part → d.len ≡ c.len → take d.len (drop d.part.acked (m.said d.part)) ≡ take c.len (drop c.part.acked (m.said c.part))
+  heard_due c d h x el =
+      ap (λ n. take n (drop d.part.acked (m.said d.part))) el
+      ∙ ap (λ n. take c.len (drop n (m.said d.part))) x.offset
+      ∙ slice_same (m.said c.part) (m.said d.part) c.part.acked c.len x.text h.fits
+
+  heard_text : (c d : Connection) → TextSafe c → Grows m c.part d.part → d.acked ≡ c.acked → d.len ≡ c.len → TextSafe d
+  heard_text c d h x ea el =
+      let more : length (m.said c.part) ≤ length (m.said d.part) = prefix_length (m.said c.part) (m.said d.part) x.text in
+      record { fits = omega (arith, more, h.fits, x.offset, el); count = omega (arith, h.count, x.offset, ea) }
 
   -- text of ESTABLISHED that is outstanding stays so in CLOSE-WAIT
   open_due : (c d : Connection) → c.state ≡ Established → is_open d.state ≡ true → take d.len (drop d.part.acked (m.said d.part)) ≡ take c.len (drop c.part.acked (m.said c.part)) → Alike (due m d.state d) (due m c.state c)
@@ -379,20 +380,20 @@ module _ (m : Meaning) (pages : Pages) (lawful : IsPaged m pages) where
       alike_trans (due m d.state d) (text_segment m d) (due m c.state c) (alike_sym (text_segment m d) (due m d.state d) (text_due d d.state o))
       (alike_trans (text_segment m d) (text_segment m c) (due m c.state c) record { flags = refl; text = h } (text_due c c.state (ap is_open e)))
 
-  heard_onto : (c d : Connection) (text : List ℕ) → c.state ≡ Established → is_open d.state ≡ true → TextSafe c → Heard m pages lawful c.part d.part text → d.first ≡ c.first → d.acked ≡ c.acked → d.len ≡ c.len → Onto c d
-  heard_onto c d text st o h x f ea el = record {
+  heard_onto : (c d : Connection) → c.state ≡ Established → is_open d.state ≡ true → TextSafe c → Grows m c.part d.part → d.first ≡ c.first → d.acked ≡ c.acked → d.len ≡ c.len → Onto c d
+  heard_onto c d st o h x f ea el = record {
     first = f;
     grows = omega (arith, ea);
-    kept = λ l e. (omega (arith, l, el), open_due c d st o (heard_due c d text c.state h x el));
+    kept = λ l e. (omega (arith, l, el), open_due c d st o (heard_due c d h x el));
   }
 
   closing_tells : (c : Connection) (numbers : List ℕ) (s : PlainSegment) → c.state ≡ Established → 0 < c.mss → 0 < c.initial_mss → TextSafe c → (let o : Outcome = peer_closes m c numbers s in OutTells c o.connection o.step)
   unfolding peer_closes
   closing_tells c numbers s st ms ini h =
-      let x = hears_is m pages lawful numbers c.part s.text in
+      let x : Grows m c.part (hears m numbers c.part s.text).part = hears_grows numbers c.part s.text in
       let d : Connection = in_state CloseWait (with_window s.window (with_part (hears m numbers c.part s.text).part (takes (length s.text + 1) c))) in
-      let t : TextSafe d = heard_text c d s.text h x refl refl in
-      let o : Onto c d = heard_onto c d s.text st refl h x refl refl refl in
+      let t : TextSafe d = heard_text c d h x refl refl in
+      let o : Onto c d = heard_onto c d st refl h x refl refl refl in
       let w : 0 < d.mss = window_some c.initial_mss s.window ini in
       choose (λ (y : Outcome). OutTells c y.connection y.step) (ltb 0 c.len) _ _
       (λ e. ack_tells c d o (λ l. record { mss = w; initial = ini; state = record { text = t; some = ltb-lt 0 c.len e } }) (λ z. record { some = z; same = refl }))
@@ -401,10 +402,10 @@ module _ (m : Meaning) (pages : Pages) (lawful : IsPaged m pages) where
   going_tells : (acked : Bool) (c : Connection) (numbers : List ℕ) (s : PlainSegment) → c.state ≡ Established → 0 < c.mss → 0 < c.initial_mss → TextSafe c → (let o : Outcome = goes_on m acked c numbers s in OutTells c o.connection o.step)
   unfolding goes_on
   going_tells acked c numbers s st ms ini h =
-      let x = hears_is m pages lawful numbers c.part s.text in
+      let x : Grows m c.part (hears m numbers c.part s.text).part = hears_grows numbers c.part s.text in
       let d : Connection = with_window s.window (with_part (hears m numbers c.part s.text).part (takes (length s.text) c)) in
-      let t : TextSafe d = heard_text c d s.text h x refl refl in
-      let o : Onto c d = heard_onto c d s.text st (ap is_open st) h x refl refl refl in
+      let t : TextSafe d = heard_text c d h x refl refl in
+      let o : Onto c d = heard_onto c d st (ap is_open st) h x refl refl refl in
       let w : 0 < d.mss = window_some c.initial_mss s.window ini in
       let f : Safe d = record { mss = w; initial = ini; state = state_at d Established st t } in
       choose (λ (y : Outcome). OutTells c y.connection y.step) (not acked && not (has_text s)) _ _ (λ e. silent_tells c d o (λ l. f) (λ z. record { some = z; same = refl }))
@@ -444,17 +445,24 @@ module _ (m : Meaning) (pages : Pages) (lawful : IsPaged m pages) where
 
   ack_text : (c : Connection) (numbers : List ℕ) → TextSafe c → TextSafe (with_part (m.acked numbers c.part c.len).part (rests c))
   ack_text c numbers h =
-      let n : (m.acked numbers c.part c.len).part.acked ≡ c.part.acked + c.len = lawful.acked_moves numbers c.part c.len in
       let q : Part = (m.acked numbers c.part c.len).part in
-      let e : length (pages.text q.heard q.captures) ≡ length (pages.text c.part.heard c.part.captures) = ap (λ x. length (pages.text x q.captures)) (lawful.acked_like numbers c.part c.len) ∙ ap (λ x. length (pages.text c.part.heard x)) (lawful.acked_captures numbers c.part c.len) in
-      record { fits = omega (arith, e, h.fits, n); count = omega (arith, h.count, n) }
+      let x = steady.lawful.acked_moves numbers c.part c.len tt (let e = length-drop c.part.acked (m.said c.part) in omega (arith, e, h.fits)) in
+      let e : length (m.said q) ≡ length (m.said c.part) = ap (λ t. length t) x.0 in
+      record { fits = omega (arith, e, h.fits, x.1); count = omega (arith, h.count, x.1) }
 
   acked_len : (c : Connection) (s : PlainSegment) → is_acked c s ≡ true → 0 < c.len
   acked_len c s h = ltb-lt 0 c.len (Rattle.link_world.proofs.Basics.and_true _ _ (Rattle.link_world.proofs.Basics.and_true _ _ h).1).0
 
+  near_same : (c d : Connection) (far : ℕ) → d.acked ≡ c.acked → IsNear Low c.acked far → IsNear Low d.acked far
+  near_same c d far a n = record { at = n.at; low = n.low; near = omega (arith, a, n.near) }
+
+  -- its FIN is acknowledged
+  near_more : (c d : Connection) → d.acked ≡ c.acked + 1 → IsNear Low c.acked 1 → IsNear Low d.acked 2
+  near_more c d a n = record { at = n.at; low = n.low; near = omega (arith, a, n.near) }
+
   -- the rest of a control connection, its counts told
   control_safe : (c d : Connection) → d.len ≡ c.len → d.acked ≡ c.acked → ControlSafe c → ControlSafe d
-  control_safe c d l a h = record { len = l ∙ h.len; low = omega (arith, a, h.low) }
+  control_safe c d l a h = record { len = l ∙ h.len; low = near_same c d 1 a h.low }
 
   by_state_tells : (st : State) (acked : Bool) (c : Connection) (numbers : List ℕ) (s : PlainSegment) → c.state ≡ st → is_acked c s ≡ acked → 0 < c.mss → 0 < c.initial_mss → SafeState c st →
       (let o : Outcome = by_state m st acked c numbers s in OutTells c o.connection o.step)
@@ -463,9 +471,9 @@ module _ (m : Meaning) (pages : Pages) (lawful : IsPaged m pages) where
   by_state_tells SynRcvd true c numbers s e ac ms ini h =
       let port : ℕ = c.sockets.own_port.0 in
       let start : Part = (m.connected numbers port).part in
-      let x = hears_is m pages lawful (m.connected numbers port).numbers start s.text in
+      let x : Grows m start (hears m (m.connected numbers port).numbers start s.text).part = hears_grows (m.connected numbers port).numbers start s.text in
       let d : Connection = with_part (hears m (m.connected numbers port).numbers start s.text).part (takes (length s.text) (in_state Established (rests c))) in
-      let z : d.part.acked ≡ 0 = x.acked ∙ lawful.connected_acked numbers port in
+      let z : d.part.acked ≡ 0 = x.offset ∙ steady.connected_acked numbers port in
       record { onto = onto_more c d refl (omega (arith, h.len)); is_asked = refl; idle = refl; mss = ms; initial = ini; text = record { fits = omega (arith, z); count = omega (arith, z, h.acked, h.len) }; new = λ y. omega (arith, h.len) }
   by_state_tells SynRcvd false c numbers s e ac ms ini h = silent_tells c c (onto_same c) (λ l. record { mss = ms; initial = ini; state = state_at c SynRcvd e h }) (λ z. record { some = z; same = refl })
   by_state_tells Established true c numbers s e ac ms ini h =
@@ -488,9 +496,9 @@ module _ (m : Meaning) (pages : Pages) (lawful : IsPaged m pages) where
   by_state_tells FinWait1 true c numbers s e ac ms ini h =
       choose (λ (y : Outcome). OutTells c y.connection y.step) (has_fin s.flags) _ _
       (λ f. let d : Connection = in_state TimeWait (takes (length s.text + 1) (rests c)) in
-      ack_tells c d (onto_more c d refl (omega (arith, h.len))) (λ l. record { mss = ms; initial = ini; state = record { len = refl; low = omega (arith, h.low, h.len) } }) (λ z. absurd (omega arith)))
+      ack_tells c d (onto_more c d refl (omega (arith, h.len))) (λ l. record { mss = ms; initial = ini; state = record { len = refl; low = near_more c d (omega (arith, h.len)) h.low } }) (λ z. absurd (omega arith)))
       (λ f. let d : Connection = in_state FinWait2 (takes (length s.text) (rests c)) in
-      silent_tells c d (onto_more c d refl (omega (arith, h.len))) (λ l. record { mss = ms; initial = ini; state = record { len = refl; low = omega (arith, h.low, h.len) } }) (λ z. absurd (omega arith)))
+      silent_tells c d (onto_more c d refl (omega (arith, h.len))) (λ l. record { mss = ms; initial = ini; state = record { len = refl; low = near_more c d (omega (arith, h.len)) h.low } }) (λ z. absurd (omega arith)))
   by_state_tells FinWait1 false c numbers s e ac ms ini h =
       choose (λ (y : Outcome). OutTells c y.connection y.step) (has_fin s.flags) _ _
       (λ f. let d : Connection = in_state Closing (takes (length s.text + 1) c) in
@@ -511,7 +519,7 @@ module _ (m : Meaning) (pages : Pages) (lawful : IsPaged m pages) where
       (λ i. silent_tells c c (onto_same c) (λ l. record { mss = ms; initial = ini; state = state_at c FinWait2 e h }) (λ z. record { some = z; same = refl })))
   by_state_tells Closing true c numbers s e ac ms ini h =
       let d : Connection = in_state TimeWait (rests c) in
-      silent_tells c d (onto_more c d refl (omega (arith, h.len))) (λ l. record { mss = ms; initial = ini; state = record { len = refl; low = omega (arith, h.low, h.len) } }) (λ z. absurd (omega arith))
+      silent_tells c d (onto_more c d refl (omega (arith, h.len))) (λ l. record { mss = ms; initial = ini; state = record { len = refl; low = near_more c d (omega (arith, h.len)) h.low } }) (λ z. absurd (omega arith))
   by_state_tells Closing false c numbers s e ac ms ini h = silent_tells c c (onto_same c) (λ l. record { mss = ms; initial = ini; state = state_at c Closing e h }) (λ z. record { some = z; same = refl })
   by_state_tells LastAck true c numbers s e ac ms ini h = dead_tells c (rests c)
   by_state_tells LastAck false c numbers s e ac ms ini h = silent_tells c c (onto_same c) (λ l. record { mss = ms; initial = ini; state = state_at c LastAck e h }) (λ z. record { some = z; same = refl })
@@ -582,11 +590,11 @@ module _ (m : Meaning) (pages : Pages) (lawful : IsPaged m pages) where
   unfolding ticks_established
   polls_tell c numbers e f h =
       choose (λ (y : Outcome). OutTells c y.connection y.step) (ltb 0 c.len) _ _ (λ i. waits_tell c numbers (ap is_live e) f (ltb-lt 0 c.len i))
-      (λ i. let x = lawful.polled_like numbers c.part in
+      (λ i. let x = steady.lawful.polled_keeps numbers c.part tt in
       let d : Connection = with_part (m.polled numbers c.part).part c in
       let z : c.len ≡ 0 = ltb-zero c.len i in
-      let q : length (pages.text d.part.heard d.part.captures) ≡ length (pages.text c.part.heard c.part.captures) = ap (λ y. length (pages.text y d.part.captures)) x.heard ∙ ap (λ y. length (pages.text c.part.heard y)) x.captures in
-      record { onto = onto_idle c d refl z refl; is_asked = ap is_open e; idle = z; mss = f.mss; initial = f.initial; text = record { fits = omega (arith, q, h.fits, x.acked); count = omega (arith, h.count, x.acked) }; new = λ y. absurd (omega (arith, y, z)) })
+      let q : length (m.said d.part) ≡ length (m.said c.part) = ap (λ t. length t) x.0 in
+      record { onto = onto_idle c d refl z refl; is_asked = ap is_open e; idle = z; mss = f.mss; initial = f.initial; text = record { fits = omega (arith, q, h.fits, x.1); count = omega (arith, h.count, x.1) }; new = λ y. absurd (omega (arith, y, z)) })
 
   tick_by_tells : (st : State) (c : Connection) (numbers : List ℕ) → c.state ≡ st → Safe c → SafeState c st → (let o : Outcome = tick_by m st c numbers in OutTells c o.connection o.step)
   tick_by_tells Closed c numbers e f h = absurd h

@@ -36,6 +36,7 @@ use Rattle.link_world.specs.declared.who.Who.TheVariants.{FromClient, FromNode, 
 use Rattle.link_world.specs.Acts.{does, runs}
 use Rattle.link_world.specs.History.{Planned, IsPlan, era, serving, opening_world, page_of, is_whole}
 use Rattle.link_world.specs.Schedule.{plays}
+use Rattle.link_world.specs.Steady.{IsSteady}
 use Rattle.link_world.specs.declared.act.Act.{Act}
 use Rattle.link_schedule.specs.declared.event.Event.{Event}
 
@@ -80,6 +81,19 @@ pub record IsReached (m : Meaning) (pages : Pages) (w : World) : Type 0 where
   pub schedule : List Act
   pub are_acts : All IsAct schedule
   pub bytes : HasBytes pages ⊎ All IsPlainAct schedule
+  pub accepted : runs m served schedule (opening_world addr numbers plan) ≡ Ok w
+
+-- The world that acts reach that damage nothing, whatever the application says.
+pub record IsReachedPlainly (m : Meaning) (w : World) : Type 0 where
+  pub served : ℕ → Bool
+  pub addr : Addr
+  pub is_addr : IsAddr addr
+  pub numbers : List ℕ
+  pub in_range : All IsWord numbers
+  pub plan : List Planned
+  pub is_plan : IsPlan plan
+  pub schedule : List Act
+  pub plain : All IsPlainAct schedule
   pub accepted : runs m served schedule (opening_world addr numbers plan) ≡ Ok w
 
 -- what each act of a line is
@@ -159,6 +173,10 @@ RepeatsSameBytes w =
 -- Same bytes: so it is in every world. This holds of clients that are not clean too.
 abbrev pub SameBytes : Type 0
 SameBytes = (m : Meaning) (pages : Pages) → IsPaged m pages → (w : World) → IsReached m pages w → RepeatsSameBytes w
+
+-- It needs no page, and no bound on what is said, where nothing is damaged: every application that never takes back text keeps it.
+abbrev pub SameBytesPlainly : Type 0
+SameBytesPlainly = (m : Meaning) → IsSteady m → (w : World) → IsReachedPlainly m w → RepeatsSameBytes w
 
 -- Of two datagrams to a client in one epoch that carry SYN, text or FIN at one number, the later one is marked, and they have the
 -- same flags and text.

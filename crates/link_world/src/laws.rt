@@ -5,7 +5,7 @@
 ghost use Rattle.link_world.specs.Parts.{CleanParts};
 ghost use Rattle.link_world.specs.Honest.{HonestLink};
 ghost use Rattle.link_world.specs.Reading.{BytesAreRead, SentToClients};
-ghost use Rattle.link_world.specs.Headline.{PrefixAndWhole, SameBytes, AgainExactly, Tick, DamageIsLoss, DamageIsLossThere, OneSegment, LinesAreActs};
+ghost use Rattle.link_world.specs.Headline.{PrefixAndWhole, SameBytes, SameBytesPlainly, AgainExactly, Tick, DamageIsLoss, DamageIsLossThere, OneSegment, LinesAreActs};
 ghost use Rattle.link_world.specs.Nodes.{CapturesFit, TextNumbers, TextsAreShort};
 ghost use Rattle.link_world.specs.Times.{AcknowledgedLater, EpochsAreFew, MarkIsLow, NoneIsEmpty, OneConnection, SidesAsPlanned};
 
@@ -17,6 +17,11 @@ pub fn prefix_and_whole()
 /// What is sent again while it is outstanding has the same number, flags and text as before.
 pub fn same_bytes()
     ensures { SameBytes }
+{}
+
+/// The same without a page, and with no bound on what is said, where nothing is damaged.
+pub fn same_bytes_plainly()
+    ensures { SameBytesPlainly }
 {}
 
 /// A datagram is marked as sent again exactly where an earlier one of the same connection stands at its number.
