@@ -1,0 +1,63 @@
+-- The desk is steady: it takes back no text, and captures one moment at a time.
+use Rattle.std.proofs.Common.{◌≡◌, ℕ, ◌==◌, Bool, true, false, ◌⊎◌, inl, inr, List, [], ◌∷◌, ◌++◌, refl, if◌then◌else◌}
+use Rattle.app_events.specs.Part.{Part, Moment}
+use Rattle.site_image.specs.Files.{File}
+use Rattle.file_tree.specs.Site.{SiteContent, IsLoaded, files_of}
+use Rattle.web_pages.specs.Pages.{pages_of}
+use Rattle.web_pages.specs.WebMeaning.{web_meaning}
+use Rattle.web_pages.proofs.PageLaws.{keeps_page_laws}
+use Rattle.link_world.specs.Steady.{IsSteady}
+use Rattle.link_world.proofs.Steadiness.{steady_of}
+use Rattle.telnet_shell.specs.declared.shell.TheConstants.{TELNET_PORT}
+use Rattle.telnet_shell.specs.ShellMeaning.{shell_meaning, is_stopped}
+use Rattle.telnet_shell.specs.ShellLaws.{shell_lawful}
+use Rattle.telnet_shell.specs.DeskMeaning.{meaning_at, desk_meaning}
+use Rattle.telnet_shell.specs.DeskLaws.{desk_lawful}
+use Rattle.telnet_shell.proofs.TalkLaws.{keeps_talk}
+
+either_capture : (p : Part) (k : Moment) (takes : Bool)
+    → ((if takes then record p { captures = p.captures ++ k ∷ [] } else p).captures ≡ p.captures)
+    ⊎ ((if takes then record p { captures = p.captures ++ k ∷ [] } else p).captures ≡ p.captures ++ k ∷ [])
+either_capture p k true = inr refl
+either_capture p k false = inl refl
+
+shell_steady : IsSteady shell_meaning
+shell_steady = record {
+  lawful = shell_lawful (λ p. Unit {0});
+  connected_acked = λ numbers port. refl;
+  connected_captures = λ numbers port. refl;
+  newdata_captures = λ numbers p piece. (keeps_talk.hears numbers p piece).captures;
+  prepare_captures = λ numbers p now. either_capture p (record { numbers = numbers; now = now }) (is_stopped p);
+  acked_captures = λ numbers p n. refl;
+  polled_captures = λ numbers p. refl;
+  connected_numbers = λ numbers port h. h;
+  newdata_numbers = λ numbers p piece h. h;
+  acked_numbers = λ numbers p n h. h;
+  polled_numbers = λ numbers p h. h;
+  ended_numbers = λ numbers p how h. h;
+}
+
+by_port : (files : List File) (shell : Bool) → IsSteady (web_meaning files) → IsSteady (if shell then shell_meaning else web_meaning files)
+by_port files true w = shell_steady
+by_port files false w = w
+
+module _ (site : SiteContent) (loaded : IsLoaded site) where
+  steady_at : (port : ℕ) → IsSteady (meaning_at (files_of site) port)
+  steady_at port =
+      by_port (files_of site) (port == TELNET_PORT) (steady_of (web_meaning (files_of site)) (pages_of (files_of site)) (keeps_page_laws site loaded))
+
+  pub desk_steady : IsSteady (desk_meaning (files_of site))
+  desk_steady = record {
+    lawful = desk_lawful (files_of site) (λ p. Unit {0});
+    connected_acked = λ numbers port. (steady_at port).connected_acked numbers port;
+    connected_captures = λ numbers port. (steady_at port).connected_captures numbers port;
+    newdata_captures = λ numbers p piece. (steady_at p.port).newdata_captures numbers p piece;
+    prepare_captures = λ numbers p now. (steady_at p.port).prepare_captures numbers p now;
+    acked_captures = λ numbers p n. (steady_at p.port).acked_captures numbers p n;
+    polled_captures = λ numbers p. (steady_at p.port).polled_captures numbers p;
+    connected_numbers = λ numbers port h. (steady_at port).connected_numbers numbers port h;
+    newdata_numbers = λ numbers p piece h. (steady_at p.port).newdata_numbers numbers p piece h;
+    acked_numbers = λ numbers p n h. (steady_at p.port).acked_numbers numbers p n h;
+    polled_numbers = λ numbers p h. (steady_at p.port).polled_numbers numbers p h;
+    ended_numbers = λ numbers p how h. (steady_at p.port).ended_numbers numbers p how h;
+  }

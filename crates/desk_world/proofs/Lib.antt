@@ -1,0 +1,2 @@
+pub mod DeskSteady
+pub mod DeskWorlds
