@@ -18,12 +18,6 @@ by_frame Overlong = []
 abbrev pub by_byte : List ℕ → ℕ → List Event
 by_byte before b = if b == 192 then flat_map by_frame (frame_of (unescaped (open_part before))) else []
 
--- the bytes among the items; a silence is no byte of a frame
-abbrev pub bytes_among : List Item → List ℕ
-bytes_among [] = []
-bytes_among (Byte b ∷ items) = b ∷ bytes_among items
-bytes_among (Quiet ∷ items) = bytes_among items
-
 abbrev pub events_behind : List ℕ → List Item → List Event
 events_behind before [] = []
 events_behind before (Byte b ∷ items) = by_byte before b ++ events_behind (before ++ b ∷ []) items
