@@ -1,12 +1,12 @@
 -- The turns of a serving, put together.
-use Rattle.std.proofs.Common.{ap, refl, sym, ◌≡◌, ℕ, ◌+◌, ◌<◌, ◌≤◌, Bool, List, [], ◌++◌, Option, None, Some, length, ◌∙◌, append-nil, arith, length-append}
+use Rattle.std.proofs.Common.{refl, sym, ◌≡◌, ℕ, ◌+◌, ◌<◌, ◌≤◌, Bool, List, [], ◌++◌, Option, Some, length, ◌∙◌, arith, length-append}
 use Rattle.uip_wire.specs.declared.addr.Addr.{Addr}
 use Rattle.app_events.specs.Part.{Meaning}
 use Rattle.app_events.specs.declared.app.App.{Ghosts}
 use Rattle.uip_edge.specs.declared.item.Item.{Item}
 use Rattle.uip_edge.specs.declared.serve_end.ServeEnd.{ServeEnd}
 use Rattle.uip_edge.specs.declared.serve_end.ServeEnd.TheVariants as ends
-use Rattle.uip_edge.specs.Coming.{Consumes, bytes_among, TookAll}
+use Rattle.uip_edge.specs.Coming.{Consumes, bytes_among}
 use Rattle.uip_edge.proofs.Told.{Consumes-then, none_more, taken_within, took_all}
 use Rattle.uip_node.specs.declared.node.Node.{Node}
 use Rattle.line_medium.specs.declared.medium.Medium.{Ghosts as MediumGhosts}

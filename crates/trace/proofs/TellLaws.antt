@@ -1,5 +1,5 @@
 -- The turns of a reading, put together.
-use Rattle.std.proofs.Common.{◌≡◌, ℕ, ◌+◌, ◌<◌, ◌≤◌, List, [], ◌++◌, Option, None, Some, length, sym, ap, ◌∙◌, append-nil, arith, length-append, subst}
+use Rattle.std.proofs.Common.{◌≡◌, ℕ, ◌+◌, ◌<◌, ◌≤◌, List, [], ◌++◌, Option, length, sym, ap, ◌∙◌, arith, length-append, subst}
 use Rattle.std.specs.Io.KnownBytes.{Appends}
 use Rattle.uip_edge.specs.Coming.{Consumes, TookAll}
 use Rattle.uip_edge.proofs.Told.{Appends-then, Consumes-then, appends_by, prefix_by, prefix_then, took_all, none_more}

@@ -1,11 +1,8 @@
 -- What a call that tells of a serial line has taken and written, and how it ends.
-use Rattle.std.specs.Prelude.{ℕ, List, Option}
-use Rattle.std.specs.Io.KnownBytes.{Appends}
+use Rattle.std.specs.Prelude.{ℕ, List}
 use Rattle.uip_edge.specs.Coming.{Consumes}
-use Rattle.uip_edge.specs.Writing.{AppendsPrefix}
 use Rattle.uip_edge.specs.declared.item.Item.{Item}
 use Rattle.uip_edge.specs.declared.serve_end.ServeEnd.{ServeEnd}
-use Rattle.uip_edge.specs.declared.serve_end.ServeEnd.TheVariants.{Budget, End, LinkFault, WriteFault}
 use Rattle.uip_edge.specs.Told.{LineTold}
 use Rattle.uip_edge.specs.Ending.{EndsBy, WrittenBy}
 

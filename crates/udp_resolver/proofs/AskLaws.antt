@@ -1,18 +1,16 @@
 -- The turns of a run, put together.
-use Rattle.std.proofs.Common.{◌≡◌, ℕ, ◌+◌, ◌<◌, ◌≤◌, ◌⊎◌, inl, inr, Bool, true, false, not, List, [], ◌∷◌, ◌++◌, Option, None, Some, length, refl, sym, ap, ◌∙◌, append-nil, arith, length-append, subst}
+use Rattle.std.proofs.Common.{◌≡◌, ℕ, ◌+◌, ◌<◌, ◌≤◌, ◌⊎◌, inr, Bool, true, false, not, List, [], ◌++◌, Option, length, refl, sym, ◌∙◌, arith, length-append, subst}
 use Rattle.std.specs.Io.KnownBytes.{Appends}
 use Rattle.uip_edge.specs.declared.item.Item.{Item}
 use Rattle.uip_edge.specs.declared.serve_end.ServeEnd.{ServeEnd}
 use Rattle.uip_edge.specs.declared.serve_end.ServeEnd.TheVariants as ends
-use Rattle.uip_edge.specs.Causes.{Rose}
-use Rattle.uip_edge.specs.Coming.{Consumes, TookAll}
-use Rattle.uip_edge.specs.Writing.{AppendsPrefix}
+use Rattle.uip_edge.specs.Coming.{Consumes}
 use Rattle.uip_edge.proofs.Told.{Appends-then, Consumes-then, appends_by, prefix_by, prefix_then, took_all, none_more}
 use Rattle.udp_resolver.specs.Asked.{line_text}
-use Rattle.udp_resolver.specs.Fates.{Question, all_settled}
+use Rattle.udp_resolver.specs.Fates.{Question}
 use Rattle.udp_resolver.specs.LineEvents.{events}
-use Rattle.udp_resolver.specs.Resolving.{IsOneAnswer, IsOpen, LastAsked}
-use Rattle.udp_resolver.specs.Standing.{Asks, Adds, Knows, TurnsBy}
+use Rattle.udp_resolver.specs.Resolving.{IsOpen, LastAsked}
+use Rattle.udp_resolver.specs.Standing.{Asks, Adds, TurnsBy}
 use Rattle.udp_resolver.specs.declared.run.Run.{Run}
 use Rattle.udp_resolver.specs.declared.run.Turn.TheVariants.{Stopped}
 use Rattle.uip_edge.specs.Told.{IsCalm, LineTold}

@@ -1,12 +1,12 @@
 -- What further items bring.
-use Rattle.std.proofs.Common.{◌≡◌, ℕ, ◌+◌, Bool, true, false, eqb, leb, if◌then◌else◌, List, [], ◌∷◌, ◌++◌, length, map, refl, sym, ap, ◌∙◌, arith, append-nil, append_assoc}
+use Rattle.std.proofs.Common.{◌≡◌, ℕ, true, false, eqb, leb, if◌then◌else◌, List, [], ◌∷◌, ◌++◌, length, map, refl, sym, ap, ◌∙◌, arith, append-nil, append_assoc}
 use Rattle.std.specs.List.{flat_map}
 use Rattle.uip_edge.specs.declared.item.Item.{Item}
 use Rattle.uip_edge.specs.declared.item.Item.TheVariants.{Byte, Quiet}
 use Rattle.uip_slip.specs.Frames.{Frame, Datagram, Overlong, frame_of, frames, open_part, unescaped}
 use Rattle.uip_slip.proofs.PartLaws.{frames-end, frames-plain, parts-byte}
 use Rattle.udp_resolver.specs.Fates.{silences}
-use Rattle.udp_resolver.specs.LineEvents.{Event, Silence, by_byte, by_frame, events, events_behind}
+use Rattle.udp_resolver.specs.LineEvents.{Silence, by_byte, by_frame, events, events_behind}
 use Rattle.udp_resolver.proofs.EventLaws.{silences-append}
 use Rattle.uip_edge.specs.Coming.{bytes_among}
 

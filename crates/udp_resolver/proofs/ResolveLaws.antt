@@ -1,5 +1,5 @@
 -- How the asking and the telling make a whole.
-use Rattle.std.proofs.Common.{◌≡◌, ℕ, List, Option, map, length, refl, sym, ap, ◌∙◌, subst, inl, inr}
+use Rattle.std.proofs.Common.{◌≡◌, ℕ, List, Option, map, refl, ap, ◌∙◌, inr}
 use Rattle.std.specs.Io.KnownBytes.{Appends}
 use Rattle.dns_message.specs.declared.answer.Answer.{Answer}
 use Rattle.dns_message.specs.declared.asking.Asking.{Asking}
@@ -17,7 +17,6 @@ use Rattle.udp_resolver.specs.Steps.{lines_by}
 use Rattle.udp_resolver.specs.Streams.{Streams}
 use Rattle.udp_resolver.specs.declared.run.Run.{Run}
 use Rattle.udp_resolver.proofs.RunLaws.{lines_told}
-use Rattle.uip_edge.specs.Told.{LineTold}
 
 -- the lines of what a run knows
 pub lines_known : (asking : Asking) (names : List (List ℕ)) (items : List Item) (run : Run) (answers : List (Option Answer)) → answers ≡ run.answers.items

@@ -1,7 +1,7 @@
 -- Texts written one behind another.
-use Rattle.std.proofs.Common.{◌≡◌, ℕ, ◌≤◌, List, [], ◌++◌, Option, refl, sym, subst, ◌∙◌, append-nil, Result, Ok, Err, IsErr, arith}
+use Rattle.std.proofs.Common.{◌≡◌, ℕ, List, [], ◌++◌, refl, sym, subst, Result, Ok, Err, IsErr, arith}
 use Rattle.std.specs.Io.KnownBytes.{Appends}
-use Rattle.uip_edge.specs.Causes.{HasCause, Rose}
+use Rattle.uip_edge.specs.Causes.{HasCause}
 use Rattle.uip_edge.specs.Told.{SinkTold}
 use Rattle.uip_edge.specs.Writing.{AppendsPrefix, Writes}
 use Rattle.uip_edge.proofs.Told.{Appends-none, Appends-then, prefix_more, prefix_then}

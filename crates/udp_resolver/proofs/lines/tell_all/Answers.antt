@@ -1,12 +1,12 @@
-use Rattle.std.proofs.Common.{◌≡◌, ◌∷◌, [], ◌+◌, ◌++◌, ◌∙◌, None, refl, sym, ap, arith, drop, get_or, length, append-nil}
-use Rattle.std.proofs.lemmas.List.{drop_all, drop_more}
-use Rattle.uip_edge.proofs.Told.{Appends-none, Appends-then, appends_by, on_err, prefix_by, prefix_more, prefix_then}
+use Rattle.std.proofs.Common.{◌≡◌, ◌+◌, ◌++◌, ◌∙◌, None, sym, ap, arith, drop, get_or}
+use Rattle.std.proofs.lemmas.List.{drop_more}
+use Rattle.uip_edge.proofs.Told.{Appends-then, appends_by}
 use Rattle.uip_edge.specs.Telling.{sink_told}
 use Rattle.uip_edge.proofs.Writes.{writes_broken, writes_by}
 use Rattle.udp_resolver.specs.Fates.{fate_by}
 use Rattle.udp_resolver.specs.Lines.{line_of}
 use Rattle.udp_resolver.specs.Steps.{lines_by}
-use Rattle.udp_resolver.proofs.StepLaws.{here, lines_none, lines_step}
+use Rattle.udp_resolver.proofs.StepLaws.{here, lines_step}
 use Rattle.udp_resolver.proofs.lines.tell_all.Goals as goal
 
 pub loop-at-preserved : goal.loop-at-preserved

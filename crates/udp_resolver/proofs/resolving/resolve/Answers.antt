@@ -1,8 +1,7 @@
-use Rattle.std.proofs.Common.{◌≡◌, ◌∙◌, List, ℕ, refl, ap, sym, subst}
+use Rattle.std.proofs.Common.{List, ℕ, sym, subst}
 use Rattle.dns_message.specs.declared.asking.Asking.{Asking}
 use Rattle.uip_edge.proofs.Told.{appends_by, prefix_by}
 use Rattle.udp_resolver.specs.Fates.{questions}
-use Rattle.udp_resolver.specs.LineEvents.{events}
 use Rattle.udp_resolver.specs.Resolving.{Resolves}
 use Rattle.udp_resolver.specs.Streams.{streams}
 use Rattle.udp_resolver.proofs.ResolveLaws.{lines_known, told_all, told_part}

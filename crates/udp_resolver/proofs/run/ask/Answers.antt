@@ -1,5 +1,5 @@
-use Rattle.std.proofs.Common.{◌≡◌, ◌∙◌, ◌++◌, [], refl, ap, sym, arith, length, length-append, length-take, inl, inr}
-use Rattle.uip_edge.proofs.Told.{Consumes-none, Consumes-then}
+use Rattle.std.proofs.Common.{◌∙◌, ◌++◌, refl, arith, length-append, length-take, inr}
+use Rattle.uip_edge.proofs.Told.{Consumes-then}
 use Rattle.udp_resolver.specs.Fates.{all_settled, questions}
 use Rattle.udp_resolver.specs.LineEvents.{events}
 use Rattle.udp_resolver.proofs.AskLaws.{added, open_by_test, stopped}

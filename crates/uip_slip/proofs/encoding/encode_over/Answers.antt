@@ -18,7 +18,8 @@ returns-in_err-write_whole g c =
     ap (λ l. l ++ (escaped others ++ 192 ∷ [])) made ∙ text_parts c.args.datagram.now inv.front part others pieces in
     writes_broken _ c.from_residual.ensures.0 c.in_err-write_whole.field-0.0 (sink_told g.K.Sink c.args.sink.now) (sink_told g.K.Sink c.loop-rest.sink)
     (sink_told g.K.Sink c.write_whole.new.self) inv.sent text (escaped others ++ 192 ∷ []) (slip_text c.args.datagram.now) whole inv.written inv.same
-    (writes_by _ _ _ _ text (sym c.bytes.ensures) c.in_err-write_whole.ensures)
+    (writes_by _ (sink_told g.K.Sink c.loop-rest.sink) (sink_told g.K.Sink c.write_whole.new.self) c.bytes.result.now text (sym c.bytes.ensures)
+    c.in_err-write_whole.ensures)
 
 pub loop-rest-init : goal.loop-rest-init
 loop-rest-init g c =

@@ -1,4 +1,4 @@
-use Rattle.std.proofs.Common.{◌≡◌, ◌∙◌, [], refl, ap, sym, length}
+use Rattle.std.proofs.Common.{◌∙◌, ap, sym, length}
 use Rattle.std.proofs.lemmas.Result.{on_ok_weaker}
 use Rattle.uip_edge.proofs.Writes.{writes_by}
 use Rattle.udp_resolver.specs.Asked.{last_ident, query_texts}

@@ -1,4 +1,4 @@
-use Rattle.std.proofs.Common.{◌≡◌, ◌∙◌, ◌∷◌, [], length, refl, ap, sym, arith}
+use Rattle.std.proofs.Common.{◌∙◌, ◌∷◌, [], length, refl, ap, sym}
 use Rattle.udp_resolver.specs.Fates.{questions}
 use Rattle.udp_resolver.specs.Steps.{heard}
 use Rattle.uip_slip.specs.Decoding.{told_by}

@@ -1,4 +1,4 @@
-use Rattle.std.proofs.Common.{◌≡◌, ◌∙◌, ◌∷◌, [], refl, ap, sym, arith, map, take, length, inl, inr}
+use Rattle.std.proofs.Common.{◌≡◌, ◌∷◌, [], refl, arith, map, take, length, inl, inr}
 use Rattle.uip_edge.specs.declared.item.Item.TheVariants.{Byte, Quiet}
 use Rattle.uip_edge.proofs.Told.{Appends-none}
 use Rattle.udp_resolver.specs.Asked.{query_texts}

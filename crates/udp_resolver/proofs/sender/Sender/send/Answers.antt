@@ -1,4 +1,4 @@
-use Rattle.std.proofs.Common.{◌≡◌, ◌∙◌, refl, sym, ap, length, take, drop}
+use Rattle.std.proofs.Common.{◌∙◌, refl, sym, ap, length, take, drop}
 use Rattle.std.proofs.lemmas.List.{take_at}
 use Rattle.packet_buffer.specs.Buffer.{Buffer}
 use Rattle.uip_slip.specs.Text.{slip_text}

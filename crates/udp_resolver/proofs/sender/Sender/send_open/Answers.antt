@@ -1,12 +1,12 @@
-use Rattle.std.proofs.Common.{◌≡◌, ◌∷◌, [], ◌+◌, ◌++◌, ◌∙◌, None, refl, sym, ap, arith, drop, get_or, length, append-nil}
-use Rattle.std.proofs.lemmas.List.{drop_all, drop_more}
-use Rattle.uip_edge.proofs.Told.{Appends-none, Appends-then, appends_by, on_err, prefix_more, prefix_then}
+use Rattle.std.proofs.Common.{◌≡◌, ◌+◌, ◌++◌, ◌∙◌, None, refl, sym, ap, arith, drop, get_or}
+use Rattle.std.proofs.lemmas.List.{drop_more}
+use Rattle.uip_edge.proofs.Told.{Appends-then, appends_by}
 use Rattle.uip_edge.specs.Telling.{sink_told}
 use Rattle.uip_edge.proofs.Writes.{writes_broken}
 use Rattle.udp_resolver.specs.Asked.{last_ident, query_texts}
 use Rattle.udp_resolver.specs.Fates.{next_asking, questions}
 use Rattle.udp_resolver.specs.Steps.{unanswered, unless_answered}
-use Rattle.udp_resolver.proofs.StepLaws.{here, last_ident-append, query_texts-append, unanswered_none, unanswered_step}
+use Rattle.udp_resolver.proofs.StepLaws.{here, last_ident-append, query_texts-append, unanswered_step}
 use Rattle.udp_resolver.proofs.sender.Sender.send_open.Goals as goal
 
 pub loop-at-preserved : goal.loop-at-preserved
