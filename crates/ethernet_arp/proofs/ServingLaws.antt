@@ -9,7 +9,7 @@ use Rattle.uip_node.specs.declared.node.Node.{Node}
 use Rattle.line_medium.specs.Ways.{Way}
 use Rattle.serve_loop.specs.DeedRuns.{AllSaid, Deed, FrontSaid, Station}
 use Rattle.serve_loop.specs.DeedServing.{IsAt, SaidBy, ServesOver}
-use Rattle.serve_loop.specs.Outside.{Outside}
+use Rattle.uip_edge.specs.Told.{LineTold}
 
 module _ {A S C : Type 0} (g : Ghosts A S) (w : Way C) (did did' told told' : List C → Type 0) (before after : Node A S)
     (first : (acts : List C) → told acts → did acts) (last : (acts : List C) → did' acts → told' acts) where
@@ -38,7 +38,7 @@ module _ {A S C : Type 0} (g : Ghosts A S) (w : Way C) (did did' told told' : Li
   told_by ends.LinkFault m served own deeds a b v = all_told m served own deeds a b v
   told_by ends.WriteFault m served own deeds a b v = front_told m served own deeds a b v
 
-  pub serves_told : (pace n : ℕ) (old new : Outside) (end : ServeEnd) → ServesOver g w did did' pace n before after old new end → ServesOver g w told told' pace n before after old new end
+  pub serves_told : (pace n : ℕ) (old new : LineTold) (end : ServeEnd) → ServesOver g w did did' pace n before after old new end → ServesOver g w told told' pace n before after old new end
   serves_told pace n old new end v = record {
     taken = v.taken;
     consumed = v.consumed;

@@ -2,7 +2,6 @@ ghost use Rattle.std.specs.Prelude.{◌≡◌, [], Bool, List, ℕ, length};
 ghost use Rattle.app_events.specs.Part.{Meaning};
 ghost use Rattle.uip_edge.specs.declared.item.Item.{Item};
 ghost use Rattle.serve_loop.specs.DeedServing.{ServesOver};
-ghost use Rattle.serve_loop.specs.Outside.{outside};
 ghost use Rattle.serve_loop.specs.LineDeeds.{line_deeds};
 ghost use Rattle.uip_node.specs.Node.{AbstractNode};
 ghost use Rattle.uip_node.specs.StandsFor.{IsWhole};
@@ -12,6 +11,7 @@ ghost use Rattle.ethernet_arp.specs.Frames.{Host};
 ghost use Rattle.ethernet_arp.specs.Learning.{Act};
 ghost use Rattle.ethernet_arp.specs.Sending.{AllGoHome};
 ghost use Rattle.ethernet_arp.specs.Table.{Knows, host_of};
+ghost use Rattle.uip_edge.specs.Telling.{line_told};
 
 use crate::arp::Arp;
 use crate::ether_line::EtherLine;
@@ -36,8 +36,8 @@ pub fn serve_ether<A: App, L: Link, K: Sink>(
     ensures host { host_of arp.new ≡ host_of arp.old }
     ensures serves { ServesOver A.App (ether_way (host_of arp.old))
         (λ acts. Knows arp.old acts) (λ acts. Knows arp.new acts) pace items node.old node.new
-        (outside L.coming K.written L.faults K.faults link.old sink.old)
-        (outside L.coming K.written L.faults K.faults link.new sink.new) result }
+        (line_told L.Link K.Sink link.old sink.old)
+        (line_told L.Link K.Sink link.new sink.new) result }
 {
     let mut line = EtherLine::new(*arp);
     let end = serve_over(&mut line, node, link, sink, pace, items);

@@ -18,57 +18,26 @@ use Rattle.web_pages.specs.Requests.Wanted.{Refused, Name}
 use Rattle.web_pages.proofs.ZeroLaws.{zero_asked}
 use Rattle.file_tree.specs.declared.file_id.FileId.{FileId}
 use Rattle.httpd.specs.Reply.{found_file, head_text, kind_text, body_bytes}
-use Rattle.httpd.specs.Zero.{IsAsked, Writes, script_said, zero_body}
-
-pub writes_by : {T E : Type 0} (a b : Option (List ℕ)) (x y : ℕ) (r : Result T E) (xs ys : List ℕ) → xs ≡ ys → Writes a b x y r xs → Writes a b x y r ys
-writes_by a b x y r xs ys e w = subst (Writes a b x y r) e w
-
--- nothing was written
-pub writes_none : {T E : Type 0} (a : Option (List ℕ)) (x : ℕ) (t : T) → Writes {T = T} {E = E} a a x x (Ok t) []
-writes_none a x t = record { whole = Appends-none a; front = tt; cause = record { later = omega arith; same = refl; failed = tt } }
-
--- the first text failed, and so did both
-pub writes_stop : {T U E : Type 0} (a b : Option (List ℕ)) (x y : ℕ) (e d : E) (r : Result U E) (xs ys : List ℕ) → r ≡ Err d
-    → Writes {T = T} a b x y (Err e) xs → Writes a b x y r (xs ++ ys)
-writes_stop a b x y e d (Ok u) xs ys is w = absurd cc
-writes_stop a b x y e d (Err f) xs ys is w = record {
-  whole = tt;
-  front = prefix_more a b xs ys (xs ++ ys) refl w.front;
-  cause = record { later = w.cause.later; same = tt; failed = w.cause.failed };
-}
-
--- the first text was written, and then the second
-pub writes_then : {T U E : Type 0} (a m b : Option (List ℕ)) (x z y : ℕ) (t : T) (r : Result U E) (xs ys : List ℕ)
-    → Writes {T = T} {E = E} a m x z (Ok t) xs → Writes m b z y r ys → Writes a b x y r (xs ++ ys)
-writes_then a m b x z y t (Ok u) xs ys w v = record {
-  whole = Appends-then a m b xs ys w.whole v.whole;
-  front = tt;
-  cause = record { later = omega (arith, w.cause.later, v.cause.later); same = v.cause.same ∙ w.cause.same; failed = tt };
-}
-writes_then a m b x z y t (Err e) xs ys w v =
-    let same : z ≡ x = w.cause.same in
-    record {
-      whole = tt;
-      front = prefix_then a m b xs ys w.whole v.front;
-      cause = record { later = omega (arith, w.cause.later, v.cause.later); same = tt; failed = subst (λ n. Rose n y) same v.cause.failed };
-    }
+use Rattle.httpd.specs.Zero.{IsAsked, script_said, zero_body}
+use Rattle.uip_edge.specs.Writing.{Writes}
+use Rattle.uip_edge.specs.Told.{SinkTold}
 
 -- what was written of a script so far, and what it still says
-pub record Saying (files : List File) (script : List ℕ) (at : ℕ) (first now : Option (List ℕ)) (before after : ℕ) : Type 0 where
+pub record Saying (files : List File) (script : List ℕ) (at : ℕ) (first now : SinkTold) : Type 0 where
   pub front : List ℕ
   pub parts : script_said files script 0 ≡ front ++ script_said files script at
   pub place : IsPlace script at
-  pub told : Appends first now front
-  pub same : after ≡ before
+  pub told : Appends first.written now.written front
+  pub same : now.faults ≡ first.faults
 
-pub saying_starts : (files : List File) (script : List ℕ) (first : Option (List ℕ)) (count : ℕ) → Saying files script 0 first first count count
-saying_starts files script first count = record { front = []; parts = refl; place = (omega arith, inl refl); told = Appends-none first; same = refl }
+pub saying_starts : (files : List File) (script : List ℕ) (first : SinkTold) → Saying files script 0 first first
+saying_starts files script first = record { front = []; parts = refl; place = (omega arith, inl refl); told = Appends-none first.written; same = refl }
 
 -- a piece more
-pub saying_more : {T : Type 0} (files : List File) (script : List ℕ) (at : ℕ) (found : Found) (first mid now : Option (List ℕ)) (before between after : ℕ) (t : T)
-    → Saying files script at first mid before between → pieces_from script at ≡ found ∷ pieces_from script found.next → IsPlace script found.next
-    → Writes {T = T} {E = Failed} mid now between after (Ok t) (zero_said (says files script found.piece)) → Saying files script found.next first now before after
-saying_more files script at found first mid now before between after t s step place w =
+pub saying_more : {T : Type 0} (files : List File) (script : List ℕ) (at : ℕ) (found : Found) (first mid now : SinkTold) (t : T)
+    → Saying files script at first mid → pieces_from script at ≡ found ∷ pieces_from script found.next → IsPlace script found.next
+    → Writes {T = T} {E = Failed} mid now (Ok t) (zero_said (says files script found.piece)) → Saying files script found.next first now
+saying_more files script at found first mid now t s step place w =
     let text = zero_said (says files script found.piece) in
     let more = script_said files script found.next in
     let parts : script_said files script at ≡ text ++ more = ap (λ pieces. flat_map zero_said (map (λ (f : Found). says files script f.piece) pieces)) step in
@@ -76,35 +45,35 @@ saying_more files script at found first mid now before between after t s step pl
       front = s.front ++ text;
       parts = s.parts ∙ ap (λ rest. s.front ++ rest) parts ∙ sym (append_assoc s.front text more);
       place = place;
-      told = Appends-then first mid now s.front text s.told w.whole;
+      told = Appends-then first.written mid.written now.written s.front text s.told w.whole;
       same = w.cause.same ∙ s.same;
     }
 
 -- a piece failed
-pub saying_stops : {T U : Type 0} (files : List File) (script : List ℕ) (at : ℕ) (found : Found) (first mid now : Option (List ℕ)) (before between after : ℕ) (e d : Failed) (r : Result U Failed)
-    → r ≡ Err d → Saying files script at first mid before between → pieces_from script at ≡ found ∷ pieces_from script found.next
-    → Writes {T = T} {E = Failed} mid now between after (Err e) (zero_said (says files script found.piece))
-    → Writes first now before after r (script_said files script 0)
-saying_stops files script at found first mid now before between after e d (Ok u) is s step w = absurd cc
-saying_stops files script at found first mid now before between after e d (Err f) is s step w =
+pub saying_stops : {T U : Type 0} (files : List File) (script : List ℕ) (at : ℕ) (found : Found) (first mid now : SinkTold) (e d : Failed) (r : Result U Failed)
+    → r ≡ Err d → Saying files script at first mid → pieces_from script at ≡ found ∷ pieces_from script found.next
+    → Writes {T = T} {E = Failed} mid now (Err e) (zero_said (says files script found.piece))
+    → Writes first now r (script_said files script 0)
+saying_stops files script at found first mid now e d (Ok u) is s step w = absurd cc
+saying_stops files script at found first mid now e d (Err f) is s step w =
     let text = zero_said (says files script found.piece) in
     let more = script_said files script found.next in
     let parts : script_said files script at ≡ text ++ more = ap (λ pieces. flat_map zero_said (map (λ (f : Found). says files script f.piece) pieces)) step in
-    let same : between ≡ before = s.same in
+    let same : mid.faults ≡ first.faults = s.same in
     record {
       whole = tt;
-      front = prefix_by first now (s.front ++ (text ++ more)) (script_said files script 0) (s.parts ∙ ap (λ rest. s.front ++ rest) parts)
-          (prefix_then first mid now s.front (text ++ more) s.told (prefix_more mid now text more (text ++ more) refl w.front));
-      cause = record { later = omega (arith, w.cause.later); same = tt; failed = subst (λ n. Rose n after) same w.cause.failed };
+      front = prefix_by first.written now.written (s.front ++ (text ++ more)) (script_said files script 0) (s.parts ∙ ap (λ rest. s.front ++ rest) parts)
+          (prefix_then first.written mid.written now.written s.front (text ++ more) s.told (prefix_more mid.written now.written text more (text ++ more) refl w.front));
+      cause = record { later = omega (arith, same, w.cause.later); same = tt; failed = subst (λ n. Rose n now.faults) same w.cause.failed };
     }
 
 -- nothing is left
-pub saying_ends : {T E : Type 0} (files : List File) (script : List ℕ) (at : ℕ) (first now : Option (List ℕ)) (before after : ℕ) (t : T)
-    → Saying files script at first now before after → pieces_from script at ≡ [] → Writes {T = T} {E = E} first now before after (Ok t) (script_said files script 0)
-saying_ends files script at first now before after t s none =
+pub saying_ends : {T E : Type 0} (files : List File) (script : List ℕ) (at : ℕ) (first now : SinkTold) (t : T)
+    → Saying files script at first now → pieces_from script at ≡ [] → Writes {T = T} {E = E} first now (Ok t) (script_said files script 0)
+saying_ends files script at first now t s none =
     let nothing : script_said files script at ≡ [] = ap (λ pieces. flat_map zero_said (map (λ (f : Found). says files script f.piece) pieces)) none in
     record {
-      whole = appends_by first now s.front (script_said files script 0) (s.parts ∙ ap (λ rest. s.front ++ rest) nothing ∙ append-nil s.front) s.told;
+      whole = appends_by first.written now.written s.front (script_said files script 0) (s.parts ∙ ap (λ rest. s.front ++ rest) nothing ∙ append-nil s.front) s.told;
       front = tt;
       cause = record { later = omega (arith, s.same); same = s.same; failed = tt };
     }

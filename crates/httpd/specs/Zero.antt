@@ -1,9 +1,6 @@
 -- What is written of a page of which each call is given the zero record of its kind.
-use Rattle.std.specs.Prelude.{◌≡◌, ℕ, map, List, if◌then◌else◌, Option, None, Some, Result, OnOk, OnErr}
+use Rattle.std.specs.Prelude.{◌≡◌, ℕ, map, List, if◌then◌else◌, Option, None, Some}
 use Rattle.std.specs.List.{flat_map}
-use Rattle.std.specs.Io.KnownBytes.{Appends}
-use Rattle.uip_edge.specs.Causes.{HasCause}
-use Rattle.uip_edge.specs.Writing.{AppendsPrefix}
 use Rattle.script_lang.specs.Pieces.{pieces_from}
 use Rattle.file_tree.specs.declared.file_id.FileId.{FileId}
 use Rattle.site_image.specs.Files.{File, file_named}
@@ -13,12 +10,6 @@ use Rattle.web_pages.specs.Pieces.{says}
 use Rattle.web_pages.specs.ZeroPages.{zero_said}
 use Rattle.httpd.specs.Reply.{body_bytes, found_file, is_scripted}
 use Rattle.httpd.specs.Places.{IsFound}
-
--- the text was appended whole, or a front of it where the sink failed
-pub record Writes {T E : Type 0} (old new : Option (List ℕ)) (before now : ℕ) (result : Result T E) (text : List ℕ) : Type 0 where
-  pub whole : OnOk result (Appends old new text)
-  pub front : OnErr result (AppendsPrefix old new text)
-  pub cause : HasCause before now result
 
 -- what the pieces of a script say from a place on
 abbrev pub script_said : List File → List ℕ → ℕ → List ℕ

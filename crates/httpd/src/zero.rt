@@ -1,9 +1,6 @@
 //! The page of a target, as a node says it at which nothing has happened.
 
 ghost use Rattle.std.specs.Prelude.{◌≡◌, ◌++◌, ◌∷◌, [], List, ℕ, length, OnOk, OnErr};
-ghost use Rattle.std.specs.Io.KnownBytes.{Appends};
-ghost use Rattle.uip_edge.specs.Causes.{HasCause};
-ghost use Rattle.uip_edge.specs.Writing.{AppendsPrefix};
 ghost use Rattle.script_lang.specs.Pieces.{LiesWithin};
 ghost use Rattle.site_image.specs.Files.{file_named};
 ghost use Rattle.generators.specs.Captures.{capture_of};
@@ -15,7 +12,9 @@ ghost use Rattle.web_pages.specs.ZeroPages.{request_for, zero_moment, zero_page,
 ghost use Rattle.httpd.specs.Hearing.{HearsTarget};
 ghost use Rattle.httpd.specs.Places.{IsFound};
 ghost use Rattle.httpd.specs.Reply.{found_file, kind_text};
-ghost use Rattle.httpd.specs.Zero.{IsAsked, Writes, script_said, zero_body};
+ghost use Rattle.httpd.specs.Zero.{IsAsked, script_said, zero_body};
+ghost use Rattle.uip_edge.specs.Writing.{Writes};
+ghost use Rattle.uip_edge.specs.Telling.{sink_told};
 
 use crate::hearing::{Heard, file_asked, hear_target};
 use crate::texts::{body_of, bytes_at, head_of, is_scripted, kind_of, line_of};
@@ -33,9 +32,7 @@ const LONGEST_TEXT: usize = 4200;
 /// Writes the page of the request `GET `, the target and a line feed, where each call is given the zero record of its kind: no
 /// hits, no ticks, counters at 0 and no connections.
 pub fn page_zero<K: Sink>(site: &Site, target: &[u8], sink: &mut K) -> Result<(), Failed>
-    ensures whole { OnOk result (Appends (K.written sink.old) (K.written sink.new) (zero_page (files_of site.now) target.now)) }
-    ensures front { OnErr result (AppendsPrefix (K.written sink.old) (K.written sink.new) (zero_page (files_of site.now) target.now)) }
-    ensures cause { HasCause (K.faults sink.old) (K.faults sink.new) result }
+    ensures { Writes (sink_told K.Sink sink.old) (sink_told K.Sink sink.new) result (zero_page (files_of site.now) target.now) }
 {
     match asked(site, target) {
         Some(found) => write_reply(site, found, sink),
@@ -68,7 +65,7 @@ fn ended(site: &Site, mut line: LineIn) -> Option<Option<FileId>>
 
 /// Writes a piece.
 fn say<K: Sink>(sink: &mut K, piece: &[u8]) -> Result<(), Failed>
-    ensures { Writes (K.written sink.old) (K.written sink.new) (K.faults sink.old) (K.faults sink.new) result piece.now }
+    ensures { Writes (sink_told K.Sink sink.old) (sink_told K.Sink sink.new) result piece.now }
 {
     sink.write_whole(piece)
 }
@@ -76,7 +73,7 @@ fn say<K: Sink>(sink: &mut K, piece: &[u8]) -> Result<(), Failed>
 /// Writes the reply of a file that was found, or of none.
 fn write_reply<K: Sink>(site: &Site, found: Option<FileId>, sink: &mut K) -> Result<(), Failed>
     requires { IsFound (files_of site.now) found }
-    ensures { Writes (K.written sink.old) (K.written sink.new) (K.faults sink.old) (K.faults sink.new) result
+    ensures { Writes (sink_told K.Sink sink.old) (sink_told K.Sink sink.new) result
         (zero_reply (files_of site.now) (found_file (files_of site.now) found)) }
 {
     say(sink, head_of(site, found))?;
@@ -86,7 +83,7 @@ fn write_reply<K: Sink>(site: &Site, found: Option<FileId>, sink: &mut K) -> Res
 /// Writes the line of the content type, and the body.
 fn write_content<K: Sink>(site: &Site, found: Option<FileId>, sink: &mut K) -> Result<(), Failed>
     requires { IsFound (files_of site.now) found }
-    ensures { Writes (K.written sink.old) (K.written sink.new) (K.faults sink.old) (K.faults sink.new) result
+    ensures { Writes (sink_told K.Sink sink.old) (sink_told K.Sink sink.new) result
         (kind_line (kind_text (found_file (files_of site.now) found)) ++ zero_body (files_of site.now) (found_file (files_of site.now) found)) }
 {
     say(sink, line_of(kind_of(site, found)).as_slice())?;
@@ -96,7 +93,7 @@ fn write_content<K: Sink>(site: &Site, found: Option<FileId>, sink: &mut K) -> R
 /// Writes the body.
 fn write_body<K: Sink>(site: &Site, found: Option<FileId>, sink: &mut K) -> Result<(), Failed>
     requires { IsFound (files_of site.now) found }
-    ensures { Writes (K.written sink.old) (K.written sink.new) (K.faults sink.old) (K.faults sink.new) result
+    ensures { Writes (sink_told K.Sink sink.old) (sink_told K.Sink sink.new) result
         (zero_body (files_of site.now) (found_file (files_of site.now) found)) }
 {
     let body = body_of(site, found);
@@ -108,7 +105,7 @@ fn write_body<K: Sink>(site: &Site, found: Option<FileId>, sink: &mut K) -> Resu
 
 /// Writes what a script says.
 fn write_script<K: Sink>(site: &Site, script: &[u8], sink: &mut K) -> Result<(), Failed>
-    ensures { Writes (K.written sink.old) (K.written sink.new) (K.faults sink.old) (K.faults sink.new) result
+    ensures { Writes (sink_told K.Sink sink.old) (sink_told K.Sink sink.new) result
         (script_said (files_of site.now) script.now 0) }
 {
     let mut at = 0;
@@ -127,7 +124,7 @@ fn write_piece<K: Sink>(
     sink: &mut K,
 ) -> Result<(), Failed>
     requires { LiesWithin (length script.now) piece }
-    ensures { Writes (K.written sink.old) (K.written sink.new) (K.faults sink.old) (K.faults sink.new) result
+    ensures { Writes (sink_told K.Sink sink.old) (sink_told K.Sink sink.new) result
         (zero_said (says (files_of site.now) script.now piece)) }
 {
     match piece {
@@ -139,7 +136,7 @@ fn write_piece<K: Sink>(
 
 /// Writes the bytes of the file of a name.
 fn write_included<K: Sink>(site: &Site, name: &[u8], sink: &mut K) -> Result<(), Failed>
-    ensures { Writes (K.written sink.old) (K.written sink.new) (K.faults sink.old) (K.faults sink.new) result
+    ensures { Writes (sink_told K.Sink sink.old) (sink_told K.Sink sink.new) result
         (piece_bytes (file_named (files_of site.now) name.now)) }
 {
     match site.find(name) {
@@ -150,7 +147,7 @@ fn write_included<K: Sink>(site: &Site, name: &[u8], sink: &mut K) -> Result<(),
 
 /// Writes the text of a call at its zero record.
 fn write_call<K: Sink>(function: Function, sink: &mut K) -> Result<(), Failed>
-    ensures { Writes (K.written sink.old) (K.written sink.new) (K.faults sink.old) (K.faults sink.new) result
+    ensures { Writes (sink_told K.Sink sink.old) (sink_told K.Sink sink.new) result
         (capture_text (capture_of function 0 zero_moment.now)) }
 {
     let capture = take(function, 0, &zero_now());
@@ -162,7 +159,7 @@ fn write_call<K: Sink>(function: Function, sink: &mut K) -> Result<(), Failed>
 /// Writes the text of a record, by way of a room of its length.
 fn say_record<K: Sink>(capture: &Capture, room: &mut [u8], sink: &mut K) -> Result<(), Failed>
     requires { length room.old ≡ length (capture_text capture.now) }
-    ensures { Writes (K.written sink.old) (K.written sink.new) (K.faults sink.old) (K.faults sink.new) result (capture_text capture.now) }
+    ensures { Writes (sink_told K.Sink sink.old) (sink_told K.Sink sink.new) result (capture_text capture.now) }
 {
     fill_at(capture, 0, room);
     say(sink, room)

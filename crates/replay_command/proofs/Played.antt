@@ -21,12 +21,14 @@ use Rattle.link_replay.specs.Playing.{PlaysSchedule, Reaches, Refuses, event_at}
 use Rattle.link_replay.specs.Reaching.{IsAt}
 use Rattle.replay_command.specs.Playing.{bad_schedule}
 use Rattle.web_pages.specs.Serving.{is_served, no_hits}
-use Rattle.replay_command.specs.Telling.{Answers, IsPlayDue, IsTextDue, TellsFault, Writes, told_of}
+use Rattle.replay_command.specs.Telling.{Answers, IsPlayDue, IsTextDue, TellsFault, told_of}
 use Rattle.replay_command.specs.declared.replay_end.ReplayEnd.{ReplayEnd}
 use Rattle.replay_command.specs.declared.replay_end.ReplayEnd.TheVariants as ends
 use Rattle.replay_command.specs.declared.telling.Telling.{Telling}
 use Rattle.replay_command.specs.declared.telling.Telling.TheVariants.{Report}
 use Rattle.replay_command.proofs.Kept.{has_bytes, keeps_promises}
+use Rattle.uip_edge.specs.Writing.{WritesEnd}
+use Rattle.uip_edge.specs.Told.{SinkTold}
 
 -- what the lines reach from the opening world on, where the files were asked for so often
 abbrev pub outcome_from : List ℕ → List File → SchedulePlan → Result World BadLine
@@ -43,12 +45,12 @@ module _ (site : SiteContent) (loaded : IsLoaded site) (bytes : All IsByte site.
       for (pages_of (files_of site)) (keeps_page_laws site loaded) (has_bytes site bytes)
       (subst (All IsWord) (sym none) (All-replicate IsWord (length (files_of site)) 0 (lit< tt)))
 
-  module _ (content : SchedulePlan) (telling : Telling) (old new : Option (List ℕ)) (before now : ℕ) (result : ReplayEnd) where
+  module _ (content : SchedulePlan) (telling : Telling) (old new : SinkTold) (result : ReplayEnd) where
     -- the schedule was played to its end, and its world told
     pub played_due : (Now : World → Type 0)
         → ForPages (files_of site) hits (Reaches (web_meaning (files_of site)) is_served Now (outcome_from hits (files_of site) content))
-        → ((m : Meaning) (served : ℕ → Bool) (w : World) → Now w → IsAt m served w → Writes (told_of telling w) ends.Done old new before now result)
-        → Answers (IsPlayDue (files_of site) content telling) old new before now result
+        → ((m : Meaning) (served : ℕ → Bool) (w : World) → Now w → IsAt m served w → WritesEnd ends.Done ends.WriteFault old new (told_of telling w) result)
+        → Answers (IsPlayDue (files_of site) content telling) old new result
     played_due Now plays_for wrote =
         let reach = web_has (Reaches (web_meaning (files_of site)) is_served Now (outcome_from hits (files_of site) content)) plays_for in
         let due : IsPlayDue (files_of site) content telling (told_of telling reach.world) ends.Done = record {
@@ -62,7 +64,7 @@ module _ (site : SiteContent) (loaded : IsLoaded site) (bytes : All IsByte site.
     -- a line of it was refused, and is told
     pub refused_due : {X : Type 0} (Now : X → World → Type 0) (fault : ReadSchedule)
         → ForPages (files_of site) hits (PlaysSchedule (web_meaning (files_of site)) is_served hits content Now (Err fault))
-        → TellsFault fault old new before now result → Answers (IsPlayDue (files_of site) content telling) old new before now result
+        → TellsFault fault old new result → Answers (IsPlayDue (files_of site) content telling) old new result
     refused_due Now NoMemory plays_for short = inr short
     refused_due Now (Bad line why) plays_for (inr short) = inr short
     refused_due Now (Bad line why) plays_for (inl wrote) =
@@ -88,16 +90,16 @@ text_due files bytes content show reads text ends.WriteFault due = absurd due
 text_due files bytes content show reads text ends.NoMemory due = absurd due
 
 pub text_answers : (files : List File) (bytes : List ℕ) (content : SchedulePlan) (show : Bool) → read_text bytes ≡ Ok content
-    → (old new : Option (List ℕ)) (before now : ℕ) (result : ReplayEnd) → Answers (IsPlayDue files content (Report show)) old new before now result
-    → Answers (IsTextDue files bytes show) old new before now result
-text_answers files bytes content show reads old new before now result (inl told) = inl (told.0, told.1, text_due files bytes content show reads told.0 told.1 told.2, told.3)
-text_answers files bytes content show reads old new before now result (inr short) = inr short
+    → (old new : SinkTold) (result : ReplayEnd) → Answers (IsPlayDue files content (Report show)) old new result
+    → Answers (IsTextDue files bytes show) old new result
+text_answers files bytes content show reads old new result (inl told) = inl (told.0, told.1, text_due files bytes content show reads told.0 told.1 told.2, told.3)
+text_answers files bytes content show reads old new result (inr short) = inr short
 
 -- the text does not read, and its first bad line is told
 pub text_refused : (files : List File) (bytes : List ℕ) (show : Bool) (fault : ReadSchedule) → ReadsSchedule (Err fault) (read_text bytes)
-    → (old new : Option (List ℕ)) (before now : ℕ) (result : ReplayEnd) → TellsFault fault old new before now result
-    → Answers (IsTextDue files bytes show) old new before now result
-text_refused files bytes show NoMemory reads old new before now result short = inr short
-text_refused files bytes show (Bad line why) reads old new before now result (inr short) = inr short
-text_refused files bytes show (Bad line why) reads old new before now result (inl wrote) =
+    → (old new : SinkTold) (result : ReplayEnd) → TellsFault fault old new result
+    → Answers (IsTextDue files bytes show) old new result
+text_refused files bytes show NoMemory reads old new result short = inr short
+text_refused files bytes show (Bad line why) reads old new result (inr short) = inr short
+text_refused files bytes show (Bad line why) reads old new result (inl wrote) =
     inl (bad_schedule line why, ends.BadSchedule line why, (inl reads, refl), wrote)

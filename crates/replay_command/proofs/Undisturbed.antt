@@ -1,21 +1,21 @@
 -- A replay or a load that nothing outside disturbs ends as is due.
 use Rattle.std.proofs.Common.{ℕ, List, Option, refl, inl, inr, arith}
 use Rattle.uip_edge.specs.Shelving.{Files}
-use Rattle.site_commands.specs.Ending.{Desk, IsCalm}
 use Rattle.file_tree.specs.Opening.{LacksSite}
 use Rattle.replay_command.specs.Ending.{EndsWith, IsLoadText, IsText, LacksEither}
 use Rattle.replay_command.specs.Laws.{EndsAsDue, LoadIsTold, ReplayIsTold}
 use Rattle.replay_command.specs.declared.replay_end.ReplayEnd.{ReplayEnd}
+use Rattle.uip_edge.specs.Told.{WorkTold, WorkUnfailed}
 use Rattle.replay_command.specs.declared.replay_end.ReplayEnd.TheVariants as ends
 
 module _ (Is : Option Files → List ℕ → ReplayEnd → Type 0) (Missing : Option Files → Type 0) where
-  as_due : (old new : Desk) (end : ReplayEnd) → EndsWith Is Missing old new end → IsCalm old new → ¬ (Missing old.held) → EndsAsDue (Is old.held) old new end
-  as_due old new ends.Done e calm there = inr (e.text, e.is, e.written)
-  as_due old new (ends.BadSite error) e calm there = inr (e.text, e.is, e.written)
-  as_due old new (ends.BadSchedule line why) e calm there = inr (e.text, e.is, e.written)
+  as_due : (old new : WorkTold) (end : ReplayEnd) → EndsWith Is Missing old new end → WorkUnfailed old new → ¬ (Missing old.shelf.held) → EndsAsDue (Is old.shelf.held) old new end
+  as_due old new ends.Done e calm there = inr (e.text, e.is, e.wrote.whole)
+  as_due old new (ends.BadSite error) e calm there = inr (e.text, e.is, e.wrote.whole)
+  as_due old new (ends.BadSchedule line why) e calm there = inr (e.text, e.is, e.wrote.whole)
   as_due old new ends.ShelfFault e calm there =
-      elim e.cause [ inl rose ↦ absurd (omega (arith, rose, calm.shelf, calm.shelf_below)) | inr lacks ↦ absurd (there lacks) ]
-  as_due old new ends.WriteFault e calm there = absurd (omega (arith, e.sink, calm.sink, calm.sink_below))
+      elim e.cause [ inl rose ↦ absurd (omega (arith, rose, calm.shelf.same, calm.shelf.below)) | inr lacks ↦ absurd (there lacks) ]
+  as_due old new ends.WriteFault e calm there = absurd (omega (arith, e.wrote.rose, calm.sink.same, calm.sink.below))
   as_due old new ends.NoMemory e calm there = inl refl
 
 pub replay_is_told : ReplayIsTold

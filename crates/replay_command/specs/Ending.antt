@@ -1,14 +1,12 @@
 -- How a replay and a load end, and what is written then.
 use Rattle.std.specs.Prelude.{◌≡◌, ◌≤◌, ◌⊎◌, ℕ, Bool, List, Option, Ok, Err, ⊤}
-use Rattle.std.specs.Io.KnownBytes.{Appends}
 use Rattle.file_tree.specs.Loading.{HoldsFile}
 use Rattle.site_image.specs.Files.{File}
-use Rattle.site_commands.specs.Ending.{Desk}
 use Rattle.file_tree.specs.Opening.{IsSiteRead, LacksSite}
 use Rattle.site_commands.specs.Report.{bad_line}
 use Rattle.uip_edge.specs.Causes.{Rose}
 use Rattle.uip_edge.specs.Shelving.{Files, IsMissing}
-use Rattle.uip_edge.specs.Writing.{AppendsPrefix}
+use Rattle.uip_edge.specs.Writing.{WritesAll, WritesFront}
 use Rattle.link_world.specs.World.{World}
 use Rattle.link_replay.specs.Report.{report}
 use Rattle.replay_command.specs.Playing.{IsFirstBad, IsPlayed, bad_schedule}
@@ -18,39 +16,35 @@ use Rattle.replay_command.specs.declared.replay_end.ReplayEnd.{ReplayEnd}
 use Rattle.replay_command.specs.declared.replay_end.ReplayEnd.TheVariants as ends
 use Rattle.replay_command.specs.declared.telling.Telling.TheVariants.{Summary}
 use Rattle.workload.specs.Workload.{workload_of}
+use Rattle.uip_edge.specs.Told.{WorkTold}
 
 -- the whole text was written, and no count rose
-pub record Told (Is : List ℕ → ReplayEnd → Type 0) (old new : Desk) (end : ReplayEnd) : Type 0 where
+pub record Told (Is : List ℕ → ReplayEnd → Type 0) (old new : WorkTold) (end : ReplayEnd) : Type 0 where
   pub text : List ℕ
   pub is : Is text end
-  pub written : Appends old.written new.written text
-  pub shelf : new.shelf_faults ≡ old.shelf_faults
-  pub sink : new.sink_faults ≡ old.sink_faults
+  pub wrote : WritesAll old.sink new.sink text
+  pub shelf : new.shelf.faults ≡ old.shelf.faults
 
 -- the sink failed: a front of the text was written
-pub record BrokeOff (Is : List ℕ → ReplayEnd → Type 0) (old new : Desk) : Type 0 where
+pub record BrokeOff (Is : List ℕ → ReplayEnd → Type 0) (old new : WorkTold) : Type 0 where
   pub text : List ℕ
   pub end : ReplayEnd
   pub is : Is text end
-  pub written : AppendsPrefix old.written new.written text
-  pub shelf : new.shelf_faults ≡ old.shelf_faults
-  pub sink : Rose old.sink_faults new.sink_faults
+  pub wrote : WritesFront old.sink new.sink text
+  pub shelf : new.shelf.faults ≡ old.shelf.faults
 
 -- the shelf failed, or lacks a file: nothing was written
-pub record Lacks (Missing : Type 0) (old new : Desk) : Type 0 where
-  pub cause : Rose old.shelf_faults new.shelf_faults ⊎ Missing
-  pub later : old.shelf_faults ≤ new.shelf_faults
-  pub written : new.written ≡ old.written
-  pub sink : new.sink_faults ≡ old.sink_faults
+pub record Lacks (Missing : Type 0) (old new : WorkTold) : Type 0 where
+  pub cause : Rose old.shelf.faults new.shelf.faults ⊎ Missing
+  pub later : old.shelf.faults ≤ new.shelf.faults
+  pub sink : new.sink ≡ old.sink
 
 -- how a command ends, by the text that is due with an end, and by when a file is missing
-abbrev pub EndsWith : (Option Files → List ℕ → ReplayEnd → Type 0) → (Option Files → Type 0) → Desk → Desk → ReplayEnd → Type 0
-EndsWith Is Missing old new ends.Done = Told (Is old.held) old new ends.Done
-EndsWith Is Missing old new (ends.BadSite error) = Told (Is old.held) old new (ends.BadSite error)
-EndsWith Is Missing old new (ends.BadSchedule line why) = Told (Is old.held) old new (ends.BadSchedule line why)
-EndsWith Is Missing old new ends.WriteFault = BrokeOff (Is old.held) old new
-EndsWith Is Missing old new ends.ShelfFault = Lacks (Missing old.held) old new
+abbrev pub EndsWith : (Option Files → List ℕ → ReplayEnd → Type 0) → (Option Files → Type 0) → WorkTold → WorkTold → ReplayEnd → Type 0
+EndsWith Is Missing old new ends.WriteFault = BrokeOff (Is old.shelf.held) old new
+EndsWith Is Missing old new ends.ShelfFault = Lacks (Missing old.shelf.held) old new
 EndsWith Is Missing old new ends.NoMemory = new ≡ old
+EndsWith Is Missing old new end = Told (Is old.shelf.held) old new end
 
 -- The text that is due for these files, with the end that goes with it. For a schedule that is played to its end it is the report of the
 -- world that is reached, of which the promises are kept.
@@ -75,7 +69,7 @@ IsText site schedule show held text ends.NoMemory = ⊥
 abbrev pub LacksEither : List ℕ → List ℕ → Option Files → Type 0
 LacksEither site schedule held = LacksSite site held ⊎ IsMissing held schedule
 
-abbrev pub ReplayEnds : List ℕ → List ℕ → Bool → Desk → Desk → ReplayEnd → Type 0
+abbrev pub ReplayEnds : List ℕ → List ℕ → Bool → WorkTold → WorkTold → ReplayEnd → Type 0
 ReplayEnds site schedule show old new end = EndsWith (IsText site schedule show) (LacksEither site schedule) old new end
 
 -- The text that is due for these files and the schedule that a number makes, with the end that goes with it. For a schedule that is
@@ -85,5 +79,5 @@ IsLoadText site seed clients held text (ends.BadSite error) = IsSiteRead site he
 IsLoadText site seed clients held text end =
     (files : List File) × IsSiteRead site held (Ok files) × IsPlayDue files (workload_of seed clients) Summary text end
 
-abbrev pub LoadEnds : List ℕ → ℕ → ℕ → Desk → Desk → ReplayEnd → Type 0
+abbrev pub LoadEnds : List ℕ → ℕ → ℕ → WorkTold → WorkTold → ReplayEnd → Type 0
 LoadEnds site seed clients old new end = EndsWith (IsLoadText site seed clients) (LacksSite site) old new end

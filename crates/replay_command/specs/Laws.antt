@@ -4,7 +4,6 @@ use Rattle.std.specs.Io.KnownBytes.{Appends}
 use Rattle.file_tree.specs.Site.{SiteContent, IsLoaded, files_of}
 use Rattle.site_image.specs.Files.{File}
 use Rattle.file_tree.specs.Opening.{LacksSite}
-use Rattle.site_commands.specs.Ending.{Desk, IsCalm}
 use Rattle.web_pages.specs.Pages.{pages_of}
 use Rattle.web_pages.specs.Requests.{wanted}
 use Rattle.web_pages.specs.Requests.Wanted.{NotYet}
@@ -22,23 +21,24 @@ use Rattle.workload.specs.Workload.{workload_of}
 use Rattle.replay_command.specs.Ending.{IsLoadText, IsText, LacksEither, LoadEnds, ReplayEnds}
 use Rattle.replay_command.specs.Playing.{IsPlayed, outcome}
 use Rattle.replay_command.specs.declared.replay_end.ReplayEnd.{ReplayEnd}
+use Rattle.uip_edge.specs.Told.{WorkTold, WorkUnfailed}
 use Rattle.replay_command.specs.declared.replay_end.ReplayEnd.TheVariants as ends
 
 -- the whole text that is due with the end was written, or memory was short
-abbrev pub EndsAsDue : (List ℕ → ReplayEnd → Type 0) → Desk → Desk → ReplayEnd → Type 0
-EndsAsDue Is old new end = (end ≡ ends.NoMemory) ⊎ ((text : List ℕ) × Is text end × Appends old.written new.written text)
+abbrev pub EndsAsDue : (List ℕ → ReplayEnd → Type 0) → WorkTold → WorkTold → ReplayEnd → Type 0
+EndsAsDue Is old new end = (end ≡ ends.NoMemory) ⊎ ((text : List ℕ) × Is text end × Appends old.sink.written new.sink.written text)
 
 -- Where no count rose and no file is missing, a replay ends as is due.
 abbrev pub ReplayIsTold : Type 0
 ReplayIsTold =
-    (site schedule : List ℕ) (show : Bool) (old new : Desk) (end : ReplayEnd) → ReplayEnds site schedule show old new end → IsCalm old new
-    → ¬ (LacksEither site schedule old.held) → EndsAsDue (IsText site schedule show old.held) old new end
+    (site schedule : List ℕ) (show : Bool) (old new : WorkTold) (end : ReplayEnd) → ReplayEnds site schedule show old new end → WorkUnfailed old new
+    → ¬ (LacksEither site schedule old.shelf.held) → EndsAsDue (IsText site schedule show old.shelf.held) old new end
 
 -- Where no count rose and the site is not missing, a load ends as is due.
 abbrev pub LoadIsTold : Type 0
 LoadIsTold =
-    (site : List ℕ) (seed clients : ℕ) (old new : Desk) (end : ReplayEnd) → LoadEnds site seed clients old new end → IsCalm old new
-    → ¬ (LacksSite site old.held) → EndsAsDue (IsLoadText site seed clients old.held) old new end
+    (site : List ℕ) (seed clients : ℕ) (old new : WorkTold) (end : ReplayEnd) → LoadEnds site seed clients old new end → WorkUnfailed old new
+    → ¬ (LacksSite site old.shelf.held) → EndsAsDue (IsLoadText site seed clients old.shelf.held) old new end
 
 -- two rounds for each part of the request of the first client, two for each text of its page, and six more
 abbrev pub rounds_for : List File → Plan → ℕ

@@ -1,9 +1,8 @@
 -- What the sink gets of a text, and how a replay ends with it.
-use Rattle.std.specs.Prelude.{◌≡◌, ◌⊎◌, ℕ, Bool, List, Option, Ok}
-use Rattle.std.specs.Io.KnownBytes.{Appends}
+use Rattle.std.specs.Prelude.{◌≡◌, ◌⊎◌, ℕ, Bool, List, Ok}
 use Rattle.site_image.specs.Files.{File}
-use Rattle.uip_edge.specs.Causes.{Rose}
-use Rattle.uip_edge.specs.Writing.{AppendsPrefix}
+use Rattle.uip_edge.specs.Told.{SinkTold}
+use Rattle.uip_edge.specs.Writing.{WritesEnd}
 use Rattle.link_world.specs.World.{World}
 use Rattle.link_schedule.specs.Reading.{SchedulePlan}
 use Rattle.link_schedule.specs.declared.read_schedule.ReadSchedule.{ReadSchedule}
@@ -50,26 +49,20 @@ IsTextDue files bytes show text ends.Done = IsPlayReport files bytes show text
 IsTextDue files bytes show text (ends.BadSchedule line why) = IsFirstBad files bytes line why × (text ≡ bad_schedule line why)
 IsTextDue files bytes show text _ = ⊥
 
--- The text was written whole, which ends so, or the sink failed behind a front of it.
-abbrev pub Writes : List ℕ → ReplayEnd → Option (List ℕ) → Option (List ℕ) → ℕ → ℕ → ReplayEnd → Type 0
-Writes text end old new before now result =
-    ((result ≡ end) × Appends old new text × (now ≡ before))
-    ⊎ ((result ≡ ends.WriteFault) × AppendsPrefix old new text × Rose before now)
-
 -- memory was wanting, and nothing was written
-abbrev pub IsShort : Option (List ℕ) → Option (List ℕ) → ℕ → ℕ → ReplayEnd → Type 0
-IsShort old new before now result = (result ≡ ends.NoMemory) × (new ≡ old) × (now ≡ before)
+abbrev pub IsShort : SinkTold → SinkTold → ReplayEnd → Type 0
+IsShort old new result = (result ≡ ends.NoMemory) × (new ≡ old)
 
--- this text was written, or memory was wanting
-abbrev pub Tells : List ℕ → ReplayEnd → Option (List ℕ) → Option (List ℕ) → ℕ → ℕ → ReplayEnd → Type 0
-Tells text end old new before now result = Writes text end old new before now result ⊎ IsShort old new before now result
+-- this text was written, which ends so, or memory was wanting
+abbrev pub Tells : List ℕ → ReplayEnd → SinkTold → SinkTold → ReplayEnd → Type 0
+Tells text end old new result = WritesEnd end ends.WriteFault old new text result ⊎ IsShort old new result
 
 -- a text that is due with an end was written, or memory was wanting
-abbrev pub Answers : (List ℕ → ReplayEnd → Type 0) → Option (List ℕ) → Option (List ℕ) → ℕ → ℕ → ReplayEnd → Type 0
-Answers Due old new before now result =
-    ((text : List ℕ) × (end : ReplayEnd) × Due text end × Writes text end old new before now result) ⊎ IsShort old new before now result
+abbrev pub Answers : (List ℕ → ReplayEnd → Type 0) → SinkTold → SinkTold → ReplayEnd → Type 0
+Answers Due old new result =
+    ((text : List ℕ) × (end : ReplayEnd) × Due text end × WritesEnd end ends.WriteFault old new text result) ⊎ IsShort old new result
 
 -- the line of a bad schedule was written, or memory was wanting
-abbrev pub TellsFault : ReadSchedule → Option (List ℕ) → Option (List ℕ) → ℕ → ℕ → ReplayEnd → Type 0
-TellsFault (Bad line why) old new before now result = Tells (bad_schedule line why) (ends.BadSchedule line why) old new before now result
-TellsFault NoMemory old new before now result = IsShort old new before now result
+abbrev pub TellsFault : ReadSchedule → SinkTold → SinkTold → ReplayEnd → Type 0
+TellsFault (Bad line why) old new result = Tells (bad_schedule line why) (ends.BadSchedule line why) old new result
+TellsFault NoMemory old new result = IsShort old new result

@@ -2,7 +2,9 @@
 
 ghost use Rattle.std.specs.Prelude.{◌≡◌, ◌++◌, decimal, IfOk, OnOk};
 ghost use Rattle.replay_command.specs.Playing.{bad_schedule as line_of, why_word as word_of};
-ghost use Rattle.replay_command.specs.Telling.{Writes};
+ghost use Rattle.uip_edge.specs.Writing.{WritesEnd};
+ghost use Rattle.uip_edge.specs.Telling.{sink_told};
+ghost use Rattle.replay_command.specs.declared.replay_end.ReplayEnd.TheVariants as ends;
 
 use crate::replay_end::ReplayEnd;
 use itoa::Buffer;
@@ -12,7 +14,7 @@ use uip_edge::Sink;
 
 /// Writes a text whole, which ends so.
 pub(crate) fn write_text<K: Sink>(text: &[u8], end: ReplayEnd, out: &mut K) -> ReplayEnd
-    ensures { Writes text.now end (K.written out.old) (K.written out.new) (K.faults out.old) (K.faults out.new) result }
+    ensures { WritesEnd end ends.WriteFault (sink_told K.Sink out.old) (sink_told K.Sink out.new) text.now result }
 {
     match out.write_whole(text) {
         Ok(()) => end,

@@ -2,10 +2,10 @@
 
 ghost use Rattle.std.specs.Prelude.{◌≡◌, ◌≤◌};
 ghost use Rattle.file_tree.specs.Site.{files_of};
-ghost use Rattle.site_commands.specs.Ending.{desk};
 ghost use Rattle.workload.specs.Workload.{workload_of};
 ghost use Rattle.replay_command.specs.Ending.{LoadEnds};
 ghost use Rattle.replay_command.specs.Telling.{Answers, IsPlayDue};
+ghost use Rattle.uip_edge.specs.Telling.{work_told, sink_told};
 ghost use Rattle.replay_command.specs.declared.telling.Telling.TheVariants as tellings;
 
 use crate::playing::play_schedule;
@@ -29,8 +29,8 @@ pub fn load<H: Shelf, K: Sink>(
 ) -> ReplayEnd
     requires some { 1 ≤ clients }
     requires few { clients ≤ 64 }
-    ensures ends { LoadEnds site.now seed clients (desk H.held K.written H.faults K.faults shelf.old out.old)
-        (desk H.held K.written H.faults K.faults shelf.new out.new) result }
+    ensures ends { LoadEnds site.now seed clients (work_told H.Shelf K.Sink shelf.old out.old)
+        (work_told H.Shelf K.Sink shelf.new out.new) result }
     ensures kept { H.held shelf.new ≡ H.held shelf.old }
 {
     match Site::open(alloc, shelf, site) {
@@ -45,7 +45,7 @@ pub fn load<H: Shelf, K: Sink>(
 fn load_site<K: Sink>(alloc: Global, site: Site, seed: u64, clients: u8, out: &mut K) -> ReplayEnd
     requires some { 1 ≤ clients }
     requires few { clients ≤ 64 }
-    ensures { Answers (IsPlayDue (files_of site) (workload_of seed clients) tellings.Summary) (K.written out.old) (K.written out.new) (K.faults out.old) (K.faults out.new) result }
+    ensures { Answers (IsPlayDue (files_of site) (workload_of seed clients) tellings.Summary) (sink_told K.Sink out.old) (sink_told K.Sink out.new) result }
 {
     match make(alloc, seed, clients) {
         Ok(schedule) => play_schedule(alloc, site, &schedule, Telling::Summary, out),

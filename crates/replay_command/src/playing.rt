@@ -3,7 +3,7 @@
 ghost use Rattle.std.specs.Prelude.{ℕ, Bool, OnErr, OnOk};
 ghost use Rattle.std.specs.Io.KnownBytes.{Appends};
 ghost use Rattle.uip_edge.specs.Causes.{HasCause};
-ghost use Rattle.uip_edge.specs.Writing.{AppendsPrefix};
+ghost use Rattle.uip_edge.specs.Writing.{AppendsPrefix, WritesEnd};
 ghost use Rattle.app_events.specs.Part.{Meaning};
 ghost use Rattle.file_tree.specs.Site.{files_of};
 ghost use Rattle.link_schedule.specs.Answer.{content_at};
@@ -11,7 +11,8 @@ ghost use Rattle.link_world.specs.World.{World as PlainWorld};
 ghost use Rattle.link_replay.specs.Reaching.{IsAt};
 ghost use Rattle.link_replay.specs.Stands.{WorldStands};
 ghost use Rattle.replay_command.specs.Playing.{bad_schedule as line_of};
-ghost use Rattle.replay_command.specs.Telling.{Answers, IsPlayDue, IsTextDue, Tells, TellsFault, Writes, told_of};
+ghost use Rattle.replay_command.specs.Telling.{Answers, IsPlayDue, IsTextDue, Tells, TellsFault, told_of};
+ghost use Rattle.uip_edge.specs.Telling.{sink_told};
 ghost use Rattle.replay_command.specs.declared.replay_end.ReplayEnd.TheVariants as ends;
 
 use crate::lines::{bad_schedule, write_text};
@@ -34,7 +35,7 @@ pub(crate) fn play_text<K: Sink>(
     show: bool,
     out: &mut K,
 ) -> ReplayEnd
-    ensures { Answers (IsTextDue (files_of site) text.now show) (K.written out.old) (K.written out.new) (K.faults out.old) (K.faults out.new) result }
+    ensures { Answers (IsTextDue (files_of site) text.now show) (sink_told K.Sink out.old) (sink_told K.Sink out.new) result }
 {
     match Schedule::read(alloc, text) {
         Ok(schedule) => play_schedule(alloc, site, &schedule, Telling::Report { show }, out),
@@ -50,7 +51,7 @@ pub(crate) fn play_schedule<K: Sink>(
     telling: Telling,
     out: &mut K,
 ) -> ReplayEnd
-    ensures { Answers (IsPlayDue (files_of site) (content_at schedule.now) telling) (K.written out.old) (K.written out.new) (K.faults out.old) (K.faults out.new) result }
+    ensures { Answers (IsPlayDue (files_of site) (content_at schedule.now) telling) (sink_told K.Sink out.old) (sink_told K.Sink out.new) result }
 {
     see_loaded(&site);
     let Ok(web) = Web::new(alloc, site) else {
@@ -65,7 +66,7 @@ pub(crate) fn play_schedule<K: Sink>(
 /// Tells a world.
 fn tell<A: App, K: Sink>(world: &World<A>, telling: Telling, out: &mut K) -> ReplayEnd
     ensures { (m : Meaning) (served : ℕ → Bool) (w : PlainWorld) → WorldStands A.App world.now w → IsAt m served w
-        → Writes (told_of telling w) ends.Done (K.written out.old) (K.written out.new) (K.faults out.old) (K.faults out.new) result }
+        → WritesEnd ends.Done ends.WriteFault (sink_told K.Sink out.old) (sink_told K.Sink out.new) (told_of telling w) result }
 {
     match write_world(world, telling, out) {
         Ok(()) => ReplayEnd::Done,
@@ -93,7 +94,7 @@ fn write_world<A: App, K: Sink>(
 
 /// Writes the line of a bad schedule.
 fn refuse<K: Sink>(alloc: Global, fault: ReadSchedule, out: &mut K) -> ReplayEnd
-    ensures { TellsFault fault (K.written out.old) (K.written out.new) (K.faults out.old) (K.faults out.new) result }
+    ensures { TellsFault fault (sink_told K.Sink out.old) (sink_told K.Sink out.new) result }
 {
     match fault {
         ReadSchedule::Bad { line, why } => refuse_line(alloc, line, why, out),
@@ -103,7 +104,7 @@ fn refuse<K: Sink>(alloc: Global, fault: ReadSchedule, out: &mut K) -> ReplayEnd
 
 /// Writes the line that tells which line of a schedule is bad, and why.
 fn refuse_line<K: Sink>(alloc: Global, line: u32, why: Why, out: &mut K) -> ReplayEnd
-    ensures { Tells (line_of line why) (ends.BadSchedule line why) (K.written out.old) (K.written out.new) (K.faults out.old) (K.faults out.new) result }
+    ensures { Tells (line_of line why) (ends.BadSchedule line why) (sink_told K.Sink out.old) (sink_told K.Sink out.new) result }
 {
     match bad_schedule(alloc, line, why) {
         Ok(text) => write_text(&text, ReplayEnd::BadSchedule { line, why }, out),

@@ -1,10 +1,10 @@
 ghost use Rattle.std.specs.Prelude.{◌≡◌, ℕ, Bool, List, Err, Ok};
 ghost use Rattle.file_tree.specs.Site.{files_of};
-ghost use Rattle.site_commands.specs.Ending.{desk};
 ghost use Rattle.file_tree.specs.Opening.{IsSiteRead};
 ghost use Rattle.site_commands.specs.Report.{bad_line as line_of};
 ghost use Rattle.replay_command.specs.Ending.{ReplayEnds};
 ghost use Rattle.replay_command.specs.Telling.{Tells};
+ghost use Rattle.uip_edge.specs.Telling.{work_told, sink_told};
 ghost use Rattle.replay_command.specs.declared.replay_end.ReplayEnd.TheVariants as ends;
 
 use crate::lines::write_text;
@@ -28,8 +28,8 @@ pub fn replay<H: Shelf, K: Sink>(
     shelf: &mut H,
     out: &mut K,
 ) -> ReplayEnd
-    ensures ends { ReplayEnds site.now schedule.now show (desk H.held K.written H.faults K.faults shelf.old out.old)
-        (desk H.held K.written H.faults K.faults shelf.new out.new) result }
+    ensures ends { ReplayEnds site.now schedule.now show (work_told H.Shelf K.Sink shelf.old out.old)
+        (work_told H.Shelf K.Sink shelf.new out.new) result }
     ensures kept { H.held shelf.new ≡ H.held shelf.old }
 {
     match Site::open(alloc, shelf, site) {
@@ -50,8 +50,8 @@ fn replay_site<H: Shelf, K: Sink>(
     out: &mut K,
 ) -> ReplayEnd
     ensures ends { (name : List ℕ) → IsSiteRead name (H.held shelf.old) (Ok (files_of site))
-        → ReplayEnds name schedule.now show (desk H.held K.written H.faults K.faults shelf.old out.old)
-        (desk H.held K.written H.faults K.faults shelf.new out.new) result }
+        → ReplayEnds name schedule.now show (work_told H.Shelf K.Sink shelf.old out.old)
+        (work_told H.Shelf K.Sink shelf.new out.new) result }
     ensures kept { H.held shelf.new ≡ H.held shelf.old }
 {
     match read_file(alloc, shelf, schedule, MOST_BYTES) {
@@ -71,8 +71,8 @@ fn refuse_site<H: Shelf, K: Sink>(
     out: &mut K,
 ) -> ReplayEnd
     ensures ends { (name : List ℕ) (show : Bool) → IsSiteRead name (H.held shelf.old) (Err error)
-        → ReplayEnds name schedule.now show (desk H.held K.written H.faults K.faults shelf.old out.old)
-        (desk H.held K.written H.faults K.faults shelf.new out.new) result }
+        → ReplayEnds name schedule.now show (work_told H.Shelf K.Sink shelf.old out.old)
+        (work_told H.Shelf K.Sink shelf.new out.new) result }
     ensures kept { H.held shelf.new ≡ H.held shelf.old }
 {
     match read_file(alloc, shelf, schedule, MOST_BYTES) {
@@ -85,7 +85,7 @@ fn refuse_site<H: Shelf, K: Sink>(
 
 /// Writes the line of a bad image.
 pub(crate) fn tell_site<K: Sink>(alloc: Global, error: SiteError, out: &mut K) -> ReplayEnd
-    ensures { Tells (line_of error) (ends.BadSite error) (K.written out.old) (K.written out.new) (K.faults out.old) (K.faults out.new) result }
+    ensures { Tells (line_of error) (ends.BadSite error) (sink_told K.Sink out.old) (sink_told K.Sink out.new) result }
 {
     match bad_line(alloc, error) {
         Ok(text) => write_text(&text, ReplayEnd::BadSite(error), out),

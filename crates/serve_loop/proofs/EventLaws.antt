@@ -1,22 +1,14 @@
 -- What items do behind others, and what bytes do of which the last alone may make a tick.
-use Rattle.std.proofs.Common.{◌≡◌, ℕ, ◌+◌, ◌<◌, ◌≤◌, false, List, [], ◌∷◌, ◌++◌, if◌then◌else◌, length, map, take, refl, sym, ap, ◌∙◌, append-nil, append_assoc, arith, length-append, subst}
+use Rattle.std.proofs.Common.{◌≡◌, ℕ, ◌+◌, ◌<◌, ◌≤◌, false, List, [], ◌∷◌, ◌++◌, if◌then◌else◌, length, map, take, sym, ap, ◌∙◌, append-nil, append_assoc, arith, length-append, subst}
 use Rattle.std.proofs.lemmas.List.{length-map, length-take-le, map-append}
 use Rattle.uip_wire.specs.declared.addr.Addr.{Addr}
 use Rattle.uip_edge.specs.declared.item.Item.{Item}
 use Rattle.uip_edge.specs.declared.item.Item.TheVariants.{Byte, Quiet}
 use Rattle.serve_loop.specs.LineDeeds.{beat_on, deed_by, deeds_behind, tick_on}
-use Rattle.serve_loop.specs.LineEvents.{bytes_of}
 use Rattle.serve_loop.specs.Pace.{is_beat}
 use Rattle.line_medium.specs.Ways.{Way, all_brought}
-
-pub bytes_of-map : (xs : List ℕ) → bytes_of (map Byte xs) ≡ xs
-bytes_of-map [] = refl
-bytes_of-map (x ∷ xs) = ap (λ l. x ∷ l) (bytes_of-map xs)
-
-pub bytes_of-append : (xs ys : List Item) → bytes_of (xs ++ ys) ≡ bytes_of xs ++ bytes_of ys
-bytes_of-append [] ys = refl
-bytes_of-append (Byte b ∷ xs) ys = ap (λ l. b ∷ l) (bytes_of-append xs ys)
-bytes_of-append (Quiet ∷ xs) ys = bytes_of-append xs ys
+use Rattle.uip_edge.specs.Coming.{bytes_among}
+use Rattle.uip_edge.proofs.Told.{bytes_among-map}
 
 pub counted : (n : ℕ) (buf : List ℕ) → n ≤ length buf → length (map Byte (take n buf)) ≡ n
 counted n buf h = rw length-map (length-take-le n buf h)
@@ -32,18 +24,18 @@ silent_rest pace before count more size silent k some within =
 module _ {C : Type 0} (w : Way C) (own : Addr) where
   -- the items of further ones follow
   pub events-then : (pace : ℕ) (before : List ℕ) (xs ys : List Item)
-      → deeds_behind w own pace before (xs ++ ys) ≡ deeds_behind w own pace before xs ++ deeds_behind w own pace (before ++ bytes_of xs) ys
+      → deeds_behind w own pace before (xs ++ ys) ≡ deeds_behind w own pace before xs ++ deeds_behind w own pace (before ++ bytes_among xs) ys
   events-then pace before [] ys = ap (λ l. deeds_behind w own pace l ys) (sym (append-nil before))
   events-then pace before (Byte b ∷ xs) ys =
       let frame = map (deed_by own) (w.brings before b) in
       let more = beat_on w pace (length before + 1) in
       let behind = before ++ b ∷ [] in
       ap (λ l. frame ++ more ++ l) (events-then pace behind xs ys)
-      ∙ ap (λ l. frame ++ more ++ (deeds_behind w own pace behind xs ++ deeds_behind w own pace l ys)) (append_assoc before (b ∷ []) (bytes_of xs))
-      ∙ sym (append_assoc (frame ++ more) (deeds_behind w own pace behind xs) (deeds_behind w own pace (before ++ b ∷ bytes_of xs) ys))
+      ∙ ap (λ l. frame ++ more ++ (deeds_behind w own pace behind xs ++ deeds_behind w own pace l ys)) (append_assoc before (b ∷ []) (bytes_among xs))
+      ∙ sym (append_assoc (frame ++ more) (deeds_behind w own pace behind xs) (deeds_behind w own pace (before ++ b ∷ bytes_among xs) ys))
   events-then pace before (Quiet ∷ xs) ys =
       ap (λ l. tick_on w ++ l) (events-then pace before xs ys)
-      ∙ sym (append_assoc (tick_on w) (deeds_behind w own pace before xs) (deeds_behind w own pace (before ++ bytes_of xs) ys))
+      ∙ sym (append_assoc (tick_on w) (deeds_behind w own pace before xs) (deeds_behind w own pace (before ++ bytes_among xs) ys))
 
   -- bytes and then others
   pub events-bytes : (pace : ℕ) (before xs ys : List ℕ)
@@ -51,7 +43,7 @@ module _ {C : Type 0} (w : Way C) (own : Addr) where
   events-bytes pace before xs ys =
       ap (λ l. deeds_behind w own pace before l) (map-append Byte xs ys)
       ∙ events-then pace before (map Byte xs) (map Byte ys)
-      ∙ ap (λ l. deeds_behind w own pace before (map Byte xs) ++ deeds_behind w own pace (before ++ l) (map Byte ys)) (bytes_of-map xs)
+      ∙ ap (λ l. deeds_behind w own pace before (map Byte xs) ++ deeds_behind w own pace (before ++ l) (map Byte ys)) (bytes_among-map xs)
 
   silent_first : (pace before count : ℕ) → 1 < count → IsSilent pace before count → beat_on w pace (before + 1) ≡ []
   silent_first pace before count more silent = ap (λ b. if b then tick_on w else []) (silent 1 (omega arith) more)

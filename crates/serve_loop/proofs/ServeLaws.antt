@@ -1,41 +1,31 @@
 -- The turns of a serving, put together.
-use Rattle.std.proofs.Common.{ap, refl, sym, ◌≡◌, ℕ, ◌+◌, ◌<◌, ◌≤◌, Bool, List, [], ◌++◌, Option, None, Some, length, ◌∙◌, append-nil, arith, length-append}
+use Rattle.std.proofs.Common.{refl, sym, ◌≡◌, ℕ, ◌+◌, ◌<◌, ◌≤◌, Bool, List, [], ◌++◌, Option, Some, length, ◌∙◌, arith, length-append}
 use Rattle.uip_wire.specs.declared.addr.Addr.{Addr}
 use Rattle.app_events.specs.Part.{Meaning}
 use Rattle.app_events.specs.declared.app.App.{Ghosts}
 use Rattle.uip_edge.specs.declared.item.Item.{Item}
 use Rattle.uip_edge.specs.declared.serve_end.ServeEnd.{ServeEnd}
 use Rattle.uip_edge.specs.declared.serve_end.ServeEnd.TheVariants as ends
-use Rattle.uip_edge.specs.Coming.{Consumes}
-use Rattle.uip_edge.proofs.Told.{Consumes-then}
+use Rattle.uip_edge.specs.Coming.{Consumes, bytes_among}
+use Rattle.uip_edge.proofs.Told.{Consumes-then, none_more, taken_within, took_all}
 use Rattle.uip_node.specs.declared.node.Node.{Node}
 use Rattle.line_medium.specs.declared.medium.Medium.{Ghosts as MediumGhosts}
 use Rattle.serve_loop.specs.declared.line.Turn.TheVariants.{Stopped}
 use Rattle.serve_loop.specs.declared.pacer.Pacer.{Pacer}
 use Rattle.serve_loop.specs.LineDeeds.{deeds_behind, line_deeds}
-use Rattle.serve_loop.specs.LineEvents.{bytes_of}
-use Rattle.serve_loop.specs.Outside.{IsDry, Outside, TookAll, Unfailed}
 use Rattle.serve_loop.specs.DeedRuns.{Deed, Station, AllSaid}
 use Rattle.line_medium.specs.Ways.{Way}
 use Rattle.serve_loop.specs.DeedServing.{IsAt, SaidBy, ServesOver}
-use Rattle.serve_loop.specs.Serving.{EndsBy}
 use Rattle.serve_loop.specs.Turns.{IsHere, Turns, TurnsBy, WritesOn}
 use Rattle.serve_loop.proofs.EventLaws.{events-then}
 use Rattle.serve_loop.proofs.RunLaws.{broke_by, broke_then, wrote_by, wrote_then}
-
-took_all : (old mid : Option (List Item)) (taken : List Item) → Consumes old mid taken → IsDry mid → TookAll old taken
-took_all None mid taken c d = tt
-took_all (Some xs) None taken c d = absurd c
-took_all (Some xs) (Some ys) taken c d = c ∙ rw d (append-nil taken)
-
--- the items behind nothing
-none_more : (taken items : List Item) → items ≡ [] → taken ++ items ≡ taken
-none_more taken items none = ap (λ l. taken ++ l) none ∙ append-nil taken
+use Rattle.uip_edge.specs.Told.{LineTold, LineUnfailed}
+use Rattle.uip_edge.specs.Ending.{EndsBy}
 
 -- the cause of the end that a turn tells
-ends_by : (n : ℕ) (taken items : List Item) (old mid new : Outside) (end : ServeEnd)
-    → Consumes old.coming mid.coming taken → length taken < n → length items + length taken ≤ n
-    → mid.link_faults ≡ old.link_faults → mid.sink_faults ≡ old.sink_faults
+ends_by : (n : ℕ) (taken items : List Item) (old mid new : LineTold) (end : ServeEnd)
+    → Consumes old.link.coming mid.link.coming taken → length taken < n → length items + length taken ≤ n
+    → mid.link.faults ≡ old.link.faults → mid.sink.faults ≡ old.sink.faults
     → TurnsBy mid new items (Stopped end) → EndsBy n old new (taken ++ items) end
 ends_by n taken items old mid new ends.End c below fits l k t =
     rw (none_more taken items t.0) (took_all _ _ taken c t.1, below, t.2 ∙ l, t.3 ∙ k)
@@ -51,22 +41,14 @@ written_by m served w own xs ys zs P Q R a b c ends.LinkFault e u v = wrote_by m
 written_by m served w own xs ys zs P Q R a b c ends.WriteFault e u v = broke_by m served w own _ _ _ _ _ _ e (broke_then m served w own xs ys P Q R a b c u v)
 written_by m served w own xs ys zs P Q R a b c ends.Budget e u v = absurd v
 
-taken_within : (old new : Option (List Item)) (all taken : List Item) → old ≡ Some all → Consumes old new taken → length taken ≤ length all
-taken_within None new all taken e c = absurd (cc e)
-taken_within (Some told) None all taken e c = absurd c
-taken_within (Some told) (Some left) all taken e c =
-    let same : told ≡ all = cc e in
-    let size : length all ≡ length (taken ++ left) = ap (λ l. length l) (sym same ∙ c) in
-    omega (arith, size, length-append taken left)
-
 -- an end that no fault brought is the link's, where fewer items are told than are allowed
-pub end_told : (n : ℕ) (old new : Outside) (all taken : List Item) (end : ServeEnd) → old.coming ≡ Some all → length all < n
-    → Consumes old.coming new.coming taken → EndsBy n old new taken end → Unfailed old new → end ≡ ends.End
+pub end_told : (n : ℕ) (old new : LineTold) (all taken : List Item) (end : ServeEnd) → old.link.coming ≡ Some all → length all < n
+    → Consumes old.link.coming new.link.coming taken → EndsBy n old new taken end → LineUnfailed old new → end ≡ ends.End
 end_told n old new all taken ends.End told short c e calm = refl
 end_told n old new all taken ends.Budget told short c e calm =
-    absurd (omega (arith, taken_within old.coming new.coming all taken told c, e.0, short))
-end_told n old new all taken ends.LinkFault told short c e calm = absurd (omega (arith, e.1, calm.link, calm.link_below))
-end_told n old new all taken ends.WriteFault told short c e calm = absurd (omega (arith, e.2, calm.sink, calm.sink_below))
+    absurd (omega (arith, taken_within old.link.coming new.link.coming all taken told c, e.0, short))
+end_told n old new all taken ends.LinkFault told short c e calm = absurd (omega (arith, e.1, calm.link.same, calm.link.below))
+end_told n old new all taken ends.WriteFault told short c e calm = absurd (omega (arith, e.2, calm.sink.same, calm.sink.below))
 
 module _ {A S : Type 0} (g : Ghosts A S) {C : Type 0} (w : Way C) where
   abbrev At : (List C → Type 0) → Meaning → Addr → Node A S → Station C → Type 0
@@ -99,16 +81,16 @@ module _ {A S : Type 0} (g : Ghosts A S) {C : Type 0} (w : Way C) where
   -- what was written goes on with a turn
   pub on_wrote : (did did1 did2 : List C → Type 0) (pace : ℕ) (taken items : List Item) (start node node' : Node A S) (a b c : Option (List ℕ))
       → ((m : Meaning) (own : Addr) → AllSaid m g.served w own (line_deeds w own pace taken) (At did m own start) (At did1 m own node) a b)
-      → ((m : Meaning) (own : Addr) → AllSaid m g.served w own (deeds_behind w own pace (bytes_of taken) items) (At did1 m own node) (At did2 m own node') b c)
+      → ((m : Meaning) (own : Addr) → AllSaid m g.served w own (deeds_behind w own pace (bytes_among taken) items) (At did1 m own node) (At did2 m own node') b c)
       → (m : Meaning) (own : Addr) → AllSaid m g.served w own (line_deeds w own pace (taken ++ items)) (At did m own start) (At did2 m own node') a c
   on_wrote did did1 did2 pace taken items start node node' a b c v t m own =
       wrote_by m g.served w own _ _ _ _ _ _ (events-then w own pace [] taken items)
-      (wrote_then m g.served w own (line_deeds w own pace taken) (deeds_behind w own pace (bytes_of taken) items) _ (At did1 m own node) _ _ b _ (v m own) (t m own))
+      (wrote_then m g.served w own (line_deeds w own pace taken) (deeds_behind w own pace (bytes_among taken) items) _ (At did1 m own node) _ _ b _ (v m own) (t m own))
 
   -- a serving that took all that it might
-  pub spent : (did did1 : List C → Type 0) (pace n : ℕ) (taken : List Item) (start node : Node A S) (old new : Outside)
-      → Consumes old.coming new.coming taken → length taken ≡ n → new.link_faults ≡ old.link_faults → new.sink_faults ≡ old.sink_faults
-      → ((m : Meaning) (own : Addr) → AllSaid m g.served w own (line_deeds w own pace taken) (At did m own start) (At did1 m own node) old.written new.written)
+  pub spent : (did did1 : List C → Type 0) (pace n : ℕ) (taken : List Item) (start node : Node A S) (old new : LineTold)
+      → Consumes old.link.coming new.link.coming taken → length taken ≡ n → new.link.faults ≡ old.link.faults → new.sink.faults ≡ old.sink.faults
+      → ((m : Meaning) (own : Addr) → AllSaid m g.served w own (line_deeds w own pace taken) (At did m own start) (At did1 m own node) old.sink.written new.sink.written)
       → ServesOver g w did did1 pace n start node old new ends.Budget
   spent did did1 pace n taken start node old new c all l k v = record {
     taken = taken;
@@ -125,10 +107,10 @@ module _ {A S M : Type 0} (g : Ghosts A S) (h : MediumGhosts M) (k : h.Set) (med
   abbrev Here : M → Meaning → Addr → Node A S → Station h.Act → Type 0
   Here x m own node s = IsHere g (h.did x k) m own node s
 
-  pub stopped : (pace n : ℕ) (taken : List Item) (start node node' : Node A S) (old mid new : Outside) (pacer : Pacer) (room : ℕ) (end : ServeEnd)
-      → Consumes old.coming mid.coming taken → length taken < n → room + length taken ≤ n → mid.link_faults ≡ old.link_faults → mid.sink_faults ≡ old.sink_faults
-      → ((m : Meaning) (own : Addr) → AllSaid m g.served w own (line_deeds w own pace taken) (Here medium0 m own start) (Here medium m own node) old.written mid.written)
-      → Turns g h k pace (bytes_of taken) medium medium' node node' mid new pacer room (Stopped end)
+  pub stopped : (pace n : ℕ) (taken : List Item) (start node node' : Node A S) (old mid new : LineTold) (pacer : Pacer) (room : ℕ) (end : ServeEnd)
+      → Consumes old.link.coming mid.link.coming taken → length taken < n → room + length taken ≤ n → mid.link.faults ≡ old.link.faults → mid.sink.faults ≡ old.sink.faults
+      → ((m : Meaning) (own : Addr) → AllSaid m g.served w own (line_deeds w own pace taken) (Here medium0 m own start) (Here medium m own node) old.sink.written mid.sink.written)
+      → Turns g h k pace (bytes_among taken) medium medium' node node' mid new pacer room (Stopped end)
       → ServesOver g w (h.did medium0 k) (h.did medium' k) pace n start node' old new end
   stopped pace n taken start node node' old mid new pacer room end c below fits l f v t =
       let m = g.meaning (g.kept start.shared) in
@@ -138,7 +120,7 @@ module _ {A S M : Type 0} (g : Ghosts A S) (h : MediumGhosts M) (k : h.Set) (med
         consumed = Consumes-then _ _ _ taken t.items c t.consumed;
         ends = ends_by n taken t.items old mid new end c below (let within = t.within in omega arith) l f t.cause;
         wrote = public_wrote g w (h.did medium0 k) (h.did medium' k) end _ start node' _ _
-            (written_by m g.served w own (line_deeds w own pace taken) (deeds_behind w own pace (bytes_of taken) t.items) _
-            (Here medium0 m own start) (Here medium m own node) (Here medium' m own node') old.written mid.written new.written end
+            (written_by m g.served w own (line_deeds w own pace taken) (deeds_behind w own pace (bytes_among taken) t.items) _
+            (Here medium0 m own start) (Here medium m own node) (Here medium' m own node') old.sink.written mid.sink.written new.sink.written end
             (events-then w own pace [] taken t.items) (v m own) (t.wrote m own));
       }

@@ -15,7 +15,6 @@ use Rattle.uip_node.specs.Events.{Event, Reply, tick}
 use Rattle.uip_node.specs.Node.{AbstractNode, joined, run, step}
 use Rattle.uip_node.specs.StandsFor.{Stands}
 use Rattle.serve_loop.specs.LineDeeds.{beat_on, deed_by, deeds_behind, line_deeds, tick_on}
-use Rattle.serve_loop.specs.Outside.{Outside}
 use Rattle.serve_loop.specs.Pace.{is_beat}
 use Rattle.serve_loop.specs.DeedRuns.{AllSaid, Deed, FrontSaid, Happens, Station, after, after_deed, said, text_behind}
 use Rattle.serve_loop.specs.DeedServing.{IsAt, SaidBy, ServesOver}
@@ -23,6 +22,7 @@ use Rattle.serve_loop.specs.LineEvents.{beat, completed, event_by, events_behind
 use Rattle.serve_loop.specs.Running.{Broke, Wrote, text_of}
 use Rattle.serve_loop.specs.Serving.{Serves, WroteBy}
 use Rattle.serve_loop.specs.SlipWay.{NoAct, came_by, slip_way}
+use Rattle.uip_edge.specs.Told.{LineTold}
 
 -- each deed is an event of the node
 abbrev all_happen : List Event → List (Deed NoAct)
@@ -124,7 +124,7 @@ module _ {A S : Type 0} (g : Ghosts A S) (did did' : List NoAct → Type 0) (beg
   slip_wrote_by ends.LinkFault m own pace items before after a b w = slip_wrote m own pace items before after a b w
   slip_wrote_by ends.WriteFault m own pace items before after a b w = slip_broke m own pace items before after a b w
 
-  pub slip_serves : (pace n : ℕ) (before after : Node A S) (old new : Outside) (end : ServeEnd)
+  pub slip_serves : (pace n : ℕ) (before after : Node A S) (old new : LineTold) (end : ServeEnd)
       → ServesOver g slip_way did did' pace n before after old new end
       → Serves g pace n before after old new end
   slip_serves pace n before after old new end v = record {

@@ -12,15 +12,13 @@ use Rattle.uip_node.specs.StandsFor.{Stands}
 use Rattle.line_medium.specs.Ways.{Way}
 use Rattle.serve_loop.specs.DeedRuns.{AllSaid, Deed, FrontSaid, Station}
 use Rattle.serve_loop.specs.LineDeeds.{line_deeds}
-use Rattle.serve_loop.specs.Outside.{Outside}
-use Rattle.serve_loop.specs.Serving.{EndsBy}
+use Rattle.uip_edge.specs.Told.{LineTold}
+use Rattle.uip_edge.specs.Ending.{EndsBy}
 
 -- all that is said for these deeds was written, unless a write failed
 abbrev pub SaidBy : {C : Type 0} → ServeEnd → Meaning → (ℕ → Bool) → Way C → Addr → List (Deed C) → (Station C → Type 0) → (Station C → Type 0) → Option (List ℕ) → Option (List ℕ) → Type 0
-SaidBy ends.End m served w own deeds Before After old new = AllSaid m served w own deeds Before After old new
-SaidBy ends.Budget m served w own deeds Before After old new = AllSaid m served w own deeds Before After old new
-SaidBy ends.LinkFault m served w own deeds Before After old new = AllSaid m served w own deeds Before After old new
 SaidBy ends.WriteFault m served w own deeds Before After old new = FrontSaid m served w own deeds Before After old new
+SaidBy _ m served w own deeds Before After old new = AllSaid m served w own deeds Before After old new
 
 -- the node stands for the station's node, and the medium did its acts
 pub record IsAt {A S C : Type 0} (g : Ghosts A S) (did : List C → Type 0) (node : Node A S) (s : Station C) : Type 0 where
@@ -30,8 +28,8 @@ pub record IsAt {A S C : Type 0} (g : Ghosts A S) (did : List C → Type 0) (nod
 -- A line was served at a pace, up to n items, over a medium of this way, of which `did` and `did'` tell its acts before and
 -- after: there are items that the link told and lost, the end has its cause, and for every station at which the medium and
 -- the node stood, they stand where the run over the line's deeds leads, and what is said for these was written.
-pub record ServesOver {A S C : Type 0} (g : Ghosts A S) (w : Way C) (did did' : List C → Type 0) (pace n : ℕ) (before after : Node A S) (old new : Outside) (result : ServeEnd) : Type 0 where
+pub record ServesOver {A S C : Type 0} (g : Ghosts A S) (w : Way C) (did did' : List C → Type 0) (pace n : ℕ) (before after : Node A S) (old new : LineTold) (result : ServeEnd) : Type 0 where
   pub taken : List Item
-  pub consumed : Consumes old.coming new.coming taken
+  pub consumed : Consumes old.link.coming new.link.coming taken
   pub ends : EndsBy n old new taken result
-  pub wrote : SaidBy result (g.meaning (g.kept before.shared)) g.served w before.addr (line_deeds w before.addr pace taken) (IsAt g did before) (IsAt g did' after) old.written new.written
+  pub wrote : SaidBy result (g.meaning (g.kept before.shared)) g.served w before.addr (line_deeds w before.addr pace taken) (IsAt g did before) (IsAt g did' after) old.sink.written new.sink.written

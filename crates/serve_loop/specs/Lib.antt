@@ -2,7 +2,6 @@ pub mod DeedRuns
 pub mod DeedServing
 pub mod LineDeeds
 pub mod LineEvents
-pub mod Outside
 pub mod Pace
 pub mod Running
 pub mod Serving

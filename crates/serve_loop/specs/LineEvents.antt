@@ -9,12 +9,6 @@ use Rattle.uip_node.specs.Events.{Event, tick}
 use Rattle.uip_node.specs.Events.Event.{Overlong as OverlongFrame}
 use Rattle.serve_loop.specs.Pace.{is_beat}
 
--- the bytes among the items; a silence is no byte of a frame
-abbrev pub bytes_of : List Item → List ℕ
-bytes_of [] = []
-bytes_of (Byte b ∷ items) = b ∷ bytes_of items
-bytes_of (Quiet ∷ items) = bytes_of items
-
 -- what a frame brings to the node at the address `own`
 abbrev pub event_by : Addr → Frame → Event
 event_by own (Datagram bytes) = event_of own bytes

@@ -6,7 +6,7 @@ use Rattle.app_events.specs.declared.app.App.{Ghosts}
 use Rattle.uip_edge.specs.declared.item.Item.{Item}
 use Rattle.uip_edge.specs.declared.serve_end.ServeEnd.TheVariants as ends
 use Rattle.uip_edge.specs.Causes.{Rose}
-use Rattle.uip_edge.specs.Coming.{Consumes}
+use Rattle.uip_edge.specs.Coming.{Consumes, bytes_among, TookAll}
 use Rattle.uip_node.specs.declared.node.Node.{Node}
 use Rattle.uip_node.specs.Node.{AbstractNode}
 use Rattle.uip_node.specs.StandsFor.{Stands}
@@ -17,9 +17,8 @@ use Rattle.serve_loop.specs.declared.line.Turn.TheVariants as turns
 use Rattle.serve_loop.specs.declared.pacer.Pacer.{Pacer}
 use Rattle.serve_loop.specs.DeedRuns.{AllSaid, Deed, FrontSaid, Station}
 use Rattle.serve_loop.specs.LineDeeds.{deeds_behind}
-use Rattle.serve_loop.specs.LineEvents.{bytes_of}
-use Rattle.serve_loop.specs.Outside.{Outside, IsDry}
 use Rattle.serve_loop.specs.Pace.{HasPassed}
+use Rattle.uip_edge.specs.Told.{LineTold}
 
 -- the node stands for the abstract node, which has this address, and its application has this meaning
 pub record IsNode {A S : Type 0} (g : Ghosts A S) (m : Meaning) (own : Addr) (node : Node A S) (n : AbstractNode) : Type 0 where
@@ -63,12 +62,12 @@ CountFits (turns.Went n) room = (0 < n) × (n ≤ room)
 CountFits (turns.Stopped s) room = ⊤
 
 -- the cause of what a turn tells that took these items
-abbrev pub TurnsBy : Outside → Outside → List Item → Turn → Type 0
-TurnsBy old new items (turns.Went n) = (length items ≡ n) × (new.link_faults ≡ old.link_faults) × (new.sink_faults ≡ old.sink_faults)
+abbrev pub TurnsBy : LineTold → LineTold → List Item → Turn → Type 0
+TurnsBy old new items (turns.Went n) = (length items ≡ n) × (new.link.faults ≡ old.link.faults) × (new.sink.faults ≡ old.sink.faults)
 TurnsBy old new items (turns.Stopped ends.End) =
-    (items ≡ []) × IsDry old.coming × (new.link_faults ≡ old.link_faults) × (new.sink_faults ≡ old.sink_faults)
-TurnsBy old new items (turns.Stopped ends.LinkFault) = (items ≡ []) × Rose old.link_faults new.link_faults × (new.sink_faults ≡ old.sink_faults)
-TurnsBy old new items (turns.Stopped ends.WriteFault) = (new.link_faults ≡ old.link_faults) × Rose old.sink_faults new.sink_faults
+    (items ≡ []) × TookAll old.link.coming [] × (new.link.faults ≡ old.link.faults) × (new.sink.faults ≡ old.sink.faults)
+TurnsBy old new items (turns.Stopped ends.LinkFault) = (items ≡ []) × Rose old.link.faults new.link.faults × (new.sink.faults ≡ old.sink.faults)
+TurnsBy old new items (turns.Stopped ends.WriteFault) = (new.link.faults ≡ old.link.faults) × Rose old.sink.faults new.sink.faults
 TurnsBy old new items (turns.Stopped ends.Budget) = ⊥
 
 -- a turn that went on has taken the bytes
@@ -85,10 +84,10 @@ WritesOn (turns.Stopped ends.WriteFault) m served w own deeds Before After old n
 WritesOn (turns.Stopped ends.Budget) m served w own deeds Before After old new = ⊥
 
 -- a turn, with the medium and the node before and after it
-pub record Turns {A S M : Type 0} (g : Ghosts A S) (h : MediumGhosts M) (k : h.Set) (pace : ℕ) (before : List ℕ) (medium medium' : M) (node node' : Node A S) (old new : Outside) (pacer : Pacer) (room : ℕ) (turn : Turn) : Type 0 where
+pub record Turns {A S M : Type 0} (g : Ghosts A S) (h : MediumGhosts M) (k : h.Set) (pace : ℕ) (before : List ℕ) (medium medium' : M) (node node' : Node A S) (old new : LineTold) (pacer : Pacer) (room : ℕ) (turn : Turn) : Type 0 where
   pub items : List Item
-  pub consumed : Consumes old.coming new.coming items
+  pub consumed : Consumes old.link.coming new.link.coming items
   pub within : length items ≤ room
   pub cause : TurnsBy old new items turn
-  pub on : TakesOn pace before (bytes_of items) (h.fed medium' k) pacer turn
-  pub wrote : (m : Meaning) (own : Addr) → WritesOn turn m g.served (h.way k) own (deeds_behind (h.way k) own pace before items) (IsHere g (h.did medium k) m own node) (IsHere g (h.did medium' k) m own node') old.written new.written
+  pub on : TakesOn pace before (bytes_among items) (h.fed medium' k) pacer turn
+  pub wrote : (m : Meaning) (own : Addr) → WritesOn turn m g.served (h.way k) own (deeds_behind (h.way k) own pace before items) (IsHere g (h.did medium k) m own node) (IsHere g (h.did medium' k) m own node') old.sink.written new.sink.written

@@ -4,8 +4,8 @@ ghost use Rattle.uip_edge.specs.Causes.{HasCause};
 ghost use Rattle.uip_node.specs.StandsFor.{IsWhole};
 ghost use Rattle.line_medium.specs.Ways.{all_brought};
 ghost use Rattle.serve_loop.specs.LineDeeds.{deed_by, deeds_behind};
-ghost use Rattle.serve_loop.specs.Outside.{outside};
 ghost use Rattle.serve_loop.specs.Turns.{Breaks, CountFits, HasTaken, Plays, Turns, place};
+ghost use Rattle.uip_edge.specs.Telling.{line_told};
 
 use crate::node_calls::{take_datagram, tick};
 use crate::pacer::Pacer;
@@ -36,8 +36,8 @@ pub(crate) fn take_turn<A: App, M: Medium, L: Link, K: Sink>(
     ensures fits { CountFits result (length buf.old) }
     ensures turns { (k : M.Set) (pace : ℕ) (before : List ℕ) → HasTaken pace before (M.fed medium.old k) pacer.old
         → Turns A.App M.Medium k pace before medium.old medium.new node.old node.new
-        (outside L.coming K.written L.faults K.faults link.old sink.old)
-        (outside L.coming K.written L.faults K.faults link.new sink.new) pacer.new (length buf.old) result }
+        (line_told L.Link K.Sink link.old sink.old)
+        (line_told L.Link K.Sink link.new sink.new) pacer.new (length buf.old) result }
 {
     match link.next(buf) {
         Err(Failed) => Turn::Stopped(ServeEnd::LinkFault),

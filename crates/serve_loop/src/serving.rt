@@ -4,10 +4,12 @@ ghost use Rattle.uip_edge.specs.declared.item.Item.{Item};
 ghost use Rattle.uip_edge.specs.declared.serve_end.ServeEnd.{ServeEnd as AnyEnd};
 ghost use Rattle.uip_edge.specs.declared.serve_end.ServeEnd.TheVariants.{Budget, End};
 ghost use Rattle.uip_node.specs.StandsFor.{IsWhole};
-ghost use Rattle.serve_loop.specs.Outside.{outside, Outside, Unfailed};
 ghost use Rattle.serve_loop.specs.DeedServing.{ServesOver};
-ghost use Rattle.serve_loop.specs.Serving.{EndsBy, Serves};
+ghost use Rattle.serve_loop.specs.Serving.{Serves};
 ghost use Rattle.serve_loop.specs.Turns.{HasTaken};
+ghost use Rattle.uip_edge.specs.Telling.{line_told};
+ghost use Rattle.uip_edge.specs.Told.{LineTold, LineUnfailed};
+ghost use Rattle.uip_edge.specs.Ending.{EndsBy};
 
 use crate::line::{Turn, take_turn};
 use crate::pacer::Pacer;
@@ -33,8 +35,8 @@ pub fn serve<A: App, L: Link, K: Sink>(
     ensures whole { IsWhole A.App node.new }
     ensures same { A.kept node.new.shared ≡ A.kept node.old.shared }
     ensures serves { Serves A.App pace items node.old node.new
-        (outside L.coming K.written L.faults K.faults link.old sink.old)
-        (outside L.coming K.written L.faults K.faults link.new sink.new) result }
+        (line_told L.Link K.Sink link.old sink.old)
+        (line_told L.Link K.Sink link.new sink.new) result }
 {
     let mut medium = Slip::new();
     serve_over(&mut medium, node, link, sink, pace, items)
@@ -55,8 +57,8 @@ pub fn serve_over<A: App, M: Medium, L: Link, K: Sink>(
     ensures same { A.kept node.new.shared ≡ A.kept node.old.shared }
     ensures serves { (k : M.Set) → M.fed medium.old k []
         → ServesOver A.App (M.way k) (M.did medium.old k) (M.did medium.new k) pace items node.old node.new
-        (outside L.coming K.written L.faults K.faults link.old sink.old)
-        (outside L.coming K.written L.faults K.faults link.new sink.new) result }
+        (line_told L.Link K.Sink link.old sink.old)
+        (line_told L.Link K.Sink link.new sink.new) result }
 {
     let mut pacer = Pacer::new(pace);
     serve_line(medium, &mut pacer, node, link, sink, items)
@@ -76,8 +78,8 @@ fn serve_line<A: App, M: Medium, L: Link, K: Sink>(
     ensures same { A.kept node.new.shared ≡ A.kept node.old.shared }
     ensures serves { (k : M.Set) (pace : ℕ) → HasTaken pace [] (M.fed medium.old k) pacer.old
         → ServesOver A.App (M.way k) (M.did medium.old k) (M.did medium.new k) pace items node.old node.new
-        (outside L.coming K.written L.faults K.faults link.old sink.old)
-        (outside L.coming K.written L.faults K.faults link.new sink.new) result }
+        (line_told L.Link K.Sink link.old sink.old)
+        (line_told L.Link K.Sink link.new sink.new) result }
 {
     let mut buf = [0; BLOCK];
     let mut left = items;
@@ -93,12 +95,12 @@ fn serve_line<A: App, M: Medium, L: Link, K: Sink>(
 
 /// The budget is told wherever as many items were taken as were allowed and nothing failed.
 pub fn budget_is_told()
-    ensures { (n : ℕ) (old new : Outside) (taken : List Item) (end : AnyEnd) → EndsBy n old new taken end
-        → length taken ≡ n → Unfailed old new → end ≡ Budget }
+    ensures { (n : ℕ) (old new : LineTold) (taken : List Item) (end : AnyEnd) → EndsBy n old new taken end
+        → length taken ≡ n → LineUnfailed old new → end ≡ Budget }
 {}
 
 /// The end is told wherever the link tells fewer items than are allowed and nothing failed.
 pub fn end_is_told()
-    ensures { (n : ℕ) (old new : Outside) (all taken : List Item) (end : AnyEnd) → old.coming ≡ Some all → length all < n
-        → Consumes old.coming new.coming taken → EndsBy n old new taken end → Unfailed old new → end ≡ End }
+    ensures { (n : ℕ) (old new : LineTold) (all taken : List Item) (end : AnyEnd) → old.link.coming ≡ Some all → length all < n
+        → Consumes old.link.coming new.link.coming taken → EndsBy n old new taken end → LineUnfailed old new → end ≡ End }
 {}

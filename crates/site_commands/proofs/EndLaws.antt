@@ -4,12 +4,13 @@ use Rattle.uip_edge.specs.Shelving.{Files}
 use Rattle.site_commands.specs.declared.site_end.SiteEnd.{SiteEnd}
 use Rattle.site_commands.specs.declared.site_end.SiteEnd.TheVariants as ends
 use Rattle.site_commands.specs.Due.{Due}
-use Rattle.site_commands.specs.Ending.{Desk, Ends, EndsAsDue, IsCalm, LacksFile}
+use Rattle.site_commands.specs.Ending.{Ends, EndsAsDue, LacksFile}
+use Rattle.uip_edge.specs.Told.{WorkTold, WorkUnfailed}
 
-pub as_due : (due : Files → Option Due) (old new : Desk) (end : SiteEnd) → Ends due old new end → IsCalm old new → ¬ (LacksFile due old.held) → EndsAsDue due old.held end
+pub as_due : (due : Files → Option Due) (old new : WorkTold) (end : SiteEnd) → Ends due old new end → WorkUnfailed old new → ¬ (LacksFile due old.shelf.held) → EndsAsDue due old.shelf.held end
 as_due due old new ends.Done e calm there = inr (record { text = e.0; fault = None }, e.1, refl)
 as_due due old new (ends.Bad error) e calm there = inr (record { text = e.0; fault = Some error }, e.1, refl)
 as_due due old new ends.ShelfFault e calm there =
-    elim e.0 [ inl rose ↦ absurd (omega (arith, rose, calm.shelf, calm.shelf_below)) | inr lacks ↦ absurd (there lacks) ]
-as_due due old new ends.WriteFault e calm there = absurd (omega (arith, e.4, calm.sink, calm.sink_below))
+    elim e.0 [ inl rose ↦ absurd (omega (arith, rose, calm.shelf.same, calm.shelf.below)) | inr lacks ↦ absurd (there lacks) ]
+as_due due old new ends.WriteFault e calm there = absurd (omega (arith, e.2.rose, calm.sink.same, calm.sink.below))
 as_due due old new ends.NoMemory e calm there = inl refl

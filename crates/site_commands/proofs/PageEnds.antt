@@ -8,20 +8,23 @@ use Rattle.file_tree.specs.Site.{SiteContent, files_of}
 use Rattle.web_pages.specs.ZeroPages.{zero_page}
 use Rattle.site_commands.specs.declared.site_end.SiteEnd.{SiteEnd}
 use Rattle.site_commands.specs.Due.{paged, page_due}
-use Rattle.site_commands.specs.Ending.{Desk, Ends, IsDue, Writes}
+use Rattle.site_commands.specs.Ending.{Ends, IsDue}
 use Rattle.file_tree.specs.Opening.{IsSiteRead, Opens}
+use Rattle.uip_edge.specs.Told.{WorkTold}
+use Rattle.site_commands.specs.declared.site_end.SiteEnd.TheVariants as ends
+use Rattle.uip_edge.specs.Writing.{WritesEnd}
 
 page_is_due : (name target : List ℕ) (held : Option Files) (read : Result (List File) SiteError) → IsSiteRead name held read → IsDue (page_due name target) held (paged target read)
 page_is_due name target None read is = tt
 page_is_due name target (Some files) read is = ap (option_map (paged target)) is
 
-pub page_ends : (name target : List ℕ) (old new : Desk) (site : SiteContent) (end : SiteEnd) → Opens name old.held old.shelf_faults new.shelf_faults (Ok site)
-    → Writes (Ok (record { text = zero_page (files_of site) target; fault = None })) old.written new.written old.sink_faults new.sink_faults end
+pub page_ends : (name target : List ℕ) (old new : WorkTold) (site : SiteContent) (end : SiteEnd) → Opens name old.shelf.held old.shelf.faults new.shelf.faults (Ok site)
+    → WritesEnd ends.Done ends.WriteFault old.sink new.sink (zero_page (files_of site) target) end
     → Ends (page_due name target) old new end
 page_ends name target old new site end opened wrote =
-    let due = page_is_due name target old.held (Ok (files_of site)) opened.0 in
+    let due = page_is_due name target old.shelf.held (Ok (files_of site)) opened.0 in
     let text = zero_page (files_of site) target in
     elim wrote [
-      | inl done ↦ subst (Ends (page_due name target) old new) (sym done.0) (text, due, done.1, opened.1, done.2)
-      | inr failed ↦ subst (Ends (page_due name target) old new) (sym failed.0) (record { text = text; fault = None }, due, failed.1, opened.1, failed.2)
+      | inl done ↦ subst (Ends (page_due name target) old new) (sym done.0) (text, due, done.1, opened.1)
+      | inr failed ↦ subst (Ends (page_due name target) old new) (sym failed.0) (record { text = text; fault = None }, due, failed.1, opened.1)
     ]

@@ -1,5 +1,6 @@
 ghost use Rattle.std.specs.Prelude.{◌≡◌};
-ghost use Rattle.site_commands.specs.Ending.{end_of, Writes};
+ghost use Rattle.site_commands.specs.Ending.{end_of, WritesMade};
+ghost use Rattle.uip_edge.specs.Telling.{sink_told};
 
 use crate::halt::Halt;
 use crate::outcome::Outcome;
@@ -9,7 +10,7 @@ use uip_edge::Sink;
 
 /// Writes what was made, and tells how the work ends.
 pub(crate) fn finish<K: Sink>(made: Result<Outcome, Halt>, out: &mut K) -> SiteEnd
-    ensures { Writes made (K.written out.old) (K.written out.new) (K.faults out.old) (K.faults out.new) result }
+    ensures { WritesMade made (sink_told K.Sink out.old) (sink_told K.Sink out.new) result }
 {
     match made {
         Ok(outcome) => match out.write_whole(&outcome.text) {

@@ -1,6 +1,7 @@
 ghost use Rattle.std.specs.Prelude.{◌≡◌};
 ghost use Rattle.site_commands.specs.Due.{pack_due};
-ghost use Rattle.site_commands.specs.Ending.{desk, Ends, Makes};
+ghost use Rattle.site_commands.specs.Ending.{Ends, Makes};
+ghost use Rattle.uip_edge.specs.Telling.{work_told, shelf_told};
 
 use crate::finish::finish;
 use crate::gathering::gather;
@@ -19,8 +20,8 @@ pub fn pack<H: Shelf, K: Sink>(
     shelf: &mut H,
     out: &mut K,
 ) -> SiteEnd
-    ensures ends { Ends (pack_due files.now) (desk H.held K.written H.faults K.faults shelf.old out.old)
-        (desk H.held K.written H.faults K.faults shelf.new out.new) result }
+    ensures ends { Ends (pack_due files.now) (work_told H.Shelf K.Sink shelf.old out.old)
+        (work_told H.Shelf K.Sink shelf.new out.new) result }
     ensures kept { H.held shelf.new ≡ H.held shelf.old }
 {
     finish(make(alloc, files, shelf), out)
@@ -28,7 +29,7 @@ pub fn pack<H: Shelf, K: Sink>(
 
 /// The image, or the first fault of the list with nothing to write.
 fn make<H: Shelf>(alloc: Global, files: &[NamedFile], shelf: &mut H) -> Result<Outcome, Halt>
-    ensures made { Makes (pack_due files.now) (H.held shelf.old) (H.faults shelf.old) (H.faults shelf.new) result }
+    ensures made { Makes (pack_due files.now) (shelf_told H.Shelf shelf.old) (shelf_told H.Shelf shelf.new) result }
     ensures kept { H.held shelf.new ≡ H.held shelf.old }
 {
     match gather(alloc, files, shelf) {

@@ -2,7 +2,10 @@ ghost use Rattle.std.specs.Prelude.{◌≡◌, None, Ok};
 ghost use Rattle.file_tree.specs.Site.{files_of};
 ghost use Rattle.web_pages.specs.ZeroPages.{zero_page};
 ghost use Rattle.site_commands.specs.Due.{page_due};
-ghost use Rattle.site_commands.specs.Ending.{desk, Ends, Writes};
+ghost use Rattle.site_commands.specs.Ending.{Ends};
+ghost use Rattle.uip_edge.specs.Telling.{sink_told, work_told};
+ghost use Rattle.site_commands.specs.declared.site_end.SiteEnd.TheVariants as ends;
+ghost use Rattle.uip_edge.specs.Writing.{WritesEnd};
 
 use crate::site_end::SiteEnd;
 use file_tree::{LoadFault, Site};
@@ -20,8 +23,8 @@ pub fn page<H: Shelf, K: Sink>(
     shelf: &mut H,
     out: &mut K,
 ) -> SiteEnd
-    ensures ends { Ends (page_due name.now target.now) (desk H.held K.written H.faults K.faults shelf.old out.old)
-        (desk H.held K.written H.faults K.faults shelf.new out.new) result }
+    ensures ends { Ends (page_due name.now target.now) (work_told H.Shelf K.Sink shelf.old out.old)
+        (work_told H.Shelf K.Sink shelf.new out.new) result }
     ensures kept { H.held shelf.new ≡ H.held shelf.old }
 {
     match Site::open(alloc, shelf, name) {
@@ -34,8 +37,7 @@ pub fn page<H: Shelf, K: Sink>(
 
 /// Writes the page of a target.
 fn write_page<K: Sink>(site: &Site, target: &[u8], out: &mut K) -> SiteEnd
-    ensures { Writes (Ok (record { text = zero_page (files_of site.now) target.now; fault = None })) (K.written out.old) (K.written out.new)
-        (K.faults out.old) (K.faults out.new) result }
+    ensures { WritesEnd ends.Done ends.WriteFault (sink_told K.Sink out.old) (sink_told K.Sink out.new) (zero_page (files_of site.now) target.now) result }
 {
     match page_zero(site, target, out) {
         Ok(()) => SiteEnd::Done,

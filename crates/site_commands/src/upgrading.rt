@@ -1,7 +1,8 @@
 ghost use Rattle.std.specs.Prelude.{◌≡◌, All, IsTrue};
 ghost use Rattle.site_image.specs.Names.{is_kind};
 ghost use Rattle.site_commands.specs.Due.{upgrade_due};
-ghost use Rattle.site_commands.specs.Ending.{desk, Ends, Makes};
+ghost use Rattle.site_commands.specs.Ending.{Ends, Makes};
+ghost use Rattle.uip_edge.specs.Telling.{work_told, shelf_told};
 
 use crate::finish::finish;
 use crate::halt::Halt;
@@ -22,8 +23,8 @@ pub fn upgrade<H: Shelf, K: Sink>(
     out: &mut K,
 ) -> SiteEnd
     requires { All (λ word. IsTrue (is_kind word.kind)) words.now }
-    ensures ends { Ends (upgrade_due name.now words.now) (desk H.held K.written H.faults K.faults shelf.old out.old)
-        (desk H.held K.written H.faults K.faults shelf.new out.new) result }
+    ensures ends { Ends (upgrade_due name.now words.now) (work_told H.Shelf K.Sink shelf.old out.old)
+        (work_told H.Shelf K.Sink shelf.new out.new) result }
     ensures kept { H.held shelf.new ≡ H.held shelf.old }
 {
     finish(make(alloc, name, words, shelf), out)
@@ -37,7 +38,7 @@ fn make<H: Shelf>(
     shelf: &mut H,
 ) -> Result<Outcome, Halt>
     requires { All (λ word. IsTrue (is_kind word.kind)) words.now }
-    ensures made { Makes (upgrade_due name.now words.now) (H.held shelf.old) (H.faults shelf.old) (H.faults shelf.new) result }
+    ensures made { Makes (upgrade_due name.now words.now) (shelf_told H.Shelf shelf.old) (shelf_told H.Shelf shelf.new) result }
     ensures kept { H.held shelf.new ≡ H.held shelf.old }
 {
     match Site::load(alloc, shelf, name) {

@@ -1,12 +1,10 @@
 -- The turns of the reader of a capture file, put together.
 use Rattle.std.proofs.Common.{◌≡◌, ℕ, ◌+◌, ◌<◌, ◌≤◌, List, ◌++◌, length, refl, ◌∙◌, arith, length-append}
-use Rattle.uip_edge.specs.Coming.{Consumes}
-use Rattle.uip_edge.proofs.Told.{Consumes-then}
+use Rattle.uip_edge.specs.Coming.{Consumes, bytes_among}
+use Rattle.uip_edge.proofs.Told.{Consumes-then, none_more, took_all}
 use Rattle.uip_edge.specs.declared.item.Item.{Item}
-use Rattle.serve_loop.specs.LineEvents.{bytes_of}
-use Rattle.serve_loop.specs.Outside.{Outside}
 use Rattle.trace.specs.CaptureReading.{Reading}
-use Rattle.trace.specs.Converting.{Calm, Converts, HasNewFault, SlipEndsBy}
+use Rattle.trace.specs.Converting.{Converts, HasNewFault, SlipEndsBy}
 use Rattle.trace.specs.Gathering.{IsReadTo, IsOpen, StopsBy, Reads}
 use Rattle.trace.specs.declared.reader.Turn.TheVariants.{Stopped}
 use Rattle.trace.specs.declared.telling.TheConstants.{BLOCK}
@@ -14,15 +12,15 @@ use Rattle.trace.specs.declared.slip_end.CaptureWhy.TheVariants as whys
 use Rattle.trace.specs.declared.slip_end.SlipEnd.{SlipEnd}
 use Rattle.trace.specs.declared.slip_end.SlipEnd.TheVariants as ends
 use Rattle.trace.specs.declared.stage.Stage.{Stage}
-use Rattle.trace.proofs.TellLaws.{none_more, took_all}
 use Rattle.trace.proofs.TurnLaws.{sound_at}
+use Rattle.uip_edge.specs.Told.{LineTold, IsCalm}
 
-calm_on : (old mid new : Outside) → mid.link_faults ≡ old.link_faults → mid.sink_faults ≡ old.sink_faults → Calm mid new → Calm old new
+calm_on : (old mid new : LineTold) → mid.link.faults ≡ old.link.faults → mid.sink.faults ≡ old.sink.faults → IsCalm mid new → IsCalm old new
 calm_on old mid new l k c = record { link = c.link ∙ l; sink = c.sink ∙ k }
 
-module _ (n : ℕ) (taken items : List Item) (old mid new : Outside) (reading : Reading)
-    (c : Consumes old.coming mid.coming taken) (below : length taken < n) (fits : length items + length taken ≤ n)
-    (l : mid.link_faults ≡ old.link_faults) (k : mid.sink_faults ≡ old.sink_faults) (fresh : HasNewFault (taken ++ items)) where
+module _ (n : ℕ) (taken items : List Item) (old mid new : LineTold) (reading : Reading)
+    (c : Consumes old.link.coming mid.link.coming taken) (below : length taken < n) (fits : length items + length taken ≤ n)
+    (l : mid.link.faults ≡ old.link.faults) (k : mid.sink.faults ≡ old.sink.faults) (fresh : HasNewFault (taken ++ items)) where
   ends_by : (end : SlipEnd) → StopsBy mid new items reading end → SlipEndsBy n old new (taken ++ items) reading end
   ends_by ends.End t = rw (none_more taken items t.0) (took_all _ _ taken c t.1, below, calm_on old mid new l k t.2, t.3, t.4)
   ends_by ends.LinkFault t = rw (none_more taken items t.0) (below, rw l at t.1, t.2 ∙ k, t.3)
@@ -33,13 +31,13 @@ module _ (n : ℕ) (taken items : List Item) (old mid new : Outside) (reading : 
   ends_by (ends.Bad number whys.Length) t = (omega (arith, length-append taken items), calm_on old mid new l k t.0, t.1, fresh)
 
 -- a reading that ends in a turn
-pub stopped : (n : ℕ) (taken : List Item) (old mid new : Outside) (stage stage' : Stage) (number number' : ℕ) (part part' : List ℕ) (want room : ℕ) (end : SlipEnd)
-    → Consumes old.coming mid.coming taken → length taken < n → room + length taken ≤ n → room ≤ BLOCK
-    → mid.link_faults ≡ old.link_faults → mid.sink_faults ≡ old.sink_faults
-    → IsReadTo old.written mid.written (bytes_of taken) stage number part → IsOpen stage part want
-    → Reads old.written taken mid new stage' number' part' room (Stopped end) → Converts n old new end
+pub stopped : (n : ℕ) (taken : List Item) (old mid new : LineTold) (stage stage' : Stage) (number number' : ℕ) (part part' : List ℕ) (want room : ℕ) (end : SlipEnd)
+    → Consumes old.link.coming mid.link.coming taken → length taken < n → room + length taken ≤ n → room ≤ BLOCK
+    → mid.link.faults ≡ old.link.faults → mid.sink.faults ≡ old.sink.faults
+    → IsReadTo old.sink.written mid.sink.written (bytes_among taken) stage number part → IsOpen stage part want
+    → Reads old.sink.written taken mid new stage' number' part' room (Stopped end) → Converts n old new end
 stopped n taken old mid new stage stage' number number' part part' want room end c below fits block l k at is t =
-    let s = sound_at old.written mid.written (bytes_of taken) stage number part want at is in
+    let s = sound_at old.sink.written mid.sink.written (bytes_among taken) stage number part want at is in
     let within = t.within in
     let fresh : HasNewFault (taken ++ t.items) =
     record { front = taken; last = t.items; pieces = refl; within = omega arith; reading = s.reading; read = s.read; sound = s.sound } in
@@ -53,11 +51,11 @@ stopped n taken old mid new stage stage' number number' part part' want room end
     }
 
 -- and one that took all that it might
-pub spent : (n : ℕ) (taken : List Item) (old new : Outside) (stage : Stage) (number : ℕ) (part : List ℕ) (want : ℕ)
-    → Consumes old.coming new.coming taken → length taken ≡ n → new.link_faults ≡ old.link_faults → new.sink_faults ≡ old.sink_faults
-    → IsReadTo old.written new.written (bytes_of taken) stage number part → IsOpen stage part want → Converts n old new ends.Budget
+pub spent : (n : ℕ) (taken : List Item) (old new : LineTold) (stage : Stage) (number : ℕ) (part : List ℕ) (want : ℕ)
+    → Consumes old.link.coming new.link.coming taken → length taken ≡ n → new.link.faults ≡ old.link.faults → new.sink.faults ≡ old.sink.faults
+    → IsReadTo old.sink.written new.sink.written (bytes_among taken) stage number part → IsOpen stage part want → Converts n old new ends.Budget
 spent n taken old new stage number part want c all l k at is =
-    let s = sound_at old.written new.written (bytes_of taken) stage number part want at is in
+    let s = sound_at old.sink.written new.sink.written (bytes_among taken) stage number part want at is in
     record {
       taken = taken;
       consumed = c;

@@ -3,17 +3,16 @@ use Rattle.std.proofs.Common.{◌≡◌, ℕ, ◌+◌, List, [], ◌∷◌, ◌+
 use Rattle.std.proofs.lemmas.List.{length-map, map-append, take-append-drop}
 use Rattle.std.specs.Io.KnownBytes.{Appends}
 use Rattle.uip_edge.specs.Writing.{AppendsPrefix}
-use Rattle.uip_edge.proofs.Told.{Appends-then, appends_by, prefix_by, prefix_more, prefix_then}
+use Rattle.uip_edge.proofs.Told.{Appends-then, appends_by, prefix_by, prefix_more, prefix_then, bytes_among-append, bytes_among-map}
 use Rattle.uip_edge.specs.declared.item.Item.{Item}
 use Rattle.uip_edge.specs.declared.item.Item.TheVariants.{Byte, Quiet}
 use Rattle.uip_slip.specs.Decoding.{State, WasFed}
 use Rattle.uip_slip.specs.Frames.{Frame, frames}
-use Rattle.serve_loop.specs.LineEvents.{bytes_of}
-use Rattle.serve_loop.proofs.EventLaws.{bytes_of-append, bytes_of-map}
 use Rattle.trace.specs.Seen.{seen_at, seen_behind, seen_on, silences_of}
 use Rattle.trace.specs.Watching.{HasSeen, text_after, texts_from}
 use Rattle.trace.specs.declared.form.Form.{Form}
 use Rattle.trace.proofs.SeenLaws.{seen-told, seen_on-append, silences-append, silences-bytes, text-then}
+use Rattle.uip_edge.specs.Coming.{bytes_among}
 
 -- what a decoder tells of these bytes, whatever it was fed before
 abbrev pub Told : State → State → List ℕ → List Frame → Type 0
@@ -21,19 +20,19 @@ Told decoder decoder' bytes told = (fed : List ℕ) → WasFed fed decoder → W
 
 module _ (decoder decoder' : State) (count silences : ℕ) (bytes : List ℕ) (told : List Frame) (fed : Told decoder decoder' bytes told) where
   brought : (before : List Item) → HasSeen before decoder count silences
-      → seen_behind (bytes_of before) (silences_of before) (map Byte bytes) ≡ map (seen_at silences) told
+      → seen_behind (bytes_among before) (silences_of before) (map Byte bytes) ≡ map (seen_at silences) told
   brought before h =
-      seen-told (bytes_of before) (silences_of before) bytes told (fed (bytes_of before) h.fed).1
+      seen-told (bytes_among before) (silences_of before) bytes told (fed (bytes_among before) h.fed).1
       ∙ ap (λ n. map (seen_at n) told) (sym h.waited)
 
   pub front_seen : (before : List Item) → HasSeen before decoder count silences → HasSeen (before ++ map Byte bytes) decoder' (count + length told) silences
   front_seen before h =
-      let line : bytes_of (before ++ map Byte bytes) ≡ bytes_of before ++ bytes =
-      bytes_of-append before (map Byte bytes) ∙ ap (λ l. bytes_of before ++ l) (bytes_of-map bytes) in
+      let line : bytes_among (before ++ map Byte bytes) ≡ bytes_among before ++ bytes =
+      bytes_among-append before (map Byte bytes) ∙ ap (λ l. bytes_among before ++ l) (bytes_among-map bytes) in
       let same : length (map (seen_at silences) told) ≡ length told = rw length-map refl in
       let size = ap (λ l. length l) (seen_on-append before (map Byte bytes) ∙ ap (λ l. seen_on before ++ l) (brought before h)) in
       record {
-        fed = subst (λ (l : List ℕ). WasFed l decoder') (sym line) (fed (bytes_of before) h.fed).0;
+        fed = subst (λ (l : List ℕ). WasFed l decoder') (sym line) (fed (bytes_among before) h.fed).0;
         numbered = omega (arith, size, h.numbered, length-append (seen_on before) (map (seen_at silences) told), same);
         waited = omega (arith, h.waited, silences-append before (map Byte bytes), silences-bytes bytes);
       }
@@ -101,7 +100,7 @@ module _ (form form' : Form) (same : form' ≡ form) (decoder decoder' : State) 
 pub silence_seen : (before : List Item) (decoder : State) (count silences : ℕ) → HasSeen before decoder count silences
     → HasSeen (before ++ Quiet ∷ []) decoder count (silences + 1)
 silence_seen before decoder count silences h =
-    let line : bytes_of (before ++ Quiet ∷ []) ≡ bytes_of before = bytes_of-append before (Quiet ∷ []) ∙ append-nil (bytes_of before) in
+    let line : bytes_among (before ++ Quiet ∷ []) ≡ bytes_among before = bytes_among-append before (Quiet ∷ []) ∙ append-nil (bytes_among before) in
     let size = ap (λ l. length l) (seen_on-append before (Quiet ∷ []) ∙ append-nil (seen_on before)) in
     record {
       fed = subst (λ (l : List ℕ). WasFed l decoder) (sym line) h.fed;

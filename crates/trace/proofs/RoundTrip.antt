@@ -6,17 +6,14 @@ use Rattle.std.proofs.lemmas.Bool.{leb-true}
 use Rattle.std.proofs.lemmas.List.{length-map, map-append, take-append-le}
 use Rattle.std.proofs.Math.Nat.{div-add-mod}
 use Rattle.std.proofs.lemmas.List.Concat.{flat_map-append}
-use Rattle.uip_edge.specs.Coming.{Consumes}
+use Rattle.uip_edge.specs.Coming.{Consumes, bytes_among, TookAll}
 use Rattle.uip_edge.specs.declared.item.Item.{Item}
 use Rattle.uip_edge.specs.declared.item.Item.TheVariants.{Byte}
 use Rattle.uip_slip.specs.Frames.{Frame, Datagram, Overlong, all_but_last, frame_of, frames, parts, unescaped}
 use Rattle.uip_slip.specs.Text.{slip_text}
 use Rattle.uip_wire.specs.Fields.{long_bytes}
 use Rattle.uip_wire.specs.declared.sizes.TheConstants.{LARGEST_DATAGRAM}
-use Rattle.serve_loop.specs.LineEvents.{bytes_of}
-use Rattle.serve_loop.specs.Outside.{Outside, TookAll, Unfailed}
-use Rattle.serve_loop.proofs.EventLaws.{bytes_of-append, bytes_of-map}
-use Rattle.uip_edge.proofs.Told.{appends_by}
+use Rattle.uip_edge.proofs.Told.{appends_by, bytes_among-append, bytes_among-map, taken_within}
 use Rattle.trace.specs.CaptureReading.{Captured, HoldsJust, IsCaptured, IsReadAs, Reading, cut_in, captured_in, captured_bytes, captured_line, fault_in, lines_of, order_of}
 use Rattle.trace.specs.CaptureReading.Reading.{BadHeader, BadLength, InRecord, InHeader, Whole}
 use Rattle.trace.specs.CaptureText.{capture_header, capture_file, datagrams_in, datagrams_on, frame_record, seen_record}
@@ -30,6 +27,7 @@ use Rattle.trace.specs.declared.byte_order.ByteOrder.TheVariants.{Big}
 use Rattle.trace.specs.declared.slip_end.CaptureWhy.{CaptureWhy}
 use Rattle.trace.specs.declared.slip_end.CaptureWhy.TheVariants as whys
 use Rattle.trace.specs.declared.slip_end.SlipEnd.{SlipEnd}
+use Rattle.uip_edge.specs.Told.{LineTold, LineUnfailed}
 use Rattle.trace.specs.declared.slip_end.SlipEnd.TheVariants as ends
 
 none_is_not : {fault : ℕ × CaptureWhy} (o : Option (ℕ × CaptureWhy)) → o ≡ None → o ≡ Some fault → ⊥
@@ -53,21 +51,13 @@ same_bad : (o : Option (ℕ × CaptureWhy)) (one other : ℕ × CaptureWhy) → 
 unfolding bad_end
 same_bad o one other p q = ap bad_end (same_fault o one other p q)
 
-taken_within : (old new : Option (List Item)) (all taken : List Item) → old ≡ Some all → Consumes old new taken → length taken ≤ length all
-taken_within None new all taken e c = absurd cc
-taken_within (Some told) None all taken e c = absurd c
-taken_within (Some told) (Some left) all taken e c =
-    let same : told ≡ all = cc in
-    let size : length all ≡ length (taken ++ left) = ap (λ l. length l) (sym same ∙ c) in
-    omega (arith, size, length-append taken left)
-
 -- the answer that must come where nothing failed
-module _ (n : ℕ) (old new : Outside) (taken : List Item) (reading : Reading) (calm : Unfailed old new) where
+module _ (n : ℕ) (old new : LineTold) (taken : List Item) (reading : Reading) (calm : LineUnfailed old new) where
   told_bad : (end : SlipEnd) → SlipEndsBy n old new taken reading end → (number : ℕ) (why : CaptureWhy) → fault_in reading ≡ Some (number, why) → end ≡ ends.Bad number why
   told_bad ends.End by number why f = absurd (none_is_not _ by.3 f)
   told_bad ends.Budget by number why f = absurd (none_is_not _ by.2 f)
   told_bad ends.LinkFault by number why f = absurd (none_is_not _ by.3 f)
-  told_bad ends.WriteFault by number why f = absurd (omega (arith, by.2, calm.sink, calm.sink_below))
+  told_bad ends.WriteFault by number why f = absurd (omega (arith, by.2, calm.sink, calm.sink.below))
   told_bad (ends.Bad m whys.Cut) by number why f = absurd (none_is_not _ by.3 f)
   told_bad (ends.Bad m whys.Head) by number why f = same_bad _ (m, whys.Head) (number, why) by.2 f
   told_bad (ends.Bad m whys.Length) by number why f = same_bad _ (m, whys.Length) (number, why) by.2 f
@@ -76,23 +66,23 @@ module _ (n : ℕ) (old new : Outside) (taken : List Item) (reading : Reading) (
   told_budget ends.End by none all = absurd (omega (arith, by.1))
   told_budget ends.Budget by none all = refl
   told_budget ends.LinkFault by none all = absurd (omega (arith, by.0))
-  told_budget ends.WriteFault by none all = absurd (omega (arith, by.2, calm.sink, calm.sink_below))
+  told_budget ends.WriteFault by none all = absurd (omega (arith, by.2, calm.sink, calm.sink.below))
   told_budget (ends.Bad m whys.Cut) by none all = absurd (omega (arith, by.1))
   told_budget (ends.Bad m whys.Head) by none all = absurd (none_is_not _ none by.2)
   told_budget (ends.Bad m whys.Length) by none all = absurd (none_is_not _ none by.2)
 
-  told_over : (end : SlipEnd) → SlipEndsBy n old new taken reading end → (all : List Item) → fault_in reading ≡ None → old.coming ≡ Some all → length all < n
-      → Consumes old.coming new.coming taken → end ≡ end_by_cut (cut_in reading)
+  told_over : (end : SlipEnd) → SlipEndsBy n old new taken reading end → (all : List Item) → fault_in reading ≡ None → old.link.coming ≡ Some all → length all < n
+      → Consumes old.link.coming new.link.coming taken → end ≡ end_by_cut (cut_in reading)
   told_over ends.End by all none told short c = ap (λ o. end_by_cut o) (sym by.4)
-  told_over ends.Budget by all none told short c = absurd (omega (arith, taken_within old.coming new.coming all taken told c, by.0))
-  told_over ends.LinkFault by all none told short c = absurd (omega (arith, by.1, calm.link, calm.link_below))
-  told_over ends.WriteFault by all none told short c = absurd (omega (arith, by.2, calm.sink, calm.sink_below))
+  told_over ends.Budget by all none told short c = absurd (omega (arith, taken_within old.link.coming new.link.coming all taken told c, by.0))
+  told_over ends.LinkFault by all none told short c = absurd (omega (arith, by.1, calm.link, calm.link.below))
+  told_over ends.WriteFault by all none told short c = absurd (omega (arith, by.2, calm.sink, calm.sink.below))
   told_over (ends.Bad m whys.Cut) by all none told short c = ap (λ o. end_by_cut o) (sym by.4)
   told_over (ends.Bad m whys.Head) by all none told short c = absurd (none_is_not _ none by.2)
   told_over (ends.Bad m whys.Length) by all none told short c = absurd (none_is_not _ none by.2)
 
-pub surely : (n : ℕ) (old new : Outside) (taken : List Item) (reading : Reading) (end : SlipEnd) → SlipEndsBy n old new taken reading end
-    → Unfailed old new → IsSurely n old new taken reading end
+pub surely : (n : ℕ) (old new : LineTold) (taken : List Item) (reading : Reading) (end : SlipEnd) → SlipEndsBy n old new taken reading end
+    → LineUnfailed old new → IsSurely n old new taken reading end
 surely n old new taken reading end by calm = record {
   bad = told_bad n old new taken reading calm end by;
   budget = told_budget n old new taken reading calm end by;
@@ -194,7 +184,7 @@ module _ (items : List Item) where
   records = flat_map seen_captured (seen_on items)
 
   all_fit : AllByRecursion Fits (map frame_in (seen_on items))
-  all_fit = subst (λ (l : List Frame). AllByRecursion Fits l) (sym (frames_seen items)) (frames_fit (bytes_of items))
+  all_fit = subst (λ (l : List Frame). AllByRecursion Fits l) (sym (frames_seen items)) (frames_fit (bytes_among items))
 
   read_whole : IsReadAs (capture_file items) (Whole records)
   read_whole = (
@@ -240,39 +230,39 @@ fault_stays bytes more (BadLength records) fault read e =
 
 -- what a line told that holds just these bytes
 told_rest : (old new : Option (List Item)) (text : List ℕ) (taken : List Item) → old ≡ Some (map Byte text) → Consumes old new taken
-    → (left : List Item) × (text ≡ bytes_of taken ++ bytes_of left)
+    → (left : List Item) × (text ≡ bytes_among taken ++ bytes_among left)
 told_rest None new text taken e c = absurd cc
 told_rest (Some all) None text taken e c = absurd c
 told_rest (Some all) (Some left) text taken e c =
     let same : all ≡ map Byte text = cc in
-    (left, sym (bytes_of-map text) ∙ ap (λ l. bytes_of l) (sym same ∙ c) ∙ bytes_of-append taken left)
+    (left, sym (bytes_among-map text) ∙ ap (λ l. bytes_among l) (sym same ∙ c) ∙ bytes_among-append taken left)
 
-told_all : (old : Option (List Item)) (text : List ℕ) (taken : List Item) → old ≡ Some (map Byte text) → TookAll old taken → bytes_of taken ≡ text
+told_all : (old : Option (List Item)) (text : List ℕ) (taken : List Item) → old ≡ Some (map Byte text) → TookAll old taken → bytes_among taken ≡ text
 told_all None text taken e t = absurd cc
 told_all (Some all) text taken e t =
     let same : all ≡ map Byte text = cc in
-    ap (λ l. bytes_of l) (sym t ∙ same) ∙ bytes_of-map text
+    ap (λ l. bytes_among l) (sym t ∙ same) ∙ bytes_among-map text
 
-module _ (items : List Item) (n : ℕ) (old new : Outside) (told : old.coming ≡ Some (map Byte (capture_file items))) (short : length (capture_file items) < n)
-    (calm : Unfailed old new) where
+module _ (items : List Item) (n : ℕ) (old new : LineTold) (told : old.link.coming ≡ Some (map Byte (capture_file items))) (short : length (capture_file items) < n)
+    (calm : LineUnfailed old new) where
   abbrev Back : SlipEnd → Type 0
-  Back end = (end ≡ ends.End) × Appends old.written new.written (flat_map slip_text (datagrams_on items))
+  Back end = (end ≡ ends.End) × Appends old.sink.written new.sink.written (flat_map slip_text (datagrams_on items))
 
   whole_size : length (map Byte (capture_file items)) ≡ length (capture_file items)
   whole_size = rw length-map refl
 
-  read_all : (reading : Reading) (taken : List Item) → IsReadAs (bytes_of taken) reading → TookAll old.coming taken → reading ≡ Whole (records items)
+  read_all : (reading : Reading) (taken : List Item) → IsReadAs (bytes_among taken) reading → TookAll old.link.coming taken → reading ≡ Whole (records items)
   read_all reading taken read all =
       one_reading (capture_file items) reading (Whole (records items))
-      (subst (λ (l : List ℕ). IsReadAs l reading) (told_all old.coming (capture_file items) taken told all) read) (read_whole items)
+      (subst (λ (l : List ℕ). IsReadAs l reading) (told_all old.link.coming (capture_file items) taken told all) read) (read_whole items)
 
-  no_fault : (reading : Reading) (taken : List Item) (fault : ℕ × CaptureWhy) → IsReadAs (bytes_of taken) reading → Consumes old.coming new.coming taken
+  no_fault : (reading : Reading) (taken : List Item) (fault : ℕ × CaptureWhy) → IsReadAs (bytes_among taken) reading → Consumes old.link.coming new.link.coming taken
       → fault_in reading ≡ Some fault → ⊥
   no_fault reading taken fault read c e =
-      let rest = told_rest old.coming new.coming (capture_file items) taken told c in
+      let rest = told_rest old.link.coming new.link.coming (capture_file items) taken told c in
       let same : reading ≡ Whole (records items) =
       one_reading (capture_file items) reading (Whole (records items))
-      (subst (λ (l : List ℕ). IsReadAs l reading) (sym rest.1) (fault_stays (bytes_of taken) (bytes_of rest.0) reading fault read e)) (read_whole items) in
+      (subst (λ (l : List ℕ). IsReadAs l reading) (sym rest.1) (fault_stays (bytes_among taken) (bytes_among rest.0) reading fault read e)) (read_whole items) in
       none_is_not (fault_in reading) (ap (λ r. fault_in r) same) e
 
   back : (end : SlipEnd) → Converts n old new end → Back end
@@ -280,15 +270,15 @@ module _ (items : List Item) (n : ℕ) (old new : Outside) (told : old.coming �
       let same = read_all c.reading c.taken c.read c.ends.0 in
       (refl, appends_by _ _ _ _ (sym (ap (λ r. lines_of (captured_in r)) same ∙ line_is items)) c.wrote)
   back ends.Budget c =
-      absurd (omega (arith, taken_within old.coming new.coming (map Byte (capture_file items)) c.taken told c.consumed, c.ends.0, whole_size))
-  back ends.LinkFault c = absurd (omega (arith, c.ends.1, calm.link, calm.link_below))
-  back ends.WriteFault c = absurd (omega (arith, c.ends.2, calm.sink, calm.sink_below))
+      absurd (omega (arith, taken_within old.link.coming new.link.coming (map Byte (capture_file items)) c.taken told c.consumed, c.ends.0, whole_size))
+  back ends.LinkFault c = absurd (omega (arith, c.ends.1, calm.link, calm.link.below))
+  back ends.WriteFault c = absurd (omega (arith, c.ends.2, calm.sink, calm.sink.below))
   back (ends.Bad m whys.Cut) c =
       let same = read_all c.reading c.taken c.read c.ends.0 in absurd (uncut (cut_in c.reading) (ap (λ r. cut_in r) same) c.ends.4)
   back (ends.Bad m whys.Head) c = absurd (no_fault c.reading c.taken (m, whys.Head) c.read c.consumed c.ends.2)
   back (ends.Bad m whys.Length) c = absurd (no_fault c.reading c.taken (m, whys.Length) c.read c.consumed c.ends.2)
 
-pub comes_back : (items : List Item) (n : ℕ) (old new : Outside) (end : SlipEnd) → old.coming ≡ Some (map Byte (capture_file items))
-    → length (capture_file items) < n → Converts n old new end → Unfailed old new
-    → (end ≡ ends.End) × Appends old.written new.written (flat_map slip_text (datagrams_on items))
+pub comes_back : (items : List Item) (n : ℕ) (old new : LineTold) (end : SlipEnd) → old.link.coming ≡ Some (map Byte (capture_file items))
+    → length (capture_file items) < n → Converts n old new end → LineUnfailed old new
+    → (end ≡ ends.End) × Appends old.sink.written new.sink.written (flat_map slip_text (datagrams_on items))
 comes_back items n old new end told short c calm = back items n old new told short calm end c

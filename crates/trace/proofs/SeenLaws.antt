@@ -7,11 +7,12 @@ use Rattle.uip_edge.specs.declared.item.Item.{Item}
 use Rattle.uip_edge.specs.declared.item.Item.TheVariants.{Byte, Quiet}
 use Rattle.uip_slip.specs.Frames.{Frame, frame_of, frames, open_part, unescaped}
 use Rattle.uip_slip.proofs.PartLaws.{frames-end, frames-plain, parts-byte}
-use Rattle.serve_loop.specs.LineEvents.{bytes_of, completed}
-use Rattle.serve_loop.proofs.EventLaws.{bytes_of-append}
+use Rattle.serve_loop.specs.LineEvents.{completed}
 use Rattle.trace.specs.Seen.{Seen, seen_at, seen_behind, seen_on, silences_of}
 use Rattle.trace.specs.Watching.{frame_text, text_after, texts_from}
 use Rattle.trace.specs.declared.form.Form.{Form}
+use Rattle.uip_edge.specs.Coming.{bytes_among}
+use Rattle.uip_edge.proofs.Told.{bytes_among-append}
 
 -- the frames that bytes complete behind others
 abbrev pub completed_by : List ℕ → List ℕ → List Frame
@@ -58,7 +59,7 @@ frames_seen_at silences (frame ∷ told) = ap (λ l. frame ∷ l) (frames_seen_a
 abbrev pub frame_in : Seen → Frame
 frame_in seen = seen.frame
 
-seen-frames : (before : List ℕ) (silences : ℕ) (items : List Item) → map frame_in (seen_behind before silences items) ≡ completed_by before (bytes_of items)
+seen-frames : (before : List ℕ) (silences : ℕ) (items : List Item) → map frame_in (seen_behind before silences items) ≡ completed_by before (bytes_among items)
 seen-frames before silences [] = refl
 seen-frames before silences (Byte b ∷ items) =
     map-append frame_in (map (seen_at silences) (completed before b)) (seen_behind (before ++ b ∷ []) silences items)
@@ -67,22 +68,22 @@ seen-frames before silences (Byte b ∷ items) =
 seen-frames before silences (Quiet ∷ items) = seen-frames before (silences + 1) items
 
 -- the frames of a line are those that were seen on it
-pub frames_seen : (items : List Item) → map frame_in (seen_on items) ≡ frames (bytes_of items)
-frames_seen items = seen-frames [] 0 items ∙ sym (frames-then [] (bytes_of items))
+pub frames_seen : (items : List Item) → map frame_in (seen_on items) ≡ frames (bytes_among items)
+frames_seen items = seen-frames [] 0 items ∙ sym (frames-then [] (bytes_among items))
 
 -- further items follow
 pub seen-then : (before : List ℕ) (silences : ℕ) (xs ys : List Item)
-    → seen_behind before silences (xs ++ ys) ≡ seen_behind before silences xs ++ seen_behind (before ++ bytes_of xs) (silences + silences_of xs) ys
+    → seen_behind before silences (xs ++ ys) ≡ seen_behind before silences xs ++ seen_behind (before ++ bytes_among xs) (silences + silences_of xs) ys
 seen-then before silences [] ys = ap (λ l. seen_behind l silences ys) (sym (append-nil before)) ∙ ap (λ n. seen_behind (before ++ []) n ys) (omega arith)
 seen-then before silences (Byte b ∷ xs) ys =
     let here = map (seen_at silences) (completed before b) in
     let behind = before ++ b ∷ [] in
     ap (λ l. here ++ l) (seen-then behind silences xs ys)
-    ∙ ap (λ l. here ++ (seen_behind behind silences xs ++ seen_behind l (silences + silences_of xs) ys)) (append_assoc before (b ∷ []) (bytes_of xs))
-    ∙ sym (append_assoc here (seen_behind behind silences xs) (seen_behind (before ++ b ∷ bytes_of xs) (silences + silences_of xs) ys))
+    ∙ ap (λ l. here ++ (seen_behind behind silences xs ++ seen_behind l (silences + silences_of xs) ys)) (append_assoc before (b ∷ []) (bytes_among xs))
+    ∙ sym (append_assoc here (seen_behind behind silences xs) (seen_behind (before ++ b ∷ bytes_among xs) (silences + silences_of xs) ys))
 seen-then before silences (Quiet ∷ xs) ys =
     seen-then before (silences + 1) xs ys
-    ∙ ap (λ n. seen_behind before (silences + 1) xs ++ seen_behind (before ++ bytes_of xs) n ys) (omega arith)
+    ∙ ap (λ n. seen_behind before (silences + 1) xs ++ seen_behind (before ++ bytes_among xs) n ys) (omega arith)
 
 pub silences-append : (xs ys : List Item) → silences_of (xs ++ ys) ≡ silences_of xs + silences_of ys
 silences-append [] ys = omega arith
@@ -104,20 +105,20 @@ texts-append form n xs ys =
     ∙ flat_map-append (frame_text form) (enumerate_from n xs) (enumerate_from (n + length xs) ys)
 
 -- what was seen of items behind others
-pub seen_on-append : (xs ys : List Item) → seen_on (xs ++ ys) ≡ seen_on xs ++ seen_behind (bytes_of xs) (silences_of xs) ys
-seen_on-append xs ys = seen-then [] 0 xs ys ∙ ap (λ n. seen_on xs ++ seen_behind (bytes_of xs) n ys) (omega arith)
+pub seen_on-append : (xs ys : List Item) → seen_on (xs ++ ys) ≡ seen_on xs ++ seen_behind (bytes_among xs) (silences_of xs) ys
+seen_on-append xs ys = seen-then [] 0 xs ys ∙ ap (λ n. seen_on xs ++ seen_behind (bytes_among xs) n ys) (omega arith)
 
 -- the text of items, and then that of further ones
 pub text-then : (form : Form) (before xs ys : List Item) → text_after form before (xs ++ ys) ≡ text_after form before xs ++ text_after form (before ++ xs) ys
 text-then form before xs ys =
-    let bytes = bytes_of before in
+    let bytes = bytes_among before in
     let silences = silences_of before in
     let first = seen_behind bytes silences xs in
-    let more = seen_behind (bytes ++ bytes_of xs) (silences + silences_of xs) ys in
+    let more = seen_behind (bytes ++ bytes_among xs) (silences + silences_of xs) ys in
     let number = length (seen_on before) + 1 in
     ap (λ l. texts_from form number l) (seen-then bytes silences xs ys)
     ∙ texts-append form number first more
-    ∙ ap (λ l. texts_from form number first ++ texts_from form (number + length first) (seen_behind l (silences + silences_of xs) ys)) (sym (bytes_of-append before xs))
-    ∙ ap (λ n. texts_from form number first ++ texts_from form (number + length first) (seen_behind (bytes_of (before ++ xs)) n ys)) (sym (silences-append before xs))
-    ∙ ap (λ n. texts_from form number first ++ texts_from form n (seen_behind (bytes_of (before ++ xs)) (silences_of (before ++ xs)) ys))
+    ∙ ap (λ l. texts_from form number first ++ texts_from form (number + length first) (seen_behind l (silences + silences_of xs) ys)) (sym (bytes_among-append before xs))
+    ∙ ap (λ n. texts_from form number first ++ texts_from form (number + length first) (seen_behind (bytes_among (before ++ xs)) n ys)) (sym (silences-append before xs))
+    ∙ ap (λ n. texts_from form number first ++ texts_from form n (seen_behind (bytes_among (before ++ xs)) (silences_of (before ++ xs)) ys))
     (let size = ap (λ l. length l) (seen_on-append before xs) in omega (arith, size, length-append (seen_on before) first))

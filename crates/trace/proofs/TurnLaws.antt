@@ -2,22 +2,20 @@
 use Rattle.std.proofs.Common.{◌≡◌, ℕ, ◌<◌, List, [], ◌∷◌, ◌++◌, Option, Some, None, Ok, length, map, refl, sym, ap, ◌∙◌, append-nil, arith, subst}
 use Rattle.std.specs.Io.KnownBytes.{Appends}
 use Rattle.uip_edge.specs.Causes.{Rose}
-use Rattle.uip_edge.specs.Coming.{IsAtEnd}
+use Rattle.uip_edge.specs.Coming.{IsAtEnd, bytes_among, TookAll}
 use Rattle.uip_edge.specs.declared.got.Got.TheVariants.{End}
 use Rattle.uip_edge.specs.declared.item.Item.{Item}
 use Rattle.uip_edge.specs.declared.item.Item.TheVariants.{Byte, Quiet}
-use Rattle.serve_loop.specs.LineEvents.{bytes_of}
-use Rattle.serve_loop.specs.Outside.{IsDry, Outside}
-use Rattle.serve_loop.proofs.EventLaws.{bytes_of-append, bytes_of-map}
 use Rattle.trace.specs.CaptureReading.{Captured, IsReadAs, Reading, cut_in, captured_in, fault_in, lines_of}
 use Rattle.trace.specs.CaptureReading.Reading.{BadHeader, BadLength, InRecord, InHeader, Whole}
-use Rattle.trace.specs.Converting.{Calm}
 use Rattle.trace.specs.Gathering.{BrokeOff, IsReadTo, IsAtFault, IsOpen, EndsIn, end_at}
 use Rattle.trace.specs.declared.slip_end.CaptureWhy.{CaptureWhy}
 use Rattle.trace.specs.declared.slip_end.CaptureWhy.TheVariants as whys
 use Rattle.trace.specs.declared.slip_end.SlipEnd.{SlipEnd}
 use Rattle.trace.specs.declared.slip_end.SlipEnd.TheVariants as ends
 use Rattle.trace.specs.declared.stage.Stage.{Stage}
+use Rattle.uip_edge.specs.Told.{LineTold, IsCalm}
+use Rattle.uip_edge.proofs.Told.{bytes_among-append, bytes_among-map}
 use Rattle.trace.specs.declared.stage.Stage.TheVariants as stages
 
 -- the answer to the end of the link, where the bytes are read so
@@ -71,12 +69,12 @@ sound_at start now bytes (stages.Body order) number part want at is =
       cut = ap (λ n. Some n) (sym at.read.0);
     }
 
-none_more : (before : List Item) (reading : Reading) → IsReadAs (bytes_of before) reading → IsReadAs (bytes_of (before ++ [])) reading
-none_more before reading read = subst (λ (l : List Item). IsReadAs (bytes_of l) reading) (sym (append-nil before)) read
+none_more : (before : List Item) (reading : Reading) → IsReadAs (bytes_among before) reading → IsReadAs (bytes_among (before ++ [])) reading
+none_more before reading read = subst (λ (l : List Item). IsReadAs (bytes_among l) reading) (sym (append-nil before)) read
 
-module _ (start : Option (List ℕ)) (before : List Item) (old new : Outside) (same : new.written ≡ old.written) where
+module _ (start : Option (List ℕ)) (before : List Item) (old new : LineTold) (same : new.sink.written ≡ old.sink.written) where
   -- the link failed
-  pub link_failed : (end : SlipEnd) → IsSoundAt start old.written (bytes_of before) end → Rose old.link_faults new.link_faults → new.sink_faults ≡ old.sink_faults
+  pub link_failed : (end : SlipEnd) → IsSoundAt start old.sink.written (bytes_among before) end → Rose old.link.faults new.link.faults → new.sink.faults ≡ old.sink.faults
       → EndsIn start before [] old new ends.LinkFault
   link_failed end s rose calm = record {
     reading = s.reading;
@@ -86,7 +84,7 @@ module _ (start : Option (List ℕ)) (before : List Item) (old new : Outside) (s
   }
 
   -- it answered its end
-  pub link_ended : (end : SlipEnd) → IsSoundAt start old.written (bytes_of before) end → IsDry old.coming → Calm old new → EndsIn start before [] old new end
+  pub link_ended : (end : SlipEnd) → IsSoundAt start old.sink.written (bytes_among before) end → TookAll old.link.coming [] → IsCalm old new → EndsIn start before [] old new end
   link_ended ends.End s dry calm = record {
     reading = s.reading;
     read = none_more before s.reading s.read;
@@ -106,18 +104,18 @@ module _ (start : Option (List ℕ)) (before : List Item) (old new : Outside) (s
   link_ended (ends.Bad number whys.Length) s dry calm = absurd s.cut
 
 -- a silence says nothing
-pub silence_read : (start now : Option (List ℕ)) (before : List Item) (stage : Stage) (number : ℕ) (part : List ℕ) → IsReadTo start now (bytes_of before) stage number part
-    → IsReadTo start now (bytes_of (before ++ Quiet ∷ [])) stage number part
+pub silence_read : (start now : Option (List ℕ)) (before : List Item) (stage : Stage) (number : ℕ) (part : List ℕ) → IsReadTo start now (bytes_among before) stage number part
+    → IsReadTo start now (bytes_among (before ++ Quiet ∷ [])) stage number part
 silence_read start now before stage number part at =
-    subst (λ (l : List ℕ). IsReadTo start now l stage number part) (sym (bytes_of-append before (Quiet ∷ []) ∙ append-nil (bytes_of before))) at
+    subst (λ (l : List ℕ). IsReadTo start now l stage number part) (sym (bytes_among-append before (Quiet ∷ []) ∙ append-nil (bytes_among before))) at
 
 -- the bytes of a line go on
-pub bytes_on : (before : List Item) (bytes : List ℕ) → bytes_of before ++ bytes ≡ bytes_of (before ++ map Byte bytes)
-bytes_on before bytes = ap (λ l. bytes_of before ++ l) (sym (bytes_of-map bytes)) ∙ sym (bytes_of-append before (map Byte bytes))
+pub bytes_on : (before : List Item) (bytes : List ℕ) → bytes_among before ++ bytes ≡ bytes_among (before ++ map Byte bytes)
+bytes_on before bytes = ap (λ l. bytes_among before ++ l) (sym (bytes_among-map bytes)) ∙ sym (bytes_among-append before (map Byte bytes))
 
 -- a write failed
-pub write_failed : (start : Option (List ℕ)) (before : List Item) (bytes : List ℕ) (old new : Outside) → BrokeOff start new.written (bytes_of before ++ bytes)
-    → new.link_faults ≡ old.link_faults → Rose old.sink_faults new.sink_faults → EndsIn start before (map Byte bytes) old new ends.WriteFault
+pub write_failed : (start : Option (List ℕ)) (before : List Item) (bytes : List ℕ) (old new : LineTold) → BrokeOff start new.sink.written (bytes_among before ++ bytes)
+    → new.link.faults ≡ old.link.faults → Rose old.sink.faults new.sink.faults → EndsIn start before (map Byte bytes) old new ends.WriteFault
 write_failed start before bytes old new b calm rose = record {
   reading = b.reading;
   read = subst (λ (l : List ℕ). IsReadAs l b.reading) (bytes_on before bytes) b.read;
@@ -138,13 +136,13 @@ never_cut (InRecord records) number e = absurd cc
 never_cut (BadLength records) number e = let w : whys.Length ≡ whys.Cut = ap why_of e in absurd cc
 
 -- no item is left where the link answers its end
-pub is_dry : (told : Option (List Item)) → IsAtEnd (Ok End) told → IsDry told
+pub is_dry : (told : Option (List Item)) → IsAtEnd (Ok End) told → TookAll told []
 is_dry None e = tt
 is_dry (Some all) e = e
 
 -- the file is at fault
-pub file_fault : (why : CaptureWhy) (start : Option (List ℕ)) (before : List Item) (bytes : List ℕ) (old new : Outside) (number : ℕ)
-    → IsAtFault why start new.written (bytes_of before ++ bytes) number → Calm old new → EndsIn start before (map Byte bytes) old new (ends.Bad number why)
+pub file_fault : (why : CaptureWhy) (start : Option (List ℕ)) (before : List Item) (bytes : List ℕ) (old new : LineTold) (number : ℕ)
+    → IsAtFault why start new.sink.written (bytes_among before ++ bytes) number → IsCalm old new → EndsIn start before (map Byte bytes) old new (ends.Bad number why)
 file_fault whys.Head start before bytes old new number f calm = record {
   reading = f.reading;
   read = subst (λ (l : List ℕ). IsReadAs l f.reading) (bytes_on before bytes) f.read;

@@ -3,11 +3,11 @@ use Rattle.std.specs.Prelude.{ℕ, ◌*◌, ◌/◌, ◌%◌, List, [], ◌∷�
 use Rattle.std.specs.List.{flat_map}
 use Rattle.uip_edge.specs.declared.item.Item.{Item}
 use Rattle.uip_slip.specs.Frames.{Frame, Datagram, Overlong, frames}
-use Rattle.serve_loop.specs.LineEvents.{bytes_of}
 use Rattle.uip_wire.specs.Fields.{long_bytes}
 use Rattle.trace.specs.Seen.{Seen, seen_on}
 use Rattle.trace.specs.declared.byte_order.ByteOrder.{ByteOrder}
 use Rattle.trace.specs.declared.byte_order.ByteOrder.TheVariants.{Big, Little}
+use Rattle.uip_edge.specs.Coming.{bytes_among}
 
 -- the magic number A1B2C3D4 of a file whose times are in microseconds, and the version 2.4
 abbrev pub signature : ByteOrder → List ℕ
@@ -47,4 +47,4 @@ datagrams_in (Datagram bytes) = bytes ∷ []
 datagrams_in Overlong = []
 
 abbrev pub datagrams_on : List Item → List (List ℕ)
-datagrams_on items = flat_map datagrams_in (frames (bytes_of items))
+datagrams_on items = flat_map datagrams_in (frames (bytes_among items))

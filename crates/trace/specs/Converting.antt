@@ -2,22 +2,16 @@
 use Rattle.std.specs.Prelude.{◌≡◌, ◌<◌, ◌≤◌, ℕ, List, ◌++◌, Option, Some, None, length}
 use Rattle.std.specs.Io.KnownBytes.{Appends}
 use Rattle.uip_edge.specs.Causes.{Rose}
-use Rattle.uip_edge.specs.Coming.{Consumes}
+use Rattle.uip_edge.specs.Coming.{Consumes, bytes_among, TookAll}
 use Rattle.uip_edge.specs.Writing.{AppendsPrefix}
 use Rattle.uip_edge.specs.declared.item.Item.{Item}
-use Rattle.serve_loop.specs.LineEvents.{bytes_of}
-use Rattle.serve_loop.specs.Outside.{Outside, TookAll}
 use Rattle.trace.specs.CaptureReading.{IsReadAs, Reading, cut_in, captured_in, fault_in, lines_of}
 use Rattle.trace.specs.declared.telling.TheConstants.{BLOCK}
 use Rattle.trace.specs.declared.slip_end.CaptureWhy.{CaptureWhy}
 use Rattle.trace.specs.declared.slip_end.CaptureWhy.TheVariants as whys
 use Rattle.trace.specs.declared.slip_end.SlipEnd.{SlipEnd}
+use Rattle.uip_edge.specs.Told.{LineTold, IsCalm}
 use Rattle.trace.specs.declared.slip_end.SlipEnd.TheVariants as ends
-
--- no call failed
-pub record Calm (old new : Outside) : Type 0 where
-  pub link : new.link_faults ≡ old.link_faults
-  pub sink : new.sink_faults ≡ old.sink_faults
 
 -- the last call of the link brought the fault: what was taken before has none
 pub record HasNewFault (taken : List Item) : Type 0 where
@@ -26,42 +20,39 @@ pub record HasNewFault (taken : List Item) : Type 0 where
   pub pieces : taken ≡ front ++ last
   pub within : length last ≤ BLOCK
   pub reading : Reading
-  pub read : IsReadAs (bytes_of front) reading
+  pub read : IsReadAs (bytes_among front) reading
   pub sound : fault_in reading ≡ None
 
 -- the cause of each end of a call that took these items, of which there were to be n at most, and read them so
-abbrev pub SlipEndsBy : ℕ → Outside → Outside → List Item → Reading → SlipEnd → Type 0
+abbrev pub SlipEndsBy : ℕ → LineTold → LineTold → List Item → Reading → SlipEnd → Type 0
 SlipEndsBy n old new taken reading ends.End =
-    TookAll old.coming taken × (length taken < n) × Calm old new × (fault_in reading ≡ None) × (cut_in reading ≡ None)
-SlipEndsBy n old new taken reading ends.Budget = (length taken ≡ n) × Calm old new × (fault_in reading ≡ None)
+    TookAll old.link.coming taken × (length taken < n) × IsCalm old new × (fault_in reading ≡ None) × (cut_in reading ≡ None)
+SlipEndsBy n old new taken reading ends.Budget = (length taken ≡ n) × IsCalm old new × (fault_in reading ≡ None)
 SlipEndsBy n old new taken reading ends.LinkFault =
-    (length taken < n) × Rose old.link_faults new.link_faults × (new.sink_faults ≡ old.sink_faults) × (fault_in reading ≡ None)
+    (length taken < n) × Rose old.link.faults new.link.faults × (new.sink.faults ≡ old.sink.faults) × (fault_in reading ≡ None)
 SlipEndsBy n old new taken reading ends.WriteFault =
-    (length taken ≤ n) × (new.link_faults ≡ old.link_faults) × Rose old.sink_faults new.sink_faults
+    (length taken ≤ n) × (new.link.faults ≡ old.link.faults) × Rose old.sink.faults new.sink.faults
 SlipEndsBy n old new taken reading (ends.Bad number whys.Cut) =
-    TookAll old.coming taken × (length taken < n) × Calm old new × (fault_in reading ≡ None) × (cut_in reading ≡ Some number)
+    TookAll old.link.coming taken × (length taken < n) × IsCalm old new × (fault_in reading ≡ None) × (cut_in reading ≡ Some number)
 SlipEndsBy n old new taken reading (ends.Bad number whys.Head) =
-    (length taken ≤ n) × Calm old new × (fault_in reading ≡ Some (number, whys.Head)) × HasNewFault taken
+    (length taken ≤ n) × IsCalm old new × (fault_in reading ≡ Some (number, whys.Head)) × HasNewFault taken
 SlipEndsBy n old new taken reading (ends.Bad number whys.Length) =
-    (length taken ≤ n) × Calm old new × (fault_in reading ≡ Some (number, whys.Length)) × HasNewFault taken
+    (length taken ≤ n) × IsCalm old new × (fault_in reading ≡ Some (number, whys.Length)) × HasNewFault taken
 
 -- the text was written whole, or a front of it where a write failed
 abbrev pub WroteLine : SlipEnd → Option (List ℕ) → Option (List ℕ) → List ℕ → Type 0
-WroteLine ends.End old new text = Appends old new text
-WroteLine ends.Budget old new text = Appends old new text
-WroteLine ends.LinkFault old new text = Appends old new text
 WroteLine ends.WriteFault old new text = AppendsPrefix old new text
-WroteLine (ends.Bad number why) old new text = Appends old new text
+WroteLine _ old new text = Appends old new text
 
 -- A capture file was made a serial line, up to n items: there are items that the link told and lost, their bytes are read in
 -- one way, the end has its cause, and the line of the whole records was written.
-pub record Converts (n : ℕ) (old new : Outside) (result : SlipEnd) : Type 0 where
+pub record Converts (n : ℕ) (old new : LineTold) (result : SlipEnd) : Type 0 where
   pub taken : List Item
-  pub consumed : Consumes old.coming new.coming taken
+  pub consumed : Consumes old.link.coming new.link.coming taken
   pub reading : Reading
-  pub read : IsReadAs (bytes_of taken) reading
+  pub read : IsReadAs (bytes_among taken) reading
   pub ends : SlipEndsBy n old new taken reading result
-  pub wrote : WroteLine result old.written new.written (lines_of (captured_in reading))
+  pub wrote : WroteLine result old.sink.written new.sink.written (lines_of (captured_in reading))
 
 -- the answer to the end of the link, where the bytes are read so
 abbrev pub end_by_cut : Option ℕ → SlipEnd
@@ -70,8 +61,8 @@ end_by_cut (Some number) = ends.Bad number whys.Cut
 
 -- The answer that must come where nothing failed: the fault, wherever the bytes have one; else the budget at so many items; and
 -- else, where the link tells fewer items than are allowed, what the end of these bytes says.
-pub record IsSurely (n : ℕ) (old new : Outside) (taken : List Item) (reading : Reading) (end : SlipEnd) : Type 0 where
+pub record IsSurely (n : ℕ) (old new : LineTold) (taken : List Item) (reading : Reading) (end : SlipEnd) : Type 0 where
   pub bad : (number : ℕ) (why : CaptureWhy) → fault_in reading ≡ Some (number, why) → end ≡ ends.Bad number why
   pub budget : fault_in reading ≡ None → length taken ≡ n → end ≡ ends.Budget
-  pub over : (all : List Item) → fault_in reading ≡ None → old.coming ≡ Some all → length all < n → Consumes old.coming new.coming taken
+  pub over : (all : List Item) → fault_in reading ≡ None → old.link.coming ≡ Some all → length all < n → Consumes old.link.coming new.link.coming taken
       → end ≡ end_by_cut (cut_in reading)

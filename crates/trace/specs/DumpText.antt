@@ -18,7 +18,7 @@ use Rattle.tcp_segment.specs.declared.fate.TcpFate.TheVariants as tcp
 use Rattle.tcp_segment.specs.declared.segment.Segment.{Segment}
 use Rattle.uip_edge.specs.declared.item.Item.{Item}
 use Rattle.uip_slip.specs.Frames.{Frame, Datagram, Overlong, frames}
-use Rattle.serve_loop.specs.LineEvents.{bytes_of}
+use Rattle.uip_edge.specs.Coming.{bytes_among}
 
 -- an address as a dotted quad
 abbrev pub quad_text : List ℕ → List ℕ
@@ -107,4 +107,4 @@ numbered_line numbered = dump_line numbered.0 numbered.1
 
 -- the lines of the frames, numbered from 1
 abbrev pub dump_text : List Item → List ℕ
-dump_text items = flat_map numbered_line (enumerate_from 1 (frames (bytes_of items)))
+dump_text items = flat_map numbered_line (enumerate_from 1 (frames (bytes_among items)))

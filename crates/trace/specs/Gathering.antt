@@ -2,13 +2,11 @@
 use Rattle.std.specs.Prelude.{◌≡◌, ◌<◌, ◌≤◌, ◌+◌, ⊤, ℕ, List, [], ◌∷◌, ◌++◌, Option, Some, None, Result, Ok, Err, length}
 use Rattle.std.specs.Io.KnownBytes.{Appends}
 use Rattle.uip_edge.specs.Causes.{Rose}
-use Rattle.uip_edge.specs.Coming.{Consumes}
+use Rattle.uip_edge.specs.Coming.{Consumes, bytes_among, TookAll}
 use Rattle.uip_edge.specs.Writing.{AppendsPrefix}
 use Rattle.uip_edge.specs.declared.item.Item.{Item}
-use Rattle.serve_loop.specs.LineEvents.{bytes_of}
-use Rattle.serve_loop.specs.Outside.{IsDry, Outside}
 use Rattle.trace.specs.CaptureReading.{BeginsWith, Captured, IsReadAs, Reading, cut_in, captured_in, fault_in, length_in, lines_of}
-use Rattle.trace.specs.Converting.{Calm, WroteLine}
+use Rattle.trace.specs.Converting.{WroteLine}
 use Rattle.trace.specs.declared.area.TheConstants.{LONGEST_RECORD}
 use Rattle.trace.specs.declared.reader.Reader.{Reader}
 use Rattle.trace.specs.declared.reader.Stop.{Stop}
@@ -20,6 +18,7 @@ use Rattle.trace.specs.declared.slip_end.CaptureWhy.TheVariants as whys
 use Rattle.trace.specs.declared.slip_end.SlipEnd.{SlipEnd}
 use Rattle.trace.specs.declared.slip_end.SlipEnd.TheVariants as ends
 use Rattle.trace.specs.declared.stage.Stage.{Stage}
+use Rattle.uip_edge.specs.Told.{LineTold, IsCalm}
 use Rattle.trace.specs.declared.stage.Stage.TheVariants as stages
 
 -- how long the part has to be
@@ -103,32 +102,32 @@ OpenOn (turns.Went n) stage part want = IsOpen stage part want
 OpenOn (turns.Stopped end) stage part want = ⊤
 
 -- the cause of an end that a turn tells which took these items
-abbrev pub StopsBy : Outside → Outside → List Item → Reading → SlipEnd → Type 0
-StopsBy old new items reading ends.End = (items ≡ []) × IsDry old.coming × Calm old new × (fault_in reading ≡ None) × (cut_in reading ≡ None)
+abbrev pub StopsBy : LineTold → LineTold → List Item → Reading → SlipEnd → Type 0
+StopsBy old new items reading ends.End = (items ≡ []) × TookAll old.link.coming [] × IsCalm old new × (fault_in reading ≡ None) × (cut_in reading ≡ None)
 StopsBy old new items reading ends.Budget = ⊥
 StopsBy old new items reading ends.LinkFault =
-    (items ≡ []) × Rose old.link_faults new.link_faults × (new.sink_faults ≡ old.sink_faults) × (fault_in reading ≡ None)
-StopsBy old new items reading ends.WriteFault = (new.link_faults ≡ old.link_faults) × Rose old.sink_faults new.sink_faults
+    (items ≡ []) × Rose old.link.faults new.link.faults × (new.sink.faults ≡ old.sink.faults) × (fault_in reading ≡ None)
+StopsBy old new items reading ends.WriteFault = (new.link.faults ≡ old.link.faults) × Rose old.sink.faults new.sink.faults
 StopsBy old new items reading (ends.Bad number whys.Cut) =
-    (items ≡ []) × IsDry old.coming × Calm old new × (fault_in reading ≡ None) × (cut_in reading ≡ Some number)
-StopsBy old new items reading (ends.Bad number whys.Head) = Calm old new × (fault_in reading ≡ Some (number, whys.Head))
-StopsBy old new items reading (ends.Bad number whys.Length) = Calm old new × (fault_in reading ≡ Some (number, whys.Length))
+    (items ≡ []) × TookAll old.link.coming [] × IsCalm old new × (fault_in reading ≡ None) × (cut_in reading ≡ Some number)
+StopsBy old new items reading (ends.Bad number whys.Head) = IsCalm old new × (fault_in reading ≡ Some (number, whys.Head))
+StopsBy old new items reading (ends.Bad number whys.Length) = IsCalm old new × (fault_in reading ≡ Some (number, whys.Length))
 
 -- the reading stopped in a turn
-pub record EndsIn (start : Option (List ℕ)) (before items : List Item) (old new : Outside) (end : SlipEnd) : Type 0 where
+pub record EndsIn (start : Option (List ℕ)) (before items : List Item) (old new : LineTold) (end : SlipEnd) : Type 0 where
   pub reading : Reading
-  pub read : IsReadAs (bytes_of (before ++ items)) reading
+  pub read : IsReadAs (bytes_among (before ++ items)) reading
   pub cause : StopsBy old new items reading end
-  pub wrote : WroteLine end start new.written (lines_of (captured_in reading))
+  pub wrote : WroteLine end start new.sink.written (lines_of (captured_in reading))
 
-abbrev pub ReadBy : Option (List ℕ) → List Item → List Item → Outside → Outside → Stage → ℕ → List ℕ → Turn → Type 0
+abbrev pub ReadBy : Option (List ℕ) → List Item → List Item → LineTold → LineTold → Stage → ℕ → List ℕ → Turn → Type 0
 ReadBy start before items old new stage number part (turns.Went n) =
-    (length items ≡ n) × Calm old new × IsReadTo start new.written (bytes_of (before ++ items)) stage number part
+    (length items ≡ n) × IsCalm old new × IsReadTo start new.sink.written (bytes_among (before ++ items)) stage number part
 ReadBy start before items old new stage number part (turns.Stopped end) = EndsIn start before items old new end
 
 -- a turn, behind the items before it
-pub record Reads (start : Option (List ℕ)) (before : List Item) (old new : Outside) (stage : Stage) (number : ℕ) (part : List ℕ) (room : ℕ) (turn : Turn) : Type 0 where
+pub record Reads (start : Option (List ℕ)) (before : List Item) (old new : LineTold) (stage : Stage) (number : ℕ) (part : List ℕ) (room : ℕ) (turn : Turn) : Type 0 where
   pub items : List Item
-  pub consumed : Consumes old.coming new.coming items
+  pub consumed : Consumes old.link.coming new.link.coming items
   pub within : length items ≤ room
   pub by : ReadBy start before items old new stage number part turn

@@ -3,13 +3,11 @@ use Rattle.std.specs.Prelude.{◌≡◌, ◌<◌, ◌≤◌, ◌+◌, ⊤, ℕ, 
 use Rattle.std.specs.List.{enumerate_from, flat_map}
 use Rattle.std.specs.Io.KnownBytes.{Appends}
 use Rattle.uip_edge.specs.Causes.{Rose}
-use Rattle.uip_edge.specs.Coming.{Consumes}
+use Rattle.uip_edge.specs.Coming.{Consumes, bytes_among, TookAll}
 use Rattle.uip_edge.specs.Writing.{AppendsPrefix}
 use Rattle.uip_edge.specs.declared.item.Item.{Item}
 use Rattle.uip_edge.specs.declared.serve_end.ServeEnd.TheVariants as ends
 use Rattle.uip_slip.specs.Decoding.{State, WasFed}
-use Rattle.serve_loop.specs.LineEvents.{bytes_of}
-use Rattle.serve_loop.specs.Outside.{IsDry, Outside}
 use Rattle.trace.specs.CaptureText.{seen_record}
 use Rattle.trace.specs.DumpText.{dump_line}
 use Rattle.trace.specs.Seen.{Seen, seen_behind, seen_on, silences_of}
@@ -17,6 +15,7 @@ use Rattle.trace.specs.declared.form.Form.{Form}
 use Rattle.trace.specs.declared.form.Form.TheVariants.{Capture, Dump}
 use Rattle.trace.specs.declared.watch.Turn.{Turn}
 use Rattle.trace.specs.declared.watch.Watch.{Watch}
+use Rattle.uip_edge.specs.Told.{LineTold}
 use Rattle.trace.specs.declared.watch.Turn.TheVariants as turns
 
 -- what is written of a frame with its number
@@ -30,11 +29,11 @@ texts_from form number seen = flat_map (frame_text form) (enumerate_from number 
 
 -- what is written of items behind others
 abbrev pub text_after : Form → List Item → List Item → List ℕ
-text_after form before items = texts_from form (length (seen_on before) + 1) (seen_behind (bytes_of before) (silences_of before) items)
+text_after form before items = texts_from form (length (seen_on before) + 1) (seen_behind (bytes_among before) (silences_of before) items)
 
 -- these items were read
 pub record HasSeen (before : List Item) (decoder : State) (frames silences : ℕ) : Type 0 where
-  pub fed : WasFed (bytes_of before) decoder
+  pub fed : WasFed (bytes_among before) decoder
   pub numbered : frames ≡ length (seen_on before)
   pub waited : silences ≡ silences_of before
 
@@ -49,12 +48,12 @@ WatchFits (turns.Went n) room frames silences frames' silences' =
 WatchFits (turns.Stopped s) room frames silences frames' silences' = ⊤
 
 -- the cause of what a turn tells that took these items
-abbrev pub WatchBy : Outside → Outside → List Item → Turn → Type 0
-WatchBy old new items (turns.Went n) = (length items ≡ n) × (new.link_faults ≡ old.link_faults) × (new.sink_faults ≡ old.sink_faults)
+abbrev pub WatchBy : LineTold → LineTold → List Item → Turn → Type 0
+WatchBy old new items (turns.Went n) = (length items ≡ n) × (new.link.faults ≡ old.link.faults) × (new.sink.faults ≡ old.sink.faults)
 WatchBy old new items (turns.Stopped ends.End) =
-    (items ≡ []) × IsDry old.coming × (new.link_faults ≡ old.link_faults) × (new.sink_faults ≡ old.sink_faults)
-WatchBy old new items (turns.Stopped ends.LinkFault) = (items ≡ []) × Rose old.link_faults new.link_faults × (new.sink_faults ≡ old.sink_faults)
-WatchBy old new items (turns.Stopped ends.WriteFault) = (new.link_faults ≡ old.link_faults) × Rose old.sink_faults new.sink_faults
+    (items ≡ []) × TookAll old.link.coming [] × (new.link.faults ≡ old.link.faults) × (new.sink.faults ≡ old.sink.faults)
+WatchBy old new items (turns.Stopped ends.LinkFault) = (items ≡ []) × Rose old.link.faults new.link.faults × (new.sink.faults ≡ old.sink.faults)
+WatchBy old new items (turns.Stopped ends.WriteFault) = (new.link.faults ≡ old.link.faults) × Rose old.sink.faults new.sink.faults
 WatchBy old new items (turns.Stopped ends.Budget) = ⊥
 
 -- a turn that went on has read the items
@@ -71,10 +70,10 @@ TellsOn (turns.Stopped ends.WriteFault) old new text = AppendsPrefix old new tex
 TellsOn (turns.Stopped ends.Budget) old new text = ⊥
 
 -- a turn, behind the items before it
-pub record Watches (form : Form) (before : List Item) (old new : Outside) (decoder : State) (frames silences : ℕ) (room : ℕ) (turn : Turn) : Type 0 where
+pub record Watches (form : Form) (before : List Item) (old new : LineTold) (decoder : State) (frames silences : ℕ) (room : ℕ) (turn : Turn) : Type 0 where
   pub items : List Item
-  pub consumed : Consumes old.coming new.coming items
+  pub consumed : Consumes old.link.coming new.link.coming items
   pub within : length items ≤ room
   pub cause : WatchBy old new items turn
   pub on : ReadsOn turn (before ++ items) decoder frames silences
-  pub wrote : TellsOn turn old.written new.written (text_after form before items)
+  pub wrote : TellsOn turn old.sink.written new.sink.written (text_after form before items)

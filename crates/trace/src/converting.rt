@@ -1,6 +1,6 @@
 ghost use Rattle.std.specs.Prelude.{◌≡◌, List, ℕ, Option};
-ghost use Rattle.serve_loop.specs.Outside.{outside};
 ghost use Rattle.trace.specs.Converting.{Converts};
+ghost use Rattle.uip_edge.specs.Telling.{line_told};
 
 use crate::reader::{Reader, Turn};
 use crate::slip_end::SlipEnd;
@@ -10,8 +10,8 @@ use uip_edge::{Link, Sink};
 /// Reads a capture file and writes its datagrams as a serial line, up to so many items.
 pub fn slip<L: Link, K: Sink>(link: &mut L, sink: &mut K, items: u64) -> SlipEnd
     ensures { Converts items
-        (outside L.coming K.written L.faults K.faults link.old sink.old)
-        (outside L.coming K.written L.faults K.faults link.new sink.new) result }
+        (line_told L.Link K.Sink link.old sink.old)
+        (line_told L.Link K.Sink link.new sink.new) result }
 {
     let mut reader = Reader::new();
     let mut buf = [0; BLOCK];

@@ -6,12 +6,12 @@ ghost use Rattle.std.specs.List.{flat_map};
 ghost use Rattle.uip_edge.specs.declared.item.Item.{Item};
 ghost use Rattle.uip_edge.specs.declared.item.Item.TheVariants.{Byte};
 ghost use Rattle.uip_slip.specs.Text.{slip_text};
-ghost use Rattle.serve_loop.specs.Outside.{Outside, Unfailed};
 ghost use Rattle.trace.specs.CaptureReading.{HoldsJust, IsReadAs, Reading};
 ghost use Rattle.trace.specs.CaptureText.{capture_file, datagrams_on};
 ghost use Rattle.trace.specs.Converting.{Converts, IsSurely, SlipEndsBy};
 ghost use Rattle.trace.specs.declared.slip_end.SlipEnd.{SlipEnd as AnyEnd};
 ghost use Rattle.trace.specs.declared.slip_end.SlipEnd.TheVariants.{End};
+ghost use Rattle.uip_edge.specs.Told.{LineTold, LineUnfailed};
 
 /// The bytes of a capture file are read in one way alone.
 pub fn read_in_one_way()
@@ -25,16 +25,16 @@ pub fn records_are_datagrams()
 
 /// What `pcap` wrote of a line, `slip` writes as the SLIP texts of the line's datagrams, and answers the end.
 pub fn lines_come_back()
-    ensures { (items : List Item) (n : ℕ) (old new : Outside) (end : AnyEnd)
-        → old.coming ≡ Some (map Byte (capture_file items))
-        → length (capture_file items) < n → Converts n old new end → Unfailed old new
-        → (end ≡ End) × Appends old.written new.written (flat_map slip_text (datagrams_on items)) }
+    ensures { (items : List Item) (n : ℕ) (old new : LineTold) (end : AnyEnd)
+        → old.link.coming ≡ Some (map Byte (capture_file items))
+        → length (capture_file items) < n → Converts n old new end → LineUnfailed old new
+        → (end ≡ End) × Appends old.sink.written new.sink.written (flat_map slip_text (datagrams_on items)) }
 {}
 
 /// Where nothing failed, `slip` answers a fault of the file wherever there is one, else the budget, and else the end or a
 /// cut.
 pub fn slip_end_is_told()
-    ensures { (n : ℕ) (old new : Outside) (taken : List Item) (reading : Reading) (end : AnyEnd)
+    ensures { (n : ℕ) (old new : LineTold) (taken : List Item) (reading : Reading) (end : AnyEnd)
         → SlipEndsBy n old new taken reading end
-        → Unfailed old new → IsSurely n old new taken reading end }
+        → LineUnfailed old new → IsSurely n old new taken reading end }
 {}

@@ -1,11 +1,11 @@
 ghost use Rattle.std.specs.Prelude.{◌≡◌, ◌<◌, ◌≤◌, ◌+◌, ◌^◌, ◌++◌, [], List, ℕ, Option, length, take, IfErr, IfOk, OnErr, OnOk};
 ghost use Rattle.uip_edge.specs.Causes.{HasCause};
 ghost use Rattle.uip_edge.specs.declared.item.Item.{Item};
-ghost use Rattle.serve_loop.specs.LineEvents.{bytes_of};
-ghost use Rattle.serve_loop.specs.Outside.{outside};
 ghost use Rattle.trace.specs.Gathering.{BrokeOff, ReadFits, HasReadTo, IsAtFault, IsFullIn, IsOpenIn, OpenOn, SinkBy, StopsAt, Reads, end_at};
 ghost use Rattle.trace.specs.declared.reader.Stop.TheVariants.{Bad as BadStop, WriteFault};
 ghost use Rattle.trace.specs.declared.slip_end.SlipEnd.TheVariants.{Bad as BadEnd};
+ghost use Rattle.uip_edge.specs.Coming.{bytes_among};
+ghost use Rattle.uip_edge.specs.Telling.{line_told};
 ghost use Rattle.trace.specs.declared.stage.Stage.TheVariants as stages;
 
 use crate::area::Area;
@@ -89,9 +89,9 @@ impl Reader {
         ensures open { OpenOn result self.new.stage self.new.part self.new.want }
         ensures fits { ReadFits result (length buf.old) self.old.number self.new.number }
         ensures turns { (start : Option (List ℕ)) (before : List Item)
-            → HasReadTo start (K.written sink.old) (bytes_of before) self.old
-            → Reads start before (outside L.coming K.written L.faults K.faults link.old sink.old)
-            (outside L.coming K.written L.faults K.faults link.new sink.new)
+            → HasReadTo start (K.written sink.old) (bytes_among before) self.old
+            → Reads start before (line_told L.Link K.Sink link.old sink.old)
+            (line_told L.Link K.Sink link.new sink.new)
             self.new.stage self.new.number self.new.part (length buf.old) result }
     {
         match link.next(buf) {

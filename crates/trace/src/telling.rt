@@ -1,11 +1,11 @@
 ghost use Rattle.std.specs.Prelude.{◌≡◌, ◌+◌, ◌<◌, ◌++◌, ◌^◌, [], List, ℕ, Some, length};
 ghost use Rattle.std.specs.Io.KnownBytes.{Appends};
 ghost use Rattle.uip_edge.specs.declared.item.Item.{Item};
-ghost use Rattle.serve_loop.specs.Outside.{outside};
 ghost use Rattle.trace.specs.CaptureText.{capture_file};
 ghost use Rattle.trace.specs.DumpText.{dump_text};
 ghost use Rattle.trace.specs.Telling.{TellsLine};
 ghost use Rattle.trace.specs.Watching.{text_after};
+ghost use Rattle.uip_edge.specs.Telling.{line_told};
 
 use crate::form::Form;
 use crate::record::HEADER;
@@ -18,8 +18,8 @@ pub(crate) const BLOCK: usize = 4096;
 /// Writes a line of text for each frame of a serial line, up to so many items.
 pub fn dump<L: Link, K: Sink>(link: &mut L, sink: &mut K, items: u64) -> ServeEnd
     ensures { TellsLine dump_text items
-        (outside L.coming K.written L.faults K.faults link.old sink.old)
-        (outside L.coming K.written L.faults K.faults link.new sink.new) result }
+        (line_told L.Link K.Sink link.old sink.old)
+        (line_told L.Link K.Sink link.new sink.new) result }
 {
     watch_line(Form::Dump, link, sink, items)
 }
@@ -27,8 +27,8 @@ pub fn dump<L: Link, K: Sink>(link: &mut L, sink: &mut K, items: u64) -> ServeEn
 /// Writes a capture file of the datagrams of a serial line, up to so many items.
 pub fn pcap<L: Link, K: Sink>(link: &mut L, sink: &mut K, items: u64) -> ServeEnd
     ensures { TellsLine capture_file items
-        (outside L.coming K.written L.faults K.faults link.old sink.old)
-        (outside L.coming K.written L.faults K.faults link.new sink.new) result }
+        (line_told L.Link K.Sink link.old sink.old)
+        (line_told L.Link K.Sink link.new sink.new) result }
 {
     match sink.write_whole(&HEADER) {
         Ok(()) => watch_line(Form::Capture, link, sink, items),
@@ -39,8 +39,8 @@ pub fn pcap<L: Link, K: Sink>(link: &mut L, sink: &mut K, items: u64) -> ServeEn
 /// Takes items of a line, until so many were taken.
 fn watch_line<L: Link, K: Sink>(form: Form, link: &mut L, sink: &mut K, items: u64) -> ServeEnd
     ensures { TellsLine (text_after form []) items
-        (outside L.coming K.written L.faults K.faults link.old sink.old)
-        (outside L.coming K.written L.faults K.faults link.new sink.new) result }
+        (line_told L.Link K.Sink link.old sink.old)
+        (line_told L.Link K.Sink link.new sink.new) result }
 {
     let mut watch = Watch::new(form);
     let mut buf = [0; BLOCK];

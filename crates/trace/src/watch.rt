@@ -6,9 +6,9 @@ ghost use Rattle.uip_edge.specs.declared.item.Item.{Item};
 ghost use Rattle.uip_edge.specs.declared.item.Item.TheVariants.{Byte};
 ghost use Rattle.uip_slip.specs.Decoding.{Leaves, told_by};
 ghost use Rattle.uip_slip.specs.Frames.{Datagram, Overlong};
-ghost use Rattle.serve_loop.specs.Outside.{outside};
 ghost use Rattle.trace.specs.Seen.{seen_at};
 ghost use Rattle.trace.specs.Watching.{WatchFits, Saw, Watches, frame_text, text_after, texts_from};
+ghost use Rattle.uip_edge.specs.Telling.{line_told};
 
 use crate::area::Area;
 use crate::dump_line::{put_datagram_line, put_overlong_line};
@@ -61,8 +61,8 @@ impl Watch {
         ensures form { self.new.form ≡ self.old.form }
         ensures fits { WatchFits result (length buf.old) self.old.frames self.old.silences self.new.frames self.new.silences }
         ensures turns { (before : List Item) → Saw before self.old
-            → Watches self.old.form before (outside L.coming K.written L.faults K.faults link.old sink.old)
-            (outside L.coming K.written L.faults K.faults link.new sink.new)
+            → Watches self.old.form before (line_told L.Link K.Sink link.old sink.old)
+            (line_told L.Link K.Sink link.new sink.new)
             self.new.decoder self.new.frames self.new.silences (length buf.old) result }
     {
         match link.next(buf) {

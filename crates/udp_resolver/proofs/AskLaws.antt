@@ -1,21 +1,19 @@
 -- The turns of a run, put together.
-use Rattle.std.proofs.Common.{◌≡◌, ℕ, ◌+◌, ◌<◌, ◌≤◌, ◌⊎◌, inl, inr, Bool, true, false, not, List, [], ◌∷◌, ◌++◌, Option, None, Some, length, refl, sym, ap, ◌∙◌, append-nil, arith, length-append, subst}
+use Rattle.std.proofs.Common.{◌≡◌, ℕ, ◌+◌, ◌<◌, ◌≤◌, ◌⊎◌, inr, Bool, true, false, not, List, [], ◌++◌, Option, length, refl, sym, ◌∙◌, arith, length-append, subst}
 use Rattle.std.specs.Io.KnownBytes.{Appends}
 use Rattle.uip_edge.specs.declared.item.Item.{Item}
 use Rattle.uip_edge.specs.declared.serve_end.ServeEnd.{ServeEnd}
 use Rattle.uip_edge.specs.declared.serve_end.ServeEnd.TheVariants as ends
-use Rattle.uip_edge.specs.Causes.{Rose}
 use Rattle.uip_edge.specs.Coming.{Consumes}
-use Rattle.uip_edge.specs.Writing.{AppendsPrefix}
-use Rattle.uip_edge.proofs.Told.{Appends-then, Consumes-then, appends_by, prefix_by, prefix_then}
+use Rattle.uip_edge.proofs.Told.{Appends-then, Consumes-then, appends_by, prefix_by, prefix_then, took_all, none_more}
 use Rattle.udp_resolver.specs.Asked.{line_text}
-use Rattle.udp_resolver.specs.Fates.{Question, all_settled}
+use Rattle.udp_resolver.specs.Fates.{Question}
 use Rattle.udp_resolver.specs.LineEvents.{events}
-use Rattle.udp_resolver.specs.Resolving.{IsOneAnswer, IsOpen, LastAsked}
-use Rattle.udp_resolver.specs.Standing.{Asks, AreCalm, Adds, Knows, TurnsBy}
-use Rattle.udp_resolver.specs.Streams.{IsAll, Wires}
+use Rattle.udp_resolver.specs.Resolving.{IsOpen, LastAsked}
+use Rattle.udp_resolver.specs.Standing.{Asks, Adds, TurnsBy}
 use Rattle.udp_resolver.specs.declared.run.Run.{Run}
 use Rattle.udp_resolver.specs.declared.run.Turn.TheVariants.{Stopped}
+use Rattle.uip_edge.specs.Told.{IsCalm, LineTold}
 
 pub open_by_test : (b t : Bool) → t ≡ not b → t ≡ true → b ≡ false
 open_by_test true t e h = absurd (cc (e, h))
@@ -24,15 +22,6 @@ open_by_test false t e h = refl
 pub settled_by_test : (b t : Bool) → t ≡ not b → t ≡ false → b ≡ true
 settled_by_test true t e h = refl
 settled_by_test false t e h = absurd (cc (e, h))
-
--- the link had no further items
-took_all : (old mid : Option (List Item)) (taken : List Item) → Consumes old mid taken → IsAll mid [] → IsAll old taken
-took_all None mid taken c d = tt
-took_all (Some xs) None taken c d = absurd c
-took_all (Some xs) (Some ys) taken c d = c ∙ rw d (append-nil taken)
-
-none_more : (taken more : List Item) → more ≡ [] → taken ++ more ≡ taken
-none_more taken more none = ap (λ l. taken ++ l) none ∙ append-nil taken
 
 consumed_none : (a b c : Option (List Item)) (taken more : List Item) → more ≡ [] → Consumes a b taken → Consumes b c more → Consumes a c taken
 consumed_none a b c taken more none p q = subst (λ (l : List Item). Consumes a c l) (none_more taken more none) (Consumes-then a b c taken more p q)
@@ -47,39 +36,39 @@ kept_out : (a b c : Option (List ℕ)) (text : List ℕ) → c ≡ b → Appends
 kept_out a b c text same p = subst (λ (o : Option (List ℕ)). Appends a o text) (sym same) p
 
 -- a run that ends in a turn
-pub stopped : (asked : List Question) (n : ℕ) (taken more : List Item) (run : Run) (old mid new : Wires) (room : ℕ) (end : ServeEnd)
-    → IsOpen asked taken → Consumes old.coming mid.coming taken → Consumes mid.coming new.coming more → length taken < n → length more ≤ room → room + length taken ≤ n
-    → AreCalm old mid → (taken ≡ []) ⊎ LastAsked asked taken → Appends old.out mid.out (line_text asked (events taken))
+pub stopped : (asked : List Question) (n : ℕ) (taken more : List Item) (run : Run) (old mid new : LineTold) (room : ℕ) (end : ServeEnd)
+    → IsOpen asked taken → Consumes old.link.coming mid.link.coming taken → Consumes mid.link.coming new.link.coming more → length taken < n → length more ≤ room → room + length taken ≤ n
+    → IsCalm old mid → (taken ≡ []) ⊎ LastAsked asked taken → Appends old.sink.written mid.sink.written (line_text asked (events taken))
     → TurnsBy asked taken more run mid new (Stopped end) → Asks asked n run old new end
 stopped asked n taken more run old mid new room ends.End is_open c d few size fits calm needed wrote t = record {
   taken = taken;
   within = omega arith;
-  consumed = consumed_none old.coming mid.coming new.coming taken more t.0.none c d;
+  consumed = consumed_none old.link.coming mid.link.coming new.link.coming taken more t.0.none c d;
   needed = needed;
   by = record {
-    done = inr (record { is_open = is_open; all = took_all old.coming mid.coming taken c t.1; few = few });
-    calm = (t.2 ∙ calm.0, t.0.same ∙ calm.1);
+    done = inr (record { is_open = is_open; all = took_all old.link.coming mid.link.coming taken c t.1; few = few });
+    calm = record { link = t.2 ∙ calm.link; sink = t.0.same ∙ calm.sink };
     knows = t.0.knows;
-    out = kept_out old.out mid.out new.out (line_text asked (events taken)) t.0.out wrote;
+    out = kept_out old.sink.written mid.sink.written new.sink.written (line_text asked (events taken)) t.0.out wrote;
   };
 }
 stopped asked n taken more run old mid new room ends.LinkFault is_open c d few size fits calm needed wrote t = record {
   taken = taken;
   within = omega arith;
-  consumed = consumed_none old.coming mid.coming new.coming taken more t.0.none c d;
+  consumed = consumed_none old.link.coming mid.link.coming new.link.coming taken more t.0.none c d;
   needed = needed;
-  by = (is_open, few, rw calm.0 at t.1, t.0.same ∙ calm.1, kept_out old.out mid.out new.out (line_text asked (events taken)) t.0.out wrote);
+  by = (is_open, few, rw calm.link at t.1, t.0.same ∙ calm.sink, kept_out old.sink.written mid.sink.written new.sink.written (line_text asked (events taken)) t.0.out wrote);
 }
 stopped asked n taken more run old mid new room ends.WriteFault is_open c d few size fits calm needed wrote t = record {
   taken = taken ++ more;
   within = omega (arith, length-append taken more);
-  consumed = Consumes-then old.coming mid.coming new.coming taken more c d;
+  consumed = Consumes-then old.link.coming mid.link.coming new.link.coming taken more c d;
   needed = inr (record { before = taken; last = more; whole = refl; is_open = is_open; once = t.once });
   by = (
-    t.same ∙ calm.0,
-    rw calm.1 at t.rose,
-    prefix_by old.out new.out (line_text asked (events taken) ++ t.text) (line_text asked (events (taken ++ more))) t.adds
-        (prefix_then old.out mid.out new.out (line_text asked (events taken)) t.text wrote t.out),
+    t.same ∙ calm.link,
+    rw calm.sink at t.rose,
+    prefix_by old.sink.written new.sink.written (line_text asked (events taken) ++ t.text) (line_text asked (events (taken ++ more))) t.adds
+        (prefix_then old.sink.written mid.sink.written new.sink.written (line_text asked (events taken)) t.text wrote t.out),
   );
 }
 stopped asked n taken more run old mid new room ends.Budget is_open c d few size fits calm needed wrote t = absurd t

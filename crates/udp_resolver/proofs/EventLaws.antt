@@ -1,6 +1,6 @@
 -- What further events make of the events before them.
-use Rattle.std.proofs.Common.{◌≡◌, ℕ, zero, suc, ◌+◌, ◌<◌, ◌≤◌, Bool, true, false, eqb, leb, if◌then◌else◌, List, [], ◌∷◌, ◌++◌, refl, sym, ap, ◌∙◌, arith, subst}
-use Rattle.rexmit_timer.specs.Ages.{beat_at, GoesOn, IsAtAge, IsBeatOfAge}
+use Rattle.std.proofs.Common.{◌≡◌, ℕ, ◌+◌, ◌<◌, Bool, true, false, eqb, leb, if◌then◌else◌, List, [], ◌∷◌, ◌++◌, refl, sym, ap, ◌∙◌, arith, subst}
+use Rattle.rexmit_timer.specs.Ages.{IsAtAge, IsBeatOfAge}
 use Rattle.rexmit_timer.specs.declared.timer.Beat.{Beat}
 use Rattle.rexmit_timer.specs.declared.timer.Beat.TheVariants.{Again, GiveUp, Wait}
 use Rattle.rexmit_timer.specs.declared.timer.Timer.{Timer}

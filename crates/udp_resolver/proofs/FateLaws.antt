@@ -1,11 +1,11 @@
 -- How the answers to questions grow with events.
-use Rattle.std.proofs.Common.{◌≡◌, ℕ, zero, suc, ◌+◌, ◌<◌, ◌≤◌, Bool, true, false, not, ◌&&◌, ◌||◌, cond, eqb, leb, if◌then◌else◌, List, [], ◌∷◌, ◌++◌, map, refl, sym, ap, ◌∙◌, arith, append-nil, Option, None, Some}
-use Rattle.std.specs.List.{filter, list_all, list_any}
+use Rattle.std.proofs.Common.{◌≡◌, ℕ, zero, suc, ◌+◌, ◌<◌, ◌≤◌, Bool, true, false, not, ◌&&◌, ◌||◌, cond, eqb, if◌then◌else◌, List, [], ◌∷◌, ◌++◌, map, refl, sym, ap, ◌∙◌, arith, Option, None, Some}
+use Rattle.std.specs.List.{list_all, list_any}
 use Rattle.std.specs.Option.{is_none}
 use Rattle.dns_message.specs.Replies.{answer_to}
 use Rattle.dns_message.specs.declared.answer.Answer.{Answer}
 use Rattle.udp_resolver.specs.Asked.{open_ones}
-use Rattle.udp_resolver.specs.Fates.{Question, all_settled, answer_among, fate_by, fate_of, first_answer, in_front_of, is_given_up, is_settled, or_else, silences}
+use Rattle.udp_resolver.specs.Fates.{Question, all_settled, answer_among, fate_by, first_answer, in_front_of, is_given_up, is_settled, or_else, silences}
 use Rattle.udp_resolver.specs.LineEvents.{Event, Came, Silence}
 use Rattle.udp_resolver.specs.Steps.{heard, unanswered, unless_answered}
 use Rattle.udp_resolver.specs.declared.fate.Fate.TheVariants.{Open, Timeout}

@@ -1,18 +1,14 @@
 -- What further items bring.
-use Rattle.std.proofs.Common.{◌≡◌, ℕ, ◌+◌, Bool, true, false, eqb, leb, if◌then◌else◌, List, [], ◌∷◌, ◌++◌, length, map, refl, sym, ap, ◌∙◌, arith, append-nil, append_assoc}
+use Rattle.std.proofs.Common.{◌≡◌, ℕ, true, false, eqb, leb, if◌then◌else◌, List, [], ◌∷◌, ◌++◌, length, map, refl, sym, ap, ◌∙◌, arith, append-nil, append_assoc}
 use Rattle.std.specs.List.{flat_map}
 use Rattle.uip_edge.specs.declared.item.Item.{Item}
 use Rattle.uip_edge.specs.declared.item.Item.TheVariants.{Byte, Quiet}
 use Rattle.uip_slip.specs.Frames.{Frame, Datagram, Overlong, frame_of, frames, open_part, unescaped}
 use Rattle.uip_slip.proofs.PartLaws.{frames-end, frames-plain, parts-byte}
 use Rattle.udp_resolver.specs.Fates.{silences}
-use Rattle.udp_resolver.specs.LineEvents.{Event, Silence, by_byte, by_frame, bytes_among, events, events_behind}
+use Rattle.udp_resolver.specs.LineEvents.{Silence, by_byte, by_frame, events, events_behind}
 use Rattle.udp_resolver.proofs.EventLaws.{silences-append}
-
-pub bytes_among-append : (xs ys : List Item) → bytes_among (xs ++ ys) ≡ bytes_among xs ++ bytes_among ys
-bytes_among-append [] ys = refl
-bytes_among-append (Byte b ∷ xs) ys = ap (λ l. b ∷ l) (bytes_among-append xs ys)
-bytes_among-append (Quiet ∷ xs) ys = bytes_among-append xs ys
+use Rattle.uip_edge.specs.Coming.{bytes_among}
 
 pub events-append : (before : List ℕ) (xs ys : List Item)
     → events_behind before (xs ++ ys) ≡ events_behind before xs ++ events_behind (before ++ bytes_among xs) ys

@@ -1,10 +1,10 @@
 -- How the queries grow with events.
-use Rattle.std.proofs.Common.{◌≡◌, ℕ, zero, suc, ◌+◌, ◌<◌, ◌≤◌, Bool, true, false, ◌&&◌, ◌||◌, cond, eqb, leb, ltb, if◌then◌else◌, List, [], ◌∷◌, ◌++◌, take, refl, sym, ap, ◌∙◌, arith, append-nil, append_assoc}
+use Rattle.std.proofs.Common.{◌≡◌, ℕ, ◌+◌, ◌<◌, ◌≤◌, Bool, true, false, ◌&&◌, ◌||◌, eqb, leb, ltb, if◌then◌else◌, List, [], ◌∷◌, ◌++◌, take, refl, sym, ap, ◌∙◌, arith, append-nil, append_assoc}
 use Rattle.std.specs.List.{flat_map, list_any}
 use Rattle.rexmit_timer.specs.Ages.{ages}
 use Rattle.udp_resolver.specs.Asked.{asked_at, open_ones, queries}
-use Rattle.udp_resolver.specs.Fates.{Question, in_front_of, is_given_up, silences}
-use Rattle.udp_resolver.specs.LineEvents.{Event, Came, Silence}
+use Rattle.udp_resolver.specs.Fates.{Question, in_front_of, silences}
+use Rattle.udp_resolver.specs.LineEvents.{Event, Silence}
 use Rattle.udp_resolver.specs.Steps.{asked_next}
 use Rattle.udp_resolver.proofs.EventLaws.{one_more, silences-append}
 use Rattle.udp_resolver.proofs.FateLaws.{front_kept, front_last}

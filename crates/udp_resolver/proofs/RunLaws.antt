@@ -1,5 +1,5 @@
 -- What a run knows after one more item.
-use Rattle.std.proofs.Common.{◌≡◌, ℕ, zero, suc, ◌+◌, ◌<◌, ◌≤◌, Bool, true, false, not, ◌&&◌, leb, if◌then◌else◌, List, [], ◌∷◌, ◌++◌, length, map, take, drop, replicate, get_or, refl, sym, ap, ◌∙◌, arith, append-nil, append_assoc, length-append, subst, None, Option}
+use Rattle.std.proofs.Common.{◌≡◌, ℕ, zero, suc, ◌+◌, ◌<◌, ◌≤◌, Bool, true, false, not, ◌&&◌, leb, if◌then◌else◌, List, [], ◌∷◌, ◌++◌, length, map, take, replicate, get_or, refl, sym, ap, ◌∙◌, arith, append-nil, append_assoc, subst, None, Option}
 use Rattle.std.proofs.lemmas.List.{drop_all, length-map, length-take-le, map-append, take_more}
 use Rattle.std.proofs.Math.Seq.{take-length}
 use Rattle.std.specs.List.{flat_map, list_any, refill}
@@ -14,17 +14,19 @@ use Rattle.uip_slip.specs.declared.fed.Fed.{Fed}
 use Rattle.uip_slip.specs.declared.fed.Fed.TheVariants as fed
 use Rattle.udp_resolver.specs.Asked.{last_ident, line_text, open_ones, queries, query_texts}
 use Rattle.udp_resolver.specs.Fates.{Question, all_settled, answer_among, fate_of, is_given_up, next_asking, questions, silences}
-use Rattle.udp_resolver.specs.LineEvents.{Event, Came, Silence, by_byte, by_frame, bytes_among, events, events_behind}
+use Rattle.udp_resolver.specs.LineEvents.{Event, Came, Silence, by_byte, by_frame, events, events_behind}
 use Rattle.udp_resolver.specs.Lines.{line_of, lines}
 use Rattle.udp_resolver.specs.Standing.{Adds, Knows}
 use Rattle.udp_resolver.specs.Steps.{IsAt, asked_next, heard, is_due, lines_by, unanswered}
 use Rattle.udp_resolver.specs.declared.clock.Clock.{Clock}
 use Rattle.udp_resolver.specs.declared.run.Run.{Run}
-use Rattle.udp_resolver.proofs.EventLaws.{one_more, silences-append}
+use Rattle.udp_resolver.proofs.EventLaws.{silences-append}
 use Rattle.udp_resolver.proofs.FateLaws.{heard_map, map_silence, open_told, opens}
-use Rattle.udp_resolver.proofs.ItemLaws.{bytes_among-append, calm_bytes, events-append, events_byte}
+use Rattle.udp_resolver.proofs.ItemLaws.{calm_bytes, events-append, events_byte}
 use Rattle.udp_resolver.proofs.QueryLaws.{queries_calm, queries_first, queries_silence}
 use Rattle.udp_resolver.proofs.StepLaws.{last_ident-append, query_texts-append}
+use Rattle.uip_edge.specs.Coming.{bytes_among}
+use Rattle.uip_edge.proofs.Told.{bytes_among-append}
 
 pub questions-length : (asking : Asking) (names : List (List ℕ)) → length (questions asking names) ≡ length names
 questions-length asking [] = refl

@@ -4,16 +4,15 @@ use Rattle.std.specs.List.{find}
 use Rattle.uip_wire.specs.Fields.{word_at}
 use Rattle.uip_wire.specs.declared.addr.Addr.{Addr}
 use Rattle.udp_datagram.specs.Udp.{udp_data}
-use Rattle.dns_message.specs.Messages.{answer_by_message, answer_in, code_of, is_reply, question_end}
+use Rattle.dns_message.specs.Messages.{answer_by_message, code_of, is_reply, question_end}
 use Rattle.dns_message.specs.Records.{Record, answer_by, answer_of_records, is_address, records}
 use Rattle.dns_message.specs.Replies.{answer_to, way_back}
 use Rattle.dns_message.specs.declared.answer.Answer.{Answer}
-use Rattle.dns_message.specs.declared.answer.Answer.TheVariants.{Address, Code, NoAddress}
-use Rattle.udp_resolver.specs.Fates.{Question, answer_among, fate_by, fate_of, first_answer, in_front_of, is_given_up, last_silence, or_else}
+use Rattle.dns_message.specs.declared.answer.Answer.TheVariants.{Address, Code}
+use Rattle.udp_resolver.specs.Fates.{Question, answer_among, fate_by, first_answer, in_front_of, is_given_up, last_silence, or_else}
 use Rattle.udp_resolver.specs.LineEvents.{Event, Came, Silence}
-use Rattle.udp_resolver.specs.Told.{AddressesAreFromReplies, IsFromReply}
-use Rattle.udp_resolver.specs.declared.fate.Fate.{Fate}
-use Rattle.udp_resolver.specs.declared.fate.Fate.TheVariants.{Answered, Open, Timeout}
+use Rattle.udp_resolver.specs.Told.{AddressesAreFromReplies}
+use Rattle.udp_resolver.specs.declared.fate.Fate.TheVariants.{Answered}
 
 answer_of_fate : (a : Option Answer) (is_over : Bool) (answer : Answer) → fate_by a is_over ≡ Answered answer → a ≡ Some answer
 answer_of_fate (Some a) is_over answer e = cc e

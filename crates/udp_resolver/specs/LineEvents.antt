@@ -1,5 +1,5 @@
 -- What the items of a serial line bring: datagrams and silences.
-use Rattle.std.specs.Prelude.{ℕ, ◌+◌, ◌==◌, if◌then◌else◌, List, [], ◌∷◌, ◌++◌}
+use Rattle.std.specs.Prelude.{ℕ, ◌==◌, if◌then◌else◌, List, [], ◌∷◌, ◌++◌}
 use Rattle.std.specs.List.{flat_map}
 use Rattle.uip_edge.specs.declared.item.Item.{Item}
 use Rattle.uip_edge.specs.declared.item.Item.TheVariants.{Byte, Quiet}
@@ -17,12 +17,6 @@ by_frame Overlong = []
 -- what a byte brings behind the bytes before it: an END closes the part since the last END
 abbrev pub by_byte : List ℕ → ℕ → List Event
 by_byte before b = if b == 192 then flat_map by_frame (frame_of (unescaped (open_part before))) else []
-
--- the bytes among the items; a silence is no byte of a frame
-abbrev pub bytes_among : List Item → List ℕ
-bytes_among [] = []
-bytes_among (Byte b ∷ items) = b ∷ bytes_among items
-bytes_among (Quiet ∷ items) = bytes_among items
 
 abbrev pub events_behind : List ℕ → List Item → List Event
 events_behind before [] = []

@@ -1,7 +1,6 @@
 -- What is told of the names: a line for each, with what became of it.
-use Rattle.std.specs.Prelude.{ℕ, List, ◌∷◌, ◌++◌, [], codes, decimal, slice_index}
+use Rattle.std.specs.Prelude.{ℕ, List, ◌++◌, codes, decimal, slice_index}
 use Rattle.std.specs.List.{flat_map}
-use Rattle.dns_message.specs.declared.answer.Answer.{Answer}
 use Rattle.dns_message.specs.declared.answer.Answer.TheVariants.{Address, Code, NoAddress}
 use Rattle.udp_resolver.specs.Fates.{Question, fate_of}
 use Rattle.udp_resolver.specs.LineEvents.{Event}

@@ -1,9 +1,8 @@
 -- What asking for names does to the streams, and how it ends.
-use Rattle.std.specs.Prelude.{◌≡◌, ◌<◌, ◌≤◌, ◌⊎◌, ℕ, List, [], ◌∷◌, ◌++◌, Bool, true, false, Option, length, map}
-use Rattle.std.specs.Io.KnownBytes.{Appends}
+use Rattle.std.specs.Prelude.{◌≡◌, ◌<◌, ◌≤◌, ◌⊎◌, ℕ, List, [], ◌∷◌, ◌++◌, true, false, Option, length, map}
 use Rattle.uip_edge.specs.Causes.{Rose}
-use Rattle.uip_edge.specs.Coming.{Consumes}
-use Rattle.uip_edge.specs.Writing.{AppendsPrefix}
+use Rattle.uip_edge.specs.Coming.{Consumes, TookAll}
+use Rattle.uip_edge.specs.Writing.{WritesAll, WritesFront}
 use Rattle.uip_edge.specs.declared.item.Item.{Item}
 use Rattle.uip_edge.specs.declared.item.Item.TheVariants.{Byte, Quiet}
 use Rattle.uip_edge.specs.declared.serve_end.ServeEnd.{ServeEnd}
@@ -12,7 +11,7 @@ use Rattle.udp_resolver.specs.Asked.{line_text}
 use Rattle.udp_resolver.specs.Fates.{Question, all_settled}
 use Rattle.udp_resolver.specs.LineEvents.{events}
 use Rattle.udp_resolver.specs.Lines.{lines}
-use Rattle.udp_resolver.specs.Streams.{Calm, IsAll, Streams}
+use Rattle.udp_resolver.specs.Streams.{Streams}
 
 -- over these items all questions are settled, or one is open
 abbrev pub IsSettled : List Question → List Item → Type 0
@@ -24,7 +23,7 @@ IsOpen asked taken = all_settled asked (events taken) ≡ false
 -- the link ended while a question was open, before n items
 pub record RanDry (asked : List Question) (n : ℕ) (coming : Option (List Item)) (taken : List Item) : Type 0 where
   pub is_open : IsOpen asked taken
-  pub all : IsAll coming taken
+  pub all : TookAll coming taken
   pub few : length taken < n
 
 -- why no more items are taken: all questions are settled or the link ended, or else n items were taken
@@ -36,44 +35,40 @@ IsDone asked n coming taken ends.WriteFault = ⊥
 
 -- all was asked and told
 pub record WroteAll (asked : List Question) (n : ℕ) (old new : Streams) (taken : List Item) (end : ServeEnd) : Type 0 where
-  pub done : IsDone asked n old.coming taken end
-  pub calm : Calm old new
-  pub out : Appends old.out new.out (line_text asked (events taken))
-  pub told : Appends old.told new.told (lines asked (events taken))
+  pub done : IsDone asked n old.line.link.coming taken end
+  pub link_same : new.line.link.faults ≡ old.line.link.faults
+  pub out : WritesAll old.line.sink new.line.sink (line_text asked (events taken))
+  pub told : WritesAll old.tell new.tell (lines asked (events taken))
 
 -- the link failed while a question was open, and nothing was told
 pub record LinkFailed (asked : List Question) (n : ℕ) (old new : Streams) (taken : List Item) : Type 0 where
   pub is_open : IsOpen asked taken
   pub few : length taken < n
-  pub rose : Rose old.link_faults new.link_faults
-  pub out_same : new.out_faults ≡ old.out_faults
-  pub tell_same : new.tell_faults ≡ old.tell_faults
-  pub out : Appends old.out new.out (line_text asked (events taken))
-  pub told : new.told ≡ old.told
+  pub rose : Rose old.line.link.faults new.line.link.faults
+  pub out : WritesAll old.line.sink new.line.sink (line_text asked (events taken))
+  pub told : new.tell.written ≡ old.tell.written
+  pub tell_same : new.tell.faults ≡ old.tell.faults
 
 -- the line out failed, and nothing was told
 pub record OutFailed (asked : List Question) (old new : Streams) (taken : List Item) : Type 0 where
-  pub link_same : new.link_faults ≡ old.link_faults
-  pub rose : Rose old.out_faults new.out_faults
-  pub tell_same : new.tell_faults ≡ old.tell_faults
-  pub out : AppendsPrefix old.out new.out (line_text asked (events taken))
-  pub told : new.told ≡ old.told
+  pub link_same : new.line.link.faults ≡ old.line.link.faults
+  pub out : WritesFront old.line.sink new.line.sink (line_text asked (events taken))
+  pub told : new.tell.written ≡ old.tell.written
+  pub tell_same : new.tell.faults ≡ old.tell.faults
 
 -- all was asked, and the telling failed
 pub record TellFailed (asked : List Question) (n : ℕ) (old new : Streams) (taken : List Item) : Type 0 where
   pub end : ServeEnd
-  pub done : IsDone asked n old.coming taken end
-  pub link_same : new.link_faults ≡ old.link_faults
-  pub out_same : new.out_faults ≡ old.out_faults
-  pub rose : Rose old.tell_faults new.tell_faults
-  pub out : Appends old.out new.out (line_text asked (events taken))
-  pub told : AppendsPrefix old.told new.told (lines asked (events taken))
+  pub done : IsDone asked n old.line.link.coming taken end
+  pub link_same : new.line.link.faults ≡ old.line.link.faults
+  pub out : WritesAll old.line.sink new.line.sink (line_text asked (events taken))
+  pub told : WritesFront old.tell new.tell (lines asked (events taken))
 
-abbrev pub EndsBy : List Question → ℕ → Streams → Streams → List Item → ServeEnd → Type 0
-EndsBy asked n old new taken ends.End = WroteAll asked n old new taken ends.End
-EndsBy asked n old new taken ends.Budget = WroteAll asked n old new taken ends.Budget
-EndsBy asked n old new taken ends.LinkFault = LinkFailed asked n old new taken
-EndsBy asked n old new taken ends.WriteFault = OutFailed asked old new taken ⊎ TellFailed asked n old new taken
+abbrev pub ResolvesBy : List Question → ℕ → Streams → Streams → List Item → ServeEnd → Type 0
+ResolvesBy asked n old new taken ends.End = WroteAll asked n old new taken ends.End
+ResolvesBy asked n old new taken ends.Budget = WroteAll asked n old new taken ends.Budget
+ResolvesBy asked n old new taken ends.LinkFault = LinkFailed asked n old new taken
+ResolvesBy asked n old new taken ends.WriteFault = OutFailed asked old new taken ⊎ TellFailed asked n old new taken
 
 -- what one answer of a link gives: bytes, or one silence
 abbrev pub IsOneAnswer : List Item → Type 0
@@ -92,6 +87,6 @@ pub record LastAsked (asked : List Question) (taken : List Item) : Type 0 where
 pub record Resolves (asked : List Question) (n : ℕ) (old new : Streams) (result : ServeEnd) : Type 0 where
   pub taken : List Item
   pub within : length taken ≤ n
-  pub consumed : Consumes old.coming new.coming taken
+  pub consumed : Consumes old.line.link.coming new.line.link.coming taken
   pub needed : (taken ≡ []) ⊎ LastAsked asked taken
-  pub ends : EndsBy asked n old new taken result
+  pub ends : ResolvesBy asked n old new taken result

@@ -1,8 +1,8 @@
 -- What a run of the resolver knows of the items that it took, and what its turns add.
-use Rattle.std.specs.Prelude.{◌≡◌, ◌<◌, ◌≤◌, ◌⊎◌, ℕ, List, [], ◌∷◌, ◌++◌, Option, None, Some, length, map, ⊤}
+use Rattle.std.specs.Prelude.{◌≡◌, ◌<◌, ◌≤◌, ◌⊎◌, ℕ, List, [], ◌++◌, length, map, ⊤}
 use Rattle.std.specs.Io.KnownBytes.{Appends}
 use Rattle.uip_edge.specs.Causes.{Rose}
-use Rattle.uip_edge.specs.Coming.{Consumes}
+use Rattle.uip_edge.specs.Coming.{Consumes, bytes_among, TookAll}
 use Rattle.uip_edge.specs.Writing.{AppendsPrefix}
 use Rattle.uip_edge.specs.declared.item.Item.{Item}
 use Rattle.uip_edge.specs.declared.serve_end.ServeEnd.{ServeEnd}
@@ -10,12 +10,12 @@ use Rattle.uip_edge.specs.declared.serve_end.ServeEnd.TheVariants as ends
 use Rattle.uip_slip.specs.Decoding.{WasFed}
 use Rattle.udp_resolver.specs.Asked.{last_ident, line_text, queries}
 use Rattle.udp_resolver.specs.Fates.{Question, answer_among}
-use Rattle.udp_resolver.specs.LineEvents.{bytes_among, events}
+use Rattle.udp_resolver.specs.LineEvents.{events}
 use Rattle.udp_resolver.specs.Resolving.{IsDone, IsOneAnswer, IsOpen, LastAsked}
 use Rattle.udp_resolver.specs.Steps.{IsAt}
-use Rattle.udp_resolver.specs.Streams.{IsAll, Wires}
 use Rattle.udp_resolver.specs.declared.run.Run.{Run}
 use Rattle.udp_resolver.specs.declared.run.Turn.{Turn}
+use Rattle.uip_edge.specs.Told.{LineTold, IsCalm}
 use Rattle.udp_resolver.specs.declared.run.Turn.TheVariants as turns
 
 -- the run after these items
@@ -29,49 +29,45 @@ pub record Knows (asked : List Question) (items : List Item) (run : Run) : Type 
 abbrev pub Adds : List Question → List Item → List Item → List ℕ → Type 0
 Adds asked items more text = line_text asked (events (items ++ more)) ≡ line_text asked (events items) ++ text
 
--- neither count rose
-abbrev pub AreCalm : Wires → Wires → Type 0
-AreCalm old new = (new.link_faults ≡ old.link_faults) × (new.out_faults ≡ old.out_faults)
-
 -- a turn that took items
-pub record Went (asked : List Question) (items more : List Item) (run : Run) (old new : Wires) : Type 0 where
-  pub calm : AreCalm old new
+pub record Went (asked : List Question) (items more : List Item) (run : Run) (old new : LineTold) : Type 0 where
+  pub calm : IsCalm old new
   pub knows : Knows asked (items ++ more) run
   pub once : IsOneAnswer more
   pub text : List ℕ
   pub adds : Adds asked items more text
-  pub out : Appends old.out new.out text
+  pub out : Appends old.sink.written new.sink.written text
 
 -- a turn at which the link ended or failed
-pub record Kept (asked : List Question) (items more : List Item) (run : Run) (old new : Wires) : Type 0 where
+pub record Kept (asked : List Question) (items more : List Item) (run : Run) (old new : LineTold) : Type 0 where
   pub none : more ≡ []
   pub knows : Knows asked items run
-  pub same : new.out_faults ≡ old.out_faults
-  pub out : new.out ≡ old.out
+  pub same : new.sink.faults ≡ old.sink.faults
+  pub out : new.sink.written ≡ old.sink.written
 
 -- a turn at which the line out failed
-pub record Broke (asked : List Question) (items more : List Item) (old new : Wires) : Type 0 where
-  pub same : new.link_faults ≡ old.link_faults
-  pub rose : Rose old.out_faults new.out_faults
+pub record Broke (asked : List Question) (items more : List Item) (old new : LineTold) : Type 0 where
+  pub same : new.link.faults ≡ old.link.faults
+  pub rose : Rose old.sink.faults new.sink.faults
   pub once : IsOneAnswer more
   pub text : List ℕ
   pub adds : Adds asked items more text
-  pub out : AppendsPrefix old.out new.out text
+  pub out : AppendsPrefix old.sink.written new.sink.written text
 
 -- what a turn tells
-abbrev pub TurnsBy : List Question → List Item → List Item → Run → Wires → Wires → Turn → Type 0
+abbrev pub TurnsBy : List Question → List Item → List Item → Run → LineTold → LineTold → Turn → Type 0
 TurnsBy asked items more run old new (turns.Went n) = (length more ≡ n) × Went asked items more run old new
 TurnsBy asked items more run old new (turns.Stopped ends.End) =
-    Kept asked items more run old new × IsAll old.coming [] × (new.link_faults ≡ old.link_faults)
+    Kept asked items more run old new × TookAll old.link.coming [] × (new.link.faults ≡ old.link.faults)
 TurnsBy asked items more run old new (turns.Stopped ends.LinkFault) =
-    Kept asked items more run old new × Rose old.link_faults new.link_faults
+    Kept asked items more run old new × Rose old.link.faults new.link.faults
 TurnsBy asked items more run old new (turns.Stopped ends.WriteFault) = Broke asked items more old new
 TurnsBy asked items more run old new (turns.Stopped ends.Budget) = ⊥
 
 -- a turn behind these items
-pub record Turns (asked : List Question) (items : List Item) (run : Run) (old new : Wires) (room : ℕ) (turn : Turn) : Type 0 where
+pub record Turns (asked : List Question) (items : List Item) (run : Run) (old new : LineTold) (room : ℕ) (turn : Turn) : Type 0 where
   pub more : List Item
-  pub consumed : Consumes old.coming new.coming more
+  pub consumed : Consumes old.link.coming new.link.coming more
   pub within : length more ≤ room
   pub by : TurnsBy asked items more run old new turn
 
@@ -81,26 +77,26 @@ CountFits (turns.Went n) room = (0 < n) × (n ≤ room)
 CountFits (turns.Stopped end) room = ⊤
 
 -- why no more is asked, and what was written, where the line did not fail
-pub record Done (asked : List Question) (n : ℕ) (taken : List Item) (run : Run) (old new : Wires) (end : ServeEnd) : Type 0 where
-  pub done : IsDone asked n old.coming taken end
-  pub calm : AreCalm old new
+pub record Done (asked : List Question) (n : ℕ) (taken : List Item) (run : Run) (old new : LineTold) (end : ServeEnd) : Type 0 where
+  pub done : IsDone asked n old.link.coming taken end
+  pub calm : IsCalm old new
   pub knows : Knows asked taken run
-  pub out : Appends old.out new.out (line_text asked (events taken))
+  pub out : Appends old.sink.written new.sink.written (line_text asked (events taken))
 
-abbrev pub AsksBy : List Question → ℕ → List Item → Run → Wires → Wires → ServeEnd → Type 0
+abbrev pub AsksBy : List Question → ℕ → List Item → Run → LineTold → LineTold → ServeEnd → Type 0
 AsksBy asked n taken run old new ends.End = Done asked n taken run old new ends.End
 AsksBy asked n taken run old new ends.Budget = Done asked n taken run old new ends.Budget
 AsksBy asked n taken run old new ends.LinkFault =
-    IsOpen asked taken × (length taken < n) × Rose old.link_faults new.link_faults × (new.out_faults ≡ old.out_faults)
-    × Appends old.out new.out (line_text asked (events taken))
+    IsOpen asked taken × (length taken < n) × Rose old.link.faults new.link.faults × (new.sink.faults ≡ old.sink.faults)
+    × Appends old.sink.written new.sink.written (line_text asked (events taken))
 AsksBy asked n taken run old new ends.WriteFault =
-    (new.link_faults ≡ old.link_faults) × Rose old.out_faults new.out_faults
-    × AppendsPrefix old.out new.out (line_text asked (events taken))
+    (new.link.faults ≡ old.link.faults) × Rose old.sink.faults new.sink.faults
+    × AppendsPrefix old.sink.written new.sink.written (line_text asked (events taken))
 
 -- the names were asked for, up to n items
-pub record Asks (asked : List Question) (n : ℕ) (run : Run) (old new : Wires) (end : ServeEnd) : Type 0 where
+pub record Asks (asked : List Question) (n : ℕ) (run : Run) (old new : LineTold) (end : ServeEnd) : Type 0 where
   pub taken : List Item
   pub within : length taken ≤ n
-  pub consumed : Consumes old.coming new.coming taken
+  pub consumed : Consumes old.link.coming new.link.coming taken
   pub needed : (taken ≡ []) ⊎ LastAsked asked taken
   pub by : AsksBy asked n taken run old new end

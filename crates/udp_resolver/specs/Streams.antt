@@ -1,54 +1,18 @@
--- The streams of a resolver: its line in, the line out, and where it tells what it found.
-use Rattle.std.specs.Prelude.{◌≡◌, ◌<◌, ◌-◌, ◌^◌, ℕ, List, Option, None, Some, ⊤}
-use Rattle.uip_edge.specs.declared.item.Item.{Item}
+-- The streams of a resolver: its line, and where it tells what it found.
+use Rattle.uip_edge.specs.declared.link.Link.{Ghosts as LinkGhosts}
+use Rattle.uip_edge.specs.declared.sink.Sink.{Ghosts as SinkGhosts}
+use Rattle.uip_edge.specs.Causes.{IsUnfailed}
+use Rattle.uip_edge.specs.Telling.{line_told, sink_told}
+use Rattle.uip_edge.specs.Told.{LineTold, LineUnfailed, SinkTold}
 
--- what they tell, and the counts of their faults
 pub record Streams : Type 0 where
-  pub coming : Option (List Item)
-  pub out : Option (List ℕ)
-  pub told : Option (List ℕ)
-  pub link_faults : ℕ
-  pub out_faults : ℕ
-  pub tell_faults : ℕ
+  pub line : LineTold
+  pub tell : SinkTold
 
-abbrev pub streams : {L K T : Type 0} → (L → Option (List Item)) → (K → Option (List ℕ)) → (T → Option (List ℕ)) → (L → ℕ) → (K → ℕ) → (T → ℕ) → L → K → T → Streams
-streams coming out told link_faults out_faults tell_faults link sink tell = record {
-  coming = coming link;
-  out = out sink;
-  told = told tell;
-  link_faults = link_faults link;
-  out_faults = out_faults sink;
-  tell_faults = tell_faults tell;
-}
+abbrev pub streams : {L K T : Type 0} → LinkGhosts L → SinkGhosts K → SinkGhosts T → L → K → T → Streams
+streams l k t link out tell = record { line = line_told l k link out; tell = sink_told t tell }
 
--- the line in and out alone
-pub record Wires : Type 0 where
-  pub coming : Option (List Item)
-  pub out : Option (List ℕ)
-  pub link_faults : ℕ
-  pub out_faults : ℕ
-
-abbrev pub wires : {L K : Type 0} → (L → Option (List Item)) → (K → Option (List ℕ)) → (L → ℕ) → (K → ℕ) → L → K → Wires
-wires coming out link_faults out_faults link sink = record {
-  coming = coming link;
-  out = out sink;
-  link_faults = link_faults link;
-  out_faults = out_faults sink;
-}
-
--- no count rose
-pub record Calm (old new : Streams) : Type 0 where
-  pub link : new.link_faults ≡ old.link_faults
-  pub out : new.out_faults ≡ old.out_faults
-  pub tell : new.tell_faults ≡ old.tell_faults
-
--- and none stands at its end value
-pub record Below (old : Streams) : Type 0 where
-  pub link : old.link_faults < 2 ^ 64 - 1
-  pub out : old.out_faults < 2 ^ 64 - 1
-  pub tell : old.tell_faults < 2 ^ 64 - 1
-
--- the link told that these are all of its items
-abbrev pub IsAll : Option (List Item) → List Item → Type 0
-IsAll None taken = ⊤
-IsAll (Some all) taken = all ≡ taken
+-- no call failed
+pub record StreamsUnfailed (old new : Streams) : Type 0 where
+  pub line : LineUnfailed old.line new.line
+  pub tell : IsUnfailed old.tell.faults new.tell.faults

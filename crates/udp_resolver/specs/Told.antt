@@ -1,5 +1,5 @@
 -- An address is told only from a matching reply.
-use Rattle.std.specs.Prelude.{◌≡◌, ℕ, List, ◌∷◌, ◌++◌, Some, true, length, drop}
+use Rattle.std.specs.Prelude.{◌≡◌, ℕ, List, ◌∷◌, ◌++◌, Some, true, drop}
 use Rattle.uip_wire.specs.Fields.{word_at}
 use Rattle.udp_datagram.specs.Udp.{udp_data}
 use Rattle.dns_message.specs.Messages.{code_of, is_reply, question_end}

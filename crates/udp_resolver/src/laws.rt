@@ -6,8 +6,8 @@ ghost use Rattle.uip_edge.specs.declared.item.Item.{Item};
 ghost use Rattle.uip_edge.specs.declared.serve_end.ServeEnd.{ServeEnd as AnyEnd};
 ghost use Rattle.uip_edge.specs.declared.serve_end.ServeEnd.TheVariants.{Budget, End};
 ghost use Rattle.udp_resolver.specs.Fates.{Question};
-ghost use Rattle.udp_resolver.specs.Resolving.{EndsBy, IsOpen, IsSettled};
-ghost use Rattle.udp_resolver.specs.Streams.{Below, Calm, Streams};
+ghost use Rattle.udp_resolver.specs.Resolving.{ResolvesBy, IsOpen, IsSettled};
+ghost use Rattle.udp_resolver.specs.Streams.{Streams, StreamsUnfailed};
 ghost use Rattle.udp_resolver.specs.Told.{AddressesAreFromReplies};
 
 /// An address is told of a name only where a datagram came that is the reply to the question for this name, and an answer
@@ -19,17 +19,17 @@ pub fn addresses_are_from_replies()
 /// The end is told wherever nothing failed and all questions are settled, or the link tells fewer items than are allowed.
 pub fn end_is_told()
     ensures settled { (asked : List Question) (n : ℕ) (old new : Streams) (taken : List Item) (end : AnyEnd)
-        → EndsBy asked n old new taken end
-        → Calm old new → Below old → IsSettled asked taken → end ≡ End }
+        → ResolvesBy asked n old new taken end
+        → StreamsUnfailed old new → IsSettled asked taken → end ≡ End }
     ensures dry { (asked : List Question) (n : ℕ) (old new : Streams) (all taken : List Item) (end : AnyEnd)
-        → EndsBy asked n old new taken end
-        → Calm old new → Below old → old.coming ≡ Some all → length all < n
-        → Consumes old.coming new.coming taken → end ≡ End }
+        → ResolvesBy asked n old new taken end
+        → StreamsUnfailed old new → old.line.link.coming ≡ Some all → length all < n
+        → Consumes old.line.link.coming new.line.link.coming taken → end ≡ End }
 {}
 
 /// The budget is told wherever nothing failed, as many items were taken as were allowed, and a question is open.
 pub fn budget_is_told()
     ensures { (asked : List Question) (n : ℕ) (old new : Streams) (taken : List Item) (end : AnyEnd)
-        → EndsBy asked n old new taken end
-        → Calm old new → Below old → IsOpen asked taken → length taken ≡ n → end ≡ Budget }
+        → ResolvesBy asked n old new taken end
+        → StreamsUnfailed old new → IsOpen asked taken → length taken ≡ n → end ≡ Budget }
 {}

@@ -1,7 +1,6 @@
 ghost use Rattle.std.specs.Prelude.{◌≡◌, ◌≤◌, ◌+◌, ◌++◌, codes, decimal, length, OnOk, OnErr};
-ghost use Rattle.std.specs.Io.KnownBytes.{Appends};
-ghost use Rattle.uip_edge.specs.Causes.{HasCause};
-ghost use Rattle.uip_edge.specs.Writing.{AppendsPrefix};
+ghost use Rattle.uip_edge.specs.Telling.{sink_told};
+ghost use Rattle.uip_edge.specs.Writing.{Writes};
 ghost use Rattle.udp_resolver.specs.Fates.{fate_by};
 ghost use Rattle.udp_resolver.specs.Lines.{fate_text, line_of, quad_text};
 ghost use Rattle.udp_resolver.specs.Steps.{lines_by};
@@ -121,9 +120,7 @@ pub(crate) fn tell_all<T: Sink>(
     tell: &mut T,
 ) -> Result<(), Failed>
     requires { length answers.now ≡ length names.now }
-    ensures ok { OnOk result (Appends (T.written tell.old) (T.written tell.new) (lines_by names.now answers.now is_over)) }
-    ensures err { OnErr result (AppendsPrefix (T.written tell.old) (T.written tell.new) (lines_by names.now answers.now is_over)) }
-    ensures cause { HasCause (T.faults tell.old) (T.faults tell.new) result }
+    ensures { Writes (sink_told T.Sink tell.old) (sink_told T.Sink tell.new) result (lines_by names.now answers.now is_over) }
 {
     for at in 0..names.len() {
         tell.write_whole(&line_of(&names[at], fate_by(answers[at], is_over)))?;

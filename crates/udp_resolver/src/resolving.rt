@@ -28,8 +28,8 @@ pub fn resolve<L: Link, K: Sink, T: Sink>(
 ) -> ServeEnd
     requires { length packet.old.area ≡ LARGEST_DATAGRAM }
     ensures resolves { Resolves (questions (record { own = own; server = server; id = id }) names.now.items) items
-        (streams L.coming K.written T.written L.faults K.faults T.faults link.old out.old tell.old)
-        (streams L.coming K.written T.written L.faults K.faults T.faults link.new out.new tell.new) result }
+        (streams L.Link K.Sink T.Sink link.old out.old tell.old)
+        (streams L.Link K.Sink T.Sink link.new out.new tell.new) result }
     ensures area { length packet.new.area ≡ LARGEST_DATAGRAM }
 {
     let asking = Asking { own, server, id };

@@ -2,7 +2,7 @@ ghost use Rattle.std.specs.Prelude.{◌≡◌, ◌≤◌, ◌<◌, ◌∷◌, �
 ghost use Rattle.std.specs.Io.KnownBytes.{Appends};
 ghost use Rattle.rexmit_timer.specs.declared.timer.TheConstants.{TEXT_LIMIT};
 ghost use Rattle.uip_edge.specs.Causes.{HasCause};
-ghost use Rattle.uip_edge.specs.Writing.{AppendsPrefix};
+ghost use Rattle.uip_edge.specs.Writing.{AppendsPrefix, Writes};
 ghost use Rattle.uip_edge.specs.declared.item.Item.{Item};
 ghost use Rattle.uip_edge.specs.declared.item.Item.TheVariants.{Byte, Quiet};
 ghost use Rattle.uip_slip.specs.Decoding.{WasFed};
@@ -12,7 +12,7 @@ ghost use Rattle.udp_resolver.specs.LineEvents.{events};
 ghost use Rattle.udp_resolver.specs.Resolving.{IsOpen};
 ghost use Rattle.udp_resolver.specs.Standing.{Asks, CountFits, Knows, Turns};
 ghost use Rattle.udp_resolver.specs.Steps.{IsAt, asked_next};
-ghost use Rattle.udp_resolver.specs.Streams.{wires};
+ghost use Rattle.uip_edge.specs.Telling.{line_told, sink_told};
 
 use crate::MOST_NAMES;
 use crate::answers::{any_open, hear};
@@ -76,11 +76,8 @@ impl Run {
         ensures area { length packet.new.area ≡ LARGEST_DATAGRAM }
         ensures each { length self.new.answers.items ≡ length names.now }
         ensures knows { OnOk result (Knows (questions asking names.now) [] self.new) }
-        ensures ok { OnOk result (Appends (K.written out.old) (K.written out.new)
-            (line_text (questions asking names.now) [])) }
-        ensures err { OnErr result (AppendsPrefix (K.written out.old) (K.written out.new)
-            (line_text (questions asking names.now) [])) }
-        ensures cause { HasCause (K.faults out.old) (K.faults out.new) result }
+        ensures writes { Writes (sink_told K.Sink out.old) (sink_told K.Sink out.new) result
+            (line_text (questions asking names.now) []) }
     {
         self.sender
             .send_open(packet, asking, names, self.answers.as_slice(), out)
@@ -178,8 +175,8 @@ impl Run {
         ensures fits { CountFits result (length buf.old) }
         ensures turns { (items : List Item) → IsOpen (questions asking names.now) items → Knows (questions asking names.now) items self.old
             → Turns (questions asking names.now) items self.new
-            (wires L.coming K.written L.faults K.faults link.old out.old)
-            (wires L.coming K.written L.faults K.faults link.new out.new) (length buf.old) result }
+            (line_told L.Link K.Sink link.old out.old)
+            (line_told L.Link K.Sink link.new out.new) (length buf.old) result }
     {
         match link.next(buf) {
             Err(Failed) => Turn::Stopped(ServeEnd::LinkFault),
@@ -218,8 +215,8 @@ pub(crate) fn ask<L: Link, K: Sink>(
     ensures area { length packet.new.area ≡ LARGEST_DATAGRAM }
     ensures each { length run.new.answers.items ≡ length names.now }
     ensures asks { Asks (questions asking names.now) items run.new
-        (wires L.coming K.written L.faults K.faults link.old out.old)
-        (wires L.coming K.written L.faults K.faults link.new out.new) result }
+        (line_told L.Link K.Sink link.old out.old)
+        (line_told L.Link K.Sink link.new out.new) result }
 {
     if run.send_first(packet, asking, names, out).is_err() {
         return ServeEnd::WriteFault;

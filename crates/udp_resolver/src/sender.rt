@@ -1,7 +1,6 @@
 ghost use Rattle.std.specs.Prelude.{◌≡◌, ◌≤◌, length, OnOk, OnErr, [], ◌∷◌};
-ghost use Rattle.std.specs.Io.KnownBytes.{Appends};
-ghost use Rattle.uip_edge.specs.Causes.{HasCause};
-ghost use Rattle.uip_edge.specs.Writing.{AppendsPrefix};
+ghost use Rattle.uip_edge.specs.Telling.{sink_told};
+ghost use Rattle.uip_edge.specs.Writing.{Writes};
 ghost use Rattle.uip_slip.specs.Text.{slip_text};
 ghost use Rattle.dns_message.specs.Replies.{query_datagram};
 ghost use Rattle.udp_resolver.specs.Asked.{last_ident, next_ident, query_texts};
@@ -44,11 +43,8 @@ impl Sender {
         requires { length packet.old.area ≡ LARGEST_DATAGRAM }
         ensures area { length packet.new.area ≡ LARGEST_DATAGRAM }
         ensures ident { self.new.ident ≡ next_ident self.old.ident }
-        ensures ok { OnOk result (Appends (K.written out.old) (K.written out.new)
-            (slip_text (query_datagram asking name.now self.new.ident))) }
-        ensures err { OnErr result (AppendsPrefix (K.written out.old) (K.written out.new)
-            (slip_text (query_datagram asking name.now self.new.ident))) }
-        ensures cause { HasCause (K.faults out.old) (K.faults out.new) result }
+        ensures writes { Writes (sink_told K.Sink out.old) (sink_told K.Sink out.new) result
+            (slip_text (query_datagram asking name.now self.new.ident)) }
     {
         self.ident = self.ident.wrapping_add(1);
         packet.load(&asking.query(name, self.ident));
@@ -68,11 +64,8 @@ impl Sender {
         ensures area { length packet.new.area ≡ LARGEST_DATAGRAM }
         ensures ident { self.new.ident
             ≡ last_ident self.old.ident (unless_answered (record { asking = asking; text = name.now }) answer) }
-        ensures ok { OnOk result (Appends (K.written out.old) (K.written out.new)
-            (query_texts self.old.ident (unless_answered (record { asking = asking; text = name.now }) answer))) }
-        ensures err { OnErr result (AppendsPrefix (K.written out.old) (K.written out.new)
-            (query_texts self.old.ident (unless_answered (record { asking = asking; text = name.now }) answer))) }
-        ensures cause { HasCause (K.faults out.old) (K.faults out.new) result }
+        ensures writes { Writes (sink_told K.Sink out.old) (sink_told K.Sink out.new) result
+            (query_texts self.old.ident (unless_answered (record { asking = asking; text = name.now }) answer)) }
     {
         if answer.is_some() {
             return Ok(());
@@ -94,11 +87,8 @@ impl Sender {
         ensures area { length packet.new.area ≡ LARGEST_DATAGRAM }
         ensures ident { OnOk result (self.new.ident
             ≡ last_ident self.old.ident (unanswered (questions asking names.now) answers.now)) }
-        ensures ok { OnOk result (Appends (K.written out.old) (K.written out.new)
-            (query_texts self.old.ident (unanswered (questions asking names.now) answers.now))) }
-        ensures err { OnErr result (AppendsPrefix (K.written out.old) (K.written out.new)
-            (query_texts self.old.ident (unanswered (questions asking names.now) answers.now))) }
-        ensures cause { HasCause (K.faults out.old) (K.faults out.new) result }
+        ensures writes { Writes (sink_told K.Sink out.old) (sink_told K.Sink out.new) result
+            (query_texts self.old.ident (unanswered (questions asking names.now) answers.now)) }
     {
         let mut asking = asking;
         for at in 0..names.len() {

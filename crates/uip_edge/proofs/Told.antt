@@ -1,9 +1,10 @@
 -- Bytes and items that are told, one call after another.
-use Rattle.std.proofs.Common.{◌≡◌, ℕ, List, [], ◌++◌, Option, None, Some, refl, sym, ◌∙◌, append_assoc, append-nil, ◌-◌, take, drop, length, map, ◌+◌, Result, Ok, Err, OnErr}
+use Rattle.std.proofs.Common.{◌≡◌, ℕ, List, [], ◌∷◌, ◌++◌, Option, None, Some, refl, sym, ◌∙◌, append_assoc, append-nil, ◌-◌, take, drop, length, map, ◌+◌, ◌≤◌, arith, length-append, ap, Result, Ok, Err, OnErr}
 use Rattle.std.proofs.lemmas.List.{take_rest, take-append-drop, drop-drop}
-use Rattle.uip_edge.specs.declared.item.Item.TheVariants.{Byte}
+use Rattle.uip_edge.specs.declared.item.Item.TheVariants.{Byte, Quiet}
 use Rattle.std.specs.Io.KnownBytes.{Appends, Keeps}
-use Rattle.uip_edge.specs.Coming.{Consumes}
+use Rattle.uip_edge.specs.Coming.{Consumes, TookAll, bytes_among}
+use Rattle.uip_edge.specs.Told.{ShelfTold}
 use Rattle.uip_edge.specs.Writing.{AppendsPrefix}
 use Rattle.uip_edge.specs.declared.item.Item.{Item}
 
@@ -59,3 +60,33 @@ moved_on whole front rest n e = rw (take_rest, append_assoc, take-append-drop) e
 pub taken_off : (k n at : ℕ) (all : List Item) (buf : List ℕ) → k ≡ n → take k (drop at all) ≡ map Byte (take k buf)
     → drop at all ≡ map Byte (take n buf) ++ drop (at + n) all
 taken_off k n at all buf same e = rw (← same, ← e, ← drop-drop k at all, take-append-drop) refl
+
+pub bytes_among-map : (xs : List ℕ) → bytes_among (map Byte xs) ≡ xs
+bytes_among-map [] = refl
+bytes_among-map (x ∷ xs) = ap (λ l. x ∷ l) (bytes_among-map xs)
+
+pub bytes_among-append : (xs ys : List Item) → bytes_among (xs ++ ys) ≡ bytes_among xs ++ bytes_among ys
+bytes_among-append [] ys = refl
+bytes_among-append (Byte b ∷ xs) ys = ap (λ l. b ∷ l) (bytes_among-append xs ys)
+bytes_among-append (Quiet ∷ xs) ys = bytes_among-append xs ys
+
+-- what was taken before the end is all that was told
+pub took_all : (old mid : Option (List Item)) (taken : List Item) → Consumes old mid taken → TookAll mid [] → TookAll old taken
+took_all None mid taken c d = tt
+took_all (Some xs) None taken c d = absurd c
+took_all (Some xs) (Some ys) taken c d = c ∙ rw d (append-nil taken)
+
+-- the items behind nothing
+pub none_more : (taken items : List Item) → items ≡ [] → taken ++ items ≡ taken
+none_more taken items none = ap (λ l. taken ++ l) none ∙ append-nil taken
+
+pub taken_within : (old new : Option (List Item)) (all taken : List Item) → old ≡ Some all → Consumes old new taken → length taken ≤ length all
+taken_within None new all taken e c = absurd (cc e)
+taken_within (Some told) None all taken e c = absurd c
+taken_within (Some told) (Some left) all taken e c =
+    let same : told ≡ all = cc e in
+    let size : length all ≡ length (taken ++ left) = ap (λ l. length l) (sym same ∙ c) in
+    omega (arith, size, length-append taken left)
+
+pub same_shelf : (old new : ShelfTold) → new.held ≡ old.held → new.faults ≡ old.faults → new ≡ old
+same_shelf old new held faults = λ i. record { held = held i; faults = faults i }

@@ -1,5 +1,5 @@
 -- When a call of the outside may answer that it failed: only where the object's count of faults rose in that call.
-use Rattle.std.specs.Prelude.{◌≡◌, ◌+◌, ◌-◌, ◌^◌, ◌≤◌, min, ℕ, Result, OnOk, OnErr}
+use Rattle.std.specs.Prelude.{◌≡◌, ◌+◌, ◌-◌, ◌^◌, ◌<◌, ◌≤◌, min, ℕ, Result, OnOk, OnErr}
 
 -- one more; a count stays at 2^64 - 1, its end value
 abbrev pub counted_on : ℕ → ℕ
@@ -14,3 +14,8 @@ pub record HasCause {T E : Type 0} (before now : ℕ) (result : Result T E) : Ty
   pub later : before ≤ now
   pub same : OnOk result (now ≡ before)
   pub failed : OnErr result (Rose before now)
+
+-- No call failed: the count did not rise, and does not stand at its end value.
+pub record IsUnfailed (before now : ℕ) : Type 0 where
+  pub same : now ≡ before
+  pub below : before < 2 ^ 64 - 1

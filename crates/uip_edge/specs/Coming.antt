@@ -20,6 +20,12 @@ CountFits (Ok got.Quiet) room = ⊤
 CountFits (Ok got.End) room = ⊤
 CountFits (Err e) room = ⊤
 
+-- the bytes among the items; a silence is none
+abbrev pub bytes_among : List Item → List ℕ
+bytes_among [] = []
+bytes_among (item.Byte b ∷ items) = b ∷ bytes_among items
+bytes_among (item.Quiet ∷ items) = bytes_among items
+
 -- the items that are told begin with these, and lose them
 abbrev pub Consumes : Option (List Item) → Option (List Item) → List Item → Type 0
 Consumes None new xs = ⊤
@@ -33,3 +39,8 @@ IsAtEnd (Ok got.End) None = ⊤
 IsAtEnd (Ok (got.Bytes n)) told = ⊤
 IsAtEnd (Ok got.Quiet) told = ⊤
 IsAtEnd (Err e) told = ⊤
+
+-- the items are all that were told to come
+abbrev pub TookAll : Option (List Item) → List Item → Type 0
+TookAll None taken = ⊤
+TookAll (Some all) taken = all ≡ taken

@@ -1,7 +1,8 @@
-ghost use Rattle.std.specs.Prelude.{◌≡◌, ◌<◌, ◌≤◌, List, Option, ℕ, length, IfOk, OnOk, OnErr};
-ghost use Rattle.std.specs.Io.KnownBytes.{Appends, WriteAppends};
+ghost use Rattle.std.specs.Prelude.{◌≡◌, ◌<◌, ◌≤◌, List, Option, ℕ, length, IfOk};
+ghost use Rattle.std.specs.Io.KnownBytes.{WriteAppends};
 ghost use Rattle.uip_edge.specs.Causes.{HasCause};
-ghost use Rattle.uip_edge.specs.Writing.{AppendsPrefix};
+ghost use Rattle.uip_edge.specs.Told.{told};
+ghost use Rattle.uip_edge.specs.Writing.{Writes};
 
 use crate::failed::Failed;
 
@@ -22,9 +23,7 @@ pub trait Sink {
 
     /// Appends the whole piece. A failed call has appended a front of it.
     fn write_whole(&mut self, piece: &[u8]) -> Result<(), Failed>
-        ensures whole { OnOk result (Appends (written self.old) (written self.new) piece.now) }
-        ensures front { OnErr result (AppendsPrefix (written self.old) (written self.new) piece.now) }
-        ensures cause { HasCause (faults self.old) (faults self.new) result }
+        ensures { Writes (told (written self.old) (faults self.old)) (told (written self.new) (faults self.new)) result piece.now }
     {
         let mut rest = piece;
         while !rest.is_empty() {

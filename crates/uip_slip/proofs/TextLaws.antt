@@ -1,8 +1,5 @@
 -- The text of a datagram in parts.
-use Rattle.std.proofs.Common.{◌≡◌, ℕ, ◌+◌, ◌*◌, ◌-◌, ◌≤◌, ◌<◌, List, [], ◌∷◌, ◌++◌, take, drop, length, get_or, sym, ap, ◌∙◌, append_assoc, append-nil, arith, true, false, cond, eqb, length-append, length-take, length-drop, Option}
-use Rattle.std.specs.Io.KnownBytes.{Appends}
-use Rattle.uip_edge.specs.Writing.{AppendsPrefix}
-use Rattle.uip_edge.proofs.Told.{prefix_then, prefix_by}
+use Rattle.std.proofs.Common.{◌≡◌, ℕ, ◌+◌, ◌*◌, ◌-◌, ◌≤◌, ◌<◌, List, [], ◌∷◌, ◌++◌, take, drop, length, get_or, sym, ap, ◌∙◌, append_assoc, append-nil, arith, true, false, cond, eqb, length-append, length-take, length-drop}
 use Rattle.std.specs.List.{list_all}
 use Rattle.std.proofs.lemmas.List.{take_more, take-append-drop}
 use Rattle.std.proofs.lemmas.List.Concat.{flat_map-append}
@@ -74,8 +71,3 @@ pub whole_text : (datagram sent text new full front rest : List ℕ) → sent ++
 whole_text datagram sent text new full front rest made e f pieces =
     ap (λ l. sent ++ l) f ∙ sym (append_assoc sent new (192 ∷ []))
     ∙ ap (λ l. l ++ 192 ∷ []) (gathered sent text new front rest made e ∙ ap (λ l. 192 ∷ escaped l) (sym pieces))
-
--- the last piece failed behind a front
-pub last_front : (a m b : Option (List ℕ)) (sent full piece whole : List ℕ) → Appends a m sent → piece ≡ full → sent ++ full ≡ whole
-    → AppendsPrefix m b piece → AppendsPrefix a b whole
-last_front a m b sent full piece whole w same e p = prefix_by a b (sent ++ full) whole (sym e) (prefix_then a m b sent full w (prefix_by m b piece full (sym same) p))

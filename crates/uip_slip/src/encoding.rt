@@ -1,7 +1,6 @@
-ghost use Rattle.std.specs.Prelude.{◌≡◌, ◌≤◌, length, OnOk, OnErr};
-ghost use Rattle.std.specs.Io.KnownBytes.{Appends};
-ghost use Rattle.uip_edge.specs.Causes.{HasCause};
-ghost use Rattle.uip_edge.specs.Writing.{AppendsPrefix};
+ghost use Rattle.std.specs.Prelude.{◌≡◌, ◌≤◌, length};
+ghost use Rattle.uip_edge.specs.Telling.{sink_told};
+ghost use Rattle.uip_edge.specs.Writing.{Writes};
 ghost use Rattle.uip_slip.specs.Text.{slip_text};
 
 use crate::marks::{END, ESC};
@@ -37,9 +36,7 @@ impl Encoder {
     /// Writes the text of a datagram: in one piece, unless the datagram is longer than the largest. A failed call has
     /// written a front of the text.
     pub fn encode<K: Sink>(&mut self, datagram: &[u8], sink: &mut K) -> Result<(), Failed>
-        ensures whole { OnOk result (Appends (K.written sink.old) (K.written sink.new) (slip_text datagram.now)) }
-        ensures front { OnErr result (AppendsPrefix (K.written sink.old) (K.written sink.new) (slip_text datagram.now)) }
-        ensures cause { HasCause (K.faults sink.old) (K.faults sink.new) result }
+        ensures { Writes (sink_told K.Sink sink.old) (sink_told K.Sink sink.new) result (slip_text datagram.now) }
     {
         encode_over(&mut self.text, datagram, sink)
     }
@@ -47,18 +44,14 @@ impl Encoder {
 
 /// Writes the text of one datagram, as an encoder does.
 pub fn encode<K: Sink>(datagram: &[u8], sink: &mut K) -> Result<(), Failed>
-    ensures whole { OnOk result (Appends (K.written sink.old) (K.written sink.new) (slip_text datagram.now)) }
-    ensures front { OnErr result (AppendsPrefix (K.written sink.old) (K.written sink.new) (slip_text datagram.now)) }
-    ensures cause { HasCause (K.faults sink.old) (K.faults sink.new) result }
+    ensures { Writes (sink_told K.Sink sink.old) (sink_told K.Sink sink.new) result (slip_text datagram.now) }
 {
     Encoder::new().encode(datagram, sink)
 }
 
 /// Writes the text of a datagram over a text area.
 fn encode_over<K: Sink>(text: &mut TextArea, datagram: &[u8], sink: &mut K) -> Result<(), Failed>
-    ensures whole { OnOk result (Appends (K.written sink.old) (K.written sink.new) (slip_text datagram.now)) }
-    ensures front { OnErr result (AppendsPrefix (K.written sink.old) (K.written sink.new) (slip_text datagram.now)) }
-    ensures cause { HasCause (K.faults sink.old) (K.faults sink.new) result }
+    ensures { Writes (sink_told K.Sink sink.old) (sink_told K.Sink sink.new) result (slip_text datagram.now) }
 {
     text.clear();
     text.put(&[END]);

@@ -6,7 +6,6 @@ use Rattle.uip_edge.specs.declared.serve_end.ServeEnd.TheVariants as serves
 use Rattle.file_tree.specs.declared.load_fault.LoadFault.{LoadFault}
 use Rattle.file_tree.specs.declared.load_fault.LoadFault.TheVariants as loads
 use Rattle.site_commands.specs.Due.{Due}
-use Rattle.site_commands.specs.Ending.{Desk}
 use Rattle.site_commands.specs.declared.site_end.SiteEnd.{SiteEnd}
 use Rattle.site_commands.specs.declared.site_end.SiteEnd.TheVariants as ends
 use Rattle.replay_command.specs.declared.replay_end.ReplayEnd.{ReplayEnd}
@@ -14,10 +13,10 @@ use Rattle.replay_command.specs.declared.replay_end.ReplayEnd.TheVariants as rep
 use Rattle.uipd.specs.Running.{SiteRuns}
 use Rattle.uipd.specs.SiteServing.{SiteServes}
 use Rattle.uipd.specs.Statuses.{RunsAs, status_of_fault, status_of_replay, status_of_serving, status_of_site}
-use Rattle.uipd.specs.Surroundings.{Surroundings}
 use Rattle.uipd.specs.declared.words.ServedLine.{ServedLine}
 use Rattle.uipd.specs.declared.status.Status.{Status}
 use Rattle.uipd.specs.declared.status.Status.TheVariants.{BadWords}
+use Rattle.uip_edge.specs.Told.{WorkTold, Outside}
 
 serving_has_words : (end : ServeEnd) → status_of_serving end ≡ BadWords → ⊥
 serving_has_words serves.End e = cc
@@ -54,7 +53,7 @@ site_never Ends result run e = never status_of_site Ends result site_has_words r
 pub replay_never : (Ends : ReplayEnd → Type 0) (result : Status) → RunsAs status_of_replay Ends result → result ≡ BadWords → ⊥
 replay_never Ends result run e = never status_of_replay Ends result replay_has_words run e
 
-pub serving_never : (site : List ℕ) (line : ServedLine) (old new : Surroundings) (result : Status) → SiteServes site line old new result → result ≡ BadWords → ⊥
+pub serving_never : (site : List ℕ) (line : ServedLine) (old new : Outside) (result : Status) → SiteServes site line old new result → result ≡ BadWords → ⊥
 serving_never site line old new result (inr none) e = fault_has_words none.fault (sym none.told ∙ e)
 serving_never site line old new result (inl has) e =
     elim has.done [ inl run ↦ serving_has_words run.0 (sym run.1 ∙ e) | inr short ↦ (let no = sym short.0 ∙ e in cc) ]

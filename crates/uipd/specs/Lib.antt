@@ -5,7 +5,6 @@ pub mod Running
 pub mod Serving
 pub mod SiteServing
 pub mod Statuses
-pub mod Surroundings
 pub mod Telling
 pub mod ToldRunning
 pub mod Words

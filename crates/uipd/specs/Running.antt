@@ -2,9 +2,8 @@
 use Rattle.std.specs.Prelude.{◌≡◌, ℕ, List, Option, None, Some}
 use Rattle.uip_edge.specs.Shelving.{Files}
 use Rattle.site_commands.specs.Due.{Due, check_due, page_due, pack_due, upgrade_due}
-use Rattle.site_commands.specs.Ending.{Desk, Ends}
+use Rattle.site_commands.specs.Ending.{Ends}
 use Rattle.replay_command.specs.Ending.{LoadEnds, ReplayEnds}
-use Rattle.serve_loop.specs.Outside.{Outside}
 use Rattle.trace.specs.CaptureText.{capture_file}
 use Rattle.trace.specs.Converting.{Converts}
 use Rattle.trace.specs.DumpText.{dump_text}
@@ -13,23 +12,24 @@ use Rattle.uipd.specs.declared.status.Status.{Status}
 use Rattle.uipd.specs.declared.status.Status.TheVariants.{BadWords}
 use Rattle.uipd.specs.SiteServing.{SiteServes}
 use Rattle.uipd.specs.Statuses.{RunsAs, status_of_replay, status_of_serving, status_of_site, status_of_slip}
-use Rattle.uipd.specs.Surroundings.{Surroundings, LeavesLine, LeavesShelf, desk_of, line_of}
+use Rattle.uip_edge.specs.Told.{LineTold, Outside, WorkTold, line_of, work_of}
 use Rattle.uipd.specs.Words.{Task, Serves, Checks, Pages, Packs, Upgrades, Replays, Loads, Dumps, Captures, PlaysBack, task_of}
+use Rattle.uip_edge.specs.Told.{WorkTold}
 
 -- a run of work on an image ends as the work does
-abbrev pub SiteRuns : (Files → Option Due) → Desk → Desk → Status → Type 0
+abbrev pub SiteRuns : (Files → Option Due) → WorkTold → WorkTold → Status → Type 0
 SiteRuns due old new result = RunsAs status_of_site (Ends due old new) result
 
 -- work on an image, which leaves the line alone
-abbrev pub SiteWorks : (Files → Option Due) → Surroundings → Surroundings → Status → Type 0
-SiteWorks due old new result = SiteRuns due (desk_of old) (desk_of new) result × LeavesLine old new
+abbrev pub SiteWorks : (Files → Option Due) → Outside → Outside → Status → Type 0
+SiteWorks due old new result = SiteRuns due (work_of old) (work_of new) result × (new.link ≡ old.link)
 
 -- work on a line, which leaves the shelf alone
-abbrev pub LineWorks : {E : Type 0} → (E → Status) → (Outside → Outside → E → Type 0) → Surroundings → Surroundings → Status → Type 0
-LineWorks status_of Ends old new result = RunsAs status_of (Ends (line_of old) (line_of new)) result × LeavesShelf old new
+abbrev pub LineWorks : {E : Type 0} → (E → Status) → (LineTold → LineTold → E → Type 0) → Outside → Outside → Status → Type 0
+LineWorks status_of Ends old new result = RunsAs status_of (Ends (line_of old) (line_of new)) result × (new.shelf ≡ old.shelf)
 
 -- words without a form are told, and only they; other words are done
-abbrev pub TaskRuns : Option Task → Surroundings → Surroundings → Status → Type 0
+abbrev pub TaskRuns : Option Task → Outside → Outside → Status → Type 0
 TaskRuns None old new result = result ≡ BadWords
 TaskRuns (Some (Serves site line)) old new result = SiteServes site line old new result
 TaskRuns (Some (Checks site)) old new result = SiteWorks (check_due site) old new result
@@ -37,13 +37,13 @@ TaskRuns (Some (Packs files)) old new result = SiteWorks (pack_due files) old ne
 TaskRuns (Some (Upgrades site kinds)) old new result = SiteWorks (upgrade_due site kinds) old new result
 TaskRuns (Some (Pages site target)) old new result = SiteWorks (page_due site target) old new result
 TaskRuns (Some (Replays site schedule show)) old new result =
-    RunsAs status_of_replay (ReplayEnds site schedule show (desk_of old) (desk_of new)) result × LeavesLine old new
+    RunsAs status_of_replay (ReplayEnds site schedule show (work_of old) (work_of new)) result × (new.link ≡ old.link)
 TaskRuns (Some (Loads site seed clients)) old new result =
-    RunsAs status_of_replay (LoadEnds site seed clients (desk_of old) (desk_of new)) result × LeavesLine old new
+    RunsAs status_of_replay (LoadEnds site seed clients (work_of old) (work_of new)) result × (new.link ≡ old.link)
 TaskRuns (Some (Dumps n)) old new result = LineWorks status_of_serving (TellsLine dump_text n) old new result
 TaskRuns (Some (Captures n)) old new result = LineWorks status_of_serving (TellsLine capture_file n) old new result
 TaskRuns (Some (PlaysBack n)) old new result = LineWorks status_of_slip (Converts n) old new result
 
 -- the headline of a run
-abbrev pub Runs : List (List ℕ) → Surroundings → Surroundings → Status → Type 0
+abbrev pub Runs : List (List ℕ) → Outside → Outside → Status → Type 0
 Runs words old new result = TaskRuns (task_of words) old new result

@@ -1,12 +1,12 @@
 -- What serving a line with the site that the words name does to shelf, line and output.
-use Rattle.std.specs.Prelude.{◌≡◌, ◌<◌, ◌⊎◌, ◌-◌, ◌^◌, ℕ, List, Some, Result, Ok, Err}
+use Rattle.std.specs.Prelude.{◌≡◌, ◌⊎◌, ℕ, List, Some, Result, Ok, Err}
 use Rattle.site_image.specs.Files.{File}
 use Rattle.site_image.specs.declared.site_error.SiteError.{SiteError}
 use Rattle.file_tree.specs.declared.load_fault.LoadFault.{LoadFault}
 use Rattle.file_tree.specs.Opening.{FailsToOpen, IsSiteRead, site_read}
 use Rattle.uip_edge.specs.Shelving.{Files}
-use Rattle.serve_loop.specs.Outside.{Unfailed}
-use Rattle.uipd.specs.Surroundings.{Surroundings, LeavesShelf, line_of}
+use Rattle.uip_edge.specs.Causes.{IsUnfailed}
+use Rattle.uip_edge.specs.Told.{LineUnfailed, Outside, line_of}
 use Rattle.uipd.specs.Serving.{ServeRuns}
 use Rattle.uipd.specs.Statuses.{status_of_fault}
 use Rattle.uipd.specs.declared.words.ServedLine.{ServedLine}
@@ -14,30 +14,29 @@ use Rattle.uipd.specs.declared.status.Status.{Status}
 use Rattle.uipd.specs.declared.status.Status.TheVariants as status
 
 -- the site under the name was opened, and this was done with its files
-pub record WithSite (site : List ℕ) (old new : Surroundings) (Done : List File → Type 0) : Type 0 where
+pub record WithSite (site : List ℕ) (old new : Outside) (Done : List File → Type 0) : Type 0 where
   pub files : List File
-  pub read : IsSiteRead site old.held (Ok files)
-  pub shelf : LeavesShelf old new
+  pub read : IsSiteRead site old.shelf.held (Ok files)
+  pub shelf : new.shelf ≡ old.shelf
   pub done : Done files
 
 -- there is no site under the name, for this reason; the line and its output were left alone
-pub record WithoutSite (site : List ℕ) (old new : Surroundings) (result : Status) : Type 0 where
+pub record WithoutSite (site : List ℕ) (old new : Outside) (result : Status) : Type 0 where
   pub fault : LoadFault
   pub told : result ≡ status_of_fault fault
-  pub fails : FailsToOpen site old.held old.shelf_faults new.shelf_faults fault
-  pub held : new.held ≡ old.held
+  pub fails : FailsToOpen site old.shelf.held old.shelf.faults new.shelf.faults fault
+  pub held : new.shelf.held ≡ old.shelf.held
   pub line : line_of new ≡ line_of old
 
 -- the line is served with the site under a name
-abbrev pub SiteServes : List ℕ → ServedLine → Surroundings → Surroundings → Status → Type 0
+abbrev pub SiteServes : List ℕ → ServedLine → Outside → Outside → Status → Type 0
 SiteServes site line old new result =
     WithSite site old new (λ files. ServeRuns files line (line_of old) (line_of new) result) ⊎ WithoutSite site old new result
 
--- no count rose, and none stands at its end value
-pub record IsUndisturbed (old new : Surroundings) : Type 0 where
-  pub shelf : new.shelf_faults ≡ old.shelf_faults
-  pub shelf_below : old.shelf_faults < 2 ^ 64 - 1
-  pub line : Unfailed (line_of old) (line_of new)
+-- no call failed
+pub record IsUndisturbed (old new : Outside) : Type 0 where
+  pub shelf : IsUnfailed old.shelf.faults new.shelf.faults
+  pub line : LineUnfailed (line_of old) (line_of new)
 
 -- the answer by what reading the site gives: its first fault, or how the line ended
 abbrev pub AnswersRead : Result (List File) SiteError → Status → Type 0
@@ -48,6 +47,6 @@ AnswersRead (Err error) result = result ≡ status.BadSite error
 -- memory.
 abbrev pub SiteIsTold : Type 0
 SiteIsTold =
-    (site : List ℕ) (line : ServedLine) (old new : Surroundings) (result : Status) (files : Files) (read : Result (List File) SiteError)
-    → old.held ≡ Some files → site_read site files ≡ Some read → IsUndisturbed old new → SiteServes site line old new result
+    (site : List ℕ) (line : ServedLine) (old new : Outside) (result : Status) (files : Files) (read : Result (List File) SiteError)
+    → old.shelf.held ≡ Some files → site_read site files ≡ Some read → IsUndisturbed old new → SiteServes site line old new result
     → (result ≡ status.NoMemory) ⊎ AnswersRead read result

@@ -6,7 +6,7 @@ use Rattle.udp_resolver.specs.Streams.{Streams}
 use Rattle.uipd.specs.ResolveWords.{Resolving, resolving_of}
 use Rattle.uipd.specs.Running.{Runs}
 use Rattle.uipd.specs.Statuses.{RunsAs, status_of_serving}
-use Rattle.uipd.specs.Surroundings.{Surroundings}
+use Rattle.uip_edge.specs.Told.{Outside}
 use Rattle.uipd.specs.declared.status.Status.{Status}
 use Rattle.uipd.specs.declared.status.Status.TheVariants.{NoMemory}
 
@@ -20,9 +20,9 @@ ResolveRuns r old new result =
     RunsAs status_of_serving (Resolves (questions_of r) r.items old new) result ⊎ ((result ≡ NoMemory) × (new ≡ old))
 
 -- the words of `resolve` are done here, and all others as `run` does them
-abbrev pub ToldBy : Option Resolving → List (List ℕ) → Surroundings → Surroundings → Streams → Streams → Status → Type 0
+abbrev pub ToldBy : Option Resolving → List (List ℕ) → Outside → Outside → Streams → Streams → Status → Type 0
 ToldBy None words old new before after result = Runs words old new result
 ToldBy (Some r) words old new before after result = ResolveRuns r before after result
 
-abbrev pub ToldRuns : List (List ℕ) → Surroundings → Surroundings → Streams → Streams → Status → Type 0
+abbrev pub ToldRuns : List (List ℕ) → Outside → Outside → Streams → Streams → Status → Type 0
 ToldRuns words old new before after result = ToldBy (resolving_of words) words old new before after result

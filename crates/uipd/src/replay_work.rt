@@ -1,7 +1,7 @@
 ghost use Rattle.std.specs.Prelude.{◌≡◌, ◌≤◌};
-ghost use Rattle.site_commands.specs.Ending.{desk};
 ghost use Rattle.replay_command.specs.Ending.{LoadEnds, ReplayEnds};
 ghost use Rattle.uipd.specs.Statuses.{RunsAs, status_of_replay};
+ghost use Rattle.uip_edge.specs.Telling.{work_told};
 
 use crate::status::Status;
 use replay_command::{load, replay};
@@ -17,8 +17,8 @@ pub fn replay_site<H: Shelf, K: Sink>(
     shelf: &mut H,
     out: &mut K,
 ) -> Status
-    ensures runs { RunsAs status_of_replay (ReplayEnds site.now schedule.now show (desk H.held K.written H.faults K.faults shelf.old out.old)
-        (desk H.held K.written H.faults K.faults shelf.new out.new)) result }
+    ensures runs { RunsAs status_of_replay (ReplayEnds site.now schedule.now show (work_told H.Shelf K.Sink shelf.old out.old)
+        (work_told H.Shelf K.Sink shelf.new out.new)) result }
     ensures kept { H.held shelf.new ≡ H.held shelf.old }
 {
     Status::from(replay(
@@ -42,8 +42,8 @@ pub fn load_site<H: Shelf, K: Sink>(
 ) -> Status
     requires some { 1 ≤ clients }
     requires few { clients ≤ 64 }
-    ensures runs { RunsAs status_of_replay (LoadEnds site.now seed clients (desk H.held K.written H.faults K.faults shelf.old out.old)
-        (desk H.held K.written H.faults K.faults shelf.new out.new)) result }
+    ensures runs { RunsAs status_of_replay (LoadEnds site.now seed clients (work_told H.Shelf K.Sink shelf.old out.old)
+        (work_told H.Shelf K.Sink shelf.new out.new)) result }
     ensures kept { H.held shelf.new ≡ H.held shelf.old }
 {
     Status::from(load(alloc, site.as_bytes(), seed, clients, shelf, out))

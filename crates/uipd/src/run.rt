@@ -1,12 +1,13 @@
 ghost use Rattle.std.specs.Prelude.{◌≡◌, ◌⊎◌, Option, map, string_bytes};
 ghost use Rattle.uip_edge.specs.Shelving.{Files};
 ghost use Rattle.site_commands.specs.Due.{Due};
-ghost use Rattle.site_commands.specs.Ending.{Desk, IsCalm, IsDue, LacksFile, end_of};
+ghost use Rattle.site_commands.specs.Ending.{IsDue, LacksFile, end_of};
 ghost use Rattle.uipd.specs.Running.{Runs, SiteRuns};
 ghost use Rattle.uipd.specs.Statuses.{status_of_site};
-ghost use Rattle.uipd.specs.Surroundings.{surroundings};
 ghost use Rattle.uipd.specs.declared.status.Status.TheVariants.{BadWords, NoMemory};
 ghost use Rattle.uipd.specs.declared.status.Status.{Status as Answer};
+ghost use Rattle.uip_edge.specs.Told.{WorkTold, WorkUnfailed};
+ghost use Rattle.uip_edge.specs.Telling.{outside};
 
 use crate::replay_work::{load_site, replay_site};
 use crate::serve::serve;
@@ -26,8 +27,8 @@ pub fn run<H: Shelf, L: Link, K: Sink>(
     out: &mut K,
 ) -> Status
     ensures runs { Runs (map string_bytes words.now)
-        (surroundings H.held L.coming K.written H.faults L.faults K.faults shelf.old link.old out.old)
-        (surroundings H.held L.coming K.written H.faults L.faults K.faults shelf.new link.new out.new) result }
+        (outside H.Shelf L.Link K.Sink shelf.old link.old out.old)
+        (outside H.Shelf L.Link K.Sink shelf.new link.new out.new) result }
     ensures untouched { result ≡ BadWords → (shelf.new ≡ shelf.old) × (link.new ≡ link.old) × (out.new ≡ out.old) }
     ensures kept { H.held shelf.new ≡ H.held shelf.old }
 {
@@ -52,6 +53,6 @@ pub fn run<H: Shelf, L: Link, K: Sink>(
 
 /// Work on an image ends as is due for the shelf's files wherever no count rose and no file is missing, or memory was short.
 pub fn image_is_told()
-    ensures { (due : Files → Option Due) (old new : Desk) (result : Answer) → SiteRuns due old new result → IsCalm old new → ¬ (LacksFile due old.held)
-        → (result ≡ NoMemory) ⊎ ((made : Due) × IsDue due old.held made × (result ≡ status_of_site (end_of made.fault))) }
+    ensures { (due : Files → Option Due) (old new : WorkTold) (result : Answer) → SiteRuns due old new result → WorkUnfailed old new → ¬ (LacksFile due old.shelf.held)
+        → (result ≡ NoMemory) ⊎ ((made : Due) × IsDue due old.shelf.held made × (result ≡ status_of_site (end_of made.fault))) }
 {}

@@ -1,9 +1,9 @@
 ghost use Rattle.std.specs.Prelude.{◌≡◌, None, map, string_bytes};
 ghost use Rattle.udp_resolver.specs.Streams.{streams};
 ghost use Rattle.uipd.specs.ResolveWords.{resolving_of};
-ghost use Rattle.uipd.specs.Surroundings.{surroundings};
 ghost use Rattle.uipd.specs.ToldRunning.{ResolveRuns, ToldRuns};
 ghost use Rattle.uipd.specs.declared.status.Status.TheVariants.{BadWords};
+ghost use Rattle.uip_edge.specs.Telling.{outside};
 
 use crate::resolve_words::{Resolving, resolving_of};
 use crate::run::run;
@@ -24,10 +24,10 @@ pub fn run_told<H: Shelf, L: Link, K: Sink, T: Sink>(
     tell: &mut T,
 ) -> Status
     ensures runs { ToldRuns (map string_bytes words.now)
-        (surroundings H.held L.coming K.written H.faults L.faults K.faults shelf.old link.old out.old)
-        (surroundings H.held L.coming K.written H.faults L.faults K.faults shelf.new link.new out.new)
-        (streams L.coming K.written T.written L.faults K.faults T.faults link.old out.old tell.old)
-        (streams L.coming K.written T.written L.faults K.faults T.faults link.new out.new tell.new) result }
+        (outside H.Shelf L.Link K.Sink shelf.old link.old out.old)
+        (outside H.Shelf L.Link K.Sink shelf.new link.new out.new)
+        (streams L.Link K.Sink T.Sink link.old out.old tell.old)
+        (streams L.Link K.Sink T.Sink link.new out.new tell.new) result }
     ensures untold { resolving_of (map string_bytes words.now) ≡ None → tell.new ≡ tell.old }
     ensures unread { ¬ (resolving_of (map string_bytes words.now) ≡ None) → shelf.new ≡ shelf.old }
     ensures untouched { result ≡ BadWords → (shelf.new ≡ shelf.old) × (link.new ≡ link.old) × (out.new ≡ out.old) × (tell.new ≡ tell.old) }
@@ -48,8 +48,8 @@ fn resolve_names<L: Link, K: Sink, T: Sink>(
     tell: &mut T,
 ) -> Status
     ensures runs { ResolveRuns resolving.now
-        (streams L.coming K.written T.written L.faults K.faults T.faults link.old out.old tell.old)
-        (streams L.coming K.written T.written L.faults K.faults T.faults link.new out.new tell.new) result }
+        (streams L.Link K.Sink T.Sink link.old out.old tell.old)
+        (streams L.Link K.Sink T.Sink link.new out.new tell.new) result }
     ensures known { ¬ (result ≡ BadWords) }
 {
     match Packet::new(alloc, LARGEST_DATAGRAM) {

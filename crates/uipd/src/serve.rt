@@ -2,11 +2,10 @@
 
 ghost use Rattle.std.specs.Prelude.{◌≡◌};
 ghost use Rattle.file_tree.specs.Site.{files_of};
-ghost use Rattle.serve_loop.specs.Outside.{outside};
 ghost use Rattle.web_pages.specs.Serving.{no_hits};
 ghost use Rattle.uipd.specs.Serving.{ServeRuns};
 ghost use Rattle.uipd.specs.SiteServing.{SiteIsTold, SiteServes};
-ghost use Rattle.uipd.specs.Surroundings.{surroundings};
+ghost use Rattle.uip_edge.specs.Telling.{line_told, outside};
 
 use crate::status::Status;
 use crate::words::{Limits, LineKind, ServedLine};
@@ -29,8 +28,8 @@ pub fn serve<H: Shelf, L: Link, K: Sink>(
     out: &mut K,
 ) -> Status
     ensures runs { SiteServes name.now line
-        (surroundings H.held L.coming K.written H.faults L.faults K.faults shelf.old link.old out.old)
-        (surroundings H.held L.coming K.written H.faults L.faults K.faults shelf.new link.new out.new) result }
+        (outside H.Shelf L.Link K.Sink shelf.old link.old out.old)
+        (outside H.Shelf L.Link K.Sink shelf.new link.new out.new) result }
     ensures kept { H.held shelf.new ≡ H.held shelf.old }
 {
     match Site::open(alloc, shelf, name) {
@@ -47,8 +46,8 @@ fn serve_site<L: Link, K: Sink>(
     link: &mut L,
     out: &mut K,
 ) -> Status
-    ensures { ServeRuns (files_of site) line (outside L.coming K.written L.faults K.faults link.old out.old)
-        (outside L.coming K.written L.faults K.faults link.new out.new) result }
+    ensures { ServeRuns (files_of site) line (line_told L.Link K.Sink link.old out.old)
+        (line_told L.Link K.Sink link.new out.new) result }
 {
     match Web::new(alloc, site) {
         Ok(web) => serve_web(alloc, web, line, link, out),
@@ -65,8 +64,8 @@ fn serve_web<L: Link, K: Sink>(
     out: &mut K,
 ) -> Status
     requires { web.hits ≡ no_hits (files_of web.site) }
-    ensures { ServeRuns (files_of web.site) line (outside L.coming K.written L.faults K.faults link.old out.old)
-        (outside L.coming K.written L.faults K.faults link.new out.new) result }
+    ensures { ServeRuns (files_of web.site) line (line_told L.Link K.Sink link.old out.old)
+        (line_told L.Link K.Sink link.new out.new) result }
 {
     let Limits { pace, items } = line.limits;
     match Node::<Httpd>::new(alloc, line.own, web) {

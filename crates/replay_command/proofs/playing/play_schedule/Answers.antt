@@ -8,6 +8,7 @@ use Rattle.link_replay.specs.Stands.{WorldStands}
 use Rattle.web_pages.specs.Serving.{no_hits}
 use Rattle.replay_command.specs.Telling.{Answers, IsPlayDue}
 use Rattle.replay_command.proofs.Played.{played_due, refused_due}
+use Rattle.uip_edge.specs.Telling.{sink_told}
 use Rattle.replay_command.proofs.playing.play_schedule.Goals as goal
 
 pub returns-in-Ok-play : goal.returns-in-Ok-play
@@ -15,12 +16,11 @@ returns-in-Ok-play g c =
     let site = c.in-Ok.web.site in
     let same = c.in-Ok.ensures.site in
     subst
-    (λ (s : SiteContent). Answers (IsPlayDue (files_of s) (content_at c.args.schedule.now) c.args.telling) (g.K.Sink.written c.args.out.now) (g.K.Sink.written c.tell.new.out) (g.K.Sink.faults c.args.out.now)
-    (g.K.Sink.faults c.tell.new.out) c.tell.result)
+    (λ (s : SiteContent). Answers (IsPlayDue (files_of s) (content_at c.args.schedule.now) c.args.telling) (sink_told g.K.Sink c.args.out.now) (sink_told g.K.Sink c.tell.new.out) c.tell.result)
     same
     (played_due site (subst IsLoaded (sym same) c.see_loaded.ensures.loaded) (subst (λ (s : SiteContent). All IsByte s.image) (sym same) c.see_loaded.ensures.bytes) c.in-Ok.web.hits
     (c.in-Ok.ensures.hits ∙ ap (λ (s : SiteContent). no_hits (files_of s)) (sym same)) (content_at c.args.schedule.now) c.args.telling
-    (g.K.Sink.written c.args.out.now) (g.K.Sink.written c.tell.new.out) (g.K.Sink.faults c.args.out.now) (g.K.Sink.faults c.tell.new.out) c.tell.result
+    (sink_told g.K.Sink c.args.out.now) (sink_told g.K.Sink c.tell.new.out) c.tell.result
     (WorldStands _ c.in-Ok-play.world) c.in-Ok-play.ensures.plays c.tell.ensures)
 
 pub returns-in-Err : goal.returns-in-Err
@@ -28,10 +28,9 @@ returns-in-Err g c =
     let site = c.in-Ok.web.site in
     let same = c.in-Ok.ensures.site in
     subst
-    (λ (s : SiteContent). Answers (IsPlayDue (files_of s) (content_at c.args.schedule.now) c.args.telling) (g.K.Sink.written c.args.out.now) (g.K.Sink.written c.refuse.new.out) (g.K.Sink.faults c.args.out.now)
-    (g.K.Sink.faults c.refuse.new.out) c.refuse.result)
+    (λ (s : SiteContent). Answers (IsPlayDue (files_of s) (content_at c.args.schedule.now) c.args.telling) (sink_told g.K.Sink c.args.out.now) (sink_told g.K.Sink c.refuse.new.out) c.refuse.result)
     same
     (refused_due site (subst IsLoaded (sym same) c.see_loaded.ensures.loaded) (subst (λ (s : SiteContent). All IsByte s.image) (sym same) c.see_loaded.ensures.bytes) c.in-Ok.web.hits
     (c.in-Ok.ensures.hits ∙ ap (λ (s : SiteContent). no_hits (files_of s)) (sym same)) (content_at c.args.schedule.now) c.args.telling
-    (g.K.Sink.written c.args.out.now) (g.K.Sink.written c.refuse.new.out) (g.K.Sink.faults c.args.out.now) (g.K.Sink.faults c.refuse.new.out) c.refuse.result
+    (sink_told g.K.Sink c.args.out.now) (sink_told g.K.Sink c.refuse.new.out) c.refuse.result
     (λ (x : ⊤) w. ⊤) c.in-Err.fault c.in-Err.ensures.plays c.refuse.ensures)

@@ -4,7 +4,7 @@ use Rattle.replay_command.proofs.Played.{text_answers, text_refused}
 use Rattle.replay_command.proofs.playing.play_text.Goals as goal
 
 pub returns-in-Ok : goal.returns-in-Ok
-returns-in-Ok g c = text_answers (files_of c.args.site) c.args.text.now (content_at c.in-Ok.schedule) c.args.show c.in-Ok.ensures _ _ _ _ _ c.play_schedule.ensures
+returns-in-Ok g c = text_answers (files_of c.args.site) c.args.text.now (content_at c.in-Ok.schedule) c.args.show c.in-Ok.ensures _ _ _ c.play_schedule.ensures
 
 pub returns-in-Err : goal.returns-in-Err
-returns-in-Err g c = text_refused (files_of c.args.site) c.args.text.now c.args.show c.in-Err.fault c.in-Err.ensures _ _ _ _ _ c.refuse.ensures
+returns-in-Err g c = text_refused (files_of c.args.site) c.args.text.now c.args.show c.in-Err.fault c.in-Err.ensures _ _ _ c.refuse.ensures

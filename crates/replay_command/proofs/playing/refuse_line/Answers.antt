@@ -1,5 +1,6 @@
 use Rattle.std.proofs.Common.{ℕ, List, subst, inl, ◌∙◌}
-use Rattle.replay_command.specs.Telling.{Writes}
+use Rattle.uip_edge.specs.Writing.{WritesEnd}
+use Rattle.uip_edge.specs.Telling.{sink_told}
 use Rattle.replay_command.specs.declared.replay_end.ReplayEnd.TheVariants as ends
 use Rattle.replay_command.proofs.playing.refuse_line.Goals as goal
 
@@ -7,6 +8,5 @@ pub returns-in-Ok : goal.returns-in-Ok
 returns-in-Ok g c =
     inl
     (subst
-    (λ (text : List ℕ). Writes text (ends.BadSchedule c.args.line c.args.why) (g.K.Sink.written c.args.out.now) (g.K.Sink.written c.write_text.new.out) (g.K.Sink.faults c.args.out.now)
-    (g.K.Sink.faults c.write_text.new.out) c.write_text.result)
+    (λ (text : List ℕ). WritesEnd (ends.BadSchedule c.args.line c.args.why) ends.WriteFault (sink_told g.K.Sink c.args.out.now) (sink_told g.K.Sink c.write_text.new.out) text c.write_text.result)
     (c.deref.ensures.value ∙ c.in-Ok.ensures) c.write_text.ensures)

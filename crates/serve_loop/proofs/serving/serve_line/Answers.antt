@@ -1,10 +1,9 @@
 use Rattle.std.proofs.Common.{◌++◌, [], refl, arith, ◌∙◌, length-take, length-append}
-use Rattle.uip_edge.proofs.Told.{Consumes-none, Consumes-then}
-use Rattle.serve_loop.specs.LineEvents.{bytes_of}
-use Rattle.serve_loop.specs.Outside.{outside}
-use Rattle.serve_loop.proofs.EventLaws.{bytes_of-append}
+use Rattle.uip_edge.proofs.Told.{Consumes-none, Consumes-then, bytes_among-append}
 use Rattle.serve_loop.proofs.RunLaws.{wrote_none}
 use Rattle.serve_loop.proofs.ServeLaws.{on_wrote, spent, stopped}
+use Rattle.uip_edge.specs.Coming.{bytes_among}
+use Rattle.uip_edge.specs.Telling.{line_told}
 use Rattle.serve_loop.proofs.serving.serve_line.Goals as goal
 
 pub loop-left-init : goal.loop-left-init
@@ -28,13 +27,13 @@ loop-left-preserved g c = record {
   same = c.in-Went.ensures.same ∙ c.loop-left.invariant.same;
   served = λ k pace h.
       let inv = c.loop-left.invariant.served k pace h in
-      let turn = c.in-Went.ensures.turns k pace (bytes_of inv.taken) inv.at in
+      let turn = c.in-Went.ensures.turns k pace (bytes_among inv.taken) inv.at in
       let room = length-take c.min-room.result c.loop-left.buf in
       record {
         taken = inv.taken ++ turn.items;
         consumed = Consumes-then (g.L.Link.coming c.args.link.now) (g.L.Link.coming c.loop-left.link) (g.L.Link.coming c.take_turn.new.link) inv.taken turn.items inv.consumed turn.consumed;
         number = omega (arith, length-append inv.taken turn.items, turn.cause.0, inv.number, c.in-Went.ensures.fits.1, room);
-        at = rw bytes_of-append turn.on;
+        at = rw bytes_among-append turn.on;
         wrote = on_wrote g.A.App (g.M.Medium.way k) (g.M.Medium.did c.args.medium.now k) (g.M.Medium.did c.loop-left.medium k) (g.M.Medium.did c.take_turn.new.medium k) pace inv.taken turn.items c.args.node.now c.loop-left.node c.take_turn.new.node
             (g.K.Sink.written c.args.sink.now) (g.K.Sink.written c.loop-left.sink) (g.K.Sink.written c.take_turn.new.sink) inv.wrote turn.wrote;
         link_same = turn.cause.1 ∙ inv.link_same;
@@ -47,16 +46,16 @@ returns-in-Stopped-clause-serves g c = λ k pace h.
     let inv = c.loop-left.invariant.served k pace h in
     let room = length-take c.min-room.result c.loop-left.buf in
     stopped g.A.App g.M.Medium k c.args.medium.now c.loop-left.medium c.take_turn.new.medium pace c.args.items inv.taken c.args.node.now c.loop-left.node c.take_turn.new.node
-    (outside g.L.Link.coming g.K.Sink.written g.L.Link.faults g.K.Sink.faults c.args.link.now c.args.sink.now)
-    (outside g.L.Link.coming g.K.Sink.written g.L.Link.faults g.K.Sink.faults c.loop-left.link c.loop-left.sink)
-    (outside g.L.Link.coming g.K.Sink.written g.L.Link.faults g.K.Sink.faults c.take_turn.new.link c.take_turn.new.sink)
+    (line_told g.L.Link g.K.Sink c.args.link.now c.args.sink.now)
+    (line_told g.L.Link g.K.Sink c.loop-left.link c.loop-left.sink)
+    (line_told g.L.Link g.K.Sink c.take_turn.new.link c.take_turn.new.sink)
     _ _ c.in-Stopped.end inv.consumed (omega arith) (omega (arith, inv.number, room)) inv.link_same inv.sink_same inv.wrote
-    (c.in-Stopped.ensures.turns k pace (bytes_of inv.taken) inv.at)
+    (c.in-Stopped.ensures.turns k pace (bytes_among inv.taken) inv.at)
 
 pub returns-clause-serves : goal.returns-clause-serves
 returns-clause-serves g c = λ k pace h.
     let inv = c.loop-left.invariant.served k pace h in
     spent g.A.App (g.M.Medium.way k) (g.M.Medium.did c.args.medium.now k) (g.M.Medium.did c.loop-left.medium k) pace c.args.items inv.taken c.args.node.now c.loop-left.node
-    (outside g.L.Link.coming g.K.Sink.written g.L.Link.faults g.K.Sink.faults c.args.link.now c.args.sink.now)
-    (outside g.L.Link.coming g.K.Sink.written g.L.Link.faults g.K.Sink.faults c.loop-left.link c.loop-left.sink)
+    (line_told g.L.Link g.K.Sink c.args.link.now c.args.sink.now)
+    (line_told g.L.Link g.K.Sink c.loop-left.link c.loop-left.sink)
     inv.consumed (omega (arith, inv.number, c.loop-left-test.false)) inv.link_same inv.sink_same inv.wrote

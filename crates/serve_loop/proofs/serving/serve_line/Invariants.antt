@@ -1,11 +1,10 @@
 use Rattle.std.proofs.Common.{◌≡◌, ◌+◌, [], List, ℕ, length}
 use Rattle.app_events.specs.Part.{Meaning}
 use Rattle.uip_edge.specs.declared.item.Item.{Item}
-use Rattle.uip_edge.specs.Coming.{Consumes}
+use Rattle.uip_edge.specs.Coming.{Consumes, bytes_among}
 use Rattle.uip_wire.specs.declared.addr.Addr.{Addr}
 use Rattle.uip_node.specs.StandsFor.{IsWhole}
 use Rattle.serve_loop.specs.LineDeeds.{line_deeds}
-use Rattle.serve_loop.specs.LineEvents.{bytes_of}
 use Rattle.serve_loop.specs.DeedRuns.{AllSaid}
 use Rattle.serve_loop.specs.Turns.{HasTaken, IsHere}
 use Rattle.serve_loop.proofs.serving.serve_line.Given as goal
@@ -18,7 +17,7 @@ invariant-loop-left g l = record {
     taken : List Item;
     consumed : Consumes (g.L.Link.coming l.fn.link) (g.L.Link.coming l.link) taken;
     number : length taken + l.left ≡ l.items;
-    at : HasTaken pace (bytes_of taken) (g.M.Medium.fed l.medium k) l.pacer;
+    at : HasTaken pace (bytes_among taken) (g.M.Medium.fed l.medium k) l.pacer;
     wrote : (m : Meaning) (own : Addr) → AllSaid m g.A.App.served (g.M.Medium.way k) own (line_deeds (g.M.Medium.way k) own pace taken)
         (IsHere g.A.App (g.M.Medium.did l.fn.medium k) m own l.fn.node)
         (IsHere g.A.App (g.M.Medium.did l.medium k) m own l.node) (g.K.Sink.written l.fn.sink) (g.K.Sink.written l.sink);

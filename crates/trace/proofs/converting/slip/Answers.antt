@@ -1,7 +1,7 @@
 use Rattle.std.proofs.Common.{◌++◌, [], refl, arith, ◌∙◌, length-take, length-append}
 use Rattle.uip_edge.proofs.Told.{Consumes-none, Consumes-then}
-use Rattle.serve_loop.specs.Outside.{outside}
 use Rattle.trace.proofs.ConvertLaws.{spent, stopped}
+use Rattle.uip_edge.specs.Telling.{line_told}
 use Rattle.trace.proofs.converting.slip.Goals as goal
 
 pub loop-left-init : goal.loop-left-init
@@ -38,9 +38,9 @@ returns-in-Stopped g c =
     let inv = c.loop-left.invariant in
     let room = length-take c.min-room.result c.loop-left.buf in
     stopped c.args.items inv.taken
-    (outside g.L.Link.coming g.K.Sink.written g.L.Link.faults g.K.Sink.faults c.args.link.now c.args.sink.now)
-    (outside g.L.Link.coming g.K.Sink.written g.L.Link.faults g.K.Sink.faults c.loop-left.link c.loop-left.sink)
-    (outside g.L.Link.coming g.K.Sink.written g.L.Link.faults g.K.Sink.faults c.turn.new.link c.turn.new.sink)
+    (line_told g.L.Link g.K.Sink c.args.link.now c.args.sink.now)
+    (line_told g.L.Link g.K.Sink c.loop-left.link c.loop-left.sink)
+    (line_told g.L.Link g.K.Sink c.turn.new.link c.turn.new.sink)
     _ _ _ _ _ _ _ _ c.in-Stopped.end inv.consumed (omega (arith, inv.count)) (omega (arith, inv.count, room)) (omega (arith, room)) inv.link_same inv.sink_same
     inv.at inv.«open» (c.in-Stopped.ensures.turns _ inv.taken inv.at)
 
@@ -48,6 +48,6 @@ pub returns : goal.returns
 returns g c =
     let inv = c.loop-left.invariant in
     spent c.args.items inv.taken
-    (outside g.L.Link.coming g.K.Sink.written g.L.Link.faults g.K.Sink.faults c.args.link.now c.args.sink.now)
-    (outside g.L.Link.coming g.K.Sink.written g.L.Link.faults g.K.Sink.faults c.loop-left.link c.loop-left.sink)
+    (line_told g.L.Link g.K.Sink c.args.link.now c.args.sink.now)
+    (line_told g.L.Link g.K.Sink c.loop-left.link c.loop-left.sink)
     _ _ _ _ inv.consumed (omega (arith, inv.count, c.loop-left-test.false)) inv.link_same inv.sink_same inv.at inv.«open»

@@ -1,7 +1,6 @@
 use Rattle.std.proofs.Common.{◌≡◌, ◌≤◌, ◌+◌, List, length}
-use Rattle.uip_edge.specs.Coming.{Consumes}
+use Rattle.uip_edge.specs.Coming.{Consumes, bytes_among}
 use Rattle.uip_edge.specs.declared.item.Item.{Item}
-use Rattle.serve_loop.specs.LineEvents.{bytes_of}
 use Rattle.trace.specs.Gathering.{IsReadTo, IsOpen}
 use Rattle.trace.proofs.converting.slip.Given as goal
 
@@ -12,7 +11,7 @@ invariant-loop-left g l = record {
   count : length taken + l.left ≡ l.items;
   number : l.reader.number + l.left ≤ l.items;
   «open» : IsOpen l.reader.stage l.reader.part l.reader.want;
-  at : IsReadTo (g.K.Sink.written l.fn.sink) (g.K.Sink.written l.sink) (bytes_of taken) l.reader.stage l.reader.number l.reader.part;
+  at : IsReadTo (g.K.Sink.written l.fn.sink) (g.K.Sink.written l.sink) (bytes_among taken) l.reader.stage l.reader.number l.reader.part;
   link_same : g.L.Link.faults l.link ≡ g.L.Link.faults l.fn.link;
   sink_same : g.K.Sink.faults l.sink ≡ g.K.Sink.faults l.fn.sink;
 }

@@ -1,9 +1,9 @@
 use Rattle.std.proofs.Common.{◌++◌, [], refl, arith, ◌∙◌, ap, sym, length-take, length-append}
 use Rattle.uip_edge.proofs.Told.{Appends-none, Appends-then, Consumes-none, Consumes-then, appends_by}
-use Rattle.serve_loop.specs.Outside.{outside}
 use Rattle.trace.specs.Watching.{text_after}
 use Rattle.trace.proofs.SeenLaws.{text-then}
 use Rattle.trace.proofs.TellLaws.{stopped}
+use Rattle.uip_edge.specs.Telling.{line_told}
 use Rattle.trace.proofs.telling.watch_line.Goals as goal
 
 pub loop-left-init : goal.loop-left-init
@@ -46,9 +46,9 @@ returns-in-Stopped g c =
     let inv = c.loop-left.invariant in
     let room = length-take c.min-room.result c.loop-left.buf in
     stopped c.args.form c.loop-left.watch.form c.args.items inv.taken
-    (outside g.L.Link.coming g.K.Sink.written g.L.Link.faults g.K.Sink.faults c.args.link.now c.args.sink.now)
-    (outside g.L.Link.coming g.K.Sink.written g.L.Link.faults g.K.Sink.faults c.loop-left.link c.loop-left.sink)
-    (outside g.L.Link.coming g.K.Sink.written g.L.Link.faults g.K.Sink.faults c.turn.new.link c.turn.new.sink)
+    (line_told g.L.Link g.K.Sink c.args.link.now c.args.sink.now)
+    (line_told g.L.Link g.K.Sink c.loop-left.link c.loop-left.sink)
+    (line_told g.L.Link g.K.Sink c.turn.new.link c.turn.new.sink)
     _ _ _ _ c.in-Stopped.end inv.form inv.consumed (omega (arith, inv.number)) (omega (arith, inv.number, room)) inv.link_same inv.sink_same inv.wrote
     (c.in-Stopped.ensures.turns inv.taken inv.seen)
 

@@ -1,4 +1,4 @@
-use Rattle.std.proofs.Common.{◌≡◌, ◌∷◌, [], ◌+◌, ◌++◌, ◌∙◌, None, Option, refl, sym, ap, arith, drop, get_or, length, length-append, append-nil}
+use Rattle.std.proofs.Common.{◌∷◌, [], ◌+◌, ◌++◌, ◌∙◌, None, refl, sym, ap, arith, drop, get_or, length-append}
 use Rattle.std.proofs.lemmas.List.{drop_all, drop_more}
 use Rattle.dns_message.specs.Replies.{answer_to}
 use Rattle.udp_resolver.specs.Fates.{or_else}

@@ -1,4 +1,4 @@
-use Rattle.std.proofs.Common.{◌≡◌, ◌++◌, List, ℕ, length, drop}
+use Rattle.std.proofs.Common.{◌≡◌, ◌++◌, List, ℕ, drop}
 use Rattle.std.specs.Io.KnownBytes.{Appends}
 use Rattle.udp_resolver.specs.Steps.{lines_by}
 use Rattle.udp_resolver.proofs.lines.tell_all.Given as goal

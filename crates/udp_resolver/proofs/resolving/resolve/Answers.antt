@@ -1,8 +1,7 @@
-use Rattle.std.proofs.Common.{◌≡◌, ◌∙◌, List, ℕ, refl, ap, sym, subst}
+use Rattle.std.proofs.Common.{List, ℕ, sym, subst}
 use Rattle.dns_message.specs.declared.asking.Asking.{Asking}
 use Rattle.uip_edge.proofs.Told.{appends_by, prefix_by}
 use Rattle.udp_resolver.specs.Fates.{questions}
-use Rattle.udp_resolver.specs.LineEvents.{events}
 use Rattle.udp_resolver.specs.Resolving.{Resolves}
 use Rattle.udp_resolver.specs.Streams.{streams}
 use Rattle.udp_resolver.proofs.ResolveLaws.{lines_known, told_all, told_part}
@@ -13,21 +12,21 @@ returns-in-Ok-clause-resolves g c =
     let asking : Asking = record { own = c.args.own; server = c.args.server; id = c.args.id } in
     let names = c.as_slice-names.result.now in
     let run = c.ask-end.new.run in
-    let old = streams g.L.Link.coming g.K.Sink.written g.T.Sink.written g.L.Link.faults g.K.Sink.faults g.T.Sink.faults c.args.link.now c.args.out.now c.args.tell.now in
-    let new = streams g.L.Link.coming g.K.Sink.written g.T.Sink.written g.L.Link.faults g.K.Sink.faults g.T.Sink.faults c.ask-end.new.link c.ask-end.new.out c.tell_all.new.tell in
+    let old = streams g.L.Link g.K.Sink g.T.Sink c.args.link.now c.args.out.now c.args.tell.now in
+    let new = streams g.L.Link g.K.Sink g.T.Sink c.ask-end.new.link c.ask-end.new.out c.tell_all.new.tell in
     subst (λ (l : List (List ℕ)). Resolves (questions asking l) c.args.items old new c.ask-end.result) c.as_slice-names.ensures.value
     (told_all (questions asking names) c.args.items run old new c.ask-end.result c.in_default.not-LinkFault c.in_default.not-WriteFault c.ask-end.ensures.asks
     c.in-Ok.ensures.cause.same
-    (λ taken k. appends_by _ _ _ _ (sym (lines_known asking names taken run c.as_slice.result.now c.as_slice.ensures.value k)) c.in-Ok.ensures.ok))
+    (λ taken k. appends_by _ _ _ _ (sym (lines_known asking names taken run c.as_slice.result.now c.as_slice.ensures.value k)) c.in-Ok.ensures.whole))
 
 pub returns-in-Err-clause-resolves : goal.returns-in-Err-clause-resolves
 returns-in-Err-clause-resolves g c =
     let asking : Asking = record { own = c.args.own; server = c.args.server; id = c.args.id } in
     let names = c.as_slice-names.result.now in
     let run = c.ask-end.new.run in
-    let old = streams g.L.Link.coming g.K.Sink.written g.T.Sink.written g.L.Link.faults g.K.Sink.faults g.T.Sink.faults c.args.link.now c.args.out.now c.args.tell.now in
-    let new = streams g.L.Link.coming g.K.Sink.written g.T.Sink.written g.L.Link.faults g.K.Sink.faults g.T.Sink.faults c.ask-end.new.link c.ask-end.new.out c.tell_all.new.tell in
+    let old = streams g.L.Link g.K.Sink g.T.Sink c.args.link.now c.args.out.now c.args.tell.now in
+    let new = streams g.L.Link g.K.Sink g.T.Sink c.ask-end.new.link c.ask-end.new.out c.tell_all.new.tell in
     subst (λ (l : List (List ℕ)). Resolves (questions asking l) c.args.items old new _) c.as_slice-names.ensures.value
     (told_part (questions asking names) c.args.items run old new c.ask-end.result c.in_default.not-LinkFault c.in_default.not-WriteFault c.ask-end.ensures.asks
     c.in-Err.ensures.cause.failed
-    (λ taken k. prefix_by _ _ _ _ (sym (lines_known asking names taken run c.as_slice.result.now c.as_slice.ensures.value k)) c.in-Err.ensures.err))
+    (λ taken k. prefix_by _ _ _ _ (sym (lines_known asking names taken run c.as_slice.result.now c.as_slice.ensures.value k)) c.in-Err.ensures.front))

@@ -1,9 +1,9 @@
-use Rattle.std.proofs.Common.{◌≡◌, ◌∙◌, ◌++◌, [], refl, ap, sym, arith, length, length-append, length-take, inl, inr}
-use Rattle.uip_edge.proofs.Told.{Consumes-none, Consumes-then}
+use Rattle.std.proofs.Common.{◌∙◌, ◌++◌, refl, arith, length-append, length-take, inr}
+use Rattle.uip_edge.proofs.Told.{Consumes-then}
 use Rattle.udp_resolver.specs.Fates.{all_settled, questions}
 use Rattle.udp_resolver.specs.LineEvents.{events}
-use Rattle.udp_resolver.specs.Streams.{wires}
 use Rattle.udp_resolver.proofs.AskLaws.{added, open_by_test, stopped}
+use Rattle.uip_edge.specs.Telling.{line_told}
 use Rattle.udp_resolver.proofs.run.ask.Goals as goal
 
 pub loop-asking-preserved : goal.loop-asking-preserved
@@ -26,8 +26,8 @@ loop-asking-preserved g c =
       wrote =
           added asked inv.taken turn.more turn.by.1.text (g.K.Sink.written c.args.out.now) (g.K.Sink.written c.loop-asking.out) (g.K.Sink.written c.turn.new.out)
           turn.by.1.adds inv.wrote turn.by.1.out;
-      link_same = turn.by.1.calm.0 ∙ inv.link_same;
-      out_same = turn.by.1.calm.1 ∙ inv.out_same;
+      link_same = turn.by.1.calm.link ∙ inv.link_same;
+      out_same = turn.by.1.calm.sink ∙ inv.out_same;
     }
 
 pub returns-in-Stopped-clause-asks : goal.returns-in-Stopped-clause-asks
@@ -38,8 +38,8 @@ returns-in-Stopped-clause-asks g c =
     let turn = c.in-Stopped.ensures.turns inv.taken is_open inv.knows in
     let room = length-take c.min-room.result c.loop-asking.buf in
     stopped asked c.args.items inv.taken turn.more c.turn.new.self
-    (wires g.L.Link.coming g.K.Sink.written g.L.Link.faults g.K.Sink.faults c.args.link.now c.args.out.now)
-    (wires g.L.Link.coming g.K.Sink.written g.L.Link.faults g.K.Sink.faults c.loop-asking.link c.loop-asking.out)
-    (wires g.L.Link.coming g.K.Sink.written g.L.Link.faults g.K.Sink.faults c.turn.new.link c.turn.new.out)
+    (line_told g.L.Link g.K.Sink c.args.link.now c.args.out.now)
+    (line_told g.L.Link g.K.Sink c.loop-asking.link c.loop-asking.out)
+    (line_told g.L.Link g.K.Sink c.turn.new.link c.turn.new.out)
     _ c.in-Stopped.end is_open inv.consumed turn.consumed (omega (arith, inv.number, c.if-left-eq0.false)) turn.within (omega (arith, inv.number, room))
-    (inv.link_same, inv.out_same) inv.needed inv.wrote turn.by
+    (record { link = inv.link_same; sink = inv.out_same }) inv.needed inv.wrote turn.by

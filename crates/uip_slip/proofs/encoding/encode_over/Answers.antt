@@ -1,12 +1,13 @@
 use Rattle.std.proofs.Common.{◌≡◌, ◌++◌, ◌∷◌, [], ◌∙◌, refl, sym, ap, arith, length, append-nil, length-append}
-use Rattle.std.proofs.lemmas.Result.{on_err_weaker}
 use Rattle.uip_slip.specs.Text.{escaped, slip_text}
-use Rattle.uip_edge.proofs.Told.{Appends-none, Appends-then, prefix_more, prefix_then, on_err, prefix_by, appends_by}
-use Rattle.uip_slip.proofs.TextLaws.{gathered, text_parts, split_pieces, whole_text, last_front, escaped-bound}
+use Rattle.uip_edge.specs.Telling.{sink_told}
+use Rattle.uip_edge.proofs.Told.{Appends-none, Appends-then, appends_by}
+use Rattle.uip_edge.proofs.Writes.{writes_broken, writes_by, writes_then}
+use Rattle.uip_slip.proofs.TextLaws.{gathered, text_parts, split_pieces, whole_text, escaped-bound}
 use Rattle.uip_slip.proofs.encoding.encode_over.Goals as goal
 
-pub returns-in_err-write_whole-clause-front : goal.returns-in_err-write_whole-clause-front
-returns-in_err-write_whole-clause-front g c =
+pub returns-in_err-write_whole : goal.returns-in_err-write_whole
+returns-in_err-write_whole g c =
     let inv = c.loop-rest.invariant in
     let part = c.split_at.result.0.now in
     let others = c.split_at.result.1.now in
@@ -15,8 +16,10 @@ returns-in_err-write_whole-clause-front g c =
     let made : inv.sent ++ text ≡ 192 ∷ escaped (inv.front ++ part) = gathered inv.sent c.loop-rest.text text inv.front part inv.made c.put_escaped.ensures in
     let whole : (inv.sent ++ text) ++ (escaped others ++ 192 ∷ []) ≡ slip_text c.args.datagram.now =
     ap (λ l. l ++ (escaped others ++ 192 ∷ [])) made ∙ text_parts c.args.datagram.now inv.front part others pieces in
-    on_err _ (prefix_more _ _ (inv.sent ++ text) (escaped others ++ 192 ∷ []) _ whole
-    (prefix_then _ _ _ inv.sent text inv.written (prefix_by _ _ _ text (sym c.bytes.ensures) c.in_err-write_whole.ensures.front)))
+    writes_broken _ c.from_residual.ensures.0 c.in_err-write_whole.field-0.0 (sink_told g.K.Sink c.args.sink.now) (sink_told g.K.Sink c.loop-rest.sink)
+    (sink_told g.K.Sink c.write_whole.new.self) inv.sent text (escaped others ++ 192 ∷ []) (slip_text c.args.datagram.now) whole inv.written inv.same
+    (writes_by _ (sink_told g.K.Sink c.loop-rest.sink) (sink_told g.K.Sink c.write_whole.new.self) c.bytes.result.now text (sym c.bytes.ensures)
+    c.in_err-write_whole.ensures)
 
 pub loop-rest-init : goal.loop-rest-init
 loop-rest-init g c =
@@ -55,10 +58,12 @@ put-requires-2 g c =
     let size : length c.put_escaped-2.new.self ≡ _ = ap (λ l. length l) c.put_escaped-2.ensures ∙ length-append c.loop-rest.text (escaped rest) in
     omega (arith, size, escaped-bound rest, c.loop-rest.invariant.room, c.loop-rest-test.false)
 
-pub returns-clause-front : goal.returns-clause-front
-returns-clause-front g c =
+pub returns : goal.returns
+returns g c =
     let inv = c.loop-rest.invariant in
     let full = c.put-2.new.self in
     let whole = whole_text c.args.datagram.now inv.sent c.loop-rest.text c.put_escaped-2.new.self full inv.front c.loop-rest.rest.now inv.made
     c.put_escaped-2.ensures c.put-2.ensures inv.pieces in
-    on_err_weaker _ (last_front _ _ _ inv.sent full c.bytes-2.result.now _ inv.written c.bytes-2.ensures whole) c.write_whole-2.ensures.front
+    writes_by _ _ _ (inv.sent ++ full) _ (sym whole)
+    (writes_then _ (sink_told g.K.Sink c.args.sink.now) (sink_told g.K.Sink c.loop-rest.sink) (sink_told g.K.Sink c.write_whole-2.new.self) inv.sent full inv.written inv.same
+    (writes_by _ _ _ c.bytes-2.result.now full (sym c.bytes-2.ensures) c.write_whole-2.ensures))

@@ -1,9 +1,9 @@
 use Rattle.std.proofs.Common.{◌≡◌, [], ◌∷◌, List, ℕ, length, map, take, refl, subst, arith}
 use Rattle.uip_edge.specs.declared.item.Item.TheVariants.{Byte, Quiet}
-use Rattle.serve_loop.specs.LineEvents.{bytes_of}
 use Rattle.serve_loop.proofs.EventLaws.{counted}
 use Rattle.trace.specs.Gathering.{IsReadTo}
 use Rattle.trace.proofs.TurnLaws.{bytes_on, file_fault, is_dry, link_ended, link_failed, silence_read, sound_at, write_failed}
+use Rattle.uip_edge.specs.Coming.{bytes_among}
 use Rattle.trace.proofs.reader.Reader.turn.Goals as goal
 
 pub returns-in-Err-clause-turns : goal.returns-in-Err-clause-turns
@@ -50,7 +50,7 @@ returns-in-Ok-clause-turns g c = λ start before at.
         count,
         record { link = told.cause.same; sink = done.cause },
         subst (λ (l : List ℕ). IsReadTo start (g.K.Sink.written c.take.new.sink) l c.take.new.self.stage c.take.new.self.number c.take.new.self.part)
-            (bytes_on before (take n buf)) (done.at start (bytes_of before) at),
+            (bytes_on before (take n buf)) (done.at start (bytes_among before) at),
       );
     }
 
@@ -65,7 +65,7 @@ returns-in-Err-WriteFault-clause-turns g c = λ start before at.
       items = map Byte (take n buf);
       consumed = told.items;
       within = omega (arith, count, told.count.1, c.next.auto.buf);
-      by = write_failed start before (take n buf) _ _ (done.stop start (bytes_of before) at) told.cause.same done.cause;
+      by = write_failed start before (take n buf) _ _ (done.stop start (bytes_among before) at) told.cause.same done.cause;
     }
 
 pub returns-in-Err-Bad-clause-turns : goal.returns-in-Err-Bad-clause-turns
@@ -80,6 +80,6 @@ returns-in-Err-Bad-clause-turns g c = λ start before at.
       consumed = told.items;
       within = omega (arith, count, told.count.1, c.next.auto.buf);
       by = rw c.bad.ensures
-          (file_fault c.in-Err-Bad.why start before (take n buf) _ _ c.take.new.self.number (done.stop start (bytes_of before) at)
+          (file_fault c.in-Err-Bad.why start before (take n buf) _ _ c.take.new.self.number (done.stop start (bytes_among before) at)
           (record { link = told.cause.same; sink = done.cause }));
     }

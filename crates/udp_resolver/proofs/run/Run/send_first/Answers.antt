@@ -1,6 +1,6 @@
-use Rattle.std.proofs.Common.{◌≡◌, ◌∙◌, [], refl, ap, sym, length}
-use Rattle.std.proofs.lemmas.Result.{on_err_weaker, on_ok_weaker}
-use Rattle.uip_edge.proofs.Told.{appends_by, prefix_by}
+use Rattle.std.proofs.Common.{◌∙◌, ap, sym, length}
+use Rattle.std.proofs.lemmas.Result.{on_ok_weaker}
+use Rattle.uip_edge.proofs.Writes.{writes_by}
 use Rattle.udp_resolver.specs.Asked.{last_ident, query_texts}
 use Rattle.udp_resolver.specs.Fates.{questions}
 use Rattle.udp_resolver.specs.Steps.{unanswered}
@@ -21,22 +21,11 @@ returns-clause-knows g c =
     })
     c.send_open.ensures.ident
 
-pub returns-clause-ok : goal.returns-clause-ok
-returns-clause-ok g c =
+pub returns-clause-writes : goal.returns-clause-writes
+returns-clause-writes g c =
     let asked = questions c.args.asking c.args.names.now in
     let first = unanswered asked c.as_slice.result.now in
     let none = c.requires.answers ∙ none_yet asked (length c.args.names.now) (questions-length c.args.asking c.args.names.now) in
-    on_ok_weaker c.send_open.result
-    (λ wrote. appends_by _ _ _ _
-    (sym (ap (λ n. query_texts n first) c.requires.ident ∙ ap (λ l. query_texts 0 l) (first_asked asked c.as_slice.result.now (c.as_slice.ensures.value ∙ none)))) wrote)
-    c.send_open.ensures.ok
-
-pub returns-clause-err : goal.returns-clause-err
-returns-clause-err g c =
-    let asked = questions c.args.asking c.args.names.now in
-    let first = unanswered asked c.as_slice.result.now in
-    let none = c.requires.answers ∙ none_yet asked (length c.args.names.now) (questions-length c.args.asking c.args.names.now) in
-    on_err_weaker c.send_open.result
-    (λ wrote. prefix_by _ _ _ _
-    (sym (ap (λ n. query_texts n first) c.requires.ident ∙ ap (λ l. query_texts 0 l) (first_asked asked c.as_slice.result.now (c.as_slice.ensures.value ∙ none)))) wrote)
-    c.send_open.ensures.err
+    writes_by c.send_open.result _ _ _ _
+    (sym (ap (λ n. query_texts n first) c.requires.ident ∙ ap (λ l. query_texts 0 l) (first_asked asked c.as_slice.result.now (c.as_slice.ensures.value ∙ none))))
+    c.send_open.ensures.writes

@@ -1,11 +1,11 @@
-use Rattle.std.proofs.Common.{◌≡◌, ◌∙◌, ◌∷◌, [], length, refl, ap, sym, arith}
+use Rattle.std.proofs.Common.{◌∙◌, ◌∷◌, [], length, refl, ap, sym}
 use Rattle.udp_resolver.specs.Fates.{questions}
-use Rattle.udp_resolver.specs.LineEvents.{bytes_among}
 use Rattle.udp_resolver.specs.Steps.{heard}
 use Rattle.uip_slip.specs.Decoding.{told_by}
 use Rattle.uip_slip.specs.Frames.{Datagram}
 use Rattle.udp_resolver.proofs.ItemLaws.{by_told}
 use Rattle.udp_resolver.proofs.RunLaws.{heard-length, knows_byte, knows_came, questions-length, refill_same, told_none}
+use Rattle.uip_edge.specs.Coming.{bytes_among}
 use Rattle.udp_resolver.proofs.run.Run.take_byte.Goals as goal
 
 pub returns-in-Datagram-clause-knows : goal.returns-in-Datagram-clause-knows

@@ -1,4 +1,4 @@
-use Rattle.std.proofs.Common.{◌≡◌, ◌∙◌, ◌∷◌, [], length, refl, ap, sym, arith}
+use Rattle.std.proofs.Common.{◌∙◌, refl, ap, sym}
 use Rattle.std.proofs.lemmas.Result.{on_err_weaker, on_ok_weaker}
 use Rattle.udp_resolver.specs.Asked.{last_ident, query_texts}
 use Rattle.udp_resolver.specs.Fates.{questions}
@@ -30,7 +30,7 @@ returns-clause-ok g c =
     let asked = questions c.args.asking c.args.names.now in
     let due = sym (c.tick.ensures.again (events items) e k.at) ∙ c.if-not-tick.false in
     appends_by _ _ _ _ (ap (λ l. query_texts c.args.self.now.sender.ident l) (next_by asked items c.args.self.now c.as_slice.result.now e k c.as_slice.ensures.value due)) wrote)
-    c.send_open.ensures.ok
+    c.send_open.ensures.writes.whole
 
 pub returns-clause-err : goal.returns-clause-err
 returns-clause-err g c =
@@ -39,4 +39,4 @@ returns-clause-err g c =
     let asked = questions c.args.asking c.args.names.now in
     let due = sym (c.tick.ensures.again (events items) e k.at) ∙ c.if-not-tick.false in
     prefix_by _ _ _ _ (ap (λ l. query_texts c.args.self.now.sender.ident l) (next_by asked items c.args.self.now c.as_slice.result.now e k c.as_slice.ensures.value due)) wrote)
-    c.send_open.ensures.err
+    c.send_open.ensures.writes.front

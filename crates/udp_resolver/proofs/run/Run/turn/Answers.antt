@@ -1,4 +1,4 @@
-use Rattle.std.proofs.Common.{◌≡◌, ◌∙◌, ◌∷◌, [], refl, ap, sym, arith, map, take, length, inl, inr}
+use Rattle.std.proofs.Common.{◌≡◌, ◌∷◌, [], refl, arith, map, take, length, inl, inr}
 use Rattle.uip_edge.specs.declared.item.Item.TheVariants.{Byte, Quiet}
 use Rattle.uip_edge.proofs.Told.{Appends-none}
 use Rattle.udp_resolver.specs.Asked.{query_texts}
@@ -22,7 +22,7 @@ returns-in-Ok-clause-turns g c = λ items is_open k.
       by = (
         refl,
         record {
-          calm = (told.cause.same, done.cause.same);
+          calm = record { link = told.cause.same; sink = done.cause.same };
           knows = done.knows items e k;
           once = inl refl;
           text = query_texts c.args.self.now.sender.ident (asked_next asked (events items));
@@ -67,7 +67,7 @@ returns-in-Ok-Bytes-clause-turns g c = λ items is_open k.
       by = (
         count,
         record {
-          calm = (told.cause.same, refl);
+          calm = record { link = told.cause.same; sink = refl };
           knows = c.take.ensures.knows items e k;
           once = inr (bytes, refl);
           text = [];

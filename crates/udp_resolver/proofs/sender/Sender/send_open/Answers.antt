@@ -1,10 +1,12 @@
-use Rattle.std.proofs.Common.{◌≡◌, ◌∷◌, [], ◌+◌, ◌++◌, ◌∙◌, None, refl, sym, ap, arith, drop, get_or, length, append-nil}
-use Rattle.std.proofs.lemmas.List.{drop_all, drop_more}
-use Rattle.uip_edge.proofs.Told.{Appends-none, Appends-then, appends_by, on_err, prefix_more, prefix_then}
+use Rattle.std.proofs.Common.{◌≡◌, ◌+◌, ◌++◌, ◌∙◌, None, refl, sym, ap, arith, drop, get_or}
+use Rattle.std.proofs.lemmas.List.{drop_more}
+use Rattle.uip_edge.proofs.Told.{Appends-then, appends_by}
+use Rattle.uip_edge.specs.Telling.{sink_told}
+use Rattle.uip_edge.proofs.Writes.{writes_broken}
 use Rattle.udp_resolver.specs.Asked.{last_ident, query_texts}
 use Rattle.udp_resolver.specs.Fates.{next_asking, questions}
 use Rattle.udp_resolver.specs.Steps.{unanswered, unless_answered}
-use Rattle.udp_resolver.proofs.StepLaws.{here, last_ident-append, query_texts-append, unanswered_none, unanswered_step}
+use Rattle.udp_resolver.proofs.StepLaws.{here, last_ident-append, query_texts-append, unanswered_step}
 use Rattle.udp_resolver.proofs.sender.Sender.send_open.Goals as goal
 
 pub loop-at-preserved : goal.loop-at-preserved
@@ -25,12 +27,12 @@ loop-at-preserved g c =
       wrote =
           appends_by _ _ (query_texts start inv.front ++ query_texts c.loop-at.self.ident one) (query_texts start (inv.front ++ one))
           (query_texts-append start inv.front one ∙ ap (λ k. query_texts start inv.front ++ query_texts k one) (sym inv.ident))
-          (Appends-then _ _ _ (query_texts start inv.front) (query_texts c.loop-at.self.ident one) inv.wrote c.in_ok-send_unless.ensures.ok);
-      calm = c.in_ok-send_unless.ensures.cause.same ∙ inv.calm;
+          (Appends-then _ _ _ (query_texts start inv.front) (query_texts c.loop-at.self.ident one) inv.wrote c.in_ok-send_unless.ensures.writes.whole);
+      calm = c.in_ok-send_unless.ensures.writes.cause.same ∙ inv.calm;
     }
 
-pub returns-in_err-send_unless-clause-err : goal.returns-in_err-send_unless-clause-err
-returns-in_err-send_unless-clause-err g c =
+pub returns-in_err-send_unless-clause-writes : goal.returns-in_err-send_unless-clause-writes
+returns-in_err-send_unless-clause-writes g c =
     let inv = c.loop-at.invariant in
     let at = c.loop-at.at in
     let name = c.index-names-at.result in
@@ -44,7 +46,9 @@ returns-in_err-send_unless-clause-err g c =
     let front = query_texts start inv.front ++ query_texts c.loop-at.self.ident one in
     let joined : query_texts start (inv.front ++ one) ≡ front =
     query_texts-append start inv.front one ∙ ap (λ k. query_texts start inv.front ++ query_texts k one) (sym inv.ident) in
-    on_err c.from_residual.result
-    (prefix_more _ _ front (query_texts (last_ident start (inv.front ++ one)) later) _
+    writes_broken c.from_residual.result c.from_residual.ensures.0 c.in_err-send_unless.field-0.0
+    (sink_told g.K.Sink c.args.out.now) (sink_told g.K.Sink c.loop-at.out) (sink_told g.K.Sink c.send_unless.new.out)
+    (query_texts start inv.front) (query_texts c.loop-at.self.ident one) (query_texts (last_ident start (inv.front ++ one)) later)
+    (query_texts start (unanswered (questions c.args.asking c.args.names.now) c.args.answers.now))
     (sym (ap (λ l. query_texts start l) whole ∙ query_texts-append start (inv.front ++ one) later ∙ ap (λ l. l ++ query_texts (last_ident start (inv.front ++ one)) later) joined))
-    (prefix_then _ _ _ (query_texts start inv.front) (query_texts c.loop-at.self.ident one) inv.wrote c.in_err-send_unless.ensures.err))
+    inv.wrote inv.calm c.in_err-send_unless.ensures.writes
