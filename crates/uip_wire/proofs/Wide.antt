@@ -1,5 +1,6 @@
 -- Eight bytes that are added as one number of 64 bits.
-use Rattle.std.proofs.Common.{◌≡◌, ℕ, ◌+◌, ◌*◌, ◌<◌, ◌≤◌, ◌⊎◌, inl, inr, List, [], ◌∷◌, length, drop, slice_index, ap, ◌∙◌, refl, arith}
+use Rattle.std.proofs.Common.{◌≡◌, ℕ, ◌+◌, ◌*◌, ◌<◌, ◌≤◌, ◌⊎◌, inl, inr, List, [], ◌∷◌, length, drop, length-drop, slice_index, sym, ap, ◌∙◌, refl, arith}
+use Rattle.std.proofs.lemmas.List.{drop-drop}
 use Rattle.byteorder.specs.Endian.{big_number}
 use Rattle.uip_wire.specs.Checksum.{folded, word_sum}
 use Rattle.uip_wire.proofs.Folding.{same_folded}
@@ -30,6 +31,40 @@ next_eight sum (a ∷ b ∷ c ∷ d ∷ e ∷ f ∷ g ∷ i ∷ rest) h =
     ap folded (omega arith)
     ∙ eight_words sum (256 * a + b) (256 * c + d) (256 * e + f) (256 * g + i) (word_sum rest)
     ∙ ap folded (omega arith)
+
+-- the next four bytes
+pub next_four : (sum : ℕ) (rest : List ℕ) → 4 ≤ length rest
+    → folded (sum + big_number 4 rest + word_sum (drop 4 rest)) ≡ folded (sum + word_sum rest)
+next_four sum [] h = absurd (omega arith)
+next_four sum (a ∷ []) h = absurd (omega arith)
+next_four sum (a ∷ b ∷ []) h = absurd (omega arith)
+next_four sum (a ∷ b ∷ c ∷ []) h = absurd (omega arith)
+next_four sum (a ∷ b ∷ c ∷ d ∷ rest) h =
+    ap folded (omega arith)
+    ∙ eight_words sum 0 0 (256 * a + b) (256 * c + d) (word_sum rest)
+    ∙ ap folded (omega arith)
+
+-- eight bytes behind a place
+eight_at : (sum k : ℕ) (bytes : List ℕ) → k + 8 ≤ length bytes
+    → folded (sum + big_number 8 (drop k bytes) + word_sum (drop (k + 8) bytes)) ≡ folded (sum + word_sum (drop k bytes))
+eight_at sum k bytes h =
+    ap (λ (l : List ℕ). folded (sum + big_number 8 (drop k bytes) + word_sum l)) (sym (drop-drop 8 k bytes))
+    ∙ next_eight sum (drop k bytes) (omega (arith, length-drop k bytes))
+
+-- four times eight bytes
+pub next_block : (sum one two three four : ℕ) (bytes : List ℕ) → 32 ≤ length bytes
+    → one ≡ big_number 8 bytes → two ≡ big_number 8 (drop 8 bytes) → three ≡ big_number 8 (drop 16 bytes) → four ≡ big_number 8 (drop 24 bytes)
+    → folded (sum + (one + two + three + four) + word_sum (drop 32 bytes)) ≡ folded (sum + word_sum bytes)
+next_block sum one two three four bytes h a b c d =
+    ap folded (omega arith)
+    ∙ ap (λ (n : ℕ). folded (sum + one + two + three + n + word_sum (drop 32 bytes))) d
+    ∙ eight_at (sum + one + two + three) 24 bytes (omega arith)
+    ∙ ap (λ (n : ℕ). folded (sum + one + two + n + word_sum (drop 24 bytes))) c
+    ∙ eight_at (sum + one + two) 16 bytes (omega arith)
+    ∙ ap (λ (n : ℕ). folded (sum + one + n + word_sum (drop 16 bytes))) b
+    ∙ eight_at (sum + one) 8 bytes (omega arith)
+    ∙ ap (λ (n : ℕ). folded (sum + n + word_sum (drop 8 bytes))) a
+    ∙ next_eight sum bytes (omega arith)
 
 -- the next two bytes, and the last one
 pub next_pair : (rest : List ℕ) → 2 ≤ length rest

@@ -1,4 +1,4 @@
-ghost use Rattle.std.specs.Prelude.{◌≡◌, ◌+◌, ◌-◌, ◌*◌, ◌^◌, ◌<◌, ◌≤◌, ◌∷◌, length, if◌then◌else◌};
+ghost use Rattle.std.specs.Prelude.{◌≡◌, ◌+◌, ◌-◌, ◌*◌, ◌^◌, ◌<◌, ◌≤◌, ◌∷◌, ℕ, drop, length, if◌then◌else◌};
 ghost use Rattle.uip_wire.specs.Checksum.{OneByteTells, checksum_of, folded, word_sum};
 
 use byteorder::{BigEndian, ByteOrder};
@@ -35,16 +35,24 @@ pub(crate) fn ones_add(one: u16, other: u16) -> u16
 }
 
 /// A sum whose carries are still to be added back: eight bytes are added as one number, since 2^16, 2^32 and 2^48 leave 1
-/// when divided by 65535 (RFC 1071, section 2).
+/// when divided by 65535 (RFC 1071, section 2). A long piece goes by 32 bytes.
 fn wide_sum(bytes: &[u8]) -> u128
     ensures fits { result ≤ 2 ^ 61 * length bytes.now }
     ensures same { folded result ≡ folded (word_sum bytes.now) }
 {
     let mut sum = 0u128;
     let mut rest = bytes;
+    'longs: while rest.len() >= 32 {
+        sum += block_sum(rest);
+        rest = &rest[32..];
+    }
     'eights: while rest.len() >= 8 {
         sum += u128::from(BigEndian::read_u64(rest));
         rest = &rest[8..];
+    }
+    'fours: while rest.len() >= 4 {
+        sum += u128::from(BigEndian::read_u32(rest));
+        rest = &rest[4..];
     }
     'pairs: while let [high, low, after @ ..] = rest {
         sum += u128::from(*high) * 256 + u128::from(*low);
@@ -54,6 +62,18 @@ fn wide_sum(bytes: &[u8]) -> u128
         [last] => sum + u128::from(*last) * 256,
         _ => sum,
     }
+}
+
+/// The sum of the first four numbers of eight bytes each.
+fn block_sum(bytes: &[u8]) -> u128
+    requires { 32 ≤ length bytes.now }
+    ensures fits { result < 2 ^ 66 }
+    ensures same { (before : ℕ) → folded (before + result + word_sum (drop 32 bytes.now)) ≡ folded (before + word_sum bytes.now) }
+{
+    u128::from(BigEndian::read_u64(bytes))
+        + u128::from(BigEndian::read_u64(&bytes[8..]))
+        + u128::from(BigEndian::read_u64(&bytes[16..]))
+        + u128::from(BigEndian::read_u64(&bytes[24..]))
 }
 
 const WORD64: u128 = 0x1_0000_0000_0000_0000;

@@ -19,3 +19,21 @@ invariant-pairs l = record {
 
 abbrev pub decreases-pairs : goal.decreases-pairs
 decreases-pairs l = length l.rest
+
+abbrev pub invariant-longs : goal.invariant-longs
+invariant-longs l = record {
+  fits : l.sum + 2 ^ 61 * length l.rest ≤ 2 ^ 61 * length l.bytes;
+  same : folded (l.sum + word_sum l.rest) ≡ folded (word_sum l.bytes);
+}
+
+abbrev pub decreases-longs : goal.decreases-longs
+decreases-longs l = length l.rest
+
+abbrev pub invariant-fours : goal.invariant-fours
+invariant-fours l = record {
+  fits : l.sum + 2 ^ 61 * length l.rest ≤ 2 ^ 61 * length l.bytes;
+  same : folded (l.sum + word_sum l.rest) ≡ folded (word_sum l.bytes);
+}
+
+abbrev pub decreases-fours : goal.decreases-fours
+decreases-fours l = length l.rest
