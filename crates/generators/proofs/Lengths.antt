@@ -13,16 +13,19 @@ use Rattle.script_lang.specs.declared.function.Function.TheVariants.{FileStats, 
 use Rattle.generators.specs.Short.{TextsAreShort}
 use Rattle.generators.specs.Text.{in_ten_places, counter_line, row_parts, row_text, state_name, waiting_mark}
 
-in_ten : (n : ℕ) → n < 4294967296 → length (in_ten_places n) ≡ 10
+pub in_ten : (n : ℕ) → n < 4294967296 → length (in_ten_places n) ≡ 10
 in_ten n h =
     let short : length (decimal n) ≤ 10 = length-decimal-le 10 n (lit< tt) (omega arith) (omega arith) in
     let spaces : length (replicate {A = ℕ} (10 - length (decimal n)) 32) ≡ 10 - length (decimal n) = length-replicate {A = ℕ} (10 - length (decimal n)) 32 in
     omega (arith, length-append (replicate (10 - length (decimal n)) 32) (decimal n), spaces)
 
+pub line_long : (n : ℕ) → n < 4294967296 → length (counter_line n) ≡ 11
+line_long n h = omega (arith, length-append (in_ten_places n) (10 ∷ []), in_ten n h)
+
 counters_long : (ns : List ℕ) → All IsWord ns → length (flat_map counter_line ns) ≡ 11 * length ns
 counters_long [] all = refl
 counters_long (n ∷ ns) all =
-    let one : length (counter_line n) ≡ 11 = omega (arith, length-append (in_ten_places n) (10 ∷ []), in_ten n (All-head IsWord n ns all)) in
+    let one : length (counter_line n) ≡ 11 = line_long n (All-head IsWord n ns all) in
     omega (arith, length-append (counter_line n) (flat_map counter_line ns), one, counters_long ns (All-tail IsWord n ns all))
 
 abbrev total : List (List ℕ) → ℕ

@@ -5,9 +5,9 @@ ghost use Rattle.generators.specs.Cells.{cell_text, IsFixed};
 ghost use Rattle.generators.specs.Parts.{HoldsPart};
 ghost use Rattle.generators.specs.Text.{state_name, waiting_mark, row_text};
 
-use crate::numbers::put_decimal;
+use crate::numbers::{decimal_len, put_decimal};
 use crate::parts::{Place, put};
-use crate::written::{Written, put_all};
+use crate::written::{Written, len_all, put_all};
 use app_events::{Row, State};
 
 /// A part of a row's text.
@@ -102,6 +102,13 @@ impl Written for Cell {
 
     ghost longest = { 20 };
 
+    fn len(&self) -> usize {
+        match *self {
+            Cell::Number(number) => decimal_len(number),
+            fixed => fixed_text(fixed).len(),
+        }
+    }
+
     fn put(&self, place: Place, out: &mut [u8]) -> Place {
         match *self {
             Cell::Number(number) => put_decimal(place, out, number),
@@ -114,6 +121,10 @@ impl Written for Row {
     ghost text = { row_text };
 
     ghost longest = { 420 };
+
+    fn len(&self) -> usize {
+        len_all(&cells_of(self))
+    }
 
     fn put(&self, place: Place, out: &mut [u8]) -> Place {
         put_all(&cells_of(self), place, out)

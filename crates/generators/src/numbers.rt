@@ -8,6 +8,21 @@ use crate::parts::{Place, put};
 use crate::written::Written;
 use itoa::Buffer;
 
+/// The length of a number in ten places.
+pub(crate) const PLACES: usize = 10;
+
+/// The length of a counter's line.
+const LINE_LEN: usize = PLACES + 1;
+
+/// How many digits a number has.
+pub(crate) fn decimal_len(number: u32) -> usize
+    ensures length { result ≡ length (decimal number) }
+    ensures bound { result ≤ 10 }
+{
+    let mut digits = Buffer::new();
+    digits.format(number).len()
+}
+
 /// The text goes on with a number, without leading zeros.
 pub(crate) fn put_decimal(place: Place, out: &mut [u8], number: u32) -> Place
     requires { place.so_far < 2 ^ 63 - 10 }
@@ -18,6 +33,14 @@ pub(crate) fn put_decimal(place: Place, out: &mut [u8], number: u32) -> Place
 {
     let mut digits = Buffer::new();
     put(place, out, digits.format(number).as_bytes())
+}
+
+/// The length of a number in ten places.
+pub(crate) fn in_ten_places_len(_number: u32) -> usize
+    ensures length { result ≡ length (in_ten_places _number) }
+    ensures places { result ≡ 10 }
+{
+    PLACES
 }
 
 /// The text goes on with a number in ten places, right, filled with spaces.
@@ -40,6 +63,11 @@ impl Written for u32 {
     ghost text = { counter_line };
 
     ghost longest = { 11 };
+
+    fn len(&self) -> usize {
+        let _number = *self;
+        LINE_LEN
+    }
 
     fn put(&self, place: Place, out: &mut [u8]) -> Place {
         let numbered = put_in_ten_places(place, out, *self);
