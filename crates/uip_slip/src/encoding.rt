@@ -61,7 +61,7 @@ fn encode_over<K: Sink>(text: &mut TextArea, datagram: &[u8], sink: &mut K) -> R
     ensures cause { HasCause (K.faults sink.old) (K.faults sink.new) result }
 {
     text.clear();
-    text.put(&[END]);
+    text.push(END);
     let mut rest = datagram;
     while rest.len() > LARGEST_DATAGRAM {
         let (part, others) = rest.split_at(LARGEST_DATAGRAM);
@@ -71,7 +71,7 @@ fn encode_over<K: Sink>(text: &mut TextArea, datagram: &[u8], sink: &mut K) -> R
         rest = others;
     }
     text.put_escaped(rest);
-    text.put(&[END]);
+    text.push(END);
     sink.write_whole(text.bytes())
 }
 
