@@ -1,4 +1,4 @@
--- Sixteen bytes that are looked at together: where the first mark stands.
+-- Bytes that are looked at together: where the first mark stands.
 use Rattle.std.proofs.Common.{◌≡◌, ℕ, ◌+◌, ◌%◌, ◌^◌, ◌<◌, ◌≤◌, Bool, true, false, cond, not, eqb, ◌||◌, List, [], ◌∷◌, length, take, drop, get_or, map, replicate, inl, inr, ◌-◌, true≢false, bit_or, refl, sym, ap, ◌∙◌, arith}
 use Rattle.std.specs.List.{prefix_len}
 use Rattle.std.proofs.lemmas.List.{length-map}
@@ -32,11 +32,11 @@ told_at xs n long few =
     ∙ mask_l-mod (map is_mark xs) 64 (omega (arith, length-map xs is_mark))
 
 -- the lanes in front of the first mark
-pub counted : (xs : List ℕ) → length xs ≡ 16
-    → cond (eqb (mask_l (lanes_of xs 16) % 2 ^ 64) 0) 16 (count_trailing_zeros 64 (mask_l (lanes_of xs 16) % 2 ^ 64)) ≡ prefix_len (λ b. not (is_mark b)) xs
+pub counted : (xs : List ℕ) → length xs ≡ 32
+    → cond (eqb (mask_l (lanes_of xs 32) % 2 ^ 64) 0) 32 (count_trailing_zeros 64 (mask_l (lanes_of xs 32) % 2 ^ 64)) ≡ prefix_len (λ b. not (is_mark b)) xs
 counted xs long =
-    ap (λ m. cond (eqb m 0) 16 (count_trailing_zeros 64 m)) (told_at xs 16 long (omega arith))
-    ∙ first_set_mask_l is_mark xs 16 long (omega arith)
+    ap (λ m. cond (eqb m 0) 32 (count_trailing_zeros 64 m)) (told_at xs 32 long (omega arith))
+    ∙ first_set_mask_l is_mark xs 32 long (omega arith)
 
 -- the two ends of the test
 pub none_set : (m n t : ℕ) → m ≡ 0 → cond (eqb m 0) n t ≡ n
@@ -45,20 +45,20 @@ none_set m n t e = ap (λ k. cond (eqb k 0) n t) e
 pub one_set : (m n t : ℕ) → (eqb m 0 ≡ false) → cond (eqb m 0) n t ≡ t
 one_set m n t e = ap (λ b. cond b n t) e
 
--- a window of sixteen bytes in which r come before the first mark
+-- a window of bytes in which r come before the first mark
 pub record Window (bytes : List ℕ) (at r : ℕ) : Type 0 where
-  pub le : r ≤ 16
+  pub le : r ≤ 32
   pub fails : (k : ℕ) → at ≤ k → k < at + r → is_mark (get_or bytes k 0) ≡ false
-  pub stops : r < 16 → is_mark (get_or bytes (at + r) 0) ≡ true
+  pub stops : r < 32 → is_mark (get_or bytes (at + r) 0) ≡ true
 
-pub window : (bytes : List ℕ) (at r : ℕ) → at + 16 ≤ length bytes → r ≡ prefix_len (λ b. not (is_mark b)) (slice_range bytes at (at + 16)) → Window bytes at r
+pub window : (bytes : List ℕ) (at r : ℕ) → at + 32 ≤ length bytes → r ≡ prefix_len (λ b. not (is_mark b)) (slice_range bytes at (at + 32)) → Window bytes at r
 window bytes at r room e =
-    let counted : r ≡ prefix_len (λ b. not (is_mark b)) (take 16 (drop at bytes)) =
-    e ∙ ap (λ n. prefix_len (λ b. not (is_mark b)) (take n (drop at bytes))) (let width : at + 16 - at ≡ 16 = omega arith in width) in
+    let counted : r ≡ prefix_len (λ b. not (is_mark b)) (take 32 (drop at bytes)) =
+    e ∙ ap (λ n. prefix_len (λ b. not (is_mark b)) (take n (drop at bytes))) (let width : at + 32 - at ≡ 32 = omega arith in width) in
     record {
-      le = run_in_chunk_le is_mark bytes at 16 r 0 room counted;
-      fails = run_in_chunk_fails is_mark bytes at 16 r 0 room counted;
-      stops = run_in_chunk_stops is_mark bytes at 16 r 0 room counted;
+      le = run_in_chunk_le is_mark bytes at 32 r 0 room counted;
+      fails = run_in_chunk_fails is_mark bytes at 32 r 0 room counted;
+      stops = run_in_chunk_stops is_mark bytes at 32 r 0 room counted;
     }
 
 -- the bytes in front of a window and its own

@@ -17,7 +17,7 @@ pub const ESC_END: u8 = 0xDC;
 pub const ESC_ESC: u8 = 0xDD;
 
 /// So many bytes are looked at together.
-const LANES: usize = 16;
+const LANES: usize = 32;
 
 /// The length of the front without END and ESC.
 pub fn plain_len(bytes: &[u8]) -> usize
@@ -57,10 +57,11 @@ fn plain_of_few(bytes: &[u8]) -> usize
 /// How many of the lanes from a place on stand before the first END or ESC.
 fn plain_lanes(bytes: &[u8], at: usize) -> usize
     requires { at + LANES ≤ length bytes.now }
-    ensures { result ≡ prefix_len (λ b. not (is_mark b)) (slice_range bytes.now at (at + LANES)) }
+    ensures count { result ≡ prefix_len (λ b. not (is_mark b)) (slice_range bytes.now at (at + LANES)) }
+    ensures bound { result ≤ LANES }
 {
-    let lanes = u8x16::from_slice(&bytes[at..]);
-    let marks = lanes.simd_eq(u8x16::splat(END)) | lanes.simd_eq(u8x16::splat(ESC));
+    let lanes = u8x32::from_slice(&bytes[at..]);
+    let marks = lanes.simd_eq(u8x32::splat(END)) | lanes.simd_eq(u8x32::splat(ESC));
     let mask = marks.to_bitmask();
     if mask == 0 {
         return LANES;

@@ -1,11 +1,12 @@
 use Rattle.std.proofs.Common.{◌≡◌, ◌+◌, ◌*◌, ◌^◌, ◌≤◌, length}
-use Rattle.uip_wire.specs.Checksum.{folded, word_sum}
+use Rattle.uip_wire.specs.Checksum.{folded}
+use Rattle.uip_wire.specs.Sums.{swapped_sum}
 use Rattle.uip_wire.proofs.sums.wide_sum.Given as goal
 
 abbrev pub invariant-eights : goal.invariant-eights
 invariant-eights l = record {
   fits : l.sum + 2 ^ 61 * length l.rest ≤ 2 ^ 61 * length l.bytes;
-  same : folded (l.sum + word_sum l.rest) ≡ folded (word_sum l.bytes);
+  same : folded (l.sum + swapped_sum l.rest) ≡ folded (swapped_sum l.bytes);
 }
 
 abbrev pub decreases-eights : goal.decreases-eights
@@ -14,7 +15,7 @@ decreases-eights l = length l.rest
 abbrev pub invariant-pairs : goal.invariant-pairs
 invariant-pairs l = record {
   fits : l.sum + 2 ^ 61 * length l.rest ≤ 2 ^ 61 * length l.bytes;
-  same : folded (l.sum + word_sum l.rest) ≡ folded (word_sum l.bytes);
+  same : folded (l.sum + swapped_sum l.rest) ≡ folded (swapped_sum l.bytes);
 }
 
 abbrev pub decreases-pairs : goal.decreases-pairs
@@ -23,7 +24,7 @@ decreases-pairs l = length l.rest
 abbrev pub invariant-longs : goal.invariant-longs
 invariant-longs l = record {
   fits : l.sum + 2 ^ 61 * length l.rest ≤ 2 ^ 61 * length l.bytes;
-  same : folded (l.sum + word_sum l.rest) ≡ folded (word_sum l.bytes);
+  same : folded (l.sum + swapped_sum l.rest) ≡ folded (swapped_sum l.bytes);
 }
 
 abbrev pub decreases-longs : goal.decreases-longs
@@ -32,7 +33,7 @@ decreases-longs l = length l.rest
 abbrev pub invariant-fours : goal.invariant-fours
 invariant-fours l = record {
   fits : l.sum + 2 ^ 61 * length l.rest ≤ 2 ^ 61 * length l.bytes;
-  same : folded (l.sum + word_sum l.rest) ≡ folded (word_sum l.bytes);
+  same : folded (l.sum + swapped_sum l.rest) ≡ folded (swapped_sum l.bytes);
 }
 
 abbrev pub decreases-fours : goal.decreases-fours
