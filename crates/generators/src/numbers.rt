@@ -19,6 +19,15 @@ pub(crate) fn decimal_len(number: u32) -> usize
     ensures length { result ≡ length (decimal number) }
     ensures bound { result ≤ 10 }
 {
+    if number < 10 {
+        return 1;
+    }
+    if number < 100 {
+        return 2;
+    }
+    if number < 1000 {
+        return 3;
+    }
     let mut digits = Buffer::new();
     digits.format(number).len()
 }
@@ -43,7 +52,18 @@ pub(crate) fn in_ten_places_len(_number: u32) -> usize
     PLACES
 }
 
-/// The text goes on with a number in ten places, right, filled with spaces.
+/// A number in ten places, right, filled with spaces.
+fn in_ten(number: u32) -> [u8; PLACES]
+    ensures { result ≡ in_ten_places number }
+{
+    let mut text = [b' '; PLACES];
+    let mut digits = Buffer::new();
+    let digits = digits.format(number).as_bytes();
+    text[PLACES - digits.len()..].copy_from_slice(digits);
+    text
+}
+
+/// The text goes on with a number in ten places.
 pub(crate) fn put_in_ten_places(place: Place, out: &mut [u8], number: u32) -> Place
     requires { place.so_far < 2 ^ 63 - 10 }
     ensures at { result.at ≡ place.at }
@@ -51,11 +71,7 @@ pub(crate) fn put_in_ten_places(place: Place, out: &mut [u8], number: u32) -> Pl
     ensures ten { length (in_ten_places number) ≡ 10 }
     ensures part { (text : List ℕ) → HoldsPart text place out.old → HoldsPart (text ++ in_ten_places number) result out.new }
 {
-    let mut digits = Buffer::new();
-    let digits = digits.format(number).as_bytes();
-    let spaces: &[u8] = b"          ";
-    let padded = put(place, out, &spaces[digits.len()..]);
-    put(padded, out, digits)
+    put(place, out, &in_ten(number))
 }
 
 /// A counter, on a line of its own.
