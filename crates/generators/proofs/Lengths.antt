@@ -1,8 +1,8 @@
 -- How long generated text is.
 use Rattle.std.specs.List.{All}
-use Rattle.std.proofs.Common.{◌≡◌, ℕ, ◌+◌, ◌-◌, ◌*◌, ◌<◌, ◌≤◌, Bool, true, false, List, [], ◌∷◌, length, decimal, replicate, flat_map, slice_index, refl, ap, ◌∙◌, arith, length-append, lit<, lit≤}
+use Rattle.std.proofs.Common.{◌≡◌, ℕ, ◌+◌, ◌-◌, ◌*◌, ◌%◌, ◌^◌, ◌<◌, ◌≤◌, Bool, true, false, List, [], ◌∷◌, length, decimal, replicate, flat_map, slice_index, refl, ap, ◌∙◌, arith, length-append, lit<, lit≤}
 use Rattle.std.specs.List.{concat}
-use Rattle.std.proofs.lemmas.Fmt.{length-decimal-le}
+use Rattle.std.proofs.lemmas.Fmt.{decimal_by_steps, length-decimal-le}
 use Rattle.std.proofs.lemmas.List.{length-replicate}
 use Rattle.std.proofs.lemmas.List.Elements.{All-get_or, All-head, All-tail}
 use Rattle.app_events.specs.Pages.{IsByte, IsWord, IsRow}
@@ -13,17 +13,44 @@ use Rattle.script_lang.specs.declared.function.Function.TheVariants.{FileStats, 
 use Rattle.generators.specs.Short.{TextsAreShort}
 use Rattle.generators.specs.Text.{in_ten_places, counter_line, row_parts, row_text, state_name, waiting_mark}
 
-in_ten : (n : ℕ) → n < 4294967296 → length (in_ten_places n) ≡ 10
+pub in_ten : (n : ℕ) → n < 4294967296 → length (in_ten_places n) ≡ 10
 in_ten n h =
     let short : length (decimal n) ≤ 10 = length-decimal-le 10 n (lit< tt) (omega arith) (omega arith) in
     let spaces : length (replicate {A = ℕ} (10 - length (decimal n)) 32) ≡ 10 - length (decimal n) = length-replicate {A = ℕ} (10 - length (decimal n)) 32 in
     omega (arith, length-append (replicate (10 - length (decimal n)) 32) (decimal n), spaces)
 
+pub line_long : (n : ℕ) → n < 4294967296 → length (counter_line n) ≡ 11
+line_long n h = omega (arith, length-append (in_ten_places n) (10 ∷ []), in_ten n h)
+
 counters_long : (ns : List ℕ) → All IsWord ns → length (flat_map counter_line ns) ≡ 11 * length ns
 counters_long [] all = refl
 counters_long (n ∷ ns) all =
-    let one : length (counter_line n) ≡ 11 = omega (arith, length-append (in_ten_places n) (10 ∷ []), in_ten n (All-head IsWord n ns all)) in
+    let one : length (counter_line n) ≡ 11 = line_long n (All-head IsWord n ns all) in
     omega (arith, length-append (counter_line n) (flat_map counter_line ns), one, counters_long ns (All-tail IsWord n ns all))
+
+-- a number of two digits or more, and of three or more
+digits_least : (n : ℕ) → n < 2 ^ 64 → (0 < length (decimal n)) × (10 ≤ n → 2 ≤ length (decimal n)) × (100 ≤ n → 3 ≤ length (decimal n))
+digits_least =
+    decimal_by_steps (λ m ds. (0 < length ds) × (10 ≤ m → 2 ≤ length ds) × (100 ≤ m → 3 ≤ length ds))
+    (λ m small. (omega arith, λ h. omega (arith, small, h), λ h. omega (arith, small, h)))
+    (λ m ds large more.
+    let long = length-append ds ((48 + m % 10) ∷ []) in (
+      omega (arith, long),
+      λ h. omega (arith, long, more.0),
+      λ h. let two = more.1 (omega (arith, h)) in omega (arith, long, two),
+    ))
+
+pub one_digit : (n : ℕ) → n < 10 → 1 ≡ length (decimal n)
+one_digit n h =
+    let some = digits_least n (omega (arith, h)) in omega (arith, some.0, length-decimal-le 1 n (lit< tt) (omega (arith, h)) (omega (arith, h)))
+
+pub two_digits : (n : ℕ) → 10 ≤ n → n < 100 → 2 ≡ length (decimal n)
+two_digits n l h =
+    let some = digits_least n (omega (arith, h)) in omega (arith, some.1 l, length-decimal-le 2 n (lit< tt) (omega (arith, h)) (omega (arith, h)))
+
+pub three_digits : (n : ℕ) → 100 ≤ n → n < 1000 → 3 ≡ length (decimal n)
+three_digits n l h =
+    let some = digits_least n (omega (arith, h)) in omega (arith, some.2 l, length-decimal-le 3 n (lit< tt) (omega (arith, h)) (omega (arith, h)))
 
 abbrev total : List (List ℕ) → ℕ
 total [] = 0
@@ -47,6 +74,17 @@ name_short LastAck = lit≤ tt
 mark_short : (b : Bool) → length (waiting_mark b) ≤ 1
 mark_short true = lit≤ tt
 mark_short false = lit≤ tt
+
+mark_long : (b : Bool) → length (waiting_mark b) ≡ 1
+mark_long true = refl
+mark_long false = refl
+
+-- what is the same in each row, and what is not
+pub row_long : (row : Row) → length (row_text row)
+    ≡ 70 + length (decimal row.slot) + length (decimal (slice_index row.peer.0 0)) + length (decimal (slice_index row.peer.0 1)) + length (decimal (slice_index row.peer.0 2))
+    + length (decimal (slice_index row.peer.0 3)) + length (decimal row.port.0) + length (state_name row.state) + length (decimal row.tries) + length (decimal row.count)
+unfolding row_parts
+row_long row = concat_long (row_parts row) ∙ omega (arith, mark_long row.waiting)
 
 byte_short : (n : ℕ) → n < 256 → length (decimal n) ≤ 3
 byte_short n h = length-decimal-le 3 n (lit< tt) (omega arith) (omega arith)

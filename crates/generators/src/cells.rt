@@ -5,7 +5,7 @@ ghost use Rattle.generators.specs.Cells.{cell_text, IsFixed};
 ghost use Rattle.generators.specs.Parts.{HoldsPart};
 ghost use Rattle.generators.specs.Text.{state_name, waiting_mark, row_text};
 
-use crate::numbers::put_decimal;
+use crate::numbers::{decimal_len, put_decimal};
 use crate::parts::{Place, put};
 use crate::written::{Written, put_all};
 use app_events::{Row, State};
@@ -22,6 +22,9 @@ pub(crate) enum Cell {
     Number(u32),
     Mark(bool),
 }
+
+/// The length of what is the same in each row: the cells' ends, three dots, a colon and the mark.
+const FIXED_LEN: usize = 8 + 5 * 9 + 3 + 1 + 1 + 12;
 
 /// The name of a state as it is shown.
 fn name_of(state: State) -> &'static [u8]
@@ -102,6 +105,13 @@ impl Written for Cell {
 
     ghost longest = { 20 };
 
+    fn len(&self) -> usize {
+        match *self {
+            Cell::Number(number) => decimal_len(number),
+            fixed => fixed_text(fixed).len(),
+        }
+    }
+
     fn put(&self, place: Place, out: &mut [u8]) -> Place {
         match *self {
             Cell::Number(number) => put_decimal(place, out, number),
@@ -114,6 +124,20 @@ impl Written for Row {
     ghost text = { row_text };
 
     ghost longest = { 420 };
+
+    fn len(&self) -> usize {
+        let peer = self.peer.0;
+        FIXED_LEN
+            + decimal_len(self.slot as u32)
+            + decimal_len(peer[0] as u32)
+            + decimal_len(peer[1] as u32)
+            + decimal_len(peer[2] as u32)
+            + decimal_len(peer[3] as u32)
+            + decimal_len(self.port.0 as u32)
+            + name_of(self.state).len()
+            + decimal_len(self.tries as u32)
+            + decimal_len(self.count as u32)
+    }
 
     fn put(&self, place: Place, out: &mut [u8]) -> Place {
         put_all(&cells_of(self), place, out)

@@ -8,6 +8,30 @@ use crate::parts::{Place, put};
 use crate::written::Written;
 use itoa::Buffer;
 
+/// The length of a number in ten places.
+pub(crate) const PLACES: usize = 10;
+
+/// The length of a counter's line.
+const LINE_LEN: usize = PLACES + 1;
+
+/// How many digits a number has.
+pub(crate) fn decimal_len(number: u32) -> usize
+    ensures length { result ≡ length (decimal number) }
+    ensures bound { result ≤ 10 }
+{
+    if number < 10 {
+        return 1;
+    }
+    if number < 100 {
+        return 2;
+    }
+    if number < 1000 {
+        return 3;
+    }
+    let mut digits = Buffer::new();
+    digits.format(number).len()
+}
+
 /// The text goes on with a number, without leading zeros.
 pub(crate) fn put_decimal(place: Place, out: &mut [u8], number: u32) -> Place
     requires { place.so_far < 2 ^ 63 - 10 }
@@ -20,7 +44,26 @@ pub(crate) fn put_decimal(place: Place, out: &mut [u8], number: u32) -> Place
     put(place, out, digits.format(number).as_bytes())
 }
 
-/// The text goes on with a number in ten places, right, filled with spaces.
+/// The length of a number in ten places.
+pub(crate) fn in_ten_places_len(_number: u32) -> usize
+    ensures length { result ≡ length (in_ten_places _number) }
+    ensures places { result ≡ 10 }
+{
+    PLACES
+}
+
+/// A number in ten places, right, filled with spaces.
+fn in_ten(number: u32) -> [u8; PLACES]
+    ensures { result ≡ in_ten_places number }
+{
+    let mut text = [b' '; PLACES];
+    let mut digits = Buffer::new();
+    let digits = digits.format(number).as_bytes();
+    text[PLACES - digits.len()..].copy_from_slice(digits);
+    text
+}
+
+/// The text goes on with a number in ten places.
 pub(crate) fn put_in_ten_places(place: Place, out: &mut [u8], number: u32) -> Place
     requires { place.so_far < 2 ^ 63 - 10 }
     ensures at { result.at ≡ place.at }
@@ -28,11 +71,7 @@ pub(crate) fn put_in_ten_places(place: Place, out: &mut [u8], number: u32) -> Pl
     ensures ten { length (in_ten_places number) ≡ 10 }
     ensures part { (text : List ℕ) → HoldsPart text place out.old → HoldsPart (text ++ in_ten_places number) result out.new }
 {
-    let mut digits = Buffer::new();
-    let digits = digits.format(number).as_bytes();
-    let spaces: &[u8] = b"          ";
-    let padded = put(place, out, &spaces[digits.len()..]);
-    put(padded, out, digits)
+    put(place, out, &in_ten(number))
 }
 
 /// A counter, on a line of its own.
@@ -40,6 +79,11 @@ impl Written for u32 {
     ghost text = { counter_line };
 
     ghost longest = { 11 };
+
+    fn len(&self) -> usize {
+        let _number = *self;
+        LINE_LEN
+    }
 
     fn put(&self, place: Place, out: &mut [u8]) -> Place {
         let numbered = put_in_ten_places(place, out, *self);

@@ -5,18 +5,23 @@ ghost use Rattle.generators.specs.Parts.{HoldsPart};
 ghost use Rattle.generators.specs.Text.{capture_text};
 
 use crate::capture::Capture;
-use crate::numbers::put_in_ten_places;
+use crate::numbers::{in_ten_places_len, put_in_ten_places};
 use crate::parts::Place;
 use crate::rows::rows_of;
-use crate::written::put_all;
+use crate::written::{len_all, put_all};
 
 /// The length of the capture's text, in bytes. No record has a long text, whatever its numbers are.
 pub fn text_len(capture: &Capture) -> usize
     ensures length { result ≡ length (capture_text capture.now) }
     ensures short { result ≤ 4200 }
 {
-    let place = Place { at: 0, so_far: 0 };
-    put_text(place, &mut [], capture).so_far
+    match capture {
+        Capture::Empty => 0,
+        Capture::Hits(hits) => in_ten_places_len(*hits),
+        Capture::Ticks(ticks) => in_ten_places_len(*ticks),
+        Capture::Net(counters) => len_all(counters),
+        Capture::Rows(rows) => len_all(rows_of(rows)),
+    }
 }
 
 /// Writes the capture's text from place `at` on, as much as `out` holds.

@@ -13,6 +13,11 @@ pub(crate) trait Written {
     /// The greatest length of a text, in bytes.
     ghost longest: { ℕ };
 
+    /// The length of its text, in bytes.
+    fn len(&self) -> usize
+        ensures length { result ≡ length (text self.now) }
+        ensures bound { result ≤ longest };
+
     /// The text so far goes on with the thing's own.
     fn put(&self, place: Place, out: &mut [u8]) -> Place
         requires short { place.so_far + longest < 2 ^ 63 }
@@ -32,7 +37,38 @@ pub(crate) fn put_all<T: Written>(items: &[T], place: Place, out: &mut [u8]) -> 
 {
     let mut come = place;
     for item in items {
-        come = item.put(come, out);
+        come = put_needed(item, come, out);
     }
     come
+}
+
+/// The text goes on with the thing's own, of which nothing is made where the buffer holds none of it.
+fn put_needed<T: Written>(item: &T, place: Place, out: &mut [u8]) -> Place
+    requires { place.so_far + T.longest < 2 ^ 63 }
+    ensures at { result.at ≡ place.at }
+    ensures so_far { result.so_far ≡ place.so_far + length (T.text item.now) }
+    ensures bound { length (T.text item.now) ≤ T.longest }
+    ensures part { (before : List ℕ) → HoldsPart before place out.old → HoldsPart (before ++ T.text item.now) result out.new }
+{
+    let so_far = place.so_far + item.len();
+    if so_far <= place.at || place.so_far.saturating_sub(place.at) >= out.len() {
+        return Place {
+            at: place.at,
+            so_far,
+        };
+    }
+    item.put(place, out)
+}
+
+/// The length of the texts of all things, in bytes.
+pub(crate) fn len_all<T: Written>(items: &[T]) -> usize
+    requires { T.longest * length items.now < 2 ^ 63 }
+    ensures length { result ≡ length (flat_map T.text items.now) }
+    ensures bound { result ≤ T.longest * length items.now }
+{
+    let mut len = 0;
+    for item in items {
+        len += item.len();
+    }
+    len
 }

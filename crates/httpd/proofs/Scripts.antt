@@ -1,7 +1,7 @@
 -- What a thread sees in a script.
 use Rattle.std.proofs.Common.{◌≡◌, ℕ, ◌+◌, ◌-◌, ◌<◌, ◌≤◌, Bool, true, false, ◌⊎◌, inl, inr, List, [], ◌∷◌, length, take, drop, map, min, refl, sym, ap, subst, ◌∙◌, arith, true≢false, if◌then◌else◌}
 use Rattle.std.specs.Prelude.{slice_range, nat_lt, ◌&&◌}
-use Rattle.std.proofs.lemmas.List.{drop-drop, drop-take}
+use Rattle.std.proofs.lemmas.List.{drop-drop, drop-take, take-take}
 use Rattle.script_lang.specs.declared.function.Function.{Function}
 use Rattle.script_lang.specs.declared.piece.Found.{Found}
 use Rattle.script_lang.specs.declared.piece.Piece.TheVariants.{Text, Include, Call}
@@ -10,6 +10,7 @@ use Rattle.script_lang.specs.Functions.{function_named}
 use Rattle.script_lang.specs.Directives.{IsPlace, is_directive_mark, is_inside_directive, line_end, before_cr, directive}
 use Rattle.script_lang.specs.Pieces.{piece_at, pieces_from, run_end}
 use Rattle.script_lang.proofs.PieceLemmas.{found-goes, pieces_from-step, run-rest}
+use Rattle.script_lang.proofs.PlaceLemmas.{first_place-is}
 use Rattle.script_lang.proofs.StartLemmas.{run-inside}
 use Rattle.site_image.specs.Files.{file_named}
 use Rattle.web_pages.specs.Pieces.{Say, piece_bytes, says}
@@ -19,7 +20,7 @@ use Rattle.httpd.specs.declared.thread.Thread.TheVariants.{Body}
 use Rattle.httpd.specs.Reply.{FileReply, body, body_from, is_scripted, left_from}
 use Rattle.httpd.specs.Places.{Fits, IsBodyPlace, IsInner}
 use Rattle.httpd.specs.Looking.{IsSpan, Sees}
-use Rattle.httpd.proofs.Seeing.{sees_first}
+use Rattle.httpd.proofs.Seeing.{IsFurther, sees_first, sees_front, span_along}
 
 -- what `next_piece` tells of a piece that it found
 pub record Reads (script : List ℕ) (at : ℕ) (found : Found) : Type 0 where
@@ -116,6 +117,29 @@ closed_at : (script : List ℕ) (at : ℕ) → at < length script → ◌⊎◌ 
 closed_at script at h (inl closed) = closed
 closed_at script at h (inr end) = absurd (omega (arith, h, end))
 
+length-slice : (xs : List ℕ) (a b : ℕ) → length (slice_range xs a b) ≤ b - a
+length-slice xs a b = omega (arith, Rattle.std.proofs.Common.length-take (b - a) (drop a xs))
+
+pub run_short : (text : List ℕ) (at : ℕ) → at ≤ length text → run_end text at ≤ length text
+run_short text at h = (first_place-is (is_directive_mark text) at (length text) h).high
+
+-- a thread in a text run says the rest of it
+run_further : (r : FileReply) (at n : ℕ) → is_scripted r.file ≡ true → length (body r) ≤ 16777216 → is_inside_directive (body r) at ≡ false → at ≤ length (body r) → at + n < run_end (body r) at
+    → IsFurther r (slice_range (body r) at (run_end (body r) at)) (body_from r (run_end (body r) at)) (Body at) n
+unfolding left_from Fits
+run_further r at n script short closed within inside =
+    let there = run-inside (body r) at (at + n) closed (omega arith) inside within in
+    let rest = run-rest (body r) at (at + n) closed (omega arith) inside within in
+    let high = run_short (body r) at within in
+    record {
+      fits = record { within = omega (arith, inside, high); between = λ t opened. absurd (true≢false (sym opened ∙ there.1)) };
+      small = omega (arith, inside, high, short);
+      pieces = script_from r (at + n) script
+          ∙ ap (λ ps. map (λ f. says r.files (body r) f.piece) ps) rest
+          ∙ ap (λ m. Plain (slice_range (body r) (at + n) ((at + n) + (run_end (body r) at - (at + n)))) ∷ m) (sym (script_from r (run_end (body r) at) script))
+          ∙ ap (λ f. Plain f ∷ body_from r (run_end (body r) at)) (slice_past (body r) at (run_end (body r) at) n (omega (arith, inside)));
+    }
+
 -- in a text run
 pub run_seen : (r : FileReply) (at from len next : ℕ) (s : Span) → is_scripted r.file ≡ true → IsBodyPlace r at → length (body r) ≤ 16777216 → Reads (body r) at (text_found from len next)
     → IsSpan s (slice_range (body r) at (at + len)) → Sees r (left_from r (Body at)) (record { span = s; here = Body at; next = Body next })
@@ -133,21 +157,27 @@ run_seen r at from len next s script is short read span =
     (sees_first r (slice_range (body r) at (at + len)) more (record { span = s; here = Body at; next = Body next }) span refl (body_place r next read.place)
     (λ n h.
     let inside : at + n < run_end (body r) at = omega (arith, end_is, h, length-slice (body r) at (at + len)) in
-    let there = run-inside (body r) at (at + n) closed (omega arith) inside (omega (arith, before)) in
-    let rest = run-rest (body r) at (at + n) closed (omega arith) inside (omega (arith, before)) in
-    record {
-      fits = record { within = omega (arith, inside, read.place.0, run.next_is); between = λ t opened. absurd (true≢false (sym opened ∙ there.1)) };
-      small = omega (arith, inside, read.place.0, run.next_is, short);
-      pieces = script_from r (at + n) script
-          ∙ ap (λ ps. map (λ f. says r.files (body r) f.piece) ps) rest
-          ∙ ap (λ m. Plain (slice_range (body r) (at + n) ((at + n) + (run_end (body r) at - (at + n)))) ∷ m) (sym (script_from r (run_end (body r) at) script))
-          ∙ ap (λ b. Plain (slice_range (body r) (at + n) ((at + n) + (run_end (body r) at - (at + n)))) ∷ body_from r b) (sym run.next_is)
-          ∙ ap (λ f. Plain f ∷ more) (slice_past (body r) at (run_end (body r) at) n (omega (arith, inside)))
-          ∙ ap (λ e. Plain (drop n (slice_range (body r) at e)) ∷ more) (sym end_is);
-    }))
-  where
-    length-slice : (xs : List ℕ) (a b : ℕ) → length (slice_range xs a b) ≤ b - a
-    length-slice xs a b = omega (arith, Rattle.std.proofs.Common.length-take (b - a) (drop a xs))
+    subst (λ e. IsFurther r (slice_range (body r) at e) more (Body at) n) (sym end_is)
+    (subst (λ b. IsFurther r (slice_range (body r) at (run_end (body r) at)) (body_from r b) (Body at) n) (sym run.next_is)
+    (run_further r at n script short closed (omega (arith, before)) inside))))
+
+-- a front of a long text run
+pub long_seen : (r : FileReply) (at n : ℕ) (s : Span) → is_scripted r.file ≡ true → IsBodyPlace r at → length (body r) ≤ 16777216 → 0 < n → at + n < run_end (body r) at
+    → IsSpan s (slice_range (body r) at (at + n)) → Sees r (left_from r (Body at)) (record { span = s; here = Body at; next = Body (at + n) })
+unfolding left_from Fits
+long_seen r at n s script is short some long span =
+    let high = run_short (body r) at is.within in
+    let before : at < length (body r) = omega (arith, long, high) in
+    let closed : is_inside_directive (body r) at ≡ false = closed_at (body r) at before (is_place r at script is).1 in
+    let front : List ℕ = slice_range (body r) at (run_end (body r) at) in
+    let more : List Say = body_from r (run_end (body r) at) in
+    let further : (k : ℕ) → at + k < run_end (body r) at → IsFurther r front more (Body at) k = λ k inside. run_further r at k script short closed (omega (arith, before)) inside in
+    let here : left_from r (Body at) ≡ Plain front ∷ more = ap (λ a. left_from r (Body a)) (omega arith) ∙ (further 0 (omega (arith, long))).pieces in
+    let size : length front ≡ run_end (body r) at - at = omega (arith, Rattle.std.proofs.Common.length-take (run_end (body r) at - at) (drop at (body r)), Rattle.std.proofs.Common.length-drop at (body r), high) in
+    let part : slice_range (body r) at (at + n) ≡ take n front =
+    ap (λ k. take k (drop at (body r))) (omega arith) ∙ sym (take-take n (run_end (body r) at - at) (drop at (body r)) (omega (arith, long))) in
+    subst (λ ps. Sees r ps (record { span = s; here = Body at; next = Body (at + n) })) (sym here)
+    (sees_front r front more s (Body at) n some (omega (arith, size, long)) (span_along s _ _ part span) (λ k h. further k (omega (arith, h, long))))
 
 -- a text run is read from the place on
 pub text_at : (script : List ℕ) (at from len next : ℕ) → IsPlace script at → Reads script at (text_found from len next) → from ≡ at

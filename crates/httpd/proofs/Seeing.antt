@@ -1,6 +1,6 @@
 -- What is seen of the first piece that is left.
-use Rattle.std.proofs.Common.{◌≡◌, ℕ, ◌+◌, ◌<◌, ◌≤◌, List, [], ◌∷◌, ◌++◌, length, drop, refl, sym, ap, ◌∙◌, arith}
-use Rattle.std.proofs.lemmas.List.{drop-append-le, drop-drop}
+use Rattle.std.proofs.Common.{◌≡◌, ℕ, ◌+◌, ◌<◌, ◌≤◌, List, [], ◌∷◌, ◌++◌, length, take, drop, refl, sym, ap, ◌∙◌, arith, append_assoc}
+use Rattle.std.proofs.lemmas.List.{drop-append-le, drop-drop, length-take-le, take-append-drop}
 use Rattle.web_pages.specs.Pieces.{Say}
 use Rattle.web_pages.specs.Pieces.Say.{Plain}
 use Rattle.web_pages.specs.Pages.{page_text, reach_end}
@@ -57,9 +57,32 @@ sees_first r front more look is e next further =
         whole = λ later. λ i. reach_end (sym e i) later;
         calls = ap calls_in (sym e);
       };
-      fewer = omega (arith, fewer);
+      no_more = omega (arith, fewer);
+      fewer = λ none. omega (arith, fewer);
       next = next;
       within = λ n h. in_piece r front more look.here n (omega (arith, size, h)) (further n (omega (arith, size, h)));
+    })
+
+-- a front of a piece that goes on
+pub sees_front : (r : FileReply) (front : List ℕ) (more : List Say) (s : Span) (here : Thread) (n : ℕ) → 0 < n → n < length front → IsSpan s (take n front)
+    → ((k : ℕ) → k ≤ n → IsFurther r front more here k) → Sees r (Plain front ∷ more) (record { span = s; here = here; next = moved here n })
+sees_front r front more s here n some within is further =
+    let there = further n (omega arith) in
+    let size : length (span_text s) ≡ n = ap length is.text ∙ length-take-le n front (omega (arith, within)) in
+    let same : length (left_from r (moved here n)) ≡ length (Plain (drop n front) ∷ more) = ap length there.pieces in
+    sees_text r (Plain front ∷ more) (record { span = s; here = here; next = moved here n }) is.plain is.fits (record {
+      leads = record {
+        text = λ later.
+            ap (λ xs. xs ++ page_text r.files more later) (sym (take-append-drop n front))
+            ∙ append_assoc (take n front) (drop n front) (page_text r.files more later)
+            ∙ (λ i. (sym is.text i) ++ page_text r.files (sym there.pieces i) later);
+        whole = λ later. ap (λ p. reach_end p later) (sym there.pieces);
+        calls = ap calls_in (sym there.pieces);
+      };
+      no_more = omega (arith, same);
+      fewer = λ none. absurd (omega (arith, none, size, some));
+      next = there.fits;
+      within = λ k h. in_piece r front more here k (omega (arith, size, h, within)) (further k (omega (arith, size, h)));
     })
 
 -- a thread that says a text from a place on, whatever the place
@@ -94,7 +117,8 @@ nothing_seen r piece more look is e next leads =
         whole = λ later. leads.whole later ∙ ap (λ p. reach_end p later) (sym e);
         calls = leads.calls ∙ ap calls_in (sym e);
       };
-      fewer = omega (arith, fewer);
+      no_more = omega (arith, fewer);
+      fewer = λ none. omega (arith, fewer);
       next = next;
       within = λ n h. absurd (omega (arith, size, h));
     })

@@ -178,12 +178,19 @@ acked_in r start thread count left look enough walks h pos sees lt =
       (some.within left lt).small,
     )
 
--- where text is left, the next piece leaves fewer pieces
-pub fewer_left : (r : FileReply) (start thread : Thread) (n : ℕ) (look : Look) → n < length (page_text r.files (left_from r start) []) → Walks r start thread n → Sees r (left_from r thread) look
-    → length (left_from r look.next) < length (left_from r thread)
-fewer_left r start thread n look enough walks sees =
+-- where text is left, each look brings fewer pieces or fewer bytes
+pub nearer : (r : FileReply) (start thread : Thread) (n len : ℕ) (look : Look) → n < length (page_text r.files (left_from r start) []) → Walks r start thread n → Sees r (left_from r thread) look
+    → len ≡ length (span_text look.span)
+    → (length (left_from r look.next) ≤ length (left_from r thread)) × (len ≡ 0 → length (left_from r look.next) < length (left_from r thread))
+nearer r start thread n len look enough walks sees e =
     let here = walks_left r start thread n walks in
-    (some_seen r (left_from r thread) look sees (omega (arith, here, enough))).fewer
+    let some = some_seen r (left_from r thread) look sees (omega (arith, here, enough)) in
+    (some.no_more, λ none. some.fewer (sym e ∙ none))
+
+-- so the pieces and the room are less together
+pub less_by : (a b len room left : ℕ) → a ≤ b → (len ≡ 0 → a < b) → 0 < room → (0 < len → left < room) → left ≤ room → a + left < b + room
+less_by a b len room left more fewer some shorter most =
+    elim (cases_eq len 0) [ inl none ↦ omega (arith, fewer none, most) | inr apart ↦ omega (arith, shorter (omega (arith, apart)), more) ]
 
 -- ---- wanting
 

@@ -48,10 +48,11 @@ pub record IsInPiece (reply : FileReply) (pieces : List Say) (here : Thread) (n 
   pub small : thread_place here + n < 2147483648
   pub past : IsPast reply.files n pieces (left_from reply (moved here n))
 
--- The first piece takes no capture.
+-- The first piece takes no capture. What is seen is all that is left of it, or a front of a long one.
 pub record SeesText (reply : FileReply) (pieces : List Say) (look : Look) : Type 0 where
   pub leads : Leads reply.files pieces (span_text look.span) (left_from reply look.next)
-  pub fewer : length (left_from reply look.next) < length pieces
+  pub no_more : length (left_from reply look.next) ≤ length pieces
+  pub fewer : length (span_text look.span) ≡ 0 → length (left_from reply look.next) < length pieces
   pub next : Fits reply look.next
   pub within : (n : ℕ) → n < length (span_text look.span) → IsInPiece reply pieces look.here n
 

@@ -1,11 +1,12 @@
 //! What a thread sees where it stands.
 
-ghost use Rattle.std.specs.Prelude.{◌≡◌, ◌≤◌, ◌∷◌, [], true, drop, length, slice_range};
+ghost use Rattle.std.specs.Prelude.{◌≡◌, ◌≤◌, ◌<◌, ◌+◌, ◌∷◌, [], true, drop, length, slice_range};
 ghost use Rattle.file_tree.specs.Site.{files_of};
 ghost use Rattle.site_image.specs.Files.{file_named};
 ghost use Rattle.web_pages.specs.Pieces.{piece_bytes};
 ghost use Rattle.web_pages.specs.Pieces.Say.{Plain, Made};
-ghost use Rattle.httpd.specs.Reply.{body_from, found_file, is_scripted, left_from, reply_in};
+ghost use Rattle.httpd.specs.Reply.{body, body_from, found_file, is_scripted, left_from, reply_in};
+ghost use Rattle.script_lang.specs.Pieces.{run_end};
 ghost use Rattle.httpd.specs.Places.{Fits, IsBodyPlace, IsFound, IsInner};
 ghost use Rattle.httpd.specs.Looking.{IsSpan, Sees};
 
@@ -16,7 +17,8 @@ use file_tree::{FileId, Site};
 use generators::{Capture, text_len};
 use protosocket::SendOut;
 use protothread::Run;
-use script_lang::{Function, Piece, next_piece};
+use script_lang::{Function, Piece, next_piece, runs_past};
+use web_pages::LARGEST_SEGMENT;
 
 /// What the thread sees.
 pub(crate) fn look<'a>(
@@ -109,6 +111,39 @@ fn look_body<'a>(site: &'a Site, found: Option<FileId>, capture: &'a Capture, at
 
 /// In a script.
 fn look_script<'a>(site: &'a Site, found: Option<FileId>, capture: &'a Capture, at: u32) -> Look<'a>
+    requires found { IsFound (files_of site.now) found }
+    requires script { is_scripted (found_file (files_of site.now) found) ≡ true }
+    requires fits { IsBodyPlace (reply_in site.now found capture.now) at }
+    ensures { Sees (reply_in site.now found capture.now) (left_from (reply_in site.now found capture.now) (Thread.Body at)) result }
+{
+    let script = body_of(site, found);
+    let from = at as usize;
+    if from < script.len() && runs_past(script, from, LARGEST_SEGMENT) {
+        return look_run(site, found, capture, at);
+    }
+    look_piece(site, found, capture, at)
+}
+
+/// In a text run of a script that is longer than a segment: as much of it as a segment takes. So no look is dearer than that, however long
+/// a run is.
+fn look_run<'a>(site: &'a Site, found: Option<FileId>, capture: &'a Capture, at: u32) -> Look<'a>
+    requires found { IsFound (files_of site.now) found }
+    requires script { is_scripted (found_file (files_of site.now) found) ≡ true }
+    requires fits { IsBodyPlace (reply_in site.now found capture.now) at }
+    requires long { at + LARGEST_SEGMENT < run_end (body (reply_in site.now found capture.now)) at }
+    ensures { Sees (reply_in site.now found capture.now) (left_from (reply_in site.now found capture.now) (Thread.Body at)) result }
+{
+    let script = body_of(site, found);
+    let end = at + LARGEST_SEGMENT as u32;
+    Look {
+        span: part_of(script, at, end),
+        here: Thread::Body { at },
+        next: Thread::Body { at: end },
+    }
+}
+
+/// At a piece of a script.
+fn look_piece<'a>(site: &'a Site, found: Option<FileId>, capture: &'a Capture, at: u32) -> Look<'a>
     requires found { IsFound (files_of site.now) found }
     requires script { is_scripted (found_file (files_of site.now) found) ≡ true }
     requires fits { IsBodyPlace (reply_in site.now found capture.now) at }

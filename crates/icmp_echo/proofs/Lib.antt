@@ -1,3 +1,4 @@
 pub mod Exchange
 pub mod InPlace
 pub mod Rows
+pub mod Sums

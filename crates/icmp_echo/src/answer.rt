@@ -1,12 +1,20 @@
-ghost use Rattle.std.specs.Prelude.{◌≡◌, ◌≤◌, ◌++◌, length, take, drop, slice_range};
-ghost use Rattle.icmp_echo.specs.Echo.{echo_message, echo_reply};
+ghost use Rattle.std.specs.Prelude.{◌≡◌, ◌≤◌, ◌++◌, ◌∷◌, None, length, take, drop, slice_range};
+ghost use Rattle.icmp_echo.specs.Echo.{echo_fate, echo_message, echo_reply};
+ghost use Rattle.uip_wire.specs.Checksum.{checksum_of};
 
-use uip_wire::{Addr, checksum, put16};
+use uip_wire::{Addr, checksum, get16, put16};
+
+/// The first word of an echo request: its type and its code (RFC 792, page 14).
+const REQUEST: u16 = 0x0800;
+
+/// The checksum of a request that does not tell that of the reply, which may be 0 or 65535.
+const AMBIGUOUS: u16 = 65535 - REQUEST;
 
 /// Makes the echo request at the front of an area its reply.
 pub(crate) fn answer(area: &mut [u8], total: usize)
     requires least { 28 ≤ total }
     requires most { total ≤ length area.old }
+    requires asks { echo_fate (drop 20 (take total area.old)) ≡ None }
     ensures { area.new ≡ echo_reply (take total area.old) ++ drop total area.old }
 {
     answer_whole(&mut area[..total]);
@@ -14,7 +22,8 @@ pub(crate) fn answer(area: &mut [u8], total: usize)
 
 /// Makes a whole echo request its reply.
 fn answer_whole(datagram: &mut [u8])
-    requires { 28 ≤ length datagram.old }
+    requires long { 28 ≤ length datagram.old }
+    requires asks { echo_fate (drop 20 datagram.old) ≡ None }
     ensures { datagram.new ≡ echo_reply datagram.old }
 {
     exchange(datagram);
@@ -32,13 +41,29 @@ fn exchange(datagram: &mut [u8])
     source.put(datagram, 16);
 }
 
-/// Makes an echo message its reply.
+/// Makes an echo request its reply.
 fn answer_message(message: &mut [u8])
-    requires { 4 ≤ length message.old }
+    requires { echo_fate message.old ≡ None }
     ensures { message.new ≡ echo_message (drop 4 message.old) }
 {
+    let sum = reply_sum(message);
     put16(message, 0, 0);
-    put16(message, 2, 0);
-    let sum = checksum(message);
     put16(message, 2, sum);
+}
+
+/// The checksum of the reply to a request whose own is right: the request's, and the word that is taken away (RFC 1624). Only where that is a
+/// zero it does not say which of the two zeros, and the sum is made anew.
+fn reply_sum(message: &[u8]) -> u16
+    requires { echo_fate message.now ≡ None }
+    ensures { result ≡ checksum_of (0 ∷ 0 ∷ 0 ∷ 0 ∷ drop 4 message.now) }
+{
+    let asked = get16(message, 2);
+    if asked == AMBIGUOUS {
+        return checksum(&message[4..]);
+    }
+    if asked > AMBIGUOUS {
+        asked - AMBIGUOUS
+    } else {
+        asked + REQUEST
+    }
 }

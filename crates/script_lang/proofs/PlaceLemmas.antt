@@ -1,7 +1,7 @@
 -- The first place that passes a test, one place at a time: what the searching loops keep.
-use Rattle.std.proofs.Common.{◌≡◌, ℕ, zero, suc, ◌+◌, ◌-◌, ◌<◌, ◌≤◌, Bool, true, false, cond, ◌∷◌, [], List, Some, refl, ap, ◌∙◌, sym, inl, inr, arith, find, unwrap_or}
+use Rattle.std.proofs.Common.{◌≡◌, ◌==◌, ℕ, nat_lt, zero, suc, ◌+◌, ◌-◌, ◌<◌, ◌≤◌, Bool, true, false, cond, ◌∷◌, [], List, Some, refl, ap, ◌∙◌, sym, inl, inr, arith, find, unwrap_or}
 use Rattle.std.specs.List.{range_with_len}
-use Rattle.std.proofs.lemmas.Bool.{cases_eq, cases_order, true≢false}
+use Rattle.std.proofs.lemmas.Bool.{cases_eq, cases_lt, cases_order, eq-eqb, le-ltb, lt-ltb, ne_eqb, true≢false}
 use Rattle.script_lang.specs.Places.{places, first_place}
 
 pub places-first : (a b : ℕ) → a < b → places a b ≡ a ∷ places (a + 1) b
@@ -69,4 +69,17 @@ same-first test a b r s one other = elim (cases_order r s) [
     | inl below ↦ absurd (true≢false (sym (one.here (omega (arith, other.high))) ∙ other.before r one.low below))
     | inr above ↦ absurd (true≢false (sym (other.here (omega (arith, one.high))) ∙ one.before s other.low above))
   ]
+]
+
+-- the first place of a range and of its front
+pub past-front : (test : ℕ → Bool) (a n b r s : ℕ) → n < b → a ≤ n → IsFirst test a (n + 1) r → IsFirst test a b s → (r == n + 1) ≡ nat_lt n s
+past-front test a n b r s within some one other = elim (cases_eq r (n + 1)) [
+  | inl same ↦ eq-eqb r (n + 1) same ∙ sym (lt-ltb n s (elim (cases_lt s (n + 1)) [
+    | inl below ↦ absurd (true≢false (sym (other.here (omega (arith, below, within))) ∙ one.before s other.low (omega (arith, below, same))))
+    | inr above ↦ omega (arith, above, some)
+  ]))
+  | inr apart ↦ ne_eqb r (n + 1) apart ∙ sym (elim (cases_lt r s) [
+    | inl later ↦ absurd (true≢false (sym (one.here (omega (arith, one.high, apart))) ∙ other.before r one.low later))
+    | inr first ↦ le-ltb n s (omega (arith, first, one.high, apart))
+  ])
 ]

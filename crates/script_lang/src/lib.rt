@@ -11,7 +11,7 @@ mod words;
 
 pub use function::{Function, greatest_len};
 pub use piece::{Found, Piece};
-pub use scan::next_piece;
+pub use scan::{next_piece, runs_past};
 
 #[cfg(test)]
 mod tests;

@@ -1,6 +1,6 @@
-ghost use Rattle.std.specs.Prelude.{◌≡◌, ℕ, ◌+◌, ◌<◌, ◌≤◌, ◌↔◌, ◌∷◌, [], length, IsTrue, IsNone, IfSome, MatchOption};
+ghost use Rattle.std.specs.Prelude.{◌≡◌, ℕ, ◌+◌, ◌<◌, ◌≤◌, ◌↔◌, ◌∷◌, [], length, nat_lt, IsTrue, IsNone, IfSome, MatchOption};
 ghost use Rattle.script_lang.specs.Directives.{IsPlace, is_directive_mark, before_cr, directive_within};
-ghost use Rattle.script_lang.specs.Pieces.{piece_at, pieces_from, LiesWithin};
+ghost use Rattle.script_lang.specs.Pieces.{piece_at, pieces_from, run_end, LiesWithin};
 
 use crate::function::function_of;
 use crate::piece::{Found, Piece};
@@ -25,6 +25,18 @@ pub fn next_piece(text: &[u8], at: usize) -> Option<Found>
     Some(piece_from(text, at))
 }
 
+/// Whether a text run goes on for more than `count` bytes from `at` on. It looks at no byte that is further away.
+pub fn runs_past(text: &[u8], at: usize, count: usize) -> bool
+    requires { at < length text.now }
+    ensures { result ≡ nat_lt (at + count) (run_end text.now at) }
+{
+    if text.len() - at <= count {
+        return false;
+    }
+    let end = at + count + 1;
+    mark_from(text, at, end) == end
+}
+
 /// The piece from `at` on.
 fn piece_from(text: &[u8], at: usize) -> Found
     requires { at < length text.now }
@@ -34,7 +46,7 @@ fn piece_from(text: &[u8], at: usize) -> Found
     if is_mark_at(text, at) {
         return directive_from(text, at);
     }
-    let next = mark_from(text, at);
+    let next = mark_from(text, at, text.len());
     let piece = Piece::Text { at, len: next - at };
     Found { piece, next }
 }

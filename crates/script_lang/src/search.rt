@@ -42,17 +42,18 @@ pub(crate) fn is_mark_at(text: &[u8], at: usize) -> bool
     text[at] == b'%' && text.len() - at > 1 && text[at + 1] == b'!'
 }
 
-/// The first place from `from` on where `%!` stands, else the text's length.
-pub(crate) fn mark_from(text: &[u8], from: usize) -> usize
-    requires { from ≤ length text.now }
-    ensures place { result ≡ first_place (is_directive_mark text.now) from (length text.now) }
+/// The first place from `from` up to before `to` where `%!` stands, else `to`.
+pub(crate) fn mark_from(text: &[u8], from: usize, to: usize) -> usize
+    requires ordered { from ≤ to }
+    requires inside { to ≤ length text.now }
+    ensures place { result ≡ first_place (is_directive_mark text.now) from to }
     ensures low { from ≤ result }
-    ensures high { result ≤ length text.now }
+    ensures high { result ≤ to }
 {
-    for at in from..text.len() {
+    for at in from..to {
         if is_mark_at(text, at) {
             return at;
         }
     }
-    text.len()
+    to
 }

@@ -1,5 +1,5 @@
 -- A datagram that is written around its text.
-use Rattle.std.proofs.Common.{◌≡◌, ℕ, ◌+◌, ◌-◌, ◌/◌, ◌%◌, ◌<◌, ◌≤◌, List, [], ◌∷◌, ◌++◌, length, take, drop, slice_range, Option, Some, None, refl, sym, ap, ◌∙◌, subst, arith, append_assoc, length-append, length-take, length-drop}
+use Rattle.std.proofs.Common.{◌≡◌, ℕ, ◌+◌, ◌-◌, ◌/◌, ◌%◌, ◌<◌, ◌≤◌, List, [], ◌∷◌, ◌++◌, length, take, drop, slice_range, slice_index_or, Option, Some, None, refl, sym, ap, ◌∙◌, subst, arith, append_assoc, length-append, length-take, length-drop}
 use Rattle.std.proofs.lemmas.List.{drop-drop, drop_at, take-append-drop, length-take-le}
 use borrow.Rule.Slice.PartMut.{put_mid}
 use Rattle.uip_wire.proofs.Writing.{same_four}
@@ -10,6 +10,30 @@ use Rattle.uip_ipv4.specs.declared.proto.Proto.TheVariants.{Tcp}
 use Rattle.tcp_segment.specs.Segments.{datagram_bytes, pseudo_header, segment_bytes, segment_with}
 use Rattle.tcp_segment.specs.Sent.{around, datagram_of, fixed_bytes, header_around, sum_around}
 use Rattle.tcp_segment.specs.declared.out.Out.{Out}
+
+-- four bytes, one by one
+four : (bytes : List ℕ) → length bytes ≡ 4
+    → bytes ≡ slice_index_or bytes 0 0 ∷ slice_index_or bytes 1 0 ∷ slice_index_or bytes 2 0 ∷ slice_index_or bytes 3 0 ∷ []
+four [] h = absurd (omega arith)
+four (a ∷ []) h = absurd (omega arith)
+four (a ∷ b ∷ []) h = absurd (omega arith)
+four (a ∷ b ∷ c ∷ []) h = absurd (omega arith)
+four (a ∷ b ∷ c ∷ d ∷ []) h = refl
+four (a ∷ b ∷ c ∷ d ∷ e ∷ rest) h = absurd (omega arith)
+
+-- the pseudo header, byte by byte
+pub pseudo_is : (source target : List ℕ) (high low len : ℕ) → length source ≡ 4 → length target ≡ 4 → high ≡ len / 256 → low ≡ len % 256
+    → ◌≡◌ {A = List ℕ} (slice_index_or source 0 0 ∷ slice_index_or source 1 0 ∷ slice_index_or source 2 0 ∷ slice_index_or source 3 0
+    ∷ slice_index_or target 0 0 ∷ slice_index_or target 1 0 ∷ slice_index_or target 2 0 ∷ slice_index_or target 3 0 ∷ 0 ∷ 6 ∷ high ∷ low ∷ [])
+    (pseudo_header source target len)
+pseudo_is source target high low len s t h l =
+    ap (λ (n : ℕ). (slice_index_or source 0 0 ∷ slice_index_or source 1 0 ∷ slice_index_or source 2 0 ∷ slice_index_or source 3 0 ∷ [])
+    ++ (slice_index_or target 0 0 ∷ slice_index_or target 1 0 ∷ slice_index_or target 2 0 ∷ slice_index_or target 3 0 ∷ []) ++ (0 ∷ 6 ∷ n ∷ low ∷ [])) h
+    ∙ ap (λ (n : ℕ). (slice_index_or source 0 0 ∷ slice_index_or source 1 0 ∷ slice_index_or source 2 0 ∷ slice_index_or source 3 0 ∷ [])
+    ++ (slice_index_or target 0 0 ∷ slice_index_or target 1 0 ∷ slice_index_or target 2 0 ∷ slice_index_or target 3 0 ∷ []) ++ (0 ∷ 6 ∷ len / 256 ∷ n ∷ [])) l
+    ∙ ap (λ (x : List ℕ). x ++ (slice_index_or target 0 0 ∷ slice_index_or target 1 0 ∷ slice_index_or target 2 0 ∷ slice_index_or target 3 0 ∷ [])
+    ++ (0 ∷ 6 ∷ len / 256 ∷ len % 256 ∷ [])) (sym (four source s))
+    ∙ ap (λ (x : List ℕ). source ++ x ++ (0 ∷ 6 ∷ len / 256 ∷ len % 256 ∷ [])) (sym (four target t))
 
 -- the option as one number of 32 bits
 pub option_is : (n mss : ℕ) → n ≡ mss → mss < 65536

@@ -2,17 +2,25 @@ ghost use Rattle.std.specs.Prelude.{◌≡◌};
 ghost use Rattle.tcp_segment.specs.Segments.{pseudo_header};
 ghost use Rattle.uip_wire.specs.Sums.{sum_of};
 
-use uip_wire::{Addr, Summer, put16};
+use uip_wire::{Addr, Summer};
 
 /// The sum with which a segment's checksum begins: that of the pseudo header for a segment of `len` bytes.
 pub(crate) fn pseudo_sum(source: Addr, target: Addr, len: u16) -> Summer
     ensures { result ≡ sum_of (pseudo_header source.0 target.0 len) }
 {
-    let mut protocol_and_len = [0, 6, 0, 0];
-    put16(&mut protocol_and_len, 2, len);
     let mut sum = Summer::new();
-    sum.add(&source.0);
-    sum.add(&target.0);
-    sum.add(&protocol_and_len);
+    sum.add(&pseudo_header(source, target, len));
     sum
+}
+
+/// What is summed before a segment: the addresses, the protocol's number and the length (RFC 793, section 3.1).
+fn pseudo_header(source: Addr, target: Addr, len: u16) -> [u8; 12]
+    ensures { result ≡ pseudo_header source.0 target.0 len }
+{
+    let [source0, source1, source2, source3] = source.0;
+    let [target0, target1, target2, target3] = target.0;
+    let [high, low] = len.to_be_bytes();
+    [
+        source0, source1, source2, source3, target0, target1, target2, target3, 0, 6, high, low,
+    ]
 }

@@ -4,3 +4,4 @@ pub mod PlainLaws
 mod Rows
 pub mod TextFrames
 pub mod TextLaws
+pub mod Lanes

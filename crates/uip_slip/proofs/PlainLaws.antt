@@ -1,7 +1,5 @@
 -- Bytes without END and ESC.
-use Rattle.std.proofs.Common.{◌≡◌, ℕ, ◌≤◌, ◌<◌, Bool, true, false, cond, eqb, List, [], ◌∷◌, ◌++◌, take, length, get_or, refl, sym, ap, ◌∙◌, arith, ◌&&◌, ◌||◌, append_assoc, append-nil, zero, suc, add-one, Option, None, Some}
-use Rattle.std.specs.Option.{unwrap_or}
-use Rattle.memchr.specs.Find.{IsFirstByte}
+use Rattle.std.proofs.Common.{◌≡◌, ℕ, ◌≤◌, ◌<◌, Bool, true, false, cond, eqb, List, [], ◌∷◌, ◌++◌, take, length, get_or, refl, sym, ap, ◌∙◌, arith, ◌&&◌, ◌||◌, append_assoc, append-nil, zero, suc, add-one}
 use Rattle.std.specs.List.{list_all}
 use Rattle.std.proofs.lemmas.List.Folds.{list_all_more}
 use Rattle.uip_slip.specs.Frames.{is_mark, is_plain, meant, unescaped, parts}
@@ -85,8 +83,3 @@ plain_joined part (b ∷ bytes) e w =
       ap (λ l. unescaped l) same ∙ more.0 ∙ ap (λ l. l ++ bytes) one ∙ append_assoc (unescaped part) (b ∷ []) bytes,
       ap (λ l. waits_after l) same ∙ more.1,
     )
-
--- the place of the first mark, or the end
-pub first_mark : (bytes : List ℕ) (r : Option ℕ) → IsFirstByte is_mark bytes r → list_all is_plain (take (unwrap_or r (length bytes)) bytes) ≡ true
-first_mark bytes None m = none_marked (length bytes) bytes (omega arith) (λ k less. m k (omega arith) less)
-first_mark bytes (Some at) m = none_marked at bytes (let h = m.0.high in omega arith) (λ k less. m.0.before k (omega arith) less)

@@ -54,7 +54,7 @@ fn encode_over<K: Sink>(text: &mut TextArea, datagram: &[u8], sink: &mut K) -> R
     ensures { Writes (sink_told K.Sink sink.old) (sink_told K.Sink sink.new) result (slip_text datagram.now) }
 {
     text.clear();
-    text.put(&[END]);
+    text.push(END);
     let mut rest = datagram;
     while rest.len() > LARGEST_DATAGRAM {
         let (part, others) = rest.split_at(LARGEST_DATAGRAM);
@@ -64,7 +64,7 @@ fn encode_over<K: Sink>(text: &mut TextArea, datagram: &[u8], sink: &mut K) -> R
         rest = others;
     }
     text.put_escaped(rest);
-    text.put(&[END]);
+    text.push(END);
     sink.write_whole(text.bytes())
 }
 

@@ -48,14 +48,13 @@ impl TextArea {
         self.len = 0;
     }
 
-    /// Adds bytes as they are.
-    pub fn put(&mut self, piece: &[u8])
-        requires { length self.old + length piece.now ≤ LARGEST_TEXT }
-        ensures { self.new ≡ self.old ++ piece.now }
+    /// Adds a byte as it is.
+    pub fn push(&mut self, byte: u8)
+        requires { length self.old < LARGEST_TEXT }
+        ensures { self.new ≡ self.old ++ byte ∷ [] }
     {
-        let end = self.len + piece.len();
-        self.area[self.len..end].copy_from_slice(piece);
-        self.len = end;
+        self.area[self.len] = byte;
+        self.len += 1;
     }
 
     /// Adds bytes of a datagram, escaped.

@@ -1,8 +1,10 @@
 -- Eight bytes that are added as one number of 64 bits.
-use Rattle.std.proofs.Common.{◌≡◌, ℕ, ◌+◌, ◌*◌, ◌<◌, ◌≤◌, ◌⊎◌, inl, inr, List, [], ◌∷◌, length, drop, slice_index, ap, ◌∙◌, refl, arith}
-use Rattle.byteorder.specs.Endian.{big_number}
+use Rattle.std.proofs.Common.{◌≡◌, ℕ, ◌+◌, ◌-◌, ◌*◌, ◌/◌, ◌%◌, ◌<◌, ◌≤◌, ◌⊎◌, inl, inr, List, [], ◌∷◌, length, drop, length-drop, slice_index, sym, ap, ◌∙◌, refl, arith}
+use Rattle.std.proofs.lemmas.List.{drop-drop}
+use Rattle.byteorder.specs.Endian.{little_number}
 use Rattle.uip_wire.specs.Checksum.{folded, word_sum}
-use Rattle.uip_wire.proofs.Folding.{same_folded}
+use Rattle.uip_wire.specs.Sums.{swapped_sum}
+use Rattle.uip_wire.proofs.Folding.{folded_cases, folded_most, same_folded}
 
 zero_or_more : (n : ℕ) → (n ≡ 0) ⊎ (0 < n)
 zero_or_more n = grind arith
@@ -17,7 +19,7 @@ eight_words s a b c d more =
 
 -- the next eight bytes
 pub next_eight : (sum : ℕ) (rest : List ℕ) → 8 ≤ length rest
-    → folded (sum + big_number 8 rest + word_sum (drop 8 rest)) ≡ folded (sum + word_sum rest)
+    → folded (sum + little_number 8 rest + swapped_sum (drop 8 rest)) ≡ folded (sum + swapped_sum rest)
 next_eight sum [] h = absurd (omega arith)
 next_eight sum (a ∷ []) h = absurd (omega arith)
 next_eight sum (a ∷ b ∷ []) h = absurd (omega arith)
@@ -28,21 +30,89 @@ next_eight sum (a ∷ b ∷ c ∷ d ∷ e ∷ f ∷ []) h = absurd (omega arith)
 next_eight sum (a ∷ b ∷ c ∷ d ∷ e ∷ f ∷ g ∷ []) h = absurd (omega arith)
 next_eight sum (a ∷ b ∷ c ∷ d ∷ e ∷ f ∷ g ∷ i ∷ rest) h =
     ap folded (omega arith)
-    ∙ eight_words sum (256 * a + b) (256 * c + d) (256 * e + f) (256 * g + i) (word_sum rest)
+    ∙ eight_words sum (g + 256 * i) (e + 256 * f) (c + 256 * d) (a + 256 * b) (swapped_sum rest)
     ∙ ap folded (omega arith)
+
+-- the next four bytes
+pub next_four : (sum : ℕ) (rest : List ℕ) → 4 ≤ length rest
+    → folded (sum + little_number 4 rest + swapped_sum (drop 4 rest)) ≡ folded (sum + swapped_sum rest)
+next_four sum [] h = absurd (omega arith)
+next_four sum (a ∷ []) h = absurd (omega arith)
+next_four sum (a ∷ b ∷ []) h = absurd (omega arith)
+next_four sum (a ∷ b ∷ c ∷ []) h = absurd (omega arith)
+next_four sum (a ∷ b ∷ c ∷ d ∷ rest) h =
+    ap folded (omega arith)
+    ∙ eight_words sum 0 0 (c + 256 * d) (a + 256 * b) (swapped_sum rest)
+    ∙ ap folded (omega arith)
+
+-- eight bytes behind a place
+eight_at : (sum k : ℕ) (bytes : List ℕ) → k + 8 ≤ length bytes
+    → folded (sum + little_number 8 (drop k bytes) + swapped_sum (drop (k + 8) bytes)) ≡ folded (sum + swapped_sum (drop k bytes))
+eight_at sum k bytes h =
+    ap (λ (l : List ℕ). folded (sum + little_number 8 (drop k bytes) + swapped_sum l)) (sym (drop-drop 8 k bytes))
+    ∙ next_eight sum (drop k bytes) (omega (arith, length-drop k bytes))
+
+-- four times eight bytes
+pub next_block : (sum one two three four : ℕ) (bytes : List ℕ) → 32 ≤ length bytes
+    → one ≡ little_number 8 bytes → two ≡ little_number 8 (drop 8 bytes) → three ≡ little_number 8 (drop 16 bytes) → four ≡ little_number 8 (drop 24 bytes)
+    → folded (sum + (one + two + three + four) + swapped_sum (drop 32 bytes)) ≡ folded (sum + swapped_sum bytes)
+next_block sum one two three four bytes h a b c d =
+    ap folded (omega arith)
+    ∙ ap (λ (n : ℕ). folded (sum + one + two + three + n + swapped_sum (drop 32 bytes))) d
+    ∙ eight_at (sum + one + two + three) 24 bytes (omega arith)
+    ∙ ap (λ (n : ℕ). folded (sum + one + two + n + swapped_sum (drop 24 bytes))) c
+    ∙ eight_at (sum + one + two) 16 bytes (omega arith)
+    ∙ ap (λ (n : ℕ). folded (sum + one + n + swapped_sum (drop 16 bytes))) b
+    ∙ eight_at (sum + one) 8 bytes (omega arith)
+    ∙ ap (λ (n : ℕ). folded (sum + n + swapped_sum (drop 8 bytes))) a
+    ∙ next_eight sum bytes (omega arith)
 
 -- the next two bytes, and the last one
 pub next_pair : (rest : List ℕ) → 2 ≤ length rest
-    → word_sum rest ≡ slice_index rest 0 * 256 + slice_index rest 1 + word_sum (drop 2 rest)
+    → swapped_sum rest ≡ slice_index rest 0 + slice_index rest 1 * 256 + swapped_sum (drop 2 rest)
 next_pair [] h = absurd (omega arith)
 next_pair (a ∷ []) h = absurd (omega arith)
 next_pair (a ∷ b ∷ rest) h = omega arith
 
-pub last_byte : (rest : List ℕ) → 1 ≤ length rest → length rest < 2 → word_sum rest ≡ slice_index rest 0 * 256
+pub last_byte : (rest : List ℕ) → 1 ≤ length rest → length rest < 2 → swapped_sum rest ≡ slice_index rest 0
 last_byte [] h k = absurd (omega arith)
 last_byte (a ∷ b ∷ rest) h k = absurd (omega arith)
 last_byte (a ∷ []) h k = omega arith
 
-pub no_byte : (rest : List ℕ) → length rest < 1 → word_sum rest ≡ 0
+pub no_byte : (rest : List ℕ) → length rest < 1 → swapped_sum rest ≡ 0
 no_byte [] h = refl
 no_byte (a ∷ rest) h = absurd (omega arith)
+
+-- exchanging the bytes of all words is multiplying by 256, but for carries
+words_swapped : (bytes : List ℕ) → (k : ℕ) × (256 * swapped_sum bytes ≡ word_sum bytes + 65535 * k)
+words_swapped [] = (0, refl)
+words_swapped (last ∷ []) = (0, omega arith)
+words_swapped (high ∷ low ∷ rest) = let more = words_swapped rest in (low + more.0, omega (arith, more.1))
+
+-- and so is exchanging the bytes of the sum
+bytes_swapped : (sum : ℕ) → sum ≤ 65535 → folded (256 * sum) ≡ sum % 256 * 256 + sum / 256
+bytes_swapped sum h =
+    elim (folded_cases (256 * sum)) [ inl p ↦ p.1 ∙ omega (arith, p.0) | inr p ↦ p.1 ∙ omega (arith, p.0) ]
+
+-- 256 times a sum, before its carries are added back and after
+folded_times : (s : ℕ) → folded (256 * folded s) ≡ folded (256 * s)
+folded_times s =
+    elim (folded_cases s) [
+      | inl p ↦ ap (λ (n : ℕ). folded (256 * n)) (p.1 ∙ sym p.0)
+      | inr p ↦ sym (same_folded (256 * folded s) (256 * s) (256 * ((s - 1) / 65535)) (omega (arith, p.1)) (omega (arith, p.1)))
+    ]
+
+pub swapped_back : (bytes : List ℕ) (sum : ℕ) → sum ≡ folded (swapped_sum bytes) → sum % 256 * 256 + sum / 256 ≡ folded (word_sum bytes)
+swapped_back bytes sum e =
+    let all = words_swapped bytes in
+    sym (bytes_swapped sum (omega (arith, e, folded_most (swapped_sum bytes))))
+    ∙ ap (λ (n : ℕ). folded (256 * n)) e ∙ folded_times (swapped_sum bytes)
+    ∙ elim (zero_or_more (word_sum bytes)) [
+      | inl none ↦ ap folded (omega (arith, none, no_swapped bytes none))
+      | inr some ↦ same_folded (word_sum bytes) (256 * swapped_sum bytes) all.0 all.1 some
+    ]
+  where
+    no_swapped : (bytes : List ℕ) → word_sum bytes ≡ 0 → 256 * swapped_sum bytes ≡ 0
+    no_swapped [] h = refl
+    no_swapped (last ∷ []) h = omega arith
+    no_swapped (high ∷ low ∷ rest) h = omega (arith, no_swapped rest (omega arith))

@@ -1,6 +1,12 @@
 -- A checksum over bytes that come in pieces.
-use Rattle.std.specs.Prelude.{ℕ, ◌%◌, ◌==◌, Bool, List, length}
+use Rattle.std.specs.Prelude.{ℕ, ◌+◌, ◌*◌, ◌%◌, ◌==◌, Bool, List, [], ◌∷◌, length}
 use Rattle.uip_wire.specs.Checksum.{word_sum, folded}
+
+-- the sum of the same words with their two bytes exchanged (RFC 1071, section 2 (B))
+abbrev pub swapped_sum : List ℕ → ℕ
+swapped_sum [] = 0
+swapped_sum (last ∷ []) = last
+swapped_sum (high ∷ low ∷ rest) = high + 256 * low + swapped_sum rest
 
 -- what is kept of the bytes so far: their folded sum, and whether they are odd in number
 pub record PartSum : Type 0 where

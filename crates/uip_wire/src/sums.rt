@@ -1,7 +1,8 @@
-ghost use Rattle.std.specs.Prelude.{◌≡◌, ◌+◌, ◌-◌, ◌*◌, ◌^◌, ◌<◌, ◌≤◌, ◌∷◌, length, if◌then◌else◌};
+ghost use Rattle.std.specs.Prelude.{◌≡◌, ◌+◌, ◌-◌, ◌*◌, ◌^◌, ◌<◌, ◌≤◌, ◌∷◌, ℕ, drop, length, if◌then◌else◌};
 ghost use Rattle.uip_wire.specs.Checksum.{OneByteTells, checksum_of, folded, word_sum};
+ghost use Rattle.uip_wire.specs.Sums.{swapped_sum};
 
-use byteorder::{BigEndian, ByteOrder};
+use byteorder::{ByteOrder, LittleEndian};
 
 /// The checksum of RFC 791: the one's complement of the one's complement sum of the big-endian 16-bit words.
 pub fn checksum(bytes: &[u8]) -> u16
@@ -15,11 +16,13 @@ pub fn one_byte_tells()
     ensures { OneByteTells }
 {}
 
-/// The one's complement sum of the words.
+/// The one's complement sum of the words. It is that of the words with their bytes exchanged, with its own exchanged, so no word has to be
+/// turned round (RFC 1071, section 2 (B)).
 pub(crate) fn ones_sum(bytes: &[u8]) -> u16
     ensures { result ≡ folded (word_sum bytes.now) }
 {
-    fold(wide_sum(bytes))
+    let swapped = fold(wide_sum(bytes));
+    swapped % 256 * 256 + swapped / 256
 }
 
 /// The one's complement sum of two numbers.
@@ -34,26 +37,46 @@ pub(crate) fn ones_add(one: u16, other: u16) -> u16
     }
 }
 
-/// A sum whose carries are still to be added back: eight bytes are added as one number, since 2^16, 2^32 and 2^48 leave 1
-/// when divided by 65535 (RFC 1071, section 2).
+/// The sum of the words with their bytes exchanged, whose carries are still to be added back: eight bytes are added as one number, since 2^16,
+/// 2^32 and 2^48 leave 1 when divided by 65535 (RFC 1071, section 2). A long piece goes by 32 bytes.
 fn wide_sum(bytes: &[u8]) -> u128
     ensures fits { result ≤ 2 ^ 61 * length bytes.now }
-    ensures same { folded result ≡ folded (word_sum bytes.now) }
+    ensures same { folded result ≡ folded (swapped_sum bytes.now) }
 {
     let mut sum = 0u128;
     let mut rest = bytes;
+    'longs: while rest.len() >= 32 {
+        sum += block_sum(rest);
+        rest = &rest[32..];
+    }
     'eights: while rest.len() >= 8 {
-        sum += u128::from(BigEndian::read_u64(rest));
+        sum += u128::from(LittleEndian::read_u64(rest));
         rest = &rest[8..];
     }
+    'fours: while rest.len() >= 4 {
+        sum += u128::from(LittleEndian::read_u32(rest));
+        rest = &rest[4..];
+    }
     'pairs: while let [high, low, after @ ..] = rest {
-        sum += u128::from(*high) * 256 + u128::from(*low);
+        sum += u128::from(*high) + u128::from(*low) * 256;
         rest = after;
     }
     match rest {
-        [last] => sum + u128::from(*last) * 256,
+        [last] => sum + u128::from(*last),
         _ => sum,
     }
+}
+
+/// The sum of the first four numbers of eight bytes each.
+fn block_sum(bytes: &[u8]) -> u128
+    requires { 32 ≤ length bytes.now }
+    ensures fits { result < 2 ^ 66 }
+    ensures same { (before : ℕ) → folded (before + result + swapped_sum (drop 32 bytes.now)) ≡ folded (before + swapped_sum bytes.now) }
+{
+    u128::from(LittleEndian::read_u64(bytes))
+        + u128::from(LittleEndian::read_u64(&bytes[8..]))
+        + u128::from(LittleEndian::read_u64(&bytes[16..]))
+        + u128::from(LittleEndian::read_u64(&bytes[24..]))
 }
 
 const WORD64: u128 = 0x1_0000_0000_0000_0000;

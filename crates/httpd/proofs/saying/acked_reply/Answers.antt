@@ -1,6 +1,6 @@
-use Rattle.std.proofs.Common.{arith}
+use Rattle.std.proofs.Common.{arith, ◌-◌}
 use Rattle.httpd.specs.Reply.{reply_in}
-use Rattle.httpd.proofs.Walking.{acked_on}
+use Rattle.httpd.proofs.Walking.{acked_on, less_by, nearer}
 use Rattle.httpd.proofs.saying.acked_reply.Goals as goal
 
 pub loop-left-preserved : goal.loop-left-preserved
@@ -9,3 +9,10 @@ loop-left-preserved c = (
       c.requires.enough c.loop-left.invariant.0 c.loop-left.invariant.1 c.loop-left-test.true c.look-seen.ensures c.span_len-len.ensures.length c.if-left-len.false,
   omega (arith, c.loop-left.invariant.1),
 )
+
+pub loop-left-smaller : goal.loop-left-smaller
+loop-left-smaller c =
+    let r = reply_in c.args.site.now c.args.found c.args.capture.now in
+    let down = nearer r c.args.thread c.loop-left.place (c.args.count - c.loop-left.left) c.span_len-len.result c.look-seen.result
+    (omega (arith, c.requires.enough, c.loop-left.invariant.1)) c.loop-left.invariant.0 c.look-seen.ensures c.span_len-len.ensures.length in
+    less_by _ _ c.span_len-len.result c.loop-left.left _ down.0 down.1 (omega arith) (λ some. omega arith) (omega arith)

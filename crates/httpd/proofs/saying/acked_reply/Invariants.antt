@@ -1,4 +1,4 @@
-use Rattle.std.proofs.Common.{◌≤◌, ◌-◌, length}
+use Rattle.std.proofs.Common.{◌≤◌, ◌+◌, ◌-◌, length}
 use Rattle.httpd.specs.Reply.{left_from, reply_in}
 use Rattle.httpd.proofs.Walking.{Walks}
 use Rattle.httpd.proofs.saying.acked_reply.Given as goal
@@ -7,4 +7,4 @@ abbrev pub invariant-loop-left : goal.invariant-loop-left
 invariant-loop-left l = Walks (reply_in l.site l.found l.capture) l.fn.thread l.place (l.count - l.left) × (l.left ≤ l.count)
 
 abbrev pub decreases-loop-left : goal.decreases-loop-left
-decreases-loop-left l = length (left_from (reply_in l.site l.found l.capture) l.place)
+decreases-loop-left l = length (left_from (reply_in l.site l.found l.capture) l.place) + l.left

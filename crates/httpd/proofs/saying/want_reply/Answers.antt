@@ -1,8 +1,8 @@
-use Rattle.std.proofs.Common.{[], refl, ap, ◌∙◌, true, false}
+use Rattle.std.proofs.Common.{[], refl, sym, ap, ◌∙◌, true, false, arith}
 use Rattle.app_events.specs.declared.want.Want.TheVariants.{Nothing, Close}
 use Rattle.httpd.specs.Reply.{left_from, reply_in}
 use Rattle.web_pages.specs.Pages.{reach_end, page_text}
-use Rattle.httpd.proofs.Walking.{call_seen, call_stops, end_reached, ready_on, text_unless, want_at}
+use Rattle.httpd.proofs.Walking.{call_seen, call_stops, end_reached, less_by, plain_seen, ready_on, text_unless, want_at}
 use Rattle.httpd.proofs.saying.want_reply.Goals as goal
 
 pub returns-in-Call : goal.returns-in-Call
@@ -26,3 +26,10 @@ loop-ready-preserved c =
     let r = reply_in c.args.site.now c.args.found c.args.capture.now in
     ready_on r c.args.thread c.loop-ready.place c.loop-ready.ready c.span_len-ready.result c.look-seen.result c.loop-ready.invariant.0 c.loop-ready.invariant.1
     (text_unless c.look-seen.result.span c.in_default.not-Call c.in_default.not-End) c.look-seen.ensures c.span_len-ready.ensures.length
+
+pub loop-ready-smaller : goal.loop-ready-smaller
+loop-ready-smaller c =
+    let r = reply_in c.args.site.now c.args.found c.args.capture.now in
+    let some =
+    plain_seen r (left_from r c.loop-ready.place) c.look-seen.result (text_unless c.look-seen.result.span c.in_default.not-Call c.in_default.not-End) c.look-seen.ensures in
+    less_by _ _ c.span_len-ready.result _ _ some.no_more (λ none. some.fewer (sym c.span_len-ready.ensures.length ∙ none)) (omega arith) (λ len. omega arith) (omega arith)

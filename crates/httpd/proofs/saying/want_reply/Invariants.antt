@@ -1,6 +1,7 @@
-use Rattle.std.proofs.Common.{◌≤◌, [], length}
+use Rattle.std.proofs.Common.{◌≤◌, ◌+◌, ◌-◌, [], length}
 use Rattle.file_tree.specs.Site.{files_of}
 use Rattle.web_pages.specs.Pages.{page_text}
+use Rattle.web_pages.specs.declared.TheConstants.{LARGEST_SEGMENT}
 use Rattle.httpd.specs.Reply.{left_from, reply_in}
 use Rattle.httpd.proofs.Walking.{Walks}
 use Rattle.httpd.proofs.saying.want_reply.Given as goal
@@ -11,4 +12,4 @@ invariant-loop-ready l =
     × (l.ready ≤ length (page_text (files_of l.site) (left_from (reply_in l.site l.found l.capture) l.fn.thread) []))
 
 abbrev pub decreases-loop-ready : goal.decreases-loop-ready
-decreases-loop-ready l = length (left_from (reply_in l.site l.found l.capture) l.place)
+decreases-loop-ready l = length (left_from (reply_in l.site l.found l.capture) l.place) + (LARGEST_SEGMENT - l.ready)

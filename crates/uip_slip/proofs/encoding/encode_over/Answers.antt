@@ -23,13 +23,13 @@ returns-in_err-write_whole g c =
 
 pub loop-rest-init : goal.loop-rest-init
 loop-rest-init g c =
-    let made : c.put.new.self ≡ 192 ∷ [] = c.put.ensures ∙ ap (λ l. l ++ 192 ∷ []) c.clear.ensures in
+    let made : c.push.new.self ≡ 192 ∷ [] = c.push.ensures ∙ ap (λ l. l ++ 192 ∷ []) c.clear.ensures in
     record {
       front = [];
       sent = [];
       pieces = refl;
       made = made;
-      room = (let one : length c.put.new.self ≡ 1 = ap (λ l. length l) made in omega (arith, one));
+      room = (let one : length c.push.new.self ≡ 1 = ap (λ l. length l) made in omega (arith, one));
       written = Appends-none _;
       same = refl;
     }
@@ -52,8 +52,8 @@ loop-rest-preserved g c =
       same = told.cause.same ∙ inv.same;
     }
 
-pub put-requires-2 : goal.put-requires-2
-put-requires-2 g c =
+pub push-requires-2 : goal.push-requires-2
+push-requires-2 g c =
     let rest = c.loop-rest.rest.now in
     let size : length c.put_escaped-2.new.self ≡ _ = ap (λ l. length l) c.put_escaped-2.ensures ∙ length-append c.loop-rest.text (escaped rest) in
     omega (arith, size, escaped-bound rest, c.loop-rest.invariant.room, c.loop-rest-test.false)
@@ -61,9 +61,9 @@ put-requires-2 g c =
 pub returns : goal.returns
 returns g c =
     let inv = c.loop-rest.invariant in
-    let full = c.put-2.new.self in
+    let full = c.push-2.new.self in
     let whole = whole_text c.args.datagram.now inv.sent c.loop-rest.text c.put_escaped-2.new.self full inv.front c.loop-rest.rest.now inv.made
-    c.put_escaped-2.ensures c.put-2.ensures inv.pieces in
+    c.put_escaped-2.ensures c.push-2.ensures inv.pieces in
     writes_by _ _ _ (inv.sent ++ full) _ (sym whole)
     (writes_then _ (sink_told g.K.Sink c.args.sink.now) (sink_told g.K.Sink c.loop-rest.sink) (sink_told g.K.Sink c.write_whole-2.new.self) inv.sent full inv.written inv.same
     (writes_by _ _ _ c.bytes-2.result.now full (sym c.bytes-2.ensures) c.write_whole-2.ensures))

@@ -6,8 +6,8 @@ use Rattle.httpd.specs.Looking.{Sees}
 use Rattle.httpd.specs.declared.thread.Thread.TheVariants.{Body}
 use Rattle.httpd.proofs.Seeing.{end_seen, span_along}
 use Rattle.httpd.proofs.Scripts.{Reads, call_step, include_step, is_place, run_seen, script_end, text_at, text_found}
-use Rattle.httpd.proofs.looking.look_script.Goals as goal
-use Rattle.httpd.proofs.looking.look_script.Goals.{In-Some, In-Text}
+use Rattle.httpd.proofs.looking.look_piece.Goals as goal
+use Rattle.httpd.proofs.looking.look_piece.Goals.{In-Some, In-Text}
 
 reads : (c : In-Some) → Reads (body (reply_in c.args.site.now c.args.found c.args.capture.now)) c.args.at c.in-Some.read
 reads c =

@@ -1,0 +1,70 @@
+-- Bytes that are looked at together: where the first mark stands.
+use Rattle.std.proofs.Common.{◌≡◌, ℕ, ◌+◌, ◌%◌, ◌^◌, ◌<◌, ◌≤◌, Bool, true, false, cond, not, eqb, ◌||◌, List, [], ◌∷◌, length, take, drop, get_or, map, replicate, inl, inr, ◌-◌, true≢false, bit_or, refl, sym, ap, ◌∙◌, arith}
+use Rattle.std.specs.List.{prefix_len}
+use Rattle.std.proofs.lemmas.List.{length-map}
+use Rattle.std.proofs.lemmas.Simd.{first_set_mask_l, mask_l-mod, run_in_chunk_fails, run_in_chunk_le, run_in_chunk_stops}
+use lib.Count.{count_trailing_zeros}
+use lib.Lanes.{mask_l, top, zip2}
+use Rattle.std.specs.Prelude.{slice_range}
+use Rattle.std.specs.List.{list_all}
+use Rattle.std.proofs.lemmas.Bool.{cases_lt}
+use Rattle.uip_slip.specs.Frames.{is_mark, is_plain}
+use Rattle.uip_slip.proofs.PlainLaws.{none_marked}
+
+or_top : (a b : Bool) → top 7 (bit_or (cond a 255 0) (cond b 255 0)) ≡ (a || b)
+or_top true true = refl
+or_top true false = refl
+or_top false true = refl
+or_top false false = refl
+
+-- what two comparisons of all lanes tell
+abbrev lanes_of : List ℕ → ℕ → List Bool
+lanes_of xs n =
+    map (top 7) (zip2 bit_or (zip2 (λ a b. cond (eqb a b) 255 0) xs (replicate n 192)) (zip2 (λ a b. cond (eqb a b) 255 0) xs (replicate n 219)))
+
+marks_told : (xs : List ℕ) → lanes_of xs (length xs) ≡ map is_mark xs
+marks_told [] = refl
+marks_told (x ∷ xs) = λ i. or_top (eqb x 192) (eqb x 219) i ∷ marks_told xs i
+
+told_at : (xs : List ℕ) (n : ℕ) → length xs ≡ n → n ≤ 64 → mask_l (lanes_of xs n) % 2 ^ 64 ≡ mask_l (map is_mark xs)
+told_at xs n long few =
+    ap (λ k. mask_l (lanes_of xs k) % 2 ^ 64) (sym long) ∙ ap (λ ms. mask_l ms % 2 ^ 64) (marks_told xs)
+    ∙ mask_l-mod (map is_mark xs) 64 (omega (arith, length-map xs is_mark))
+
+-- the lanes in front of the first mark
+pub counted : (xs : List ℕ) → length xs ≡ 32
+    → cond (eqb (mask_l (lanes_of xs 32) % 2 ^ 64) 0) 32 (count_trailing_zeros 64 (mask_l (lanes_of xs 32) % 2 ^ 64)) ≡ prefix_len (λ b. not (is_mark b)) xs
+counted xs long =
+    ap (λ m. cond (eqb m 0) 32 (count_trailing_zeros 64 m)) (told_at xs 32 long (omega arith))
+    ∙ first_set_mask_l is_mark xs 32 long (omega arith)
+
+-- the two ends of the test
+pub none_set : (m n t : ℕ) → m ≡ 0 → cond (eqb m 0) n t ≡ n
+none_set m n t e = ap (λ k. cond (eqb k 0) n t) e
+
+pub one_set : (m n t : ℕ) → (eqb m 0 ≡ false) → cond (eqb m 0) n t ≡ t
+one_set m n t e = ap (λ b. cond b n t) e
+
+-- a window of bytes in which r come before the first mark
+pub record Window (bytes : List ℕ) (at r : ℕ) : Type 0 where
+  pub le : r ≤ 32
+  pub fails : (k : ℕ) → at ≤ k → k < at + r → is_mark (get_or bytes k 0) ≡ false
+  pub stops : r < 32 → is_mark (get_or bytes (at + r) 0) ≡ true
+
+pub window : (bytes : List ℕ) (at r : ℕ) → at + 32 ≤ length bytes → r ≡ prefix_len (λ b. not (is_mark b)) (slice_range bytes at (at + 32)) → Window bytes at r
+window bytes at r room e =
+    let counted : r ≡ prefix_len (λ b. not (is_mark b)) (take 32 (drop at bytes)) =
+    e ∙ ap (λ n. prefix_len (λ b. not (is_mark b)) (take n (drop at bytes))) (let width : at + 32 - at ≡ 32 = omega arith in width) in
+    record {
+      le = run_in_chunk_le is_mark bytes at 32 r 0 room counted;
+      fails = run_in_chunk_fails is_mark bytes at 32 r 0 room counted;
+      stops = run_in_chunk_stops is_mark bytes at 32 r 0 room counted;
+    }
+
+-- the bytes in front of a window and its own
+pub none_before : (bytes : List ℕ) (at r : ℕ) → Window bytes at r → ((k : ℕ) → k < at → is_mark (get_or bytes k 0) ≡ false)
+    → (k : ℕ) → k < at + r → is_mark (get_or bytes k 0) ≡ false
+none_before bytes at r w before k h = elim (cases_lt k at) [ inl early ↦ before k early | inr late ↦ w.fails k late h ]
+
+pub all_plain : (bytes : List ℕ) (n : ℕ) → n ≤ length bytes → ((k : ℕ) → k < n → is_mark (get_or bytes k 0) ≡ false) → list_all is_plain (take n bytes) ≡ true
+all_plain bytes n h none = none_marked n bytes h (λ k less e. true≢false (sym e ∙ none k less))
