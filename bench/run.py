@@ -1,161 +1,77 @@
 #!/usr/bin/env python3
-"""Measures the program on recorded lines, and prints the figures. It asserts nothing.
+"""Measures the program, and prints the figures. It asserts nothing.
 
-    python3 bench/run.py [PROGRAM] [--markdown]
+    python3 bench/run.py [PROGRAM] [lines] [ether] [replay] [memory] [--markdown]
 
-PROGRAM is the built `uipd`, crates/uipd/out/uipd where none is named (`rt run` in crates/uipd builds it). A client of its own talks to the
-program over pipes and its side of each line is recorded anew in bench/out; then the program is run on what was recorded, and
-`valgrind --tool=callgrind` counts its instructions, less those of a run on an empty line. Two runs differ by less than a thousandth.
+PROGRAM is the built `uipd`, crates/uipd/out/uipd where none is named (`rt run` in crates/uipd builds it). With no further word all is
+measured.
 
-    ping84, ping1006     echo requests whose payload has every byte value
-    small                a file of one byte, from SYN to the last acknowledgement
-    big, big536, big100  a text of 200,000 bytes in segments of 1460 (the peers: 966), 536 and 100
-    escapes              a page of 20,000 bytes of which four in five are END, ESC and their stand-ins
-    ten                  ten clients at once, 20,000 bytes each
-    script               a script page with all generators
-    ether84              the requests of ping84 in Ethernet frames (`uipd ether`); the peers were not measured on it
+    lines     the recorded lines of bench/lines, beside uIP 1.0 and lwIP 2.2.1 on the same work
+    ether     the echo requests of ping84 in Ethernet frames (`uipd ether`)
+    replay    schedules: a made one of 16 and of 64 clients, one of n echo requests and one of n ticks at n, 2n and 4n
+    memory    what `serve` takes at the start, the greatest depth of the stack, and the size of the program
 
-Peers were measured on other recordings, so their figures stand in README beside ours on those, and not here. With --markdown it prints a table.
+Instructions are those that `valgrind --tool=callgrind` counts, less those of a run on an empty line (or an empty schedule). Two runs
+differ by less than a thousandth. With --markdown the first table is one for a document.
 """
+import json
+import lzma
 import os
-import random
 import re
 import shutil
 import subprocess
 import sys
+import time
 
 HERE = os.path.dirname(os.path.abspath(__file__))
+LINES = os.path.join(HERE, "lines")
 OUT = os.path.join(HERE, "out")
-SITE = os.path.join(OUT, "bench.site")
-END, ESC = 0xC0, 0xDB
-FIN, SYN, RST, PSH, ACK = 1, 2, 4, 8, 16
-NODE, PEER = bytes([10, 0, 0, 1]), bytes([10, 0, 0, 2])
+SITE = os.path.join(OUT, "site.img")
+EXAMPLE = os.path.join(HERE, "..", "examples", "site.img")
 NODE_MAC, PEER_MAC = bytes([2, 0, 0, 0, 0, 1]), bytes([2, 0, 0, 0, 0, 2])
+NODE, PEER = bytes([10, 0, 0, 1]), bytes([10, 0, 0, 2])
+SERVE = ("serve", SITE, "10.0.0.1")
 ETHER = ("ether", SITE, "10.0.0.1", "02:00:00:00:00:01")
 
-WORDS = {"ping84": ("an echo request of 84 bytes with every byte value", "request"),
-         "ping1006": ("an echo request of 1006 bytes with every byte value", "request"),
-         "small": ("a file of one byte, from SYN to the last acknowledgement", "request"),
-         "big": ("a text of 200,000 bytes, in segments of 1460 (the peers: 966)", "byte"),
-         "big536": ("the same in segments of 536", "byte"), "big100": ("the same in segments of 100", "byte"),
-         "escapes": ("a page of which four in five bytes are END, ESC and their stand-ins", "byte"),
-         "ten": ("ten clients at once", "byte"), "script": ("a script page with all generators", "request")}
+
+def unpacked(name):
+    with lzma.open(os.path.join(LINES, name + ".xz")) as file:
+        return file.read()
 
 
-def checksum(data):
-    if len(data) % 2:
-        data += b"\0"
-    total = sum(int.from_bytes(data[i:i + 2], "big") for i in range(0, len(data), 2))
-    while total >> 16:
-        total = (total & 0xFFFF) + (total >> 16)
-    return (65535 - total).to_bytes(2, "big")
+def kept(name, data):
+    """The path of a file of bench/out with this content."""
+    path = os.path.join(OUT, name)
+    with open(path, "wb") as file:
+        file.write(data)
+    return path
 
 
-def datagram(proto, payload):
-    head = bytes([0x45, 0]) + (20 + len(payload)).to_bytes(2, "big") + bytes([0, 1, 0, 0, 64, proto, 0, 0]) + PEER + NODE
-    return head[:10] + checksum(head) + head[12:] + payload
+def run(words, data=b"", tool=()):
+    with open(kept("line", data), "rb") as stdin:
+        return subprocess.run([*tool, *words], stdin=stdin, stdout=subprocess.PIPE, stderr=subprocess.PIPE, check=True)
 
 
-def ping(size):
-    """An echo request of so many bytes in all."""
-    message = bytes([8, 0, 0, 0, 0, 1, 0, 1]) + bytes(i % 256 for i in range(size - 28))
-    return datagram(1, message[:2] + checksum(message) + message[4:])
+def instructions(program, data, words=SERVE):
+    done = run((program, *words), data, ("valgrind", "--tool=callgrind", "--callgrind-out-file=/dev/null"))
+    return int(re.search(rb"Collected : (\d+)", done.stderr).group(1))
 
 
-def segment(port, number, expected, flags, text=b"", options=b""):
-    fields = port.to_bytes(2, "big") + (80).to_bytes(2, "big") + number.to_bytes(4, "big") + expected.to_bytes(4, "big")
-    body = fields + bytes([0x50 + 4 * len(options), flags]) + (65535).to_bytes(2, "big") + bytes(4) + options + text
-    pseudo = PEER + NODE + bytes([0, 6]) + len(body).to_bytes(2, "big")
-    return datagram(6, body[:16] + checksum(pseudo + body) + body[18:])
+def figure(value, unit):
+    return f"{value:,.1f}" if unit == "byte" else f"{value:,.0f}"
 
 
-def slip(data):
-    return b"\xc0" + data.replace(b"\xdb", b"\xdb\xdd").replace(b"\xc0", b"\xdb\xdc") + b"\xc0"
-
-
-class Fetch:
-    """One client: it asks for a page and closes behind the server. `answer` gives what it sends to a segment."""
-
-    def __init__(self, port, name, mss):
-        self.port, self.request, self.mss = port, b"GET " + name + b" HTTP/1.0\r\n\r\n", mss
-        self.number, self.expected, self.page, self.is_done, self.is_open = 1000, 0, b"", False, False
-
-    def first(self):
-        return segment(self.port, self.number, 0, SYN, options=bytes([2, 4]) + self.mss.to_bytes(2, "big"))
-
-    def answer(self, data):
-        number, flags = int.from_bytes(data[24:28], "big"), data[33]
-        text = data[20 + 4 * (data[32] >> 4):]
-        if flags & SYN:
-            self.number, self.expected, self.is_open = 1001, number + 1, True
-            sent = segment(self.port, self.number, self.expected, ACK | PSH, self.request)
-            self.number += len(self.request)
-            return sent
-        if self.is_done or number != self.expected:
-            return None
-        self.page += text
-        self.expected += len(text) + (1 if flags & FIN else 0)
-        if flags & FIN:
-            self.is_done = True
-            return segment(self.port, self.number, self.expected, FIN | ACK)
-        return segment(self.port, self.number, self.expected, ACK) if text else None
-
-
-def record(program, fetches, at_once=1):
-    """The line of clients, of which so many are served at a time, and the bytes of their pages."""
-    server = subprocess.Popen([program, "serve", SITE, "10.0.0.1"], stdin=subprocess.PIPE, stdout=subprocess.PIPE, bufsize=0)
-    line, rest = b"", b""
-
-    def send(data):
-        nonlocal line
-        text = slip(data)
-        line += text
-        server.stdin.write(text)
-
-    waiting = list(fetches)
-    by_port = {fetch.port: fetch for fetch in fetches}
-    while not all(fetch.is_done for fetch in fetches):
-        while waiting and sum(not fetch.is_done for fetch in fetches) - len(waiting) < at_once:
-            send(waiting.pop(0).first())
-        data = server.stdout.read(65536)
-        if not data:
-            sys.exit("run.py: the program ended while a line was recorded")
-        *frames, rest = (rest + data).split(b"\xc0")
-        for frame in filter(None, frames):
-            frame = re.sub(b"\xdb(.)", lambda m: {0xDC: b"\xc0", 0xDD: b"\xdb"}.get(m[1][0], m[1]), frame, flags=re.S)
-            sent = by_port[int.from_bytes(frame[22:24], "big")].answer(frame)
-            if sent:
-                send(sent)
-    server.stdin.close()
-    server.wait()
-    return line, sum(len(fetch.page) for fetch in fetches)
-
-
-def image(files):
-    parts = [b"UIPSITE1", len(files).to_bytes(2, "big")]
-    for name, content in files.items():
-        parts += [bytes([len(name)]), name, len(content).to_bytes(4, "big"), content]
-    return b"".join(parts)
-
-
-def site():
-    some = random.Random(1)
-    text = (b"The quick brown fox jumps over the lazy dog. " * 4445)[:200000]
-    marks = bytes(some.choice((0xC0, 0xDB, 0xDC, 0xDD)) if some.random() < 0.8 else some.randrange(256) for _ in range(20000))
-    script = b"<html>\n%! ticks\n%! file-stats /one\n%! net-stats\n%! tcp-connections\n</html>\n"
-    return image({b"/one": b"1", b"/big.txt": text, b"/marks": marks, b"/some.txt": text[:20000], b"/s.shtml": script})
-
-
-def lines(program):
-    """Each line's name, its bytes, and how many units it has."""
-    yield "ping84", slip(ping(84)) * 2000, 2000
-    yield "ping1006", slip(ping(1006)) * 500, 500
-    for name, page, mss, count in (("small", b"/one", 1460, 200), ("big", b"/big.txt", 1460, 5), ("big536", b"/big.txt", 536, 5),
-                                   ("big100", b"/big.txt", 100, 2), ("escapes", b"/marks", 1460, 10), ("script", b"/s.shtml", 1460, 40)):
-        line, length = record(program, [Fetch(1025 + k, page, mss) for k in range(count)])
-        yield name, line, count if WORDS[name][1] == "request" else length
-    line, length = record(program, [Fetch(1025 + k, b"/some.txt", 1460) for k in range(10)], at_once=10)
-    yield "ten", line, length
+def measure_lines(program, is_markdown):
+    print("| line | unit | Lowunbisa | uIP | lwIP |\n|---|---|---|---|---|" if is_markdown else
+          "line       unit      Lowunbisa        uIP       lwIP")
+    with open(os.path.join(LINES, "peers.json"), encoding="utf-8") as file:
+        peers = json.load(file)
+    empty = instructions(program, b"")
+    for name, peer in peers.items():
+        spent = (instructions(program, unpacked(name + ".slip")) - empty) / peer["units"]
+        ours, uip, lwip = (figure(value, peer["unit"]) for value in (spent, peer["uip"], peer["lwip"]))
+        print(f"| {peer['what']} | {peer['unit']} | {ours} | {uip} | {lwip} |" if is_markdown else
+              f"{name:10} {peer['unit']:8} {ours:>10} {uip:>10} {lwip:>10}")
 
 
 def framed(data):
@@ -164,51 +80,104 @@ def framed(data):
     return len(frame).to_bytes(2, "big") + frame
 
 
-def pings_in_frames(count):
-    """The peer asks for the node's hardware address, and then for echoes of 84 bytes."""
+def unescaped(frame):
+    return frame.replace(b"\xdb\xdc", b"\xc0").replace(b"\xdb\xdd", b"\xdb")
+
+
+def measure_ether(program):
+    """The peer asks for the node's hardware address, and then for the echoes of ping84."""
+    pings = [unescaped(frame) for frame in unpacked("ping84.slip").split(b"\xc0") if frame]
     arp = bytes([0, 1, 8, 0, 6, 4, 0, 1]) + PEER_MAC + PEER + bytes(6) + NODE
-    frame = b"\xff" * 6 + PEER_MAC + bytes([8, 6]) + arp
-    return len(frame).to_bytes(2, "big") + frame + framed(ping(84)) * count
+    first = b"\xff" * 6 + PEER_MAC + bytes([8, 6]) + arp
+    ask = len(first).to_bytes(2, "big") + first
+    spent = instructions(program, ask + b"".join(map(framed, pings)), ETHER) - instructions(program, ask, ETHER)
+    print(f"an echo request of 84 bytes in an Ethernet frame: {spent / len(pings):,.0f} instructions")
 
 
-def instructions(program, data, words=("serve", SITE, "10.0.0.1")):
-    path = os.path.join(OUT, "line")
-    with open(path, "wb") as file:
-        file.write(data)
-    with open(path, "rb") as stdin:
-        done = subprocess.run(["valgrind", "--tool=callgrind", "--callgrind-out-file=/dev/null", program, *words],
-                              stdin=stdin, stdout=subprocess.PIPE, stderr=subprocess.PIPE, check=True)
-    return int(re.search(rb"Collected : (\d+)", done.stderr).group(1))
+def schedule(program, text):
+    """Instructions and seconds of a replay."""
+    words = ("replay", EXAMPLE, kept("schedule", text))
+    return instructions(program, b"", words), seconds_of(program, words)
 
 
-def figure(value, unit):
-    return f"{value:,.1f}" if unit == "byte" else f"{value:,.0f}"
+def seconds_of(program, words):
+    times = []
+    for _ in range(5):
+        start = time.perf_counter()
+        run((program, *words))
+        times.append(time.perf_counter() - start)
+    return min(times)
+
+
+def heap_of(program, words, data=b""):
+    """The bytes that a run takes from the heap in all, and the most at once."""
+    out = os.path.join(OUT, "massif")
+    run((program, *words), data, ("valgrind", "--tool=massif", "--stacks=no", "--massif-out-file=" + out))
+    with open(out, encoding="utf-8") as file:
+        return max(int(line.split("=")[1]) for line in file if line.startswith("mem_heap_B="))
+
+
+def measure_replay(program):
+    print("replay                                instructions     each    seconds")
+    head = b"client 10.0.0.2 1025 0 536 get /index.html\n"
+    none, _ = schedule(program, head)
+    for clients in (16, 64):
+        words = ("load", EXAMPLE, "7", str(clients))
+        print(f"made of seed 7, {clients} clients {instructions(program, b'', words):>25,} {'':8} {seconds_of(program, words):10.4f}")
+    for line, what in ((b"ping 10.0.0.9\n", "echo requests"), (b"tick 1\n", "ticks")):
+        for count in (4000, 8000, 16000):
+            spent, seconds = schedule(program, head + line * count)
+            print(f"{count:6} {what:26} {spent - none:>16,} {(spent - none) / count:8,.0f} {seconds:10.4f}")
+    page = bytes(1460 * 3200)
+    site = b"UIPSITE1\0\1\4/big" + len(page).to_bytes(4, "big") + page
+    numbers = range(1, 11)
+    clients = b"".join(b"client 10.0.0.2 %d 0 1460 get /big\nopen %d\n" % (1024 + number, number) for number in numbers)
+    words = ("replay", kept("big.img", site), kept("schedule", clients + b"round\n" * 6420))
+    told = run((program, *words)).stdout.split(b"\n")[-2].decode()
+    print(f"10 clients with pages in segments of 1460 ({told}): {seconds_of(program, words):.3f} seconds, {heap_of(program, words):,} bytes at once")
+
+
+def stack_of(program, words, data):
+    out = os.path.join(OUT, "massif")
+    run((program, *words), data, ("valgrind", "--tool=massif", "--stacks=yes", "--massif-out-file=" + out))
+    with open(out, encoding="utf-8") as file:
+        return max(int(line.split("=")[1]) for line in file if line.startswith("mem_stacks_B="))
+
+
+def measure_memory(program):
+    image = os.path.getsize(EXAMPLE)
+    words = ("serve", EXAMPLE, "10.0.0.1")
+    data = unpacked("ping84.slip")[:8000]
+    print(f"serve of the example site ({image:,} bytes): {heap_of(program, words, data):,} bytes of the heap at once, "
+          f"{heap_of(program, words):,} on an empty line")
+    print(f"greatest depth of the stack: {stack_of(program, words, data):,} bytes")
+    if shutil.which("size"):
+        text, data, bss = re.findall(r"\d+", subprocess.run(["size", program], stdout=subprocess.PIPE, text=True, check=True).stdout)[:3]
+        print(f"the program: {int(text):,} bytes of code and constants, {int(data):,} of data, {int(bss):,} of zeros")
 
 
 def main():
     if "--help" in sys.argv or "-h" in sys.argv:
         sys.exit(print(__doc__))
+    parts = {"lines", "ether", "replay", "memory"}
     words = [word for word in sys.argv[1:] if word != "--markdown"]
-    program = os.path.abspath(words[0] if words else os.path.join(HERE, "..", "crates", "uipd", "out", "uipd"))
+    asked = [word for word in words if word in parts] or sorted(parts)
+    named = [word for word in words if word not in parts]
+    program = os.path.abspath(named[0] if named else os.path.join(HERE, "..", "crates", "uipd", "out", "uipd"))
     if not os.access(program, os.X_OK):
         sys.exit(f"run.py: no program at {program}: `rt run` in crates/uipd builds it, or name one")
     if not shutil.which("valgrind"):
         sys.exit("run.py: no command valgrind here, which counts the instructions")
     os.makedirs(OUT, exist_ok=True)
-    with open(SITE, "wb") as file:
-        file.write(site())
-    empty = instructions(program, b"")
-    print("| line | unit | Lowunbisa |\n|---|---|---|" if "--markdown" in sys.argv else
-          "line       unit      Lowunbisa")
-    for name, data, units in lines(program):
-        spent = (instructions(program, data) - empty) / units
-        text, unit = WORDS[name]
-        ours = figure(spent, unit)
-        print(f"| {text} | {unit} | {ours} |" if "--markdown" in sys.argv else
-              f"{name:10} {unit:8} {ours:>10}")
-    spent = (instructions(program, pings_in_frames(2000), ETHER) - instructions(program, pings_in_frames(0), ETHER)) / 2000
-    if "--markdown" not in sys.argv:
-        print(f"{'ether84':10} {'request':8} {figure(spent, 'request'):>10}     (ping84 in Ethernet frames)")
+    kept("site.img", unpacked("site.img"))
+    if "lines" in asked:
+        measure_lines(program, "--markdown" in sys.argv)
+    if "ether" in asked:
+        measure_ether(program)
+    if "replay" in asked:
+        measure_replay(program)
+    if "memory" in asked:
+        measure_memory(program)
 
 
 main()
