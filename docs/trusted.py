@@ -4,6 +4,7 @@
     python3 docs/trusted.py            compares docs/SPECIFICATION.md with the sources, and says where they differ (status 1)
     python3 docs/trusted.py write      writes the lists of that page anew
     python3 docs/trusted.py NAME ..    prints what a definition rests on, as link_world.specs.Headline.Tick
+    python3 docs/trusted.py names      says which definitions that another crate cites have a namesake in another crate (status 1)
 
 It follows the names of specs/ through their imports, from the clauses of `run_told` in crates/uipd/src/run_told.rt.
 A definition belongs to the part of its file; a file that no part names is told as one that the page lacks.
@@ -173,11 +174,42 @@ def written(page, sources):
     return page, lost
 
 
+def cited_elsewhere():
+    """The definitions of specs/ that a file of another crate imports by name."""
+    cited = set()
+    for path in glob.glob(CRATES + "/*/*/**/*", recursive=True):
+        if not path.endswith((".antt", ".rt")) or "/out/" in path:
+            continue
+        with open(path, encoding="utf8") as file:
+            names = imports_of(re.sub(r"^ +", "", file.read(), flags=re.M))[0]
+        here = os.path.relpath(path, CRATES).split("/")[0]
+        for place in names.values():
+            crate, _, rest = place.partition(".")
+            if crate != here and rest.startswith("specs.") and ".declared." not in place:
+                cited.add((crate, place.rpartition(".")[2]))
+    return cited
+
+
+def namesakes(sources):
+    """The names that two crates define, of which one is cited from another crate, with the files that define them."""
+    places = collections.defaultdict(dict)
+    for definition in sources.definitions.values():
+        if "pub " in definition.lines[0]:
+            places[definition.name][definition.module.split(".")[0]] = definition.path
+    cited = cited_elsewhere()
+    return {name: found for name, found in places.items() if len(found) > 1 and any((crate, name) in cited for crate in found)}
+
+
 def main():
     words = sys.argv[1:]
     if "--help" in words or "-h" in words:
         sys.exit(print(__doc__))
     sources = Sources()
+    if words == ["names"]:
+        found = namesakes(sources)
+        for name, places in sorted(found.items()):
+            print(f"{name}: " + ", ".join(sorted(places.values())))
+        sys.exit(1 if found else 0)
     if words and words != ["write"]:
         for word in words:
             root = sources.resolve(word)

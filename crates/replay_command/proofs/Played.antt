@@ -1,6 +1,6 @@
 -- What is due for a schedule that was played by the server of a site.
 use Rattle.std.specs.List.{All}
-use Rattle.std.proofs.Common.{◌≡◌, ℕ, List, Result, Ok, Err, Option, map, length, sym, subst, refl, inl, inr, ap, ◌∙◌, Bool, lit<}
+use Rattle.std.proofs.Common.{◌≡◌, ℕ, List, Result, Ok, Err, map, length, sym, subst, refl, inl, inr, ap, ◌∙◌, Bool, lit<}
 use Rattle.std.proofs.lemmas.List.Elements.{All-replicate}
 use Rattle.app_events.specs.Part.{Meaning}
 use Rattle.app_events.specs.Pages.{IsByte, IsPaged, IsWord, Pages}

@@ -1,7 +1,6 @@
 -- A text that was written ends the replay as it has to.
 use Rattle.std.proofs.Common.{◌≡◌, ℕ, List, Option, Ok, Err, sym, subst, refl, inl, inr, Bool}
 use Rattle.std.specs.Prelude.{⊤}
-use Rattle.std.specs.Io.KnownBytes.{Appends}
 use Rattle.file_tree.specs.Loading.{HoldsFile}
 use Rattle.site_image.specs.Files.{File}
 use Rattle.site_image.specs.declared.site_error.SiteError.{SiteError}

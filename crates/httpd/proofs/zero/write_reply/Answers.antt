@@ -1,5 +1,4 @@
 use Rattle.std.proofs.Common.{◌++◌, sym}
-use Rattle.std.proofs.lemmas.Result.{err_from_is_err_and}
 use Rattle.file_tree.specs.Site.{files_of}
 use Rattle.web_pages.specs.Pieces.{kind_line}
 use Rattle.httpd.specs.Reply.{found_file, head_text, kind_text}
