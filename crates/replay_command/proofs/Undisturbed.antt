@@ -9,7 +9,7 @@ use Rattle.replay_command.specs.declared.replay_end.ReplayEnd.{ReplayEnd}
 use Rattle.replay_command.specs.declared.replay_end.ReplayEnd.TheVariants as ends
 
 module _ (Is : Option Files → List ℕ → ReplayEnd → Type 0) (Missing : Option Files → Type 0) where
-  as_due : (old new : Desk) (end : ReplayEnd) → EndsWith Is Missing old new end → IsCalm old new → ¬ (Missing old.held) → EndsAsDue (Is old.held) old new end
+  pub as_due : (old new : Desk) (end : ReplayEnd) → EndsWith Is Missing old new end → IsCalm old new → ¬ (Missing old.held) → EndsAsDue (Is old.held) old new end
   as_due old new ends.Done e calm there = inr (e.text, e.is, e.written)
   as_due old new (ends.BadSite error) e calm there = inr (e.text, e.is, e.written)
   as_due old new (ends.BadSchedule line why) e calm there = inr (e.text, e.is, e.written)
