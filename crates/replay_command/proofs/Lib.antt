@@ -12,3 +12,4 @@ pub mod Answering
 pub mod Web
 pub mod Worked
 pub mod MadeLaws
+pub mod Hits

@@ -9,7 +9,7 @@ use Rattle.uip_edge.specs.Told.{WorkTold, WorkUnfailed}
 use Rattle.replay_command.specs.declared.replay_end.ReplayEnd.TheVariants as ends
 
 module _ (Is : Option Files → List ℕ → ReplayEnd → Type 0) (Missing : Option Files → Type 0) where
-  as_due : (old new : WorkTold) (end : ReplayEnd) → EndsWith Is Missing old new end → WorkUnfailed old new → ¬ (Missing old.shelf.held) → EndsAsDue (Is old.shelf.held) old new end
+  pub as_due : (old new : WorkTold) (end : ReplayEnd) → EndsWith Is Missing old new end → WorkUnfailed old new → ¬ (Missing old.shelf.held) → EndsAsDue (Is old.shelf.held) old new end
   as_due old new ends.Done e calm there = inr (e.text, e.is, e.wrote.whole)
   as_due old new (ends.BadSite error) e calm there = inr (e.text, e.is, e.wrote.whole)
   as_due old new (ends.BadSchedule line why) e calm there = inr (e.text, e.is, e.wrote.whole)

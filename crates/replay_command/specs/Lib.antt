@@ -5,3 +5,4 @@ pub mod Promises
 pub mod Telling
 pub mod Web
 pub mod Worked
+pub mod Hits

@@ -1,5 +1,6 @@
 //! What a replay comes to where nothing disturbs. Each law is the clause of a function without parameters.
 
+ghost use Rattle.replay_command.specs.Hits.{HitsAreCounted};
 ghost use Rattle.replay_command.specs.Laws.{HonestReplay, LoadIsTold, OnlyFull, ReplayIsTold};
 
 /// Where no count rose and no file is missing, a replay ends as is due for the shelf's files, or memory was short.
@@ -21,4 +22,9 @@ pub fn honest_replay()
 /// A line of a schedule that a seed makes is refused only where more datagrams would be sent than there are numbers for.
 pub fn only_full()
     ensures { OnlyFull }
+{}
+
+/// At a node of the web server the hits of a file are the events at which a connection's request became decided as its name.
+pub fn hits_are_counted()
+    ensures { HitsAreCounted }
 {}

@@ -1,4 +1,4 @@
-pub mod LoadLaws
+pub mod Completing
 pub mod NeverLaws
 pub mod PartLaws
 pub mod ServeLaws

@@ -1,4 +1,5 @@
 pub mod Allowed
+pub mod Completeness
 pub mod Output
 pub mod ResolveWords
 pub mod Running

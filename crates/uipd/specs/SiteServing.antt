@@ -37,16 +37,3 @@ SiteServes site line old new result =
 pub record IsUndisturbed (old new : Outside) : Type 0 where
   pub shelf : IsUnfailed old.shelf.faults new.shelf.faults
   pub line : LineUnfailed (line_of old) (line_of new)
-
--- the answer by what reading the site gives: its first fault, or how the line ended
-abbrev pub AnswersRead : Result (List File) SiteError → Status → Type 0
-AnswersRead (Ok files) result = (result ≡ status.Done) ⊎ (result ≡ status.Budget)
-AnswersRead (Err error) result = result ≡ status.BadSite error
-
--- Where nothing disturbs, and the shelf tells its files and holds the site, the answer is what reading it gives, or for want of
--- memory.
-abbrev pub SiteIsTold : Type 0
-SiteIsTold =
-    (site : List ℕ) (line : ServedLine) (old new : Outside) (result : Status) (files : Files) (read : Result (List File) SiteError)
-    → old.shelf.held ≡ Some files → site_read site files ≡ Some read → IsUndisturbed old new → SiteServes site line old new result
-    → (result ≡ status.NoMemory) ⊎ AnswersRead read result

@@ -1,13 +1,8 @@
-ghost use Rattle.std.specs.Prelude.{◌≡◌, ◌⊎◌, Option, map, string_bytes};
-ghost use Rattle.uip_edge.specs.Shelving.{Files};
-ghost use Rattle.site_commands.specs.Due.{Due};
-ghost use Rattle.site_commands.specs.Ending.{IsDue, LacksFile, end_of};
-ghost use Rattle.uipd.specs.Running.{Runs, SiteRuns};
-ghost use Rattle.uipd.specs.Statuses.{status_of_site};
-ghost use Rattle.uipd.specs.declared.status.Status.TheVariants.{BadWords, NoMemory};
-ghost use Rattle.uipd.specs.declared.status.Status.{Status as Answer};
-ghost use Rattle.uip_edge.specs.Told.{WorkTold, WorkUnfailed};
+ghost use Rattle.std.specs.Prelude.{◌≡◌, map, string_bytes};
+ghost use Rattle.uipd.specs.Completeness.{RunIsComplete};
+ghost use Rattle.uipd.specs.Running.{Runs};
 ghost use Rattle.uip_edge.specs.Telling.{outside};
+ghost use Rattle.uipd.specs.declared.status.Status.TheVariants.{BadWords};
 
 use crate::replay_work::{load_site, replay_site};
 use crate::serve::serve;
@@ -51,8 +46,7 @@ pub fn run<H: Shelf, L: Link, K: Sink>(
     }
 }
 
-/// Work on an image ends as is due for the shelf's files wherever no count rose and no file is missing, or memory was short.
-pub fn image_is_told()
-    ensures { (due : Files → Option Due) (old new : WorkTold) (result : Answer) → SiteRuns due old new result → WorkUnfailed old new → ¬ (LacksFile due old.shelf.held)
-        → (result ≡ NoMemory) ⊎ ((made : Due) × IsDue due old.shelf.held made × (result ≡ status_of_site (end_of made.fault))) }
+/// Where no count rose and no file is missing, what is due for the words was done, or memory was short.
+pub fn run_is_complete()
+    ensures { RunIsComplete }
 {}

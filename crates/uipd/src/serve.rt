@@ -4,7 +4,7 @@ ghost use Rattle.std.specs.Prelude.{◌≡◌};
 ghost use Rattle.file_tree.specs.Site.{files_of};
 ghost use Rattle.web_pages.specs.Serving.{no_hits};
 ghost use Rattle.uipd.specs.Serving.{ServeRuns};
-ghost use Rattle.uipd.specs.SiteServing.{SiteIsTold, SiteServes};
+ghost use Rattle.uipd.specs.SiteServing.{SiteServes};
 ghost use Rattle.uip_edge.specs.Telling.{line_told, outside};
 
 use crate::status::Status;
@@ -79,9 +79,3 @@ fn serve_web<L: Link, K: Sink>(
         Err(_) => Status::NoMemory,
     }
 }
-
-/// A serving that nothing disturbs, with a site that the shelf holds, ends as its image has it, or for want of memory.
-#[tactic(auto, using(crate::proofs::LoadLaws::site_is_told))]
-pub fn site_is_told()
-    ensures { SiteIsTold }
-{}

@@ -1,0 +1,124 @@
+-- A run that nothing outside disturbs does what is due for its words.
+use Rattle.std.proofs.Common.{◌≡◌, ℕ, ◌-◌, ◌^◌, ◌<◌, ◌≤◌, List, Option, None, Some, Ok, Err, refl, sym, ap, subst, ◌∙◌, inl, inr, arith}
+use Rattle.std.specs.Prelude.{◌⊎◌, ⊤}
+use Rattle.site_image.specs.Files.{File}
+use Rattle.file_tree.specs.declared.load_fault.LoadFault.{LoadFault}
+use Rattle.file_tree.specs.declared.load_fault.LoadFault.TheVariants as loads
+use Rattle.file_tree.specs.Opening.{FailsToOpen, LacksSite}
+use Rattle.site_commands.specs.Due.{Due}
+use Rattle.site_commands.specs.Ending.{Ends, LacksFile}
+use Rattle.site_commands.specs.declared.site_end.SiteEnd.{SiteEnd}
+use Rattle.site_commands.specs.declared.site_end.SiteEnd.TheVariants as sites
+use Rattle.replay_command.specs.Ending.{EndsWith, IsLoadText, IsText, LacksEither}
+use Rattle.replay_command.specs.Laws.{EndsAsDue}
+use Rattle.replay_command.specs.declared.replay_end.ReplayEnd.{ReplayEnd}
+use Rattle.replay_command.specs.declared.replay_end.ReplayEnd.TheVariants as replays
+use Rattle.replay_command.proofs.Undisturbed.{as_due}
+use Rattle.uip_edge.specs.Told.{LineTold, LineUnfailed, Outside, WorkTold, WorkUnfailed, line_of, work_of}
+use Rattle.trace.specs.Converting.{Converts}
+use Rattle.trace.specs.Telling.{TellsLine}
+use Rattle.trace.specs.declared.slip_end.SlipEnd.{SlipEnd}
+use Rattle.trace.specs.declared.slip_end.SlipEnd.TheVariants as slips
+use Rattle.uip_edge.specs.Causes.{Rose}
+use Rattle.uip_edge.specs.Shelving.{Files}
+use Rattle.uip_edge.specs.declared.item.Item.{Item}
+use Rattle.uip_edge.specs.declared.serve_end.ServeEnd.{ServeEnd}
+use Rattle.uip_edge.specs.declared.serve_end.ServeEnd.TheVariants as serves
+use Rattle.uipd.specs.Completeness.{CaptureDone, Completes, ImageDone, LacksFor, LineDone, OrShort, ReplayDone, RunIsComplete, ServingDone}
+use Rattle.uipd.specs.Output.{output_of}
+use Rattle.uipd.specs.Running.{SiteRuns, TaskRuns}
+use Rattle.uipd.specs.Serving.{ServeRuns, ServesFiles}
+use Rattle.uipd.specs.SiteServing.{IsUndisturbed, SiteServes}
+use Rattle.uipd.specs.Statuses.{RunsAs, status_of_fault, status_of_replay, status_of_serving, status_of_slip}
+use Rattle.uipd.specs.Words.{Task, Serves, Checks, Pages, Packs, Upgrades, Replays, Loads, Dumps, Captures, PlaysBack, task_of}
+use Rattle.uipd.specs.declared.words.ServedLine.{ServedLine}
+use Rattle.uipd.specs.declared.status.Status.{Status}
+use Rattle.uipd.specs.declared.status.Status.TheVariants as status
+
+-- a count that stays below its end value did not rise
+stayed : (before now : ℕ) → now ≡ before → before < 2 ^ 64 - 1 → Rose before now → ⊥
+stayed before now e below rose = omega (arith, e, below, rose)
+
+calm : (old new : Outside) → IsUndisturbed old new → WorkUnfailed (work_of old) (work_of new)
+calm old new u = record { shelf = u.shelf; sink = u.line.sink }
+
+-- ---- a line
+
+line_done : (text : List Item → List ℕ) (n : ℕ) (old new : LineTold) (result : Status) (end : ServeEnd) → LineUnfailed old new → result ≡ status_of_serving end → TellsLine text n old new end → LineDone text n old new result
+line_done text n old new result serves.End u e t = record { taken = t.taken; consumed = t.consumed; written = t.wrote; ends = inl (e, t.ends.0, t.ends.1) }
+line_done text n old new result serves.Budget u e t = record { taken = t.taken; consumed = t.consumed; written = t.wrote; ends = inr (e, t.ends.0) }
+line_done text n old new result serves.LinkFault u e t = absurd (stayed old.link.faults new.link.faults u.link.same u.link.below t.ends.1)
+line_done text n old new result serves.WriteFault u e t = absurd (stayed old.sink.faults new.sink.faults u.sink.same u.sink.below t.ends.2)
+
+served : (files : List File) (line : ServedLine) (old new : LineTold) (result : Status) (end : ServeEnd) → LineUnfailed old new → result ≡ status_of_serving end → ServesFiles files line old new end
+    → LineDone (output_of files line) line.limits.items old new result
+served files line old new result serves.End u e t = record { taken = t.taken; consumed = t.consumed; written = t.written; ends = inl (e, t.ends.0, t.ends.1) }
+served files line old new result serves.Budget u e t = record { taken = t.taken; consumed = t.consumed; written = t.written; ends = inr (e, t.ends.0) }
+served files line old new result serves.LinkFault u e t = absurd (stayed old.link.faults new.link.faults u.link.same u.link.below t.ends.1)
+served files line old new result serves.WriteFault u e t = absurd (stayed old.sink.faults new.sink.faults u.sink.same u.sink.below t.ends.2)
+
+no_site : (site : List ℕ) (line : ServedLine) (old new : Outside) (result : Status) (fault : LoadFault) → IsUndisturbed old new → ¬ (LacksSite site old.shelf.held) → result ≡ status_of_fault fault
+    → FailsToOpen site old.shelf.held old.shelf.faults new.shelf.faults fault → OrShort result (ServingDone site line old new result)
+no_site site line old new result loads.Shelf u there told (inl rose, later) = absurd (stayed old.shelf.faults new.shelf.faults u.shelf.same u.shelf.below rose)
+no_site site line old new result loads.Shelf u there told (inr gone, later) = absurd (there gone)
+no_site site line old new result (loads.Bad error) u there told (is, same) = inr (inr (error, is, told))
+no_site site line old new result loads.NoMemory u there told same = inl told
+
+serving : (site : List ℕ) (line : ServedLine) (old new : Outside) (result : Status) → SiteServes site line old new result → IsUndisturbed old new → ¬ (LacksSite site old.shelf.held) → OrShort result (ServingDone site line old new result)
+serving site line old new result (inl has) u there =
+    elim has.done [
+      | inl run ↦ inr (inl (has.files, has.read, served has.files line (line_of old) (line_of new) result run.0 u.line run.1 run.2))
+      | inr short ↦ inl short.0
+    ]
+serving site line old new result (inr none) u there = no_site site line old new result none.fault u there none.told none.fails
+
+-- ---- an image
+
+image_by : (due : Files → Option Due) (old new : Outside) (result : Status) (end : SiteEnd) → Rattle.uipd.specs.Statuses.status_of_site end ≡ result → Ends due (work_of old) (work_of new) end → WorkUnfailed (work_of old) (work_of new)
+    → ¬ (LacksFile due old.shelf.held) → OrShort result (ImageDone due old new result)
+image_by due old new result sites.Done e t c there = inr (record { text = t.0; fault = None }, t.1, t.2.whole, sym e)
+image_by due old new result (sites.Bad error) e t c there = inr (record { text = t.0; fault = Some error }, t.1, t.2.whole, sym e)
+image_by due old new result sites.ShelfFault e t c there =
+    elim t.0 [ inl rose ↦ absurd (stayed old.shelf.faults new.shelf.faults c.shelf.same c.shelf.below rose) | inr lacks ↦ absurd (there lacks) ]
+image_by due old new result sites.WriteFault e t c there = absurd (stayed old.sink.faults new.sink.faults c.sink.same c.sink.below t.2.rose)
+image_by due old new result sites.NoMemory e t c there = inl (sym e)
+
+image : (due : Files → Option Due) (old new : Outside) (result : Status) → SiteRuns due (work_of old) (work_of new) result → IsUndisturbed old new → ¬ (LacksFile due old.shelf.held) → OrShort result (ImageDone due old new result)
+image due old new result run u there = image_by due old new result run.0 (sym run.1) run.2 (calm old new u) there
+
+-- ---- a replay
+
+replayed : (Is : Option Files → List ℕ → ReplayEnd → Type 0) (Missing : Option Files → Type 0) (old new : Outside) (result : Status) → RunsAs status_of_replay (EndsWith Is Missing (work_of old) (work_of new)) result → IsUndisturbed old new
+    → ¬ (Missing old.shelf.held) → OrShort result (ReplayDone (Is old.shelf.held) old new result)
+replayed Is Missing old new result run u there =
+    elim (as_due Is Missing (work_of old) (work_of new) run.0 run.2 (calm old new u) there) [
+      | inl short ↦ inl (run.1 ∙ ap status_of_replay short)
+      | inr made ↦ inr (run.0, made.0, made.1, made.2, run.1)
+    ]
+
+-- ---- a capture
+
+capture_by : (n : ℕ) (old new : Outside) (result : Status) (end : SlipEnd) → result ≡ status_of_slip end → Converts n (line_of old) (line_of new) end → LineUnfailed (line_of old) (line_of new) → CaptureDone n old new result
+capture_by n old new result slips.End e t u = (slips.End, tt, t, e)
+capture_by n old new result slips.Budget e t u = (slips.Budget, tt, t, e)
+capture_by n old new result (slips.Bad number why) e t u = (slips.Bad number why, tt, t, e)
+capture_by n old new result slips.LinkFault e t u = absurd (stayed old.link.faults new.link.faults u.link.same u.link.below t.ends.1)
+capture_by n old new result slips.WriteFault e t u = absurd (stayed old.sink.faults new.sink.faults u.sink.same u.sink.below t.ends.2)
+
+-- ---- by the words
+
+by_task : (task : Option Task) (old new : Outside) (result : Status) → TaskRuns task old new result → IsUndisturbed old new → ¬ (LacksFor task old.shelf.held) → Completes task old new result
+by_task None old new result run u there = run
+by_task (Some (Serves site line)) old new result run u there = serving site line old new result run u there
+by_task (Some (Checks site)) old new result run u there = image _ old new result run.0 u there
+by_task (Some (Packs files)) old new result run u there = image _ old new result run.0 u there
+by_task (Some (Upgrades site kinds)) old new result run u there = image _ old new result run.0 u there
+by_task (Some (Pages site target)) old new result run u there = image _ old new result run.0 u there
+by_task (Some (Replays site schedule show)) old new result run u there = replayed (IsText site schedule show) (LacksEither site schedule) old new result run.0 u there
+by_task (Some (Loads site seed clients)) old new result run u there = replayed (IsLoadText site seed clients) (LacksSite site) old new result run.0 u there
+by_task (Some (Dumps n)) old new result run u there = (let r = run.0 in line_done _ n (line_of old) (line_of new) result r.0 u.line r.1 r.2)
+by_task (Some (Captures n)) old new result run u there = (let r = run.0 in line_done _ n (line_of old) (line_of new) result r.0 u.line r.1 r.2)
+by_task (Some (PlaysBack n)) old new result run u there = (let r = run.0 in capture_by n old new result r.0 r.1 r.2 u.line)
+
+pub run_is_complete : RunIsComplete
+run_is_complete words old new result run u there = by_task (task_of words) old new result run u there
