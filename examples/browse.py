@@ -5,21 +5,25 @@
 
 In a network namespace of its own it makes a TUN interface (10.0.0.2, the other end is 10.0.0.1), starts `UIPD serve SITE 10.0.0.1`
 on a pseudo terminal, and carries datagrams between the two as SLIP frames. With a COMMAND it runs that in the namespace and ends with
-its status; else it says how to open the pages and waits for Ctrl-C. It needs Linux, /dev/net/tun and `ip`, and no rights.
+its status; else it says how to open the pages and waits for Ctrl-C. It needs Linux, /dev/net/tun and `ip`, and no rights; --board
+needs qemu-system-aarch64.
 
     --line DEVICE RATE   no server is started: the node is at the other end of a serial port, as /dev/ttyUSB0 115200
     --ether              Ethernet frames over a TAP interface, with Linux's own ARP, in place of SLIP (`UIPD ether`)
+    --board FIRMWARE     no server is started: the node runs on a board of its own, by qemu, and this is its serial port
+    --memory FILE        with --board: the board's memory is written to FILE at the end
     --record DIR         writes the bytes of the line to DIR/to-node and DIR/from-node
     --help               this text
 
 The line has a rate, as a real one has (20,000 bytes a second, or that of the port), and its silence is filled with bytes that mean
-nothing: so the server's `pace` is a clock of half seconds, however busy the line is.
+nothing: so the server's `pace` is a clock of half seconds, however busy the line is. A board has a clock of its own, and its line is not filled.
 """
 import ctypes
 import fcntl
 import os
 import select
 import shutil
+import socket
 import struct
 import subprocess
 import sys
@@ -33,6 +37,8 @@ CLONE_NEWUSER, CLONE_NEWNET = 0x10000000, 0x40000000
 TUNSETIFF, IFF_TUN, IFF_TAP, IFF_NO_PI = 0x400454CA, 1, 2, 0x1000
 NODE_MAC = "02:00:00:00:00:01"
 LOCAL_RATE = 20000
+BOARD_RATE = 200000
+BOARD_MEMORY = (0x40000000, 0x10000)
 
 
 class Slip:
@@ -73,10 +79,10 @@ class Frames:
 
 
 class Line:
-    """The bytes to the node, at a rate: what waits goes out as time passes, and the rest of the time is filled."""
+    """The bytes to the node, at a rate: what waits goes out as time passes, and the rest of the time may be filled."""
 
-    def __init__(self, descriptor, form, rate, record):
-        self.descriptor, self.form, self.rate, self.record = descriptor, form, rate, record
+    def __init__(self, descriptor, form, rate, is_filled, record):
+        self.descriptor, self.form, self.rate, self.is_filled, self.record = descriptor, form, rate, is_filled, record
         self.queue, self.start, self.sent = b"", time.monotonic(), 0
 
     def put(self, datagram):
@@ -88,10 +94,10 @@ class Line:
         if due <= 0:
             return
         text = self.queue[:due]
-        if not self.queue[due:]:
+        if self.is_filled and not self.queue[due:]:
             text += self.form.filler * ((due - len(text)) // len(self.form.filler))
         self.queue = self.queue[due:]
-        self.sent += len(text)
+        self.sent += len(text) if self.is_filled else due
         if self.record:
             self.record.write(text)
         while text:
@@ -157,6 +163,26 @@ def open_port(device, rate):
     return port
 
 
+def start_board(firmware):
+    """A board by qemu, with the ends of its serial port and of its monitor."""
+    line, port = socket.socketpair()
+    monitor, talk = socket.socketpair()
+    words = ["qemu-system-aarch64", "-M", "virt", "-cpu", "cortex-a53", "-m", "64", "-nic", "none", "-display", "none", "-bios", firmware,
+             "-chardev", f"socket,id=line,fd={port.fileno()}", "-serial", "chardev:line",
+             "-chardev", f"socket,id=talk,fd={talk.fileno()}", "-mon", "chardev=talk"]
+    board = subprocess.Popen(words, pass_fds=[port.fileno(), talk.fileno()])
+    port.close()
+    talk.close()
+    return board, line.detach(), monitor
+
+
+def save_memory(board, monitor, path):
+    """The board's memory; the monitor answers with its prompt when it is written."""
+    at, size = BOARD_MEMORY
+    monitor.sendall(f'pmemsave {at} {size} "{os.path.abspath(path)}"\nquit\n'.encode())
+    board.wait(timeout=10)
+
+
 def bridge(interface, line, output, record, is_done):
     while not is_done():
         for ready in select.select([interface, output], [], [], 0.02)[0]:
@@ -185,7 +211,7 @@ class Words:
         self.command = words[words.index("--") + 1:] if "--" in words else []
         words = words[:words.index("--")] if "--" in words else words
         self.ether = False
-        self.line = self.folder = None
+        self.line = self.folder = self.board = self.memory = None
         plain = []
         while words:
             word, words = words[0], words[1:]
@@ -193,6 +219,10 @@ class Words:
                 self.ether = True
             elif word == "--record" and words:
                 self.folder, words = words[0], words[1:]
+            elif word == "--board" and words:
+                self.board, words = words[0], words[1:]
+            elif word == "--memory" and words:
+                self.memory, words = words[0], words[1:]
             elif word == "--line" and len(words) > 1 and words[1].isdigit():
                 self.line, words = (words[0], int(words[1])), words[2:]
             elif word.startswith("-") or len(plain) == 2:
@@ -205,9 +235,14 @@ class Words:
     def check(self):
         if not shutil.which("ip"):
             fail("no command `ip` here: it is in the package iproute2")
-        if self.line is None and not os.access(self.uipd, os.X_OK):
+        if self.board and not shutil.which("qemu-system-aarch64"):
+            fail("no command qemu-system-aarch64 here: it is in the package qemu-system-arm")
+        if self.board and not os.path.exists(self.board):
+            fail(f"no firmware at {self.board}: `sh examples/board/run.sh build` builds it")
+        is_here = self.line is None and self.board is None
+        if is_here and not os.access(self.uipd, os.X_OK):
             fail(f"no program at {self.uipd}: `rt run` in crates/uipd builds it")
-        if self.line is None and not os.path.exists(self.site):
+        if is_here and not os.path.exists(self.site):
             fail(f"no image at {self.site}: `sh examples/pack.sh` packs it")
         if self.command and not shutil.which(self.command[0]):
             fail(f"no command {self.command[0]} here")
@@ -228,18 +263,21 @@ def recording(folder, name):
 def main():
     words = Words(sys.argv[1:])
     words.check()
-    rate = words.line[1] // 10 if words.line else LOCAL_RATE
+    rate = words.line[1] // 10 if words.line else BOARD_RATE if words.board else LOCAL_RATE
     port = open_port(*words.line) if words.line else None
     entry = enter_namespace()
     interface = make_interface(words.ether)
-    server = None
-    if words.line:
+    server = monitor = None
+    if words.board:
+        server, to_node, monitor = start_board(words.board)
+        output = to_node
+    elif words.line:
         to_node = output = port
         print(f"On the other end: stty -F PORT {words.line[1]} raw -echo min 0 time 5; "
               f"uipd serve SITE 10.0.0.1 pace {rate // 2} tty <PORT >PORT")
     else:
         server, to_node, output = start_server(words.server_words(rate))
-    line = Line(to_node, Frames() if words.ether else Slip(), rate, recording(words.folder, "to-node"))
+    line = Line(to_node, Frames() if words.ether else Slip(), rate, not words.board, recording(words.folder, "to-node"))
     child = subprocess.Popen(words.command) if words.command else None
     if not child:
         print("The site is at http://10.0.0.1/ in a network of its own. From another terminal:")
@@ -249,6 +287,8 @@ def main():
         bridge(interface, line, output, recording(words.folder, "from-node"), lambda: child is not None and child.poll() is not None)
     except KeyboardInterrupt:
         pass
+    if monitor and words.memory:
+        save_memory(server, monitor, words.memory)
     if server:
         server.kill()
     sys.exit(child.returncode if child else 0)

@@ -33,7 +33,7 @@ module _ {A S : Type 0} (g : Ghosts A S) where
   node_on m own old new event n same s p =
       record { meant = ap (λ k. g.meaning k) same ∙ p.meant; address = step-addr m g.served n event ∙ p.address; stands = s }
 
-  node_step : (m : Meaning) (own : Addr) (old new : Node A S) (result : Option ℕ) (event : Event) (n : AbstractNode) → g.kept new.shared ≡ g.kept old.shared
+  pub node_step : (m : Meaning) (own : Addr) (old new : Node A S) (result : Option ℕ) (event : Event) (n : AbstractNode) → g.kept new.shared ≡ g.kept old.shared
       → Steps g new result (step (g.meaning (g.kept old.shared)) g.served n event) → At m own old n
       → At m own new (step m g.served n event).node × IsSent own (step m g.served n event).sent result new.packet
   node_step m own old new result event n same s p =

@@ -95,7 +95,7 @@ module _ {A : Type 0} (m : Meaning) (served : ℕ → Bool) (w : Way A) (own : A
   broke_from xs O P Q a b on v = record { each = λ s p. v.each s (on s p) }
 
 -- the same of a serial line's texts
-text_of-joined : (own : Addr) (o : Option Reply) (rest : List Reply) → text_of own (joined o rest) ≡ text_for own o ++ text_of own rest
+pub text_of-joined : (own : Addr) (o : Option Reply) (rest : List Reply) → text_of own (joined o rest) ≡ text_for own o ++ text_of own rest
 text_of-joined own None rest = refl
 text_of-joined own (Some reply) rest = refl
 

@@ -22,6 +22,6 @@ pub use laws::ends_as_due;
 pub use named_file::NamedFile;
 pub use packing::pack;
 pub use paging::page;
-pub use report::bad_line;
+pub use report::{bad_line, why_word};
 pub use site_end::SiteEnd;
 pub use upgrading::upgrade;

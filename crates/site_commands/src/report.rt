@@ -63,7 +63,7 @@ pub fn bad_line(alloc: Global, error: SiteError) -> Result<Vec<u8>, AllocError>
 }
 
 /// The word of a fault.
-fn why_word(why: SiteWhy) -> &'static [u8]
+pub fn why_word(why: SiteWhy) -> &'static [u8]
     ensures { result.now ≡ word_of why }
 {
     match why {

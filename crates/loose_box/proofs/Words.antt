@@ -1,0 +1,72 @@
+-- The machine words of `BoxParts`: a pointer into a block, and what the allocator is stored as. Assumes `Logic`.
+use Rattle.std.proofs.Common.{◌≡◌, ℕ, List, [], ◌∷◌, ◌++◌, refl, subst}
+use mathlib.Core.Bool.{true, ◌&&◌}
+use lib.Dec.{T}
+use seplogic.Ra.Ura.{Ura}
+use mir.Syntax.{impl, tnil, dnil}
+use mir.Raw.{raw as bare}
+use mir.Val.{Val, vptr, vstruct, vcons, vnil, of_list, has_ty, WT}
+use base.Logic.{never, fst∗}
+use base.Fml.{Fml}
+use types.Logic.{Logic, sem}
+use types.Kit.{Item, Goal, Seq, Step, step, ‵, ◌$◌, move, drop, fsplit, fjoin, fpick, fpack, feq_i, feq_l}
+use denote.RattleType.{RattleType, Valss}
+use denote.Builtin.{RawPtr}
+use denote.Memory.{lone}
+use denote.RawPtr.{Ptr, block_ptr, null_ptr, ptr_val, in_a_block}
+use denote.Steps.{nothing}
+use denote.Param.{layout}
+use denote.Param.Laws.{Laws}
+use denote.Struct.Struct.{within}
+use denote.Struct.Owning.{shape}
+use Rattle.core.specs.declared.alloc.Allocator.{Ghosts}
+use Rattle.core.proofs.alloc.Calls.{Al, handle_tells}
+use Rattle.core.proofs.cell.Inside.{Good}
+use Rattle.std_alloc.specs.Box.Ownership.{box_owns}
+use Rattle.std_alloc.proofs.ResultValues.{and_tt}
+use Rattle.loose_box.specs.contracts.parts.BoxParts as parts
+
+-- a struct of two words
+abbrev pub two_words : Val → Val → Val
+two_words first second = vstruct (vcons first (vcons second vnil))
+
+module _ (R Z : RattleType) (laws : Laws Z) (g : Ghosts Z.Denot) where
+  abbrev pub Parts : RattleType
+  Parts = parts.the_row R Z g
+
+  abbrev allocator : Al
+  allocator = record { row = Z; laws = laws; g = g; d = impl [] tnil dnil; drops = impl [] tnil dnil }
+
+  -- what the parts own of memory, at an address
+  abbrev pub Owned : Z.Denot → R.Denot → Ptr → Fml
+  Owned a x p = box_owns (g.dealloc_token a) R p x
+
+  -- such words are of the struct's type
+  pub words_typed : (b o : ℕ) (h : Val) → Good (layout Z) h → T (has_ty (layout Z) h && true) × WT (two_words (vptr b o) h)
+  words_typed b o h good = (and_tt (has_ty (layout Z) h) good.0, (tt, (good.1, tt)))
+
+  module _ {M : Type 1} {𝓤 : Ura M} {𝓛 : Logic 𝓤} {K : Type 0} {Γ : List (Item 𝓤)} {G : Goal 𝓤 𝓛.H} where
+    -- The parts are opened: nothing is owned at null, so the pointer leads into a block.
+    pub parts_out : K → (d : Parts.Denot) (words : List Val)
+        → ((b o : ℕ) (h : Val) → d.at ≡ block_ptr b o → words ≡ two_words (vptr b o) h ∷ [] → Good (layout Z) h
+        → Seq K 𝓛 (‵ (Owned d.alloc d.value (block_ptr b o)) ∷ ‵ (Z.own_val d.alloc (h ∷ [])) ∷ Γ) G)
+        → Seq K 𝓛 (‵ (Parts.own_val d words) ∷ Γ) G
+    parts_out k d words next =
+        let null_owns = fst∗ 𝓤 (never 𝓤) (sem 𝓛 (g.dealloc_token d.alloc (bare (lone R.mir)) null_ptr)) in
+        fsplit k $ fpick k (λ fields. fsplit k $ feq_l k (λ whole. fsplit k $ feq_l k (λ pointer. fsplit k $
+        handle_tells allocator k d.alloc fields.1.0 (λ h handle good.
+        move k (1 ∷ []) $ drop k $ move k (1 ∷ []) $
+        in_a_block k d.at (Owned d.alloc d.value) null_owns (λ b o at.
+        let by_pointer = subst (λ (ps : List Val). words ≡ vstruct (of_list (ps ++ (fields.1.0 ++ []))) ∷ []) pointer whole in
+        let by_handle = subst (λ (hs : List Val). words ≡ vstruct (of_list (ptr_val d.at ∷ (hs ++ []))) ∷ []) handle by_pointer in
+        next b o h at (subst (λ (p : Ptr). words ≡ vstruct (of_list (ptr_val p ∷ h ∷ [])) ∷ []) at by_handle) good)))))
+
+    -- The parts are made.
+    pub parts_in : K → (b o : ℕ) (h : Val) (a : Z.Denot) (x : R.Denot)
+        → Step K 𝓛 (‵ (Parts.own_val (record { at = block_ptr b o; alloc = a; value = x }) (two_words (vptr b o) h ∷ [])) ∷ Γ) G
+        (‵ (Owned a x (block_ptr b o)) ∷ ‵ (Z.own_val a (h ∷ [])) ∷ Γ) G
+    parts_in k b o h a x = step (λ rest.
+        let pointer = vptr b o ∷ [] in
+        let words = two_words (vptr b o) h ∷ [] in
+        nothing k $ move k (2 ∷ 0 ∷ []) $ fjoin k $ feq_i k (List Val) pointer pointer refl $ fjoin k $ feq_i k (List Val) words words refl $ fjoin k $
+        fpack k (Valss (RawPtr ∷ Z ∷ [])) (within (shape (parts.the_type R Z g)) (block_ptr b o, (a, tt)) words) (pointer, (h ∷ [], tt)) $ fjoin k $ rest)

@@ -1,0 +1,10 @@
+use Rattle.std.proofs.Common.{take}
+use Rattle.uip_node.specs.Events.Event.{Periodic}
+use Rattle.slip_node.proofs.TellLaws.{tells_one}
+use Rattle.slip_node.proofs.hearing.call.Goals as goal
+
+pub returns-clause-tells : goal.returns-clause-tells
+returns-clause-tells g c =
+    tells_one g.A.App (λ own. Periodic c.args.slot) c.args.node.now c.periodic-sent.new.self c.periodic-sent.result
+    (take c.write_text.result c.write_text.new.out) c.periodic-sent.ensures.same
+    (λ own n at stands. c.periodic-sent.ensures.step n stands) c.write_text.ensures.text

@@ -1,0 +1,52 @@
+-- What a caller does to a node, and what that brings to it.
+use Rattle.std.specs.Prelude.{◌≡◌, ℕ, ◌+◌, List, [], ◌∷◌, ◌++◌, map, if◌then◌else◌}
+use Rattle.std.specs.List.{flat_map}
+use Rattle.uip_wire.specs.declared.addr.Addr.{Addr}
+use Rattle.uip_edge.specs.declared.item.Item.{Item}
+use Rattle.uip_edge.specs.declared.item.Item.TheVariants.{Byte, Quiet}
+use Rattle.uip_node.specs.Events.{Event}
+use Rattle.uip_node.specs.Events.Event.{Periodic}
+use Rattle.serve_loop.specs.LineEvents.{events_behind}
+use Rattle.serve_loop.specs.Pace.{is_beat}
+
+-- a call over a serial line: the node hears bytes, or its slot is called
+pub data Call : Type 0 where
+  Hears : List ℕ → Call
+  Calls : ℕ → Call
+
+-- the bytes that come by a call
+abbrev pub bytes_by : Call → List ℕ
+bytes_by (Hears bytes) = bytes
+bytes_by (Calls slot) = []
+
+-- what a call brings to the node at the address `own`, behind the bytes that were heard before: the frames that its bytes
+-- complete, or the periodic call of the slot
+abbrev pub events_by : List ℕ → Call → Addr → List Event
+events_by before (Hears bytes) own = events_behind own 0 before (map Byte bytes)
+events_by before (Calls slot) own = Periodic slot ∷ []
+
+-- what calls in turn bring, behind the bytes that were heard before
+abbrev pub events_of : List ℕ → List Call → Addr → List Event
+events_of before [] own = []
+events_of before (call ∷ calls) own = events_by before call own ++ events_of (before ++ bytes_by call) calls own
+
+-- the ten calls of a tick
+abbrev pub tick_calls : List Call
+tick_calls = map Calls (0 ∷ 1 ∷ 2 ∷ 3 ∷ 4 ∷ 5 ∷ 6 ∷ 7 ∷ 8 ∷ 9 ∷ [])
+
+-- The calls for the items of a line at a pace, behind so many bytes: each byte is heard, and each silence and each byte that
+-- the pace tells makes the ten calls of a tick.
+abbrev pub calls_behind : ℕ → ℕ → List Item → List Call
+calls_behind pace count [] = []
+calls_behind pace count (Byte b ∷ items) =
+    Hears (b ∷ []) ∷ (if is_beat pace (count + 1) then tick_calls else []) ++ calls_behind pace (count + 1) items
+calls_behind pace count (Quiet ∷ items) = tick_calls ++ calls_behind pace count items
+
+-- a call by its single bytes
+abbrev pub byte_calls : Call → List Call
+byte_calls (Hears bytes) = map (λ b. Hears (b ∷ [])) bytes
+byte_calls (Calls slot) = Calls slot ∷ []
+
+-- The calls bring the items of a line at a pace, in order, however its bytes are cut among the calls.
+pub record Bring (pace : ℕ) (items : List Item) (calls : List Call) : Type 0 where
+  pub cut : flat_map byte_calls calls ≡ calls_behind pace 0 items

@@ -1,0 +1,9 @@
+//! A node whose caller brings what came and takes what is sent: it hears bytes of a serial line, or datagrams, and is called
+//! slot by slot. What it sends is written to an area of the caller's.
+#![tactic(auto)]
+
+mod datagrams;
+mod hearing;
+
+pub use datagrams::{call_datagram, hear_datagram};
+pub use hearing::{Heard, LARGEST_TEXT, call, hear};

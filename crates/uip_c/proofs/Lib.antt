@@ -1,0 +1,3 @@
+pub mod HandleLaws
+pub mod Taking
+pub mod Words

@@ -1,0 +1,63 @@
+-- The machine words of `Held`: a pointer, and what the allocator is stored as. Assumes `Logic`.
+use Rattle.std.proofs.Common.{◌≡◌, List, [], ◌∷◌, ◌++◌, refl, subst}
+use seplogic.Ra.Ura.{Ura}
+use mir.Syntax.{impl, tnil, dnil}
+use mir.Val.{Val, vstruct, of_list}
+use types.Logic.{Logic}
+use types.Kit.{Item, Goal, Seq, Step, step, ‵, ◌$◌, move, drop, fsplit, fjoin, fpick, fpack, feq_i, feq_l}
+use denote.RattleType.{RattleType, Valss}
+use denote.Builtin.{RawPtr}
+use denote.RawPtr.{Ptr, ptr_val}
+use denote.Steps.{nothing}
+use denote.Param.{layout}
+use denote.Struct.Struct.{within}
+use denote.Struct.Owning.{shape}
+use Rattle.core.proofs.alloc.Calls.{Al, handle_tells}
+use Rattle.core.proofs.cell.Inside.{Good}
+use Rattle.std.specs.declared.option.Option.{Option}
+use Rattle.std.specs.declared.alloc.Global.{Global}
+use Rattle.std.specs.contracts.alloc.Global as heap
+use Rattle.std.proofs.alloc.Global.TheLaws as heap_laws
+use Rattle.std.specs.contracts.impls.GlobalAllocator.TheImpl.{ghosts}
+use Rattle.loose_box.proofs.Words.{two_words}
+use Rattle.uip_device.specs.declared.device.Device.{Device}
+use Rattle.uip_device.specs.contracts.device.Device as device
+use Rattle.uip_c.specs.declared.held.Held.{Held}
+use Rattle.uip_c.specs.contracts.held.Held as held
+use Rattle.uip_c.specs.Holding.{holds}
+
+-- the rows of a device, of the allocator and of `Held`
+abbrev pub DeviceRow : RattleType
+DeviceRow = device.the_row
+
+abbrev pub HeapRow : RattleType
+HeapRow = heap.the_row
+
+abbrev pub HeldRow : RattleType
+HeldRow = held.the_row
+
+abbrev pub allocator : Al
+allocator = record { row = HeapRow; laws = heap_laws.the_row_laws; g = ghosts; d = impl [] tnil dnil; drops = impl [] tnil dnil }
+
+module _ {M : Type 1} {𝓤 : Ura M} {𝓛 : Logic 𝓤} {K : Type 0} {Γ : List (Item 𝓤)} {G : Goal 𝓤 𝓛.H} where
+  -- It is opened.
+  pub held_out : K → (d : Held) (words : List Val)
+      → ((h : Val) → words ≡ two_words (ptr_val d.at) h ∷ [] → Good (layout HeapRow) h
+      → Seq K 𝓛 (‵ (holds d.alloc d.at d.device) ∷ ‵ (HeapRow.own_val d.alloc (h ∷ [])) ∷ Γ) G)
+      → Seq K 𝓛 (‵ (HeldRow.own_val d words) ∷ Γ) G
+  held_out k d words next =
+      fsplit k $ fpick k (λ fields. fsplit k $ feq_l k (λ whole. fsplit k $ feq_l k (λ pointer. fsplit k $
+      handle_tells allocator k d.alloc fields.1.0 (λ h handle good.
+      let by_pointer = subst (λ (ps : List Val). words ≡ vstruct (of_list (ps ++ (fields.1.0 ++ []))) ∷ []) pointer whole in
+      move k (1 ∷ []) $ drop k $ move k (1 ∷ []) $
+      next h (subst (λ (hs : List Val). words ≡ vstruct (of_list (ptr_val d.at ∷ (hs ++ []))) ∷ []) handle by_pointer) good))))
+
+  -- It is made.
+  pub held_in : K → (p : Ptr) (h : Val) (a : Global) (o : Option Device)
+      → Step K 𝓛 (‵ (HeldRow.own_val (record { at = p; alloc = a; device = o }) (two_words (ptr_val p) h ∷ [])) ∷ Γ) G
+      (‵ (holds a p o) ∷ ‵ (HeapRow.own_val a (h ∷ [])) ∷ Γ) G
+  held_in k p h a o = step (λ rest.
+      let pointer = ptr_val p ∷ [] in
+      let words = two_words (ptr_val p) h ∷ [] in
+      nothing k $ move k (2 ∷ 0 ∷ []) $ fjoin k $ feq_i k (List Val) pointer pointer refl $ fjoin k $ feq_i k (List Val) words words refl $ fjoin k $
+      fpack k (Valss (RawPtr ∷ HeapRow ∷ [])) (within (shape held.the_type) (p, ((heap.the_field).into a, tt)) words) (pointer, (h ∷ [], tt)) $ fjoin k $ rest)

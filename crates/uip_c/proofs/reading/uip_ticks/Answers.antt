@@ -1,0 +1,5 @@
+use Rattle.std.proofs.Common.{sym}
+use Rattle.uip_c.proofs.reading.uip_ticks.Goals as goal
+
+pub returns-clause-fine : goal.returns-clause-fine
+returns-clause-fine c = λ fine. (c.in-Some.opened.value, sym c.in-Some.ensures.taken, rw c.deref.ensures at c.ticks-number.ensures)

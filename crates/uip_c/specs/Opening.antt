@@ -1,0 +1,26 @@
+-- What opening a handle comes to.
+use Rattle.std.specs.Prelude.{◌≡◌, ℕ, List, ◌++◌, replicate, take, Ok, Err}
+use Rattle.std.specs.declared.option.Option.{Option}
+use Rattle.site_image.specs.declared.site_error.SiteError.{SiteError}
+use Rattle.site_image.specs.declared.site_error.SiteWhy.{SiteWhy}
+use Rattle.site_image.specs.Faults.{read_image}
+use Rattle.site_image.specs.Files.{File}
+use Rattle.site_image.specs.Grammar.{IsImage}
+use Rattle.site_commands.specs.Report.{why_word}
+use Rattle.uip_device.specs.declared.device.Device.{Device}
+use Rattle.uip_c.specs.Handles.{OpensAs}
+
+-- the image stands for files by the grammar and is read as them, and a device was opened with them at this address
+pub record OpensFine (image own : List ℕ) (old new : Option Device) : Type 0 where
+  pub files : List File
+  pub read : read_image image ≡ Ok files
+  pub spelled : IsImage image files
+  pub opened : OpensAs files (record { 0 = own }) old new
+
+-- eight bytes: the word of a fault, and zeros behind it
+abbrev pub IsWordOf : SiteWhy → List ℕ → Type 0
+IsWordOf why word = word ≡ take 8 (why_word why ++ replicate 8 0)
+
+-- the entry and the word are those of the image's first fault
+abbrev pub TellsFault : List ℕ → ℕ → List ℕ → Type 0
+TellsFault image entry word = (error : SiteError) × (read_image image ≡ Err error) × (entry ≡ error.entry) × IsWordOf error.why word

@@ -1,0 +1,75 @@
+//! The calls over a link that carries datagrams.
+
+ghost use Rattle.std.specs.Prelude.{◌≡◌, ◌==◌, ◌||◌, ◌≤◌, ◌⊎◌, length, nat_le, nat_lt, take};
+ghost use Rattle.std.specs.declared.option.Option.TheVariants.{None};
+ghost use Rattle.slip_node.specs.DatagramCalls.{CallsSlot, HearsDatagram};
+ghost use Rattle.uip_device.specs.Devices.{AnswersDatagram};
+ghost use Rattle.uip_c.specs.Handles.{GoesOn};
+
+use crate::handle::{UipDevice, put_in, take_out};
+use crate::status::{BAD_CALL, FINE, NO_DEVICE, UipDone};
+use std::alloc::Global;
+use uip_wire::LARGEST_DATAGRAM;
+
+/// Takes a datagram of 1 to 1500 bytes that came over the link, and writes the datagram that is sent, if one is.
+#[unsafe(no_mangle)]
+pub extern "C" fn uip_hear_datagram(
+    alloc: Global,
+    device: &mut UipDevice,
+    datagram: &[u8],
+    out: &mut [u8],
+) -> UipDone
+    ensures known { (result.status ≡ FINE) ⊎ (result.status ≡ NO_DEVICE) ⊎ (result.status ≡ BAD_CALL) }
+    ensures fine { result.status ≡ FINE → GoesOn (λ d d'. AnswersDatagram (HearsDatagram datagram.now) d d' (take result.wrote out.new)) device.old.held.device device.new.held.device }
+    ensures whole { result.status ≡ FINE → result.taken ≡ length datagram.now }
+    ensures within { result.wrote ≤ length out.new }
+    ensures no_device { result.status ≡ NO_DEVICE → device.old.held.device ≡ None }
+    ensures bad_call { (result.status == BAD_CALL) ≡ ((length datagram.now == 0) || nat_lt LARGEST_DATAGRAM (length datagram.now) || nat_lt (length out.old) LARGEST_DATAGRAM) }
+    ensures refused { (result.status ≡ FINE → ⊥) → (result.taken ≡ 0) × (result.wrote ≡ 0) × (out.new ≡ out.old)
+        × (device.new.held.device ≡ device.old.held.device) }
+{
+    if datagram.is_empty() || datagram.len() > LARGEST_DATAGRAM || out.len() < LARGEST_DATAGRAM {
+        return UipDone::refused(BAD_CALL);
+    }
+    let Some(mut opened) = take_out(alloc, device) else {
+        return UipDone::refused(NO_DEVICE);
+    };
+    let wrote = opened.hear_datagram(datagram, out);
+    put_in(device, opened);
+    UipDone {
+        status: FINE,
+        taken: datagram.len(),
+        wrote,
+    }
+}
+
+/// The periodic call of a slot, as `uip_call`. Writes the datagram that is sent, if one is.
+#[unsafe(no_mangle)]
+pub extern "C" fn uip_call_datagram(
+    alloc: Global,
+    device: &mut UipDevice,
+    slot: usize,
+    out: &mut [u8],
+) -> UipDone
+    ensures known { (result.status ≡ FINE) ⊎ (result.status ≡ NO_DEVICE) ⊎ (result.status ≡ BAD_CALL) }
+    ensures fine { result.status ≡ FINE → GoesOn (λ d d'. AnswersDatagram (CallsSlot slot) d d' (take result.wrote out.new)) device.old.held.device device.new.held.device }
+    ensures within { (result.taken ≡ 0) × (result.wrote ≤ length out.new) }
+    ensures no_device { result.status ≡ NO_DEVICE → device.old.held.device ≡ None }
+    ensures bad_call { (result.status == BAD_CALL) ≡ (nat_le 10 slot || nat_lt (length out.old) LARGEST_DATAGRAM) }
+    ensures refused { (result.status ≡ FINE → ⊥) → (result.wrote ≡ 0) × (out.new ≡ out.old)
+        × (device.new.held.device ≡ device.old.held.device) }
+{
+    if slot >= 10 || out.len() < LARGEST_DATAGRAM {
+        return UipDone::refused(BAD_CALL);
+    }
+    let Some(mut opened) = take_out(alloc, device) else {
+        return UipDone::refused(NO_DEVICE);
+    };
+    let wrote = opened.call_datagram(slot, out);
+    put_in(device, opened);
+    UipDone {
+        status: FINE,
+        taken: 0,
+        wrote,
+    }
+}

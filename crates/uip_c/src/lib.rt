@@ -1,0 +1,22 @@
+//! The stack for programs in C: a device behind a handle that C keeps. `include/uip.h` says what each call wants and gives.
+#![tactic(auto)]
+
+mod calls;
+mod datagram_calls;
+mod handle;
+mod held;
+mod laws;
+mod opening;
+mod reading;
+mod status;
+#[cfg(test)]
+mod tests;
+
+pub use calls::{uip_call, uip_hear};
+pub use datagram_calls::{uip_call_datagram, uip_hear_datagram};
+pub use handle::UipDevice;
+pub use held::Held;
+pub use laws::{calls_from_c_are_told, datagram_calls_from_c_are_told, line_from_c_is_served};
+pub use opening::{UipOpened, uip_close, uip_open};
+pub use reading::{UipNumber, uip_counter, uip_ticks};
+pub use status::{BAD_CALL, BAD_SITE, FINE, HAS_DEVICE, NO_DEVICE, NO_MEMORY, UipDone};

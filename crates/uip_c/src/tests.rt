@@ -1,0 +1,146 @@
+use crate::calls::{uip_call, uip_hear};
+use crate::datagram_calls::{uip_call_datagram, uip_hear_datagram};
+use crate::handle::UipDevice;
+use crate::held::Held;
+use crate::opening::{UipOpened, uip_close, uip_open};
+use crate::reading::{uip_counter, uip_ticks};
+use crate::status::{BAD_CALL, BAD_SITE, FINE, HAS_DEVICE, NO_DEVICE, UipDone};
+use std::alloc::Global;
+use uip_device::LARGEST_TEXT;
+
+/// An image without files.
+const IMAGE: &[u8] = b"UIPSITE1\0\0";
+
+const OWN: &[u8; 4] = &[10, 0, 0, 1];
+
+/// An echo request from 10.0.0.2 (RFC 791, RFC 792), whose message ends with an END and an ESC.
+const REQUEST: &[u8; 30] = &[
+    69, 0, 0, 30, 0, 0, 0, 0, 64, 1, 102, 221, 10, 0, 0, 2, 10, 0, 0, 1, 8, 0, 55, 28, 0, 7, 0, 1,
+    192, 219,
+];
+
+/// The reply to it.
+const REPLY: &[u8; 30] = &[
+    69, 0, 0, 30, 0, 0, 0, 0, 64, 1, 102, 221, 10, 0, 0, 1, 10, 0, 0, 2, 0, 0, 63, 28, 0, 7, 0, 1,
+    192, 219,
+];
+
+/// The request on the line, and the reply (RFC 1055).
+const REQUEST_TEXT: &[u8; 34] = &[
+    192, 69, 0, 0, 30, 0, 0, 0, 0, 64, 1, 102, 221, 10, 0, 0, 2, 10, 0, 0, 1, 8, 0, 55, 28, 0, 7,
+    0, 1, 219, 220, 219, 221, 192,
+];
+
+const REPLY_TEXT: &[u8; 34] = &[
+    192, 69, 0, 0, 30, 0, 0, 0, 0, 64, 1, 102, 221, 10, 0, 0, 1, 10, 0, 0, 2, 0, 0, 63, 28, 0, 7,
+    0, 1, 219, 220, 219, 221, 192,
+];
+
+fn no_device(alloc: Global) -> UipDevice {
+    UipDevice {
+        is_open: 0,
+        held: Held::none(alloc),
+    }
+}
+
+/// A status alone.
+fn answer(status: u32) -> UipDone {
+    UipDone {
+        status,
+        taken: 0,
+        wrote: 0,
+    }
+}
+
+#[test]
+fn each_call_is_made_once(rt: HostRuntime) {
+    let alloc = rt.alloc();
+    let mut device = no_device(alloc);
+    let mut out = [0; LARGEST_TEXT];
+    assert_eq!(rt; uip_open(alloc, &mut device, IMAGE, OWN).status, FINE);
+    assert_eq!(rt; uip_open(alloc, &mut device, IMAGE, OWN).status, HAS_DEVICE);
+
+    let heard = uip_hear(alloc, &mut device, REQUEST_TEXT, &mut out);
+    let took = UipDone {
+        status: FINE,
+        taken: 34,
+        wrote: 34,
+    };
+    assert_eq!(rt; heard, took);
+    assert_eq!(rt; &out[..34], &REPLY_TEXT[..]);
+    assert_eq!(rt; uip_call(alloc, &mut device, 0, &mut out), answer(FINE));
+
+    let heard = uip_hear_datagram(alloc, &mut device, REQUEST, &mut out);
+    let took = UipDone {
+        status: FINE,
+        taken: 30,
+        wrote: 30,
+    };
+    assert_eq!(rt; heard, took);
+    assert_eq!(rt; &out[..30], &REPLY[..]);
+    assert_eq!(rt;
+        uip_call_datagram(alloc, &mut device, 9, &mut out),
+        answer(FINE)
+    );
+
+    // Datagrams taken in and sent, echo replies, ticks.
+    assert_eq!(rt; uip_counter(alloc, &mut device, 1).number, 2);
+    assert_eq!(rt; uip_counter(alloc, &mut device, 2).number, 2);
+    assert_eq!(rt; uip_counter(alloc, &mut device, 12).number, 2);
+    assert_eq!(rt; uip_ticks(alloc, &mut device).number, 1);
+    assert_eq!(rt; uip_close(alloc, &mut device), FINE);
+    assert_eq!(rt; uip_close(alloc, &mut device), NO_DEVICE);
+}
+
+#[test]
+fn a_call_without_a_device_says_so(rt: HostRuntime) {
+    let alloc = rt.alloc();
+    let mut device = no_device(alloc);
+    let mut out = [0; LARGEST_TEXT];
+    assert_eq!(rt;
+        uip_hear(alloc, &mut device, REQUEST_TEXT, &mut out),
+        answer(NO_DEVICE)
+    );
+    assert_eq!(rt;
+        uip_call(alloc, &mut device, 0, &mut out),
+        answer(NO_DEVICE)
+    );
+    assert_eq!(rt;
+        uip_hear_datagram(alloc, &mut device, REQUEST, &mut out),
+        answer(NO_DEVICE)
+    );
+    assert_eq!(rt;
+        uip_call_datagram(alloc, &mut device, 0, &mut out),
+        answer(NO_DEVICE)
+    );
+    assert_eq!(rt; uip_counter(alloc, &mut device, 20).status, NO_DEVICE);
+    assert_eq!(rt; uip_ticks(alloc, &mut device).status, NO_DEVICE);
+    assert_eq!(rt;
+        uip_call(alloc, &mut device, 10, &mut out),
+        answer(BAD_CALL)
+    );
+    assert_eq!(rt; uip_counter(alloc, &mut device, 0).status, BAD_CALL);
+}
+
+/// The first fault of an image, by its word and its entry.
+#[test]
+fn a_bad_image_is_told(rt: HostRuntime) {
+    let alloc = rt.alloc();
+    let mut device = no_device(alloc);
+    let magic = UipOpened {
+        status: BAD_SITE,
+        entry: 0,
+        word: *b"magic\0\0\0",
+    };
+    assert_eq!(rt; uip_open(alloc, &mut device, b"UIPSITE3\0\0", OWN), magic);
+    let cut = UipOpened {
+        status: BAD_SITE,
+        entry: 1,
+        word: *b"cut\0\0\0\0\0",
+    };
+    assert_eq!(rt;
+        uip_open(alloc, &mut device, b"UIPSITE1\0\x01\x02/", OWN),
+        cut
+    );
+    assert_eq!(rt; uip_close(alloc, &mut device), NO_DEVICE);
+}

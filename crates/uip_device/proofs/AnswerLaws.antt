@@ -1,0 +1,61 @@
+-- What calls in turn hand out.
+use Rattle.std.proofs.Common.{◌≡◌, ℕ, List, [], ◌∷◌, ◌++◌, map, refl, ap, ◌∙◌, subst}
+use Rattle.std.specs.List.{concat}
+use Rattle.site_image.specs.Files.{File}
+use Rattle.web_pages.specs.Serving.{is_served, no_hits}
+use Rattle.web_pages.specs.WebMeaning.{web_meaning}
+use Rattle.httpd.specs.contracts.httpd.HttpdApp.TheImpl.{ghosts}
+use Rattle.uip_edge.specs.declared.item.Item.{Item}
+use Rattle.uip_node.specs.Node.{AbstractNode, opening, run, step}
+use Rattle.uip_wire.specs.declared.addr.Addr.{Addr}
+use Rattle.serve_loop.specs.Running.{text_of}
+use Rattle.slip_node.specs.Calls.{Bring, Call, bytes_by, events_by, events_of}
+use Rattle.slip_node.specs.DatagramCalls.{DatagramCall, event_by_call}
+use Rattle.slip_node.specs.Telling.{Tells, datagram_for, datagrams_at}
+use Rattle.slip_node.proofs.CallLaws.{line_brought}
+use Rattle.slip_node.proofs.TellLaws.{tells_none, tells_then}
+use Rattle.uip_device.specs.declared.device.Device.{Device}
+use Rattle.uip_device.specs.Devices.{Answers, AnswersAll, AnswersAllDatagrams, AnswersDatagram, HasHeard, IsFresh, StandsFor}
+use Rattle.uip_device.specs.Output.{serial_output}
+
+-- what is handed out in turn is what is handed out for all that the calls bring
+tells_all : (before : List ℕ) (calls : List Call) (a c : Device) (texts : List (List ℕ)) → HasHeard before a → AnswersAll calls a c texts
+    → Tells ghosts (events_of before calls) a.node c.node (concat texts)
+tells_all before [] a c [] heard same =
+    subst (λ (d : Device). Tells ghosts (events_of before []) a.node d.node []) same (tells_none ghosts (events_of before []) a.node (λ own. refl))
+tells_all before [] a c (text ∷ texts) heard none = absurd none
+tells_all before (call ∷ calls) a c [] heard none = absurd none
+tells_all before (call ∷ calls) a c (text ∷ texts) heard more =
+    let b = more.0 in
+    let first : Answers call a b text = more.1 in
+    tells_then ghosts (events_by before call) (events_of (before ++ bytes_by call) calls) a.node b.node c.node text (concat texts) (first.tells before heard)
+    (tells_all (before ++ bytes_by call) calls b c texts (first.heard before heard) more.2)
+
+pub all_told : (files : List File) (own : Addr) (calls : List Call) (old new : Device) (texts : List (List ℕ)) → IsFresh files own old → AnswersAll calls old new texts
+    → concat texts ≡ text_of own (run (web_meaning files) is_served (events_of [] calls own) (opening own (no_hits files))).sent
+all_told files own calls old new texts fresh all =
+    ((tells_all [] calls old new texts fresh.heard all).each (web_meaning files) own (opening own (no_hits files)) fresh.stands).1
+
+pub line_served : (files : List File) (own : Addr) (pace : ℕ) (items : List Item) (calls : List Call) (old new : Device) (texts : List (List ℕ)) → IsFresh files own old → Bring pace items calls
+    → AnswersAll calls old new texts → concat texts ≡ serial_output files own pace items
+line_served files own pace items calls old new texts fresh bring all =
+    all_told files own calls old new texts fresh all
+    ∙ ap (λ l. text_of own (run (web_meaning files) is_served l (opening own (no_hits files))).sent) (line_brought own pace items calls bring)
+
+datagrams_from : (files : List File) (own : Addr) (calls : List DatagramCall) (a c : Device) (datagrams : List (List ℕ)) (n : AbstractNode) → StandsFor files own a n
+    → AnswersAllDatagrams calls a c datagrams → datagrams ≡ datagrams_at (web_meaning files) is_served own (map (λ call. event_by_call call own) calls) n
+datagrams_from files own [] a c [] n stands same = refl
+datagrams_from files own [] a c (datagram ∷ datagrams) n stands none = absurd none
+datagrams_from files own (call ∷ calls) a c [] n stands none = absurd none
+datagrams_from files own (call ∷ calls) a c (datagram ∷ datagrams) n stands more =
+    let m = web_meaning files in
+    let first : AnswersDatagram call a more.0 datagram = more.1 in
+    let at = first.each m own n stands in
+    let later = map (λ call. event_by_call call own) calls in
+    ap (λ d. d ∷ datagrams) at.1
+    ∙ ap (λ l. datagram_for own (step m is_served n (event_by_call call own)).sent ∷ l)
+    (datagrams_from files own calls more.0 c datagrams (step m is_served n (event_by_call call own)).node at.0 more.2)
+
+pub datagrams_told : (files : List File) (own : Addr) (calls : List DatagramCall) (old new : Device) (datagrams : List (List ℕ)) → IsFresh files own old → AnswersAllDatagrams calls old new datagrams
+    → datagrams ≡ datagrams_at (web_meaning files) is_served own (map (λ call. event_by_call call own) calls) (opening own (no_hits files))
+datagrams_told files own calls old new datagrams fresh all = datagrams_from files own calls old new datagrams (opening own (no_hits files)) fresh.stands all

@@ -1,0 +1,72 @@
+// Serves a serial line on standard input and output, as uipd does for the same words:
+//     uip_serve serve SITE ADDRESS [pace K] [tty]
+// With a pace each K-th byte makes a tick, and with tty each half second in which nothing comes.
+#include <fcntl.h>
+#include <poll.h>
+#include <stdio.h>
+#include <stdlib.h>
+#include <string.h>
+#include <unistd.h>
+#include "uip.h"
+
+static uip_device device;
+static unsigned char out[UIP_ROOM];
+
+static void stop(int status, const char *why) {
+    fprintf(stderr, "uip_serve: %s\n", why);
+    exit(status);
+}
+
+// Writes what a call handed out, and gives what it took.
+static uip_size handed_out(uip_done done) {
+    if (done.status != UIP_FINE) stop(3, "a call was refused");
+    for (uip_size at = 0; at < done.wrote;) {
+        ssize_t count = write(1, out + at, done.wrote - at);
+        if (count <= 0) stop(4, "a write failed");
+        at += (uip_size)count;
+    }
+    return done.taken;
+}
+
+static void tick(void) {
+    for (uip_size slot = 0; slot < UIP_SLOTS; slot++) handed_out(uip_call(&device, slot, out, sizeof out));
+}
+
+static void hear(const unsigned char *bytes, uip_size len) {
+    for (uip_size at = 0; at < len;) at += handed_out(uip_hear(&device, bytes + at, len - at, out, sizeof out));
+}
+
+// Opens the device with the site of a file at an address. The library keeps a copy of the image.
+static void open_site(const char *path, const char *address) {
+    static unsigned char image[1 << 20];
+    unsigned char own[4];
+    if (sscanf(address, "%hhu.%hhu.%hhu.%hhu", &own[0], &own[1], &own[2], &own[3]) != 4) stop(2, "no such address");
+    int file = open(path, O_RDONLY);
+    ssize_t len = file < 0 ? -1 : read(file, image, sizeof image);
+    if (len < 0) stop(3, "no such image");
+    uip_opened opened = uip_open(&device, image, (uip_size)len, own);
+    if (opened.status == UIP_BAD_SITE) fprintf(stderr, "bad site %s %u\n", opened.word, opened.entry);
+    if (opened.status != UIP_FINE) stop(3, "no device was opened");
+}
+
+int main(int argc, char **argv) {
+    if (argc < 4 || strcmp(argv[1], "serve")) stop(2, "serve SITE ADDRESS [pace K] [tty]");
+    open_site(argv[2], argv[3]);
+    uip_size pace = argc > 5 && !strcmp(argv[4], "pace") ? strtoull(argv[5], 0, 10) : 0, left = pace;
+    int is_tty = !strcmp(argv[argc - 1], "tty");
+    for (;;) {
+        static unsigned char bytes[4096];
+        struct pollfd line = {0, POLLIN, 0};
+        if (is_tty && poll(&line, 1, 500) == 0) { tick(); continue; }
+        ssize_t count = read(0, bytes, sizeof bytes);
+        if (is_tty && count == 0) { tick(); continue; }   // a terminal whose reads give up after half a second
+        if (count <= 0) break;
+        for (uip_size at = 0, len = (uip_size)count; at < len;) {
+            uip_size part = pace && left < len - at ? left : len - at;
+            hear(bytes + at, part);
+            at += part;
+            if (pace && (left -= part) == 0) { tick(); left = pace; }
+        }
+    }
+    return uip_close(&device) == UIP_FINE ? 0 : 3;
+}
