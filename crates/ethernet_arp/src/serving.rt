@@ -22,6 +22,7 @@ use uip_node::Node;
 
 /// Serves a line of Ethernet frames, each behind its length in two bytes, at the node and its host, up to so many items. At a
 /// pace above 0 every so many bytes make a tick, and each silence makes one. No call in it is given an allocator.
+#[inline(never)]
 pub fn serve_ether<A: App, L: Link, K: Sink>(
     node: &mut Node<A>,
     arp: &mut Arp,

@@ -24,6 +24,7 @@ const BLOCK: usize = 4096;
 
 /// Serves a serial line at the node, up to so many items. At a pace above 0 every so many bytes make a tick, and each silence
 /// makes one. No call in it is given an allocator.
+#[inline(never)]
 pub fn serve<A: App, L: Link, K: Sink>(
     node: &mut Node<A>,
     link: &mut L,

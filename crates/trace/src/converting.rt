@@ -8,6 +8,7 @@ use crate::telling::BLOCK;
 use uip_edge::{Link, Sink};
 
 /// Reads a capture file and writes its datagrams as a serial line, up to so many items.
+#[inline(never)]
 pub fn slip<L: Link, K: Sink>(link: &mut L, sink: &mut K, items: u64) -> SlipEnd
     ensures { Converts items
         (line_told L.Link K.Sink link.old sink.old)

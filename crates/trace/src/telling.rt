@@ -16,6 +16,7 @@ use uip_edge::{Link, ServeEnd, Sink};
 pub(crate) const BLOCK: usize = 4096;
 
 /// Writes a line of text for each frame of a serial line, up to so many items.
+#[inline(never)]
 pub fn dump<L: Link, K: Sink>(link: &mut L, sink: &mut K, items: u64) -> ServeEnd
     ensures { TellsLine dump_text items
         (line_told L.Link K.Sink link.old sink.old)
@@ -25,6 +26,7 @@ pub fn dump<L: Link, K: Sink>(link: &mut L, sink: &mut K, items: u64) -> ServeEn
 }
 
 /// Writes a capture file of the datagrams of a serial line, up to so many items.
+#[inline(never)]
 pub fn pcap<L: Link, K: Sink>(link: &mut L, sink: &mut K, items: u64) -> ServeEnd
     ensures { TellsLine capture_file items
         (line_told L.Link K.Sink link.old sink.old)

@@ -15,6 +15,7 @@ use uip_wire::{Addr, LARGEST_DATAGRAM};
 /// Asks a server for the addresses of names over a line, and tells what became of each name: its address, that it has none, the
 /// response code, that the server stayed silent, or that the name was open when the link ended or so many items were taken. The
 /// first name is asked under this id, and each further one under the next. No call in it is given an allocator.
+#[inline(never)]
 pub fn resolve<L: Link, K: Sink, T: Sink>(
     packet: &mut Packet,
     own: Addr,

@@ -13,4 +13,5 @@ mod writing;
 pub use decoder::Decoder;
 pub use encoding::{Encoder, encode, encoded_len, text_is_one_frame};
 pub use fed::{Fed, FedRun};
-pub use writing::text_into;
+pub use marks::END;
+pub use writing::{put_escaped, text_into};
