@@ -7,7 +7,7 @@ use Rattle.uip_wire.specs.Fields.{bytes_of}
 use Rattle.udp_datagram.proofs.Back.{reads_back}
 use Rattle.udp_datagram.specs.Udp.{udp_data}
 use Rattle.dns_message.specs.Messages.{query_message}
-use Rattle.dns_message.specs.Names.{is_label, is_label_byte, is_name, label_bytes, labels}
+use Rattle.dns_message.specs.Names.{is_label, is_label_byte, is_domain, label_bytes, labels}
 use Rattle.dns_message.specs.ReadBack.{IsAsked, QueriesAreReadBack, has_label_size}
 use Rattle.dns_message.specs.Replies.{query_datagram, way_there}
 
@@ -70,8 +70,8 @@ labels_sized (label ∷ rest) e =
     let p = both_true (is_label label) (list_all is_label rest) e in
     ap (λ b. b && list_all has_label_size rest) (label_sized label p.0) ∙ labels_sized rest p.1
 
-name_labels : (text : List ℕ) → is_name text ≡ true → list_all has_label_size (labels text) ≡ true
-unfolding is_name
+name_labels : (text : List ℕ) → is_domain text ≡ true → list_all has_label_size (labels text) ≡ true
+unfolding is_domain
 name_labels text e = labels_sized (labels text) (last_true (leb (length text) 64) (leb 2 (length (labels text))) (list_all is_label (labels text)) e)
 
 pub read_back : QueriesAreReadBack

@@ -4,7 +4,7 @@ use Rattle.std.proofs.Common.{◌≡◌, ℕ, List, [], ◌∷◌, Some, None, t
 use Rattle.uip_wire.specs.Checksum.{folded}
 use Rattle.uip_ipv4.specs.Head.{head_or_fate, numbered_head}
 use Rattle.udp_datagram.specs.Udp.{udp_data, udp_datagram}
-use Rattle.dns_message.specs.Names.{is_name}
+use Rattle.dns_message.specs.Names.{is_domain}
 use Rattle.dns_message.specs.Replies.{answer_to, query_datagram}
 use Rattle.dns_message.specs.declared.answer.Answer.TheVariants.{Address, Code, NoAddress}
 use Rattle.dns_message.specs.declared.asking.Asking.{Asking}
@@ -105,30 +105,30 @@ label_of_64 : answer_to asking asked (69 ∷ 0 ∷ 0 ∷ 65 ∷ 0 ∷ 1 ∷ 0 �
 unfolding answer_to udp_data head_or_fate folded
 label_of_64 = refl
 
-a_name : is_name (97 ∷ 46 ∷ 98 ∷ []) ≡ true
-unfolding is_name
+a_name : is_domain (97 ∷ 46 ∷ 98 ∷ []) ≡ true
+unfolding is_domain
 a_name = refl
 
-one_label : is_name (97 ∷ []) ≡ false
-unfolding is_name
+one_label : is_domain (97 ∷ []) ≡ false
+unfolding is_domain
 one_label = refl
 
-dot_at_end : is_name (97 ∷ 46 ∷ 98 ∷ 46 ∷ []) ≡ false
-unfolding is_name
+dot_at_end : is_domain (97 ∷ 46 ∷ 98 ∷ 46 ∷ []) ≡ false
+unfolding is_domain
 dot_at_end = refl
 
-empty_label : is_name (97 ∷ 46 ∷ 46 ∷ 98 ∷ []) ≡ false
-unfolding is_name
+empty_label : is_domain (97 ∷ 46 ∷ 46 ∷ 98 ∷ []) ≡ false
+unfolding is_domain
 empty_label = refl
 
-other_byte : is_name (97 ∷ 32 ∷ 98 ∷ 46 ∷ 99 ∷ []) ≡ false
-unfolding is_name
+other_byte : is_domain (97 ∷ 32 ∷ 98 ∷ 46 ∷ 99 ∷ []) ≡ false
+unfolding is_domain
 other_byte = refl
 
-longest : is_name (97 ∷ 97 ∷ 97 ∷ 97 ∷ 97 ∷ 97 ∷ 97 ∷ 97 ∷ 97 ∷ 97 ∷ 97 ∷ 97 ∷ 97 ∷ 97 ∷ 97 ∷ 97 ∷ 97 ∷ 97 ∷ 97 ∷ 97 ∷ 97 ∷ 97 ∷ 97 ∷ 97 ∷ 97 ∷ 97 ∷ 97 ∷ 97 ∷ 97 ∷ 97 ∷ 97 ∷ 97 ∷ 97 ∷ 97 ∷ 97 ∷ 97 ∷ 97 ∷ 97 ∷ 97 ∷ 97 ∷ 97 ∷ 97 ∷ 97 ∷ 97 ∷ 97 ∷ 97 ∷ 97 ∷ 97 ∷ 97 ∷ 97 ∷ 97 ∷ 97 ∷ 97 ∷ 97 ∷ 97 ∷ 97 ∷ 97 ∷ 97 ∷ 97 ∷ 97 ∷ 97 ∷ 97 ∷ 46 ∷ 98 ∷ []) ≡ true
-unfolding is_name
+longest : is_domain (97 ∷ 97 ∷ 97 ∷ 97 ∷ 97 ∷ 97 ∷ 97 ∷ 97 ∷ 97 ∷ 97 ∷ 97 ∷ 97 ∷ 97 ∷ 97 ∷ 97 ∷ 97 ∷ 97 ∷ 97 ∷ 97 ∷ 97 ∷ 97 ∷ 97 ∷ 97 ∷ 97 ∷ 97 ∷ 97 ∷ 97 ∷ 97 ∷ 97 ∷ 97 ∷ 97 ∷ 97 ∷ 97 ∷ 97 ∷ 97 ∷ 97 ∷ 97 ∷ 97 ∷ 97 ∷ 97 ∷ 97 ∷ 97 ∷ 97 ∷ 97 ∷ 97 ∷ 97 ∷ 97 ∷ 97 ∷ 97 ∷ 97 ∷ 97 ∷ 97 ∷ 97 ∷ 97 ∷ 97 ∷ 97 ∷ 97 ∷ 97 ∷ 97 ∷ 97 ∷ 97 ∷ 97 ∷ 46 ∷ 98 ∷ []) ≡ true
+unfolding is_domain
 longest = refl
 
-one_byte_more : is_name (97 ∷ 97 ∷ 97 ∷ 97 ∷ 97 ∷ 97 ∷ 97 ∷ 97 ∷ 97 ∷ 97 ∷ 97 ∷ 97 ∷ 97 ∷ 97 ∷ 97 ∷ 97 ∷ 97 ∷ 97 ∷ 97 ∷ 97 ∷ 97 ∷ 97 ∷ 97 ∷ 97 ∷ 97 ∷ 97 ∷ 97 ∷ 97 ∷ 97 ∷ 97 ∷ 97 ∷ 97 ∷ 97 ∷ 97 ∷ 97 ∷ 97 ∷ 97 ∷ 97 ∷ 97 ∷ 97 ∷ 97 ∷ 97 ∷ 97 ∷ 97 ∷ 97 ∷ 97 ∷ 97 ∷ 97 ∷ 97 ∷ 97 ∷ 97 ∷ 97 ∷ 97 ∷ 97 ∷ 97 ∷ 97 ∷ 97 ∷ 97 ∷ 97 ∷ 97 ∷ 97 ∷ 97 ∷ 97 ∷ 46 ∷ 98 ∷ []) ≡ false
-unfolding is_name
+one_byte_more : is_domain (97 ∷ 97 ∷ 97 ∷ 97 ∷ 97 ∷ 97 ∷ 97 ∷ 97 ∷ 97 ∷ 97 ∷ 97 ∷ 97 ∷ 97 ∷ 97 ∷ 97 ∷ 97 ∷ 97 ∷ 97 ∷ 97 ∷ 97 ∷ 97 ∷ 97 ∷ 97 ∷ 97 ∷ 97 ∷ 97 ∷ 97 ∷ 97 ∷ 97 ∷ 97 ∷ 97 ∷ 97 ∷ 97 ∷ 97 ∷ 97 ∷ 97 ∷ 97 ∷ 97 ∷ 97 ∷ 97 ∷ 97 ∷ 97 ∷ 97 ∷ 97 ∷ 97 ∷ 97 ∷ 97 ∷ 97 ∷ 97 ∷ 97 ∷ 97 ∷ 97 ∷ 97 ∷ 97 ∷ 97 ∷ 97 ∷ 97 ∷ 97 ∷ 97 ∷ 97 ∷ 97 ∷ 97 ∷ 97 ∷ 46 ∷ 98 ∷ []) ≡ false
+unfolding is_domain
 one_byte_more = refl

@@ -15,8 +15,8 @@ abbrev pub is_label : List ℕ → Bool
 is_label label = nat_le 1 (length label) && nat_le (length label) 63 && list_all is_label_byte label
 
 -- a name that is asked for: at most 64 bytes, and two or more labels
-unfoldable pub is_name : List ℕ → Bool
-is_name text = nat_le (length text) 64 && nat_le 2 (length (labels text)) && list_all is_label (labels text)
+unfoldable pub is_domain : List ℕ → Bool
+is_domain text = nat_le (length text) 64 && nat_le 2 (length (labels text)) && list_all is_label (labels text)
 
 -- a label in a message: its length and its bytes
 abbrev pub label_bytes : List ℕ → List ℕ

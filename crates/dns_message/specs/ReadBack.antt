@@ -4,7 +4,7 @@ use Rattle.std.specs.List.{AllByRecursion, flat_map, join_with_byte, list_all}
 use Rattle.uip_wire.specs.Fields.{word_at, bytes_of}
 use Rattle.udp_datagram.specs.Udp.{udp_data}
 use Rattle.dns_message.specs.Messages.{query_message}
-use Rattle.dns_message.specs.Names.{is_name, label_bytes}
+use Rattle.dns_message.specs.Names.{is_domain, label_bytes}
 use Rattle.dns_message.specs.Records.{Record, records}
 use Rattle.dns_message.specs.Replies.{query_datagram, way_there}
 use Rattle.dns_message.specs.declared.asking.Asking.{Asking}
@@ -26,7 +26,7 @@ pub record IsAsked (asking : Asking) (text : List ℕ) (ident : ℕ) : Type 0 wh
       → (join_with_byte 46 list ≡ text) × (rest ≡ bytes_of (1 ∷ 1 ∷ []))
 
 abbrev pub QueriesAreReadBack : Type 0
-QueriesAreReadBack = (asking : Asking) (text : List ℕ) (ident : ℕ) → is_name text ≡ true
+QueriesAreReadBack = (asking : Asking) (text : List ℕ) (ident : ℕ) → is_domain text ≡ true
     → length asking.own.0 ≡ 4 → length asking.server.0 ≡ 4 → IsAsked asking text ident
 
 -- a record as bytes spell it: the labels of its owner and what ends them, the ten bytes of its type, class, time to live and

@@ -59,5 +59,5 @@ abbrev pub answer_of_records : ℕ → List ℕ → Option Answer
 answer_of_records n bytes = answer_by (find is_address (records n bytes)) (length (records n bytes) == n)
 
 -- a record as the code reads it
-abbrev pub plain : Read → Record
-plain r = record { kind = r.kind; class = r.class; content = r.content.now }
+abbrev pub plain_record : Read → Record
+plain_record r = record { kind = r.kind; class = r.class; content = r.content.now }

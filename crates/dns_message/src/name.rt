@@ -1,6 +1,6 @@
 ghost use Rattle.std.specs.Prelude.{◌≡◌, ◌≤◌, [], None, Some, true, if◌then◌else◌, length, nat_le};
 ghost use Rattle.std.specs.List.{list_all};
-ghost use Rattle.dns_message.specs.Names.{is_label, is_label_byte, is_name, labels};
+ghost use Rattle.dns_message.specs.Names.{is_label, is_label_byte, is_domain, labels};
 
 use arrayvec::ArrayVec;
 use memchr::memchr;
@@ -38,7 +38,7 @@ impl Name {
     /// The name that a text spells: at most 64 bytes, and two or more labels parted by dots, each of 1 to 63 letters, digits,
     /// `-` or `_`.
     pub fn parse(text: &[u8]) -> Option<Name>
-        ensures { result ≡ if is_name text.now then Some text.now else None }
+        ensures { result ≡ if is_domain text.now then Some text.now else None }
     {
         if !is_name(text) {
             return None;
@@ -52,7 +52,7 @@ impl Name {
 /// Whether a text has the form of a name.
 #[tactic(auto, unfolding(crate::specs::Names::is_name))]
 fn is_name(text: &[u8]) -> bool
-    ensures exact { result ≡ is_name text.now }
+    ensures exact { result ≡ is_domain text.now }
     ensures short { result ≡ true → length text.now ≤ LONGEST_NAME }
 {
     text.len() <= LONGEST_NAME && has_dot(text) && has_labels(text)

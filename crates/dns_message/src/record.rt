@@ -1,6 +1,6 @@
 ghost use Rattle.std.specs.Prelude.{◌≡◌, None, if◌then◌else◌, nat_lt, option_map};
 ghost use Rattle.dns_message.specs.Names.{behind_name, behind_pointer};
-ghost use Rattle.dns_message.specs.Records.{address_in, answer_of_records, first_record, is_address, plain, record_behind};
+ghost use Rattle.dns_message.specs.Records.{address_in, answer_of_records, first_record, is_address, plain_record, record_behind};
 
 use crate::answer::Answer;
 use uip_wire::{Addr, get16};
@@ -31,7 +31,7 @@ pub(crate) fn answer_of_records(count: u16, bytes: &[u8]) -> Option<Answer>
 
 /// The Internet address that a record gives, if it gives one.
 fn address_in(found: Record<'_>) -> Option<Addr>
-    ensures { option_map (λ a. a.0) result ≡ address_in (plain found.entry) }
+    ensures { option_map (λ a. a.0) result ≡ address_in (plain_record found.entry) }
 {
     if found.kind == 1 && found.class == 1 && found.content.len() == 4 {
         Some(Addr::get(found.content, 0))
@@ -42,14 +42,14 @@ fn address_in(found: Record<'_>) -> Option<Addr>
 
 /// The record at the front, and what stands behind it.
 fn first_record(bytes: &[u8]) -> Option<(Record<'_>, &[u8])>
-    ensures { option_map (λ p. (plain p.0, p.1.now)) result ≡ first_record bytes.now }
+    ensures { option_map (λ p. (plain_record p.0, p.1.now)) result ≡ first_record bytes.now }
 {
     record_behind(behind_name(bytes)?)
 }
 
 /// The record whose owner stood before these bytes, and what stands behind it.
 fn record_behind(bytes: &[u8]) -> Option<(Record<'_>, &[u8])>
-    ensures { option_map (λ p. (plain p.0, p.1.now)) result ≡ record_behind bytes.now }
+    ensures { option_map (λ p. (plain_record p.0, p.1.now)) result ≡ record_behind bytes.now }
 {
     if bytes.len() < 10 {
         return None;

@@ -3,7 +3,7 @@ use Rattle.std.proofs.Common.{◌≡◌, ℕ, ◌+◌, ◌/◌, ◌%◌, ◌<◌
 use Rattle.std.proofs.lemmas.List.{drop-drop, drop-take, drop_all, length-take-le}
 use Rattle.std.proofs.Math.Seq.{take-append-add, take-append_seam}
 use Rattle.uip_wire.specs.Fields.{word_bytes, written}
-use Rattle.ethernet_arp.specs.Frames.{arp_begin, frame_of, framed}
+use Rattle.ethernet_arp.specs.Frames.{arp_begin, frame_with, framed}
 use Rattle.ethernet_arp.specs.Wrapping.{Puts}
 
 -- the elements of a list, one by one
@@ -64,14 +64,14 @@ module _ (to from datagram : List ℕ) (a : length to ≡ 6) (b : length from �
   head_size : length head ≡ 14
   head_size = omega (arith, length-append to from, length-append (to ++ from) (word_bytes 2048), a, b)
 
-  frame_size : 14 + length datagram ≡ length (frame_of to from 2048 datagram)
+  frame_size : 14 + length datagram ≡ length (frame_with to from 2048 datagram)
   frame_size = omega (arith, length-append head datagram, head_size)
 
   none_more : 0 + length datagram ≡ length datagram
   none_more = omega arith
 
   pub frame_is : (out front rest : List ℕ) → front ≡ head → rest ≡ written (drop 14 out) 0 datagram
-      → Puts (frame_of to from 2048 datagram) (14 + length datagram) out (front ++ rest)
+      → Puts (frame_with to from 2048 datagram) (14 + length datagram) out (front ++ rest)
   frame_is out front rest e f = record {
     size = frame_size;
     there =

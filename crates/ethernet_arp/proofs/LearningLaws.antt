@@ -3,7 +3,7 @@ use Rattle.std.proofs.Common.{◌≡◌, ℕ, ◌+◌, ◌||◌, Bool, true, fal
 use Rattle.std.specs.Prelude.{⊤}
 use Rattle.std.specs.Str.{bytes_eq}
 use Rattle.std.proofs.lemmas.Slice.Eq.{bytes_eq-Decides}
-use Rattle.ethernet_arp.specs.Learning.{Act, Asked, Learning, Pair, Replied, Ticked, addresses_of, among, last_learning, later_or, learning_by, taught, ticks_of, with_one}
+use Rattle.ethernet_arp.specs.Learning.{Act, Asked, Learning, Pair, Replied, Ticked, addresses_of, among, last_learning, later_or, learning_by, taught, ticks_in, with_one}
 
 -- bytes that are equal
 pub is_same : (xs ys : List ℕ) → bytes_eq xs ys ≡ true → xs ≡ ys
@@ -58,18 +58,18 @@ last-more addr (x ∷ acts) act =
     ∙ later_more new old first act
 
 -- ticks behind one more act
-pub ticks-tick : (acts : List Act) → ticks_of (acts ++ Ticked ∷ []) ≡ ticks_of acts + 1
+pub ticks-tick : (acts : List Act) → ticks_in (acts ++ Ticked ∷ []) ≡ ticks_in acts + 1
 ticks-tick [] = refl
 ticks-tick (Ticked ∷ acts) = ap (λ n. n + 1) (ticks-tick acts)
 ticks-tick (Asked pair ∷ acts) = ticks-tick acts
 ticks-tick (Replied pair ∷ acts) = ticks-tick acts
 
-ticks_none : (act : Act) (pair : Pair) → taught act ≡ Some pair → ticks_of (act ∷ []) ≡ 0
+ticks_none : (act : Act) (pair : Pair) → taught act ≡ Some pair → ticks_in (act ∷ []) ≡ 0
 ticks_none (Asked p) pair e = refl
 ticks_none (Replied p) pair e = refl
 ticks_none Ticked pair e = absurd (cc e)
 
-pub ticks-learnt : (acts : List Act) (act : Act) (pair : Pair) → taught act ≡ Some pair → ticks_of (acts ++ act ∷ []) ≡ ticks_of acts
+pub ticks-learnt : (acts : List Act) (act : Act) (pair : Pair) → taught act ≡ Some pair → ticks_in (acts ++ act ∷ []) ≡ ticks_in acts
 ticks-learnt [] act pair e = ticks_none act pair e
 ticks-learnt (Ticked ∷ acts) act pair e = ap (λ n. n + 1) (ticks-learnt acts act pair e)
 ticks-learnt (Asked p ∷ acts) act pair e = ticks-learnt acts act pair e

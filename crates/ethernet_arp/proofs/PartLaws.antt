@@ -5,7 +5,7 @@ use Rattle.std.proofs.lemmas.Bool.{leb-false, leb-true, ltb-false, ltb-true}
 use Rattle.std.proofs.lemmas.List.{length-take-le, take-append-le, take_all}
 use Rattle.uip_wire.specs.Fields.{written}
 use Rattle.line_medium.specs.Ways.{all_brought}
-use Rattle.ethernet_arp.specs.EtherWay.{closes, ether_way, is_taken, is_whole, open_from}
+use Rattle.ethernet_arp.specs.EtherWay.{closed_by, ether_way, is_taken, is_whole, open_from}
 use Rattle.ethernet_arp.specs.Frames.{Host, frame_brings}
 use Rattle.ethernet_arp.specs.Parts.{Holds, InFrame, TakesIn, brought_from, whole_brings}
 use Rattle.ethernet_arp.specs.declared.frame_part.FramePart.{FramePart}
@@ -19,12 +19,12 @@ pub brought_is : (k : Host) (before bytes : List ℕ) → all_brought (ether_way
 brought_is k before [] = refl
 brought_is k before (b ∷ bytes) =
     let part = open_from [] before in
-    ap (λ l. closes k (part ++ b ∷ []) ++ l)
+    ap (λ l. closed_by k (part ++ b ∷ []) ++ l)
     (brought_is k (before ++ b ∷ []) bytes ∙ ap (λ l. brought_from k l bytes) (open-append [] before (b ∷ [])))
 
 -- a part that is not whole yet
 module _ (k : Host) where
-  not_whole : (part : List ℕ) → is_whole part ≡ false → closes k part ≡ []
+  not_whole : (part : List ℕ) → is_whole part ≡ false → closed_by k part ≡ []
   not_whole part e = ap (λ v. if v && is_taken (drop 2 part) then frame_brings k (drop 2 part) else []) e
 
   open_one : (part : List ℕ) (b : ℕ) → is_whole (part ++ b ∷ []) ≡ false → open_from part (b ∷ []) ≡ part ++ b ∷ []
@@ -45,7 +45,7 @@ module _ (k : Host) where
   second_open high low some = open_one (high ∷ []) low (is_long high low [] some)
 
   pub second_brings : (high low : ℕ) → 0 < 256 * high + low → brought_from k (high ∷ []) (low ∷ []) ≡ []
-  second_brings high low some = append-nil (closes k (high ∷ low ∷ [])) ∙ not_whole (high ∷ low ∷ []) (is_long high low [] some)
+  second_brings high low some = append-nil (closed_by k (high ∷ low ∷ [])) ∙ not_whole (high ∷ low ∷ []) (is_long high low [] some)
 
   -- and of an empty one
   empty_whole : (high low : ℕ) → 256 * high + low ≡ 0 → is_whole (high ∷ low ∷ []) ≡ true
@@ -56,7 +56,7 @@ module _ (k : Host) where
 
   pub empty_brings : (high low : ℕ) → brought_from k (high ∷ []) (low ∷ []) ≡ []
   empty_brings high low =
-      append-nil (closes k (high ∷ low ∷ [])) ∙ never (is_whole (high ∷ low ∷ []))
+      append-nil (closed_by k (high ∷ low ∷ [])) ∙ never (is_whole (high ∷ low ∷ []))
     where
       never : (v : Bool) → (if v && false then frame_brings k [] else []) ≡ []
       never true = refl
@@ -100,7 +100,7 @@ module _ (k : Host) where
       → brought_from k (high ∷ low ∷ frame) run ≡ (if is_taken (frame ++ run) then frame_brings k (frame ++ run) else [])
   frame_brought high low frame [] some h = absurd (omega arith)
   frame_brought high low frame (b ∷ []) some h =
-      append-nil (closes k (high ∷ low ∷ (frame ++ b ∷ [])))
+      append-nil (closed_by k (high ∷ low ∷ (frame ++ b ∷ [])))
       ∙ ap (λ v. if v && is_taken (frame ++ b ∷ []) then frame_brings k (frame ++ b ∷ []) else [])
       (now_whole high low (frame ++ b ∷ []) (omega (arith, h, length-append frame (b ∷ []))))
   frame_brought high low frame (b ∷ c ∷ run) some h =

@@ -16,10 +16,10 @@ use Rattle.line_medium.specs.Ways.{Came, Datagram, Overlong, Own}
 use Rattle.serve_loop.specs.DeedRuns.{Deed, Does, Happens, Station, after_deed, said, said_at, text_behind}
 use Rattle.serve_loop.specs.LineDeeds.{beat_on, deed_by, deeds_behind, line_deeds, tick_on}
 use Rattle.serve_loop.specs.Pace.{is_beat}
-use Rattle.ethernet_arp.specs.EtherWay.{closes, ether_text, ether_way, is_taken, is_whole, open_from}
-use Rattle.ethernet_arp.specs.Frames.{Host, arp_brings, arp_packet, broadcast, frame_brings, frame_of, frame_to, framed, is_arp, is_arp_for, is_datagram, is_sendable, mac_at, no_mac, payload_brings, reply_to, request_for, sender_of, wrapped}
+use Rattle.ethernet_arp.specs.EtherWay.{closed_by, ether_text, ether_way, is_taken, is_whole, open_from}
+use Rattle.ethernet_arp.specs.Frames.{Host, arp_brings, arp_packet, broadcast, frame_brings, frame_with, frame_to, framed, is_arp, is_arp_for, is_datagram, is_sendable, mac_at, no_mac, payload_brings, arp_reply, arp_request, sender_of, wrapped}
 use Rattle.ethernet_arp.specs.Learning.{Act, Asked, Learning, Pair, Replied, Ticked, is_fresh, known, last_learning, later_or, learning_by, mac_of, taught}
-use Rattle.ethernet_arp.specs.Sending.{AllGoHome, GoesHome, frames_from, target_of}
+use Rattle.ethernet_arp.specs.Sending.{AllGoHome, GoesHome, frames_from, target_in}
 use Rattle.ethernet_arp.proofs.Bytes.{elements6, six}
 
 -- addresses of four bytes, and hardware addresses of six
@@ -93,20 +93,20 @@ known_last (Some l) mac e =
 
 -- the parts of a frame
 module _ (to from payload : List ℕ) (kind : ℕ) (a : length to ≡ 6) (b : length from ≡ 6) where
-  kind_of : word_at (frame_of to from kind payload) 12 ≡ 256 * (kind / 256) + kind % 256
+  kind_of : word_at (frame_with to from kind payload) 12 ≡ 256 * (kind / 256) + kind % 256
   kind_of =
-      subst (λ (l : List ℕ). word_at (frame_of l from kind payload) 12 ≡ 256 * (kind / 256) + kind % 256) (six to a)
-      (subst (λ (l : List ℕ). word_at (frame_of (elements6 to) l kind payload) 12 ≡ 256 * (kind / 256) + kind % 256) (six from b) refl)
+      subst (λ (l : List ℕ). word_at (frame_with l from kind payload) 12 ≡ 256 * (kind / 256) + kind % 256) (six to a)
+      (subst (λ (l : List ℕ). word_at (frame_with (elements6 to) l kind payload) 12 ≡ 256 * (kind / 256) + kind % 256) (six from b) refl)
 
-  to_of : mac_at (frame_of to from kind payload) 0 ≡ to
-  to_of = subst (λ (l : List ℕ). mac_at (frame_of l from kind payload) 0 ≡ l) (six to a) refl
+  to_of : mac_at (frame_with to from kind payload) 0 ≡ to
+  to_of = subst (λ (l : List ℕ). mac_at (frame_with l from kind payload) 0 ≡ l) (six to a) refl
 
-  payload_of : drop 14 (frame_of to from kind payload) ≡ payload
+  payload_of : drop 14 (frame_with to from kind payload) ≡ payload
   payload_of =
-      subst (λ (l : List ℕ). drop 14 (frame_of l from kind payload) ≡ payload) (six to a)
-      (subst (λ (l : List ℕ). drop 14 (frame_of (elements6 to) l kind payload) ≡ payload) (six from b) refl)
+      subst (λ (l : List ℕ). drop 14 (frame_with l from kind payload) ≡ payload) (six to a)
+      (subst (λ (l : List ℕ). drop 14 (frame_with (elements6 to) l kind payload) ≡ payload) (six from b) refl)
 
-  size_of : length (frame_of to from kind payload) ≡ 14 + length payload
+  size_of : length (frame_with to from kind payload) ≡ 14 + length payload
   size_of =
       omega (arith, length-append to from, length-append (to ++ from) (word_bytes kind), length-append (to ++ from ++ word_bytes kind) payload, a, b)
 
@@ -140,7 +140,7 @@ pub record IsFrame (acts : List Act) (text frame : List ℕ) : Type 0 where
   pub is : text ≡ framed frame
   pub some : 0 < length frame
   pub most : length frame < 65536
-  pub home : is_datagram (word_at frame 12) ≡ true → (l : Learning) × (last_learning (target_of frame) acts ≡ Some l) × (mac_at frame 0 ≡ l.mac)
+  pub home : is_datagram (word_at frame 12) ≡ true → (l : Learning) × (last_learning (target_in frame) acts ≡ Some l) × (mac_at frame 0 ≡ l.mac)
 
 abbrev Says : List Act → List ℕ → Type 0
 Says acts text = (text ≡ []) ⊎ ((frame : List ℕ) × IsFrame acts text frame)
@@ -164,7 +164,7 @@ module _ (k : Host) (mac6 : length k.mac ≡ 6) (addr4 : length k.addr ≡ 4) wh
 
   -- a frame of ARP carries no datagram
   arp_says : (acts : List Act) (to : List ℕ) (operation : ℕ) (mac target : List ℕ) → length to ≡ 6 → length mac ≡ 6 → length target ≡ 4
-      → IsFrame acts (framed (frame_of to k.mac 2054 (arp_packet operation k.mac k.addr mac target))) (frame_of to k.mac 2054 (arp_packet operation k.mac k.addr mac target))
+      → IsFrame acts (framed (frame_with to k.mac 2054 (arp_packet operation k.mac k.addr mac target))) (frame_with to k.mac 2054 (arp_packet operation k.mac k.addr mac target))
   arp_says acts to operation mac target a b c =
       let packet = arp_packet operation k.mac k.addr mac target in
       let size = size_of to k.mac packet 2054 a mac6 in
@@ -180,7 +180,7 @@ module _ (k : Host) (mac6 : length k.mac ≡ 6) (addr4 : length k.addr ≡ 4) wh
 
   -- a datagram's frame goes home
   datagram_says : (acts : List Act) (d mac : List ℕ) → AllSound acts → length d < 65000 → known acts (address_at d 16) ≡ Some mac
-      → IsFrame acts (framed (frame_of mac k.mac 2048 d)) (frame_of mac k.mac 2048 d)
+      → IsFrame acts (framed (frame_with mac k.mac 2048 d)) (frame_with mac k.mac 2048 d)
   datagram_says acts d mac sound most e =
       let it = known_last (last_learning (address_at d 16) acts) mac e in
       let six : length mac ≡ 6 = ap (λ l. length l) (sym it.2) ∙ last_six (address_at d 16) acts it.0 sound it.1 in
@@ -198,8 +198,8 @@ module _ (k : Host) (mac6 : length k.mac ≡ 6) (addr4 : length k.addr ≡ 4) wh
 
   wrapped_says : (acts : List Act) (d : List ℕ) (o : Option (List ℕ)) → AllSound acts → length d < 65000 → known acts (address_at d 16) ≡ o
       → Says acts (framed (frame_to k (address_at d 16) o d))
-  wrapped_says acts d None sound most e = inr (request_for k (address_at d 16), arp_says acts broadcast 1 no_mac (address_at d 16) refl refl refl)
-  wrapped_says acts d (Some mac) sound most e = inr (frame_of mac k.mac 2048 d, datagram_says acts d mac sound most e)
+  wrapped_says acts d None sound most e = inr (arp_request k (address_at d 16), arp_says acts broadcast 1 no_mac (address_at d 16) refl refl refl)
+  wrapped_says acts d (Some mac) sound most e = inr (frame_with mac k.mac 2048 d, datagram_says acts d mac sound most e)
 
   text_says : (acts : List Act) (d : List ℕ) → AllSound acts → Says acts (ether_text k acts d)
   text_says acts d sound =
@@ -217,7 +217,7 @@ module _ (k : Host) (mac6 : length k.mac ≡ 6) (addr4 : length k.addr ≡ 4) wh
   reply_says acts own (Some reply) sound = text_says acts (reply_bytes own reply) sound
 
   deed_says : (m : Meaning) (served : ℕ → Bool) (own : Addr) (s : Station Act) (d : Deed Act) → AllSound s.acts → IsDeedSound d → Says s.acts (said_at m served (ether_way k) own s d)
-  deed_says m served own s (Does (Asked pair)) sound h = inr (reply_to k pair, arp_says s.acts pair.mac 2 pair.mac pair.addr h.1 h.1 h.0)
+  deed_says m served own s (Does (Asked pair)) sound h = inr (arp_reply k pair, arp_says s.acts pair.mac 2 pair.mac pair.addr h.1 h.1 h.0)
   deed_says m served own s (Does (Replied pair)) sound h = inl refl
   deed_says m served own s (Does Ticked) sound h = inl refl
   deed_says m served own s (Happens e) sound h = reply_says s.acts own (step m served s.node e).sent sound
@@ -241,7 +241,7 @@ module _ (k : Host) (mac6 : length k.mac ≡ 6) (addr4 : length k.addr ≡ 4) wh
           later = d ∷ deeds;
           front = refl;
           learning = it.0;
-          last = ap (λ l. last_learning (target_of l) s.acts) (sym same) ∙ it.1;
+          last = ap (λ l. last_learning (target_in l) s.acts) (sym same) ∙ it.1;
           to = ap (λ l. mac_at l 0) (sym same) ∙ it.2;
         }
     this_or_later d deeds s f frame (suc i) h more at e = later_home d deeds s frame (more i frame at e)
@@ -302,7 +302,7 @@ module _ (k : Host) where
           if_sound (word_at packet 6 == 1) (Own (Asked (sender_of packet)) ∷ []) _ ((refl, refl), tt)
           (if_sound (word_at packet 6 == 2) (Own (Replied (sender_of packet)) ∷ []) [] ((refl, refl), tt) tt)
 
-  closes_sound : (part : List ℕ) → IsCameSound (closes k part)
+  closes_sound : (part : List ℕ) → IsCameSound (closed_by k part)
   closes_sound part = if_sound (is_whole part && is_taken (drop 2 part)) (frame_brings k (drop 2 part)) [] (frame_sound (drop 2 part)) tt
 
   tick_sound : AllDeeds (tick_on (ether_way k))
@@ -318,10 +318,10 @@ module _ (k : Host) where
   line_sound : (own : Addr) (pace : ℕ) (before : List ℕ) (items : List Item) → AllDeeds (deeds_behind (ether_way k) own pace before items)
   line_sound own pace before [] = tt
   line_sound own pace before (Byte b ∷ items) =
-      let this = map (deed_by own) (closes k (open_from [] before ++ b ∷ [])) in
+      let this = map (deed_by own) (closed_by k (open_from [] before ++ b ∷ [])) in
       let beat = beat_on (ether_way k) pace (length before + 1) in
       all_deeds (this ++ beat) (deeds_behind (ether_way k) own pace (before ++ b ∷ []) items)
-      (all_deeds this beat (came_sound own (closes k (open_from [] before ++ b ∷ [])) (closes_sound (open_from [] before ++ b ∷ []))) (beat_sound pace (length before + 1)))
+      (all_deeds this beat (came_sound own (closed_by k (open_from [] before ++ b ∷ [])) (closes_sound (open_from [] before ++ b ∷ []))) (beat_sound pace (length before + 1)))
       (line_sound own pace (before ++ b ∷ []) items)
   line_sound own pace before (Quiet ∷ items) = all_deeds (tick_on (ether_way k)) (deeds_behind (ether_way k) own pace before items) tick_sound (line_sound own pace before items)
 

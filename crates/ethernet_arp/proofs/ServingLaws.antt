@@ -8,23 +8,23 @@ use Rattle.uip_wire.specs.declared.addr.Addr.{Addr}
 use Rattle.uip_node.specs.declared.node.Node.{Node}
 use Rattle.line_medium.specs.Ways.{Way}
 use Rattle.serve_loop.specs.DeedRuns.{AllSaid, Deed, FrontSaid, Station}
-use Rattle.serve_loop.specs.DeedServing.{IsAt, SaidBy, ServesOver}
+use Rattle.serve_loop.specs.DeedServing.{IsStationed, SaidBy, ServesOver}
 use Rattle.uip_edge.specs.Told.{LineTold}
 
 module _ {A S C : Type 0} (g : Ghosts A S) (w : Way C) (did did' told told' : List C → Type 0) (before after : Node A S)
     (first : (acts : List C) → told acts → did acts) (last : (acts : List C) → did' acts → told' acts) where
-  starts : (s : Station C) → IsAt g told before s → IsAt g did before s
+  starts : (s : Station C) → IsStationed g told before s → IsStationed g did before s
   starts s p = record { stands = p.stands; acted = first s.acts p.acted }
 
-  stops : (s : Station C) → IsAt g did' after s → IsAt g told' after s
+  stops : (s : Station C) → IsStationed g did' after s → IsStationed g told' after s
   stops s p = record { stands = p.stands; acted = last s.acts p.acted }
 
   all_told : (m : Meaning) (served : ℕ → Bool) (own : Addr) (deeds : List (Deed C)) (a b : Option (List ℕ))
-      → AllSaid m served w own deeds (IsAt g did before) (IsAt g did' after) a b → AllSaid m served w own deeds (IsAt g told before) (IsAt g told' after) a b
+      → AllSaid m served w own deeds (IsStationed g did before) (IsStationed g did' after) a b → AllSaid m served w own deeds (IsStationed g told before) (IsStationed g told' after) a b
   all_told m served own deeds a b v = record { each = λ s p. let it = v.each s (starts s p) in (stops _ it.0, it.1) }
 
   front_told : (m : Meaning) (served : ℕ → Bool) (own : Addr) (deeds : List (Deed C)) (a b : Option (List ℕ))
-      → FrontSaid m served w own deeds (IsAt g did before) (IsAt g did' after) a b → FrontSaid m served w own deeds (IsAt g told before) (IsAt g told' after) a b
+      → FrontSaid m served w own deeds (IsStationed g did before) (IsStationed g did' after) a b → FrontSaid m served w own deeds (IsStationed g told before) (IsStationed g told' after) a b
   front_told m served own deeds a b v = record {
     each = λ s p.
         let it = v.each s (starts s p) in
@@ -32,7 +32,7 @@ module _ {A S C : Type 0} (g : Ghosts A S) (w : Way C) (did did' told told' : Li
   }
 
   told_by : (end : ServeEnd) (m : Meaning) (served : ℕ → Bool) (own : Addr) (deeds : List (Deed C)) (a b : Option (List ℕ))
-      → SaidBy end m served w own deeds (IsAt g did before) (IsAt g did' after) a b → SaidBy end m served w own deeds (IsAt g told before) (IsAt g told' after) a b
+      → SaidBy end m served w own deeds (IsStationed g did before) (IsStationed g did' after) a b → SaidBy end m served w own deeds (IsStationed g told before) (IsStationed g told' after) a b
   told_by ends.End m served own deeds a b v = all_told m served own deeds a b v
   told_by ends.Budget m served own deeds a b v = all_told m served own deeds a b v
   told_by ends.LinkFault m served own deeds a b v = all_told m served own deeds a b v

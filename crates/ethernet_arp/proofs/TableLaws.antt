@@ -5,19 +5,19 @@ use Rattle.std.specs.Str.{bytes_eq}
 use Rattle.std.proofs.lemmas.Bool.{le-ltb, ltb-false, ltb-true, lt-ltb}
 use Rattle.std.proofs.lemmas.List.{length-map}
 use Rattle.std.proofs.lemmas.List.Recursion.{is_position_or_len}
-use Rattle.ethernet_arp.specs.Learning.{Act, Learning, Pair, Ticked, addresses_of, among, is_fresh, known, last_learning, mac_of, taught, ticks_of}
-use Rattle.ethernet_arp.specs.Table.{AllRemember, AreOlder, AreOrdered, IsLike, Knows, Remembers, aged, is_of, moved_front}
+use Rattle.ethernet_arp.specs.Learning.{Act, Learning, Pair, Ticked, addresses_of, among, is_fresh, known, last_learning, mac_of, taught, ticks_in}
+use Rattle.ethernet_arp.specs.Table.{AllRemember, AreOlder, AreOrdered, IsAlike, Knows, Remembers, aged, is_of, moved_front}
 use Rattle.ethernet_arp.specs.declared.arp.Arp.{Arp}
 use Rattle.ethernet_arp.specs.declared.arp.Entry.{Entry}
 use Rattle.ethernet_arp.proofs.LearningLaws.{addresses-learnt, addresses-tick, is_same, last-learnt, last-other, last-tick, not_among, not_both, on_later, or_parts, same, ticks-learnt, ticks-tick}
 
-pub like_same : (xs : List (List ℕ)) → IsLike xs xs
+pub like_same : (xs : List (List ℕ)) → IsAlike xs xs
 like_same xs = record { size = refl; same = λ y. refl }
 
-like_then : (xs ys zs : List (List ℕ)) → IsLike xs ys → IsLike ys zs → IsLike xs zs
+like_then : (xs ys zs : List (List ℕ)) → IsAlike xs ys → IsAlike ys zs → IsAlike xs zs
 like_then xs ys zs e f = record { size = e.size ∙ f.size; same = λ y. e.same y ∙ f.same y }
 
-like_more : (x : List ℕ) (xs ys : List (List ℕ)) → IsLike xs ys → IsLike (x ∷ xs) (x ∷ ys)
+like_more : (x : List ℕ) (xs ys : List (List ℕ)) → IsAlike xs ys → IsAlike (x ∷ xs) (x ∷ ys)
 like_more x xs ys e = record { size = let s = e.size in omega arith; same = λ y. ap (λ v. bytes_eq x y || v) (e.same y) }
 
 or_turn : (a b c : Bool) → (a || (b || c)) ≡ (b || (a || c))
@@ -26,7 +26,7 @@ or_turn true false c = refl
 or_turn false true c = refl
 or_turn false false c = refl
 
-like_turn : (x y : List ℕ) (xs ys : List (List ℕ)) → IsLike (x ∷ xs) ys → IsLike (x ∷ y ∷ xs) (y ∷ ys)
+like_turn : (x y : List ℕ) (xs ys : List (List ℕ)) → IsAlike (x ∷ xs) ys → IsAlike (x ∷ y ∷ xs) (y ∷ ys)
 like_turn x y xs ys e = record {
   size = let s = e.size in omega arith;
   same = λ z. or_turn (bytes_eq x z) (bytes_eq y z) (among z xs) ∙ ap (λ v. bytes_eq y z || v) (e.same z);
@@ -64,8 +64,8 @@ module _ (acts : List Act) (act : Act) (pair : Pair) (is : taught act ≡ Some p
   abbrev now : List Act
   now = acts ++ act ∷ []
 
-  grown : (l : Learning) (front front' : List (List ℕ)) → IsLike (addresses_of l.later) front → among pair.addr front ≡ false → IsLike (pair.addr ∷ front) front'
-      → IsLike (addresses_of (l.later ++ act ∷ [])) front'
+  grown : (l : Learning) (front front' : List (List ℕ)) → IsAlike (addresses_of l.later) front → among pair.addr front ≡ false → IsAlike (pair.addr ∷ front) front'
+      → IsAlike (addresses_of (l.later ++ act ∷ [])) front'
   grown l front front' e new f =
       let h = addresses-learnt l.later act pair is in
       let none : among pair.addr (addresses_of l.later) ≡ false = e.same pair.addr ∙ new in
@@ -80,8 +80,8 @@ module _ (acts : List Act) (act : Act) (pair : Pair) (is : taught act ≡ Some p
       or_comm false true = refl
       or_comm false false = refl
 
-  kept : (l : Learning) (front front' : List (List ℕ)) → IsLike (addresses_of l.later) front → among pair.addr front ≡ true → IsLike front front'
-      → IsLike (addresses_of (l.later ++ act ∷ [])) front'
+  kept : (l : Learning) (front front' : List (List ℕ)) → IsAlike (addresses_of l.later) front → among pair.addr front ≡ true → IsAlike front front'
+      → IsAlike (addresses_of (l.later ++ act ∷ [])) front'
   kept l front front' e old f =
       let h = addresses-learnt l.later act pair is in
       let some : among pair.addr (addresses_of l.later) ≡ true = e.same pair.addr ∙ old in
@@ -104,7 +104,7 @@ module _ (acts : List Act) (act : Act) (pair : Pair) (is : taught act ≡ Some p
       → last_learning e.addr.0 now ≡ Some (later l)
   other e front l last new = last-other e.addr.0 acts act pair is new ∙ ap (λ (o : Option Learning). on_later act o) last
 
-  remember_new : (e : Entry) (front front' : List (List ℕ)) → bytes_eq pair.addr e.addr.0 ≡ false → among pair.addr front ≡ false → IsLike (pair.addr ∷ front) front'
+  remember_new : (e : Entry) (front front' : List (List ℕ)) → bytes_eq pair.addr e.addr.0 ≡ false → among pair.addr front ≡ false → IsAlike (pair.addr ∷ front) front'
       → Remembers acts front e → Remembers now front' e
   remember_new e front front' away new f r = record {
     learning = later r.learning;
@@ -123,7 +123,7 @@ module _ (acts : List Act) (act : Act) (pair : Pair) (is : taught act ≡ Some p
         | false ↦ λ h. refl
       ] refl
 
-  remember_old : (e : Entry) (front front' : List (List ℕ)) → among pair.addr front ≡ true → IsLike front front' → Remembers acts front e → Remembers now front' e
+  remember_old : (e : Entry) (front front' : List (List ℕ)) → among pair.addr front ≡ true → IsAlike front front' → Remembers acts front e → Remembers now front' e
   remember_old e front front' old f r = record {
     learning = later r.learning;
     last = other e front r.learning r.last (not_own e front old r);
@@ -133,7 +133,7 @@ module _ (acts : List Act) (act : Act) (pair : Pair) (is : taught act ≡ Some p
   }
 
   -- entries behind the one that was learnt again
-  all_old : (es : List Entry) (front front' : List (List ℕ)) → among pair.addr front ≡ true → IsLike front front' → AllRemember acts front es → AllRemember now front' es
+  all_old : (es : List Entry) (front front' : List (List ℕ)) → among pair.addr front ≡ true → IsAlike front front' → AllRemember acts front es → AllRemember now front' es
   all_old [] front front' old f r = tt
   all_old (e ∷ es) front front' old f r = (
     λ live. remember_old e front front' old f (r.0 live),
@@ -211,11 +211,11 @@ module _ (acts : List Act) (act : Act) (pair : Pair) (is : taught act ≡ Some p
         | false ↦ λ f. refl
       ] refl
 
-  like_found : (x : List ℕ) (front front' : List (List ℕ)) → x ≡ pair.addr → IsLike (pair.addr ∷ front) front' → IsLike (x ∷ front) front'
-  like_found x front front' e f = subst (λ (l : List ℕ). IsLike (l ∷ front) front') (sym e) f
+  like_found : (x : List ℕ) (front front' : List (List ℕ)) → x ≡ pair.addr → IsAlike (pair.addr ∷ front) front' → IsAlike (x ∷ front) front'
+  like_found x front front' e f = subst (λ (l : List ℕ). IsAlike (l ∷ front) front') (sym e) f
 
   -- the entries that stay remember the learning too
-  all_learnt : (es : List Entry) (front front' : List (List ℕ)) → among pair.addr front ≡ false → IsLike (pair.addr ∷ front) front'
+  all_learnt : (es : List Entry) (front front' : List (List ℕ)) → among pair.addr front ≡ false → IsAlike (pair.addr ∷ front) front'
       → AreOrdered es → AllRemember acts front es → AllRemember after front' (without pair.addr es)
   all_learnt [] front front' new f o r = tt
   all_learnt (e ∷ []) front front' new f o r = tt
@@ -239,7 +239,7 @@ module _ (acts : List Act) (act : Act) (pair : Pair) (is : taught act ≡ Some p
   fresh_less l e =
       let h = addresses-learnt l.later act pair is in
       let ticks = ticks-learnt l.later act pair is in
-      less (ticks_of l.later) (ticks_of (l.later ++ act ∷ [])) (length (addresses_of l.later)) (length (addresses_of (l.later ++ act ∷ []))) ticks
+      less (ticks_in l.later) (ticks_in (l.later ++ act ∷ [])) (length (addresses_of l.later)) (length (addresses_of (l.later ++ act ∷ []))) ticks
       (at_least (length (addresses_of l.later)) (length (addresses_of (l.later ++ act ∷ []))) (among pair.addr (addresses_of l.later)) h.size) e
     where
       at_least : (n m : ℕ) (b : Bool) → m ≡ n + (if b then 0 else 1) → n ≤ m
@@ -281,7 +281,7 @@ module _ (acts : List Act) (act : Act) (pair : Pair) (is : taught act ≡ Some p
       let l = r.learning in
       let more : length (addresses_of (l.later ++ act ∷ [])) ≡ length (pair.addr ∷ front) = (grown acts act pair is l front (pair.addr ∷ front) r.others new (like_same (pair.addr ∷ front))).size in
       ap (λ (o : Option Learning). mac_of o) (other acts act pair is e front l r.last away)
-      ∙ ap (λ v. if v then Some l.mac else None) (full (nat_lt (ticks_of (l.later ++ act ∷ [])) 2400) (length (addresses_of (l.later ++ act ∷ []))) (omega (arith, more, seven)))
+      ∙ ap (λ v. if v then Some l.mac else None) (full (nat_lt (ticks_in (l.later ++ act ∷ [])) 2400) (length (addresses_of (l.later ++ act ∷ []))) (omega (arith, more, seven)))
     where
       full : (b : Bool) (n : ℕ) → n ≡ 8 → (b && nat_lt n 8) ≡ false
       full true n e = ap (λ m. nat_lt m 8) e
@@ -327,7 +327,7 @@ module _ (acts : List Act) (act : Act) (pair : Pair) (is : taught act ≡ Some p
       → new.entries ≡ entry ∷ without pair.addr arp.entries → Knows arp acts → Knows new after
   knows_learnt arp new entry addr mac age e k =
       let table : AllRemember after (entry.addr.0 ∷ []) (without pair.addr arp.entries) =
-      all_learnt arp.entries [] (entry.addr.0 ∷ []) refl (like_found pair.addr [] (entry.addr.0 ∷ []) refl (subst (λ (l : List ℕ). IsLike (pair.addr ∷ []) (l ∷ [])) (sym addr) (like_same (pair.addr ∷ [])))) k.order k.entries in
+      all_learnt arp.entries [] (entry.addr.0 ∷ []) refl (like_found pair.addr [] (entry.addr.0 ∷ []) refl (subst (λ (l : List ℕ). IsAlike (pair.addr ∷ []) (l ∷ [])) (sym addr) (like_same (pair.addr ∷ [])))) k.order k.entries in
       let size = k.size in
       record {
         size = ap (λ (l : List Entry). length l) e ∙ one_for_one pair.addr entry arp.entries size;
@@ -393,10 +393,10 @@ moved_front_is addr e es p size h =
 tells : (acts : List Act) (e : Entry) (front : List (List ℕ)) → e.age < 2400 → length front < 8 → Remembers acts front e → Some e.mac.0 ≡ known acts e.addr.0
 tells acts e front young few r =
     let l = r.learning in
-    let ticks : ticks_of l.later < 2400 = (let a = r.age in omega arith) in
+    let ticks : ticks_in l.later < 2400 = (let a = r.age in omega arith) in
     let others : length (addresses_of l.later) < 8 = (let s = r.others.size in omega arith) in
     ap (λ m. Some m) (sym r.mac)
-    ∙ sym (ap (λ v. if v then Some l.mac else None) (ap (λ v. v && nat_lt (length (addresses_of l.later)) 8) (lt-ltb (ticks_of l.later) 2400 ticks) ∙ lt-ltb (length (addresses_of l.later)) 8 others))
+    ∙ sym (ap (λ v. if v then Some l.mac else None) (ap (λ v. v && nat_lt (length (addresses_of l.later)) 8) (lt-ltb (ticks_in l.later) 2400 ticks) ∙ lt-ltb (length (addresses_of l.later)) 8 others))
     ∙ sym (ap (λ (o : Option Learning). mac_of o) r.last)
 
 found_is : (acts : List Act) (addr : List ℕ) (es : List Entry) (front : List (List ℕ)) (n : ℕ) (none : Entry) → length front + length es ≡ 8 → AllRemember acts front es
@@ -472,7 +472,7 @@ module _ (acts : List Act) where
     last = last_ticked e.addr.0 r.learning r.last;
     mac = r.mac;
     age = ticks-tick r.learning.later ∙ ap (λ n. n + 1) r.age ∙ sym (grow_young e.age young);
-    others = subst (λ (l : List (List ℕ)). IsLike l front) (sym (addresses-tick r.learning.later)) r.others;
+    others = subst (λ (l : List (List ℕ)). IsAlike l front) (sym (addresses-tick r.learning.later)) r.others;
   }
 
   all_aged : (es : List Entry) (front : List (List ℕ)) → AllRemember acts front es → AllRemember ticked front (map aged es)
@@ -487,7 +487,7 @@ module _ (acts : List Act) where
 
   mac_ticked : (o : Option Learning) → mac_of o ≡ None → mac_of (on_later Ticked o) ≡ None
   mac_ticked None e = refl
-  mac_ticked (Some l) e = ap (λ v. if v then Some l.mac else None) (no_younger (ticks_of l.later) (ticks_of (l.later ++ Ticked ∷ [])) (ticks-tick l.later) (length (addresses_of l.later)) (length (addresses_of (l.later ++ Ticked ∷ []))) (ap (λ (x : List (List ℕ)). length x) (addresses-tick l.later)) (stale l e))
+  mac_ticked (Some l) e = ap (λ v. if v then Some l.mac else None) (no_younger (ticks_in l.later) (ticks_in (l.later ++ Ticked ∷ [])) (ticks-tick l.later) (length (addresses_of l.later)) (length (addresses_of (l.later ++ Ticked ∷ []))) (ap (λ (x : List (List ℕ)). length x) (addresses-tick l.later)) (stale l e))
     where
       some_none : (m : List ℕ) → Some m ≡ None → ⊥
       some_none m e = cc
@@ -514,7 +514,7 @@ module _ (acts : List Act) where
   ends_unknown : (e : Entry) (front : List (List ℕ)) → e.age + 1 ≡ 2400 → Remembers acts front e → known ticked e.addr.0 ≡ None
   ends_unknown e front last r =
       let l = r.learning in
-      let ticks : ticks_of (l.later ++ Ticked ∷ []) ≡ 2400 = ticks-tick l.later ∙ ap (λ n. n + 1) r.age ∙ last in
+      let ticks : ticks_in (l.later ++ Ticked ∷ []) ≡ 2400 = ticks-tick l.later ∙ ap (λ n. n + 1) r.age ∙ last in
       ap (λ (o : Option Learning). mac_of o) (last_ticked e.addr.0 l r.last)
       ∙ ap (λ n. if nat_lt n 2400 && nat_lt (length (addresses_of (l.later ++ Ticked ∷ []))) 8 then Some l.mac else None) ticks
 

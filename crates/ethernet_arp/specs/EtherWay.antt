@@ -1,7 +1,7 @@
 -- The way of Ethernet with ARP over a line of bytes: each frame stands behind its length in two bytes.
 use Rattle.std.specs.Prelude.{ℕ, ◌+◌, ◌*◌, ◌==◌, ◌&&◌, nat_le, Bool, false, if◌then◌else◌, List, [], ◌∷◌, ◌++◌, length, drop}
 use Rattle.line_medium.specs.Ways.{Came, Way}
-use Rattle.ethernet_arp.specs.Frames.{Host, frame_brings, framed, is_sendable, reply_to, wrapped}
+use Rattle.ethernet_arp.specs.Frames.{Host, frame_brings, framed, is_sendable, arp_reply, wrapped}
 use Rattle.ethernet_arp.specs.Learning.{Act, Asked, Replied, Ticked}
 use Rattle.ethernet_arp.specs.declared.sizes.TheConstants.{LARGEST_FRAME, SMALLEST_FRAME}
 
@@ -21,12 +21,12 @@ abbrev pub is_taken : List ℕ → Bool
 is_taken frame = nat_le SMALLEST_FRAME (length frame) && nat_le (length frame) LARGEST_FRAME
 
 -- what a part brings that has become whole
-abbrev pub closes : Host → List ℕ → List (Came Act)
-closes k part = if is_whole part && is_taken (drop 2 part) then frame_brings k (drop 2 part) else []
+abbrev pub closed_by : Host → List ℕ → List (Came Act)
+closed_by k part = if is_whole part && is_taken (drop 2 part) then frame_brings k (drop 2 part) else []
 
 -- what a host writes at an act: the reply to a request
 abbrev pub says_at : Host → Act → List ℕ
-says_at k (Asked pair) = framed (reply_to k pair)
+says_at k (Asked pair) = framed (arp_reply k pair)
 says_at k (Replied pair) = []
 says_at k Ticked = []
 
@@ -36,7 +36,7 @@ ether_text k acts datagram = if is_sendable datagram then framed (wrapped k acts
 
 abbrev pub ether_way : Host → Way Act
 ether_way k = record {
-  brings = λ before b. closes k (open_from [] before ++ b ∷ []);
+  brings = λ before b. closed_by k (open_from [] before ++ b ∷ []);
   at_tick = Ticked ∷ [];
   says = λ act. says_at k act;
   text = λ acts datagram. ether_text k acts datagram;

@@ -32,8 +32,8 @@ abbrev pub is_arp : ℕ → Bool
 is_arp kind = kind == 2054
 
 -- a frame
-abbrev pub frame_of : List ℕ → List ℕ → ℕ → List ℕ → List ℕ
-frame_of to from kind payload = to ++ from ++ word_bytes kind ++ payload
+abbrev pub frame_with : List ℕ → List ℕ → ℕ → List ℕ → List ℕ
+frame_with to from kind payload = to ++ from ++ word_bytes kind ++ payload
 
 -- how a packet of ARP begins: Ethernet, the Internet, and the lengths of their addresses
 abbrev pub arp_begin : List ℕ
@@ -44,12 +44,12 @@ abbrev pub arp_packet : ℕ → List ℕ → List ℕ → List ℕ → List ℕ 
 arp_packet operation sender_mac sender target_mac target = arp_begin ++ word_bytes operation ++ sender_mac ++ sender ++ target_mac ++ target
 
 -- the reply to a request that came from this pair
-abbrev pub reply_to : Host → Pair → List ℕ
-reply_to k pair = frame_of pair.mac k.mac 2054 (arp_packet 2 k.mac k.addr pair.mac pair.addr)
+abbrev pub arp_reply : Host → Pair → List ℕ
+arp_reply k pair = frame_with pair.mac k.mac 2054 (arp_packet 2 k.mac k.addr pair.mac pair.addr)
 
 -- the request for the hardware address of a target
-abbrev pub request_for : Host → List ℕ → List ℕ
-request_for k target = frame_of broadcast k.mac 2054 (arp_packet 1 k.mac k.addr no_mac target)
+abbrev pub arp_request : Host → List ℕ → List ℕ
+arp_request k target = frame_with broadcast k.mac 2054 (arp_packet 1 k.mac k.addr no_mac target)
 
 -- what a packet of ARP brings that is sound and asks or tells the host's address
 abbrev pub arp_brings : ℕ → Pair → List (Came Act)
@@ -81,8 +81,8 @@ frame_brings k frame =
 
 -- the frame for a datagram to a target: to the known hardware address of that, or else the request for it
 abbrev pub frame_to : Host → List ℕ → Option (List ℕ) → List ℕ → List ℕ
-frame_to k target (Some mac) datagram = frame_of mac k.mac 2048 datagram
-frame_to k target None datagram = request_for k target
+frame_to k target (Some mac) datagram = frame_with mac k.mac 2048 datagram
+frame_to k target None datagram = arp_request k target
 
 -- the frame for a datagram, behind these acts
 abbrev pub wrapped : Host → List Act → List ℕ → List ℕ

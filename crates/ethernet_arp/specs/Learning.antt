@@ -40,11 +40,11 @@ last_learning addr [] = None
 last_learning addr (act ∷ acts) = later_or (last_learning addr acts) (learning_by addr (taught act) acts)
 
 -- how many ticks went by
-abbrev pub ticks_of : List Act → ℕ
-ticks_of [] = 0
-ticks_of (Ticked ∷ acts) = ticks_of acts + 1
-ticks_of (Asked pair ∷ acts) = ticks_of acts
-ticks_of (Replied pair ∷ acts) = ticks_of acts
+abbrev pub ticks_in : List Act → ℕ
+ticks_in [] = 0
+ticks_in (Ticked ∷ acts) = ticks_in acts + 1
+ticks_in (Asked pair ∷ acts) = ticks_in acts
+ticks_in (Replied pair ∷ acts) = ticks_in acts
 
 abbrev pub among : List ℕ → List (List ℕ) → Bool
 among addr [] = false
@@ -62,7 +62,7 @@ addresses_of (act ∷ acts) = with_one (taught act) (addresses_of acts)
 
 -- since this learning there were fewer than 2400 ticks and learnings of fewer than 8 other addresses
 abbrev pub is_fresh : Learning → Bool
-is_fresh l = nat_lt (ticks_of l.later) ARP_TICKS && nat_lt (length (addresses_of l.later)) ARP_ENTRIES
+is_fresh l = nat_lt (ticks_in l.later) ARP_TICKS && nat_lt (length (addresses_of l.later)) ARP_ENTRIES
 
 abbrev pub mac_of : Option Learning → Option (List ℕ)
 mac_of None = None

@@ -1,7 +1,7 @@
 -- The part of a line behind its last whole frame, as the code keeps it, and what more bytes bring behind it.
 use Rattle.std.specs.Prelude.{◌≡◌, ◌<◌, ◌≤◌, ◌+◌, ◌*◌, ◌&&◌, ℕ, nat_le, if◌then◌else◌, List, [], ◌∷◌, ◌++◌, length, take, None, option_to_list}
 use Rattle.line_medium.specs.Ways.{Came}
-use Rattle.ethernet_arp.specs.EtherWay.{closes, is_whole, open_from}
+use Rattle.ethernet_arp.specs.EtherWay.{closed_by, is_whole, open_from}
 use Rattle.ethernet_arp.specs.Frames.{Host, frame_brings}
 use Rattle.ethernet_arp.specs.Learning.{Act}
 use Rattle.ethernet_arp.specs.declared.frame_part.FramePart.{FramePart}
@@ -10,7 +10,7 @@ use Rattle.ethernet_arp.specs.declared.sizes.TheConstants.{LARGEST_FRAME, SMALLE
 -- what bytes bring behind a part
 abbrev pub brought_from : Host → List ℕ → List ℕ → List (Came Act)
 brought_from k part [] = []
-brought_from k part (b ∷ bytes) = closes k (part ++ b ∷ []) ++ brought_from k (if is_whole (part ++ b ∷ []) then [] else part ++ b ∷ []) bytes
+brought_from k part (b ∷ bytes) = closed_by k (part ++ b ∷ []) ++ brought_from k (if is_whole (part ++ b ∷ []) then [] else part ++ b ∷ []) bytes
 
 -- a length came, and the frame waits for more
 abbrev pub IsWaiting : FramePart → Type 0

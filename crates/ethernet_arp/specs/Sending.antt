@@ -5,7 +5,7 @@ use Rattle.app_events.specs.Part.{Meaning}
 use Rattle.uip_wire.specs.Addr.{address_at}
 use Rattle.uip_wire.specs.Fields.{word_at}
 use Rattle.uip_wire.specs.declared.addr.Addr.{Addr}
-use Rattle.serve_loop.specs.DeedRuns.{Deed, Station, after, said}
+use Rattle.serve_loop.specs.DeedRuns.{Deed, Station, after_deeds, said}
 use Rattle.ethernet_arp.specs.EtherWay.{ether_way, is_whole}
 use Rattle.ethernet_arp.specs.Frames.{Host, is_datagram, mac_at}
 use Rattle.ethernet_arp.specs.Learning.{Act, Learning, last_learning}
@@ -16,8 +16,8 @@ frames_from part [] = []
 frames_from part (b ∷ bytes) = if is_whole (part ++ b ∷ []) then drop 2 (part ++ b ∷ []) ∷ frames_from [] bytes else frames_from (part ++ b ∷ []) bytes
 
 -- the target of the datagram in a frame
-abbrev pub target_of : List ℕ → List ℕ
-target_of frame = address_at (drop 14 frame) 16
+abbrev pub target_in : List ℕ → List ℕ
+target_in frame = address_at (drop 14 frame) 16
 
 -- The frame was sent behind a front of the deeds, and goes to the hardware address that its target had taught last by then.
 pub record GoesHome (m : Meaning) (served : ℕ → Bool) (deeds : List (Deed Act)) (s : Station Act) (frame : List ℕ) : Type 0 where
@@ -25,7 +25,7 @@ pub record GoesHome (m : Meaning) (served : ℕ → Bool) (deeds : List (Deed Ac
   pub later : List (Deed Act)
   pub front : deeds ≡ done ++ later
   pub learning : Learning
-  pub last : last_learning (target_of frame) (after m served done s).acts ≡ Some learning
+  pub last : last_learning (target_in frame) (after_deeds m served done s).acts ≡ Some learning
   pub to : mac_at frame 0 ≡ learning.mac
 
 -- every frame with a datagram in the text that is said for deeds

@@ -3,7 +3,7 @@ use Rattle.std.specs.Prelude.{◌≡◌, ◌<◌, ◌≤◌, ◌+◌, ◌&&◌, 
 use Rattle.std.specs.List.{list_any}
 use Rattle.std.specs.Str.{bytes_eq}
 use Rattle.ethernet_arp.specs.Frames.{Host}
-use Rattle.ethernet_arp.specs.Learning.{Act, Learning, addresses_of, among, known, last_learning, ticks_of}
+use Rattle.ethernet_arp.specs.Learning.{Act, Learning, addresses_of, among, known, last_learning, ticks_in}
 use Rattle.ethernet_arp.specs.declared.arp.Arp.{Arp}
 use Rattle.ethernet_arp.specs.declared.arp.Entry.{Entry}
 use Rattle.ethernet_arp.specs.declared.sizes.TheConstants.{ARP_ENTRIES, ARP_TICKS}
@@ -24,7 +24,7 @@ abbrev pub moved_front : Entry → ℕ → List Entry → List Entry
 moved_front e place es = e ∷ take place es ++ drop (place + 1) es
 
 -- the same addresses, each as often as before
-pub record IsLike (xs ys : List (List ℕ)) : Type 0 where
+pub record IsAlike (xs ys : List (List ℕ)) : Type 0 where
   pub size : length xs ≡ length ys
   pub same : (addr : List ℕ) → among addr xs ≡ among addr ys
 
@@ -34,8 +34,8 @@ pub record Remembers (acts : List Act) (front : List (List ℕ)) (e : Entry) : T
   pub learning : Learning
   pub last : last_learning e.addr.0 acts ≡ Some learning
   pub mac : learning.mac ≡ e.mac.0
-  pub age : ticks_of learning.later ≡ e.age
-  pub others : IsLike (addresses_of learning.later) front
+  pub age : ticks_in learning.later ≡ e.age
+  pub others : IsAlike (addresses_of learning.later) front
 
 -- each entry does that is not forgotten
 abbrev pub AllRemember : List Act → List (List ℕ) → List Entry → Type 0

@@ -2,7 +2,7 @@
 use Rattle.std.specs.Prelude.{◌≡◌, ◌+◌, ◌<◌, ◌⊎◌, ℕ, List, [], ◌∷◌, length, drop, ⊤}
 use Rattle.uip_wire.specs.Fields.{written}
 use Rattle.line_medium.specs.Ways.{Came, Datagram, Own}
-use Rattle.ethernet_arp.specs.Frames.{Host, reply_to}
+use Rattle.ethernet_arp.specs.Frames.{Host, arp_reply}
 use Rattle.ethernet_arp.specs.Learning.{Act, Asked, Pair, Replied}
 use Rattle.ethernet_arp.specs.declared.taking.Sorted.{Sorted}
 use Rattle.ethernet_arp.specs.declared.taking.Sorted.TheVariants as sorted
@@ -17,11 +17,11 @@ came_of payload (sorted.Asked addr mac) = Own (Asked (record { addr = addr.0; ma
 came_of payload (sorted.Replied addr mac) = Own (Replied (record { addr = addr.0; mac = mac.0 })) ∷ []
 
 -- a datagram is not empty
-abbrev pub HasBytes : Sorted → List ℕ → Type 0
-HasBytes sorted.Nothing payload = ⊤
-HasBytes sorted.Datagram payload = 0 < length payload
-HasBytes (sorted.Asked addr mac) payload = ⊤
-HasBytes (sorted.Replied addr mac) payload = ⊤
+abbrev pub SomeBytes : Sorted → List ℕ → Type 0
+SomeBytes sorted.Nothing payload = ⊤
+SomeBytes sorted.Datagram payload = 0 < length payload
+SomeBytes (sorted.Asked addr mac) payload = ⊤
+SomeBytes (sorted.Replied addr mac) payload = ⊤
 
 -- it says nothing, and is no datagram
 abbrev pub IsQuiet : List (Came Act) → Type 0
@@ -30,6 +30,6 @@ IsQuiet cs = (cs ≡ []) ⊎ ((pair : Pair) × (cs ≡ Own (Replied pair) ∷ []
 -- what an answer tells of a frame, what it brings, and the area before and after
 abbrev pub Answers : Host → List ℕ → Taken → List (Came Act) → List ℕ → List ℕ → Type 0
 Answers k frame taken.Nothing cs old new = IsQuiet cs × (new ≡ old)
-Answers k frame (taken.Reply n) cs old new = (pair : Pair) × (cs ≡ Own (Asked pair) ∷ []) × (n ≡ length (reply_to k pair)) × (new ≡ written old 0 (reply_to k pair))
+Answers k frame (taken.Reply n) cs old new = (pair : Pair) × (cs ≡ Own (Asked pair) ∷ []) × (n ≡ length (arp_reply k pair)) × (new ≡ written old 0 (arp_reply k pair))
 Answers k frame (taken.Datagram at n) cs old new =
     (cs ≡ Datagram (drop at frame) ∷ []) × (at + n ≡ length frame) × (0 < n) × (new ≡ old)

@@ -1,5 +1,5 @@
 ghost use Rattle.std.specs.Prelude.{◌≡◌, ◌≤◌, ◌++◌, [], List, ℕ, length, take};
-ghost use Rattle.line_medium.specs.Ways.{Shows, Tells, acts_of};
+ghost use Rattle.line_medium.specs.Ways.{ShowsBrought, TellsBrought, acts_among};
 ghost use Rattle.ethernet_arp.specs.EtherWay.{ether_way};
 ghost use Rattle.ethernet_arp.specs.Frames.{frame_brings};
 ghost use Rattle.ethernet_arp.specs.Learning.{Act};
@@ -47,11 +47,11 @@ impl EtherLine {
         requires most { self.old.part.len ≤ LARGEST_FRAME }
         ensures part { self.new.part ≡ self.old.part }
         ensures host { host_of self.new.arp ≡ host_of self.old.arp }
-        ensures told { Tells (ether_way (host_of self.old.arp)) (shown_of self.new) result
+        ensures told { TellsBrought (ether_way (host_of self.old.arp)) (shown_of self.new) result
             (frame_brings (host_of self.old.arp) (take self.old.part.len self.old.part.area)) }
         ensures knows { (acts : List Act) → Knows self.old.arp acts → Knows self.new.arp
-            (acts ++ acts_of (frame_brings (host_of self.old.arp) (take self.old.part.len self.old.part.area))) }
-        ensures shows { Shows (λ n. IsShown self.new n) (shown_of self.new) result }
+            (acts ++ acts_among (frame_brings (host_of self.old.arp) (take self.old.part.len self.old.part.area))) }
+        ensures shows { ShowsBrought (λ n. IsShown self.new n) (shown_of self.new) result }
     {
         match sort(&self.arp, self.part.frame()) {
             Sorted::Nothing => Brought::Nothing,

@@ -1,5 +1,5 @@
 ghost use Rattle.std.specs.Prelude.{◌≡◌, ◌≤◌, ◌+◌, List, length, take};
-ghost use Rattle.ethernet_arp.specs.Frames.{framed, reply_to, wrapped};
+ghost use Rattle.ethernet_arp.specs.Frames.{framed, arp_reply, wrapped};
 ghost use Rattle.ethernet_arp.specs.Learning.{Act};
 ghost use Rattle.ethernet_arp.specs.Table.{Knows, host_of};
 
@@ -31,7 +31,7 @@ pub(crate) fn frame_reply(arp: &Arp, addr: Addr, mac: Mac, out: &mut [u8]) -> us
     requires { LARGEST_FRAMED ≤ length out.old }
     ensures len { result ≡ ARP_FRAME + 2 }
     ensures text { take result out.new
-        ≡ framed (reply_to (host_of arp.now) (record { addr = addr.0; mac = mac.0 })) }
+        ≡ framed (arp_reply (host_of arp.now) (record { addr = addr.0; mac = mac.0 })) }
 {
     let (length, frame) = out.split_at_mut(2);
     put_front(frame, &reply(arp, addr, mac));

@@ -1,6 +1,6 @@
 ghost use Rattle.std.specs.Prelude.{◌≡◌, ◌≤◌, ◌++◌, length};
 ghost use Rattle.uip_wire.specs.Fields.{word_bytes, written};
-ghost use Rattle.ethernet_arp.specs.Frames.{arp_packet, frame_of};
+ghost use Rattle.ethernet_arp.specs.Frames.{arp_packet, frame_with};
 
 use crate::mac::Mac;
 use crate::sizes::{ARP_FRAME, SMALLEST_FRAME};
@@ -46,7 +46,7 @@ pub(crate) fn arp_frame(
     target_mac: Mac,
     target: Addr,
 ) -> [u8; ARP_FRAME]
-    ensures { result ≡ frame_of to.0 mac.0 2054 (arp_packet operation mac.0 own.0 target_mac.0 target.0) }
+    ensures { result ≡ frame_with to.0 mac.0 2054 (arp_packet operation mac.0 own.0 target_mac.0 target.0) }
 {
     let [to0, to1, to2, to3, to4, to5] = to.0;
     let [mac0, mac1, mac2, mac3, mac4, mac5] = mac.0;

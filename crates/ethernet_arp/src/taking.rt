@@ -1,12 +1,12 @@
 ghost use Rattle.std.specs.Prelude.{◌≡◌, ◌≤◌, ◌-◌, ◌++◌, ◌&&◌, ◌||◌, List, ℕ, drop, length, nat_lt};
 ghost use Rattle.std.specs.Str.{bytes_eq};
 ghost use Rattle.uip_wire.specs.Fields.{word_at};
-ghost use Rattle.line_medium.specs.Ways.{acts_of};
+ghost use Rattle.line_medium.specs.Ways.{acts_among};
 ghost use Rattle.ethernet_arp.specs.Frames.{arp_brings, broadcast, frame_brings, is_arp, is_arp_for, is_datagram};
-ghost use Rattle.ethernet_arp.specs.Frames.{payload_brings, reply_to, sender_of};
+ghost use Rattle.ethernet_arp.specs.Frames.{payload_brings, arp_reply, sender_of};
 ghost use Rattle.ethernet_arp.specs.Learning.{Act};
 ghost use Rattle.ethernet_arp.specs.Table.{Knows, host_of};
-ghost use Rattle.ethernet_arp.specs.Taking.{Answers, HasBytes, came_of};
+ghost use Rattle.ethernet_arp.specs.Taking.{Answers, SomeBytes, came_of};
 
 use crate::arp::Arp;
 use crate::mac::{BROADCAST, Mac};
@@ -47,7 +47,7 @@ pub fn take(arp: &mut Arp, frame: &[u8], out: &mut [u8]) -> Taken
     ensures told { Answers (host_of arp.old) frame.now result
         (frame_brings (host_of arp.old) frame.now) out.old out.new }
     ensures knows { (acts : List Act) → Knows arp.old acts
-        → Knows arp.new (acts ++ acts_of (frame_brings (host_of arp.old) frame.now)) }
+        → Knows arp.new (acts ++ acts_among (frame_brings (host_of arp.old) frame.now)) }
 {
     match sort(arp, frame) {
         Sorted::Nothing => Taken::Nothing,
@@ -71,7 +71,7 @@ pub fn take(arp: &mut Arp, frame: &[u8], out: &mut [u8]) -> Taken
 pub(crate) fn sort(arp: &Arp, frame: &[u8]) -> Sorted
     requires { SMALLEST_FRAME ≤ length frame.now }
     ensures brings { frame_brings (host_of arp.now) frame.now ≡ came_of (drop 14 frame.now) result }
-    ensures some { HasBytes result (drop 14 frame.now) }
+    ensures some { SomeBytes result (drop 14 frame.now) }
 {
     if is_for(Mac::get(frame, 0), arp.mac) {
         return sort_payload(get16(frame, 12), &frame[SMALLEST_FRAME..], arp.own);
@@ -90,7 +90,7 @@ fn is_for(to: Mac, own: Mac) -> bool
 fn sort_payload(kind: u16, payload: &[u8], own: Addr) -> Sorted
     ensures brings { (mac : List ℕ) → payload_brings (record { addr = own.0; mac = mac }) kind payload.now
         ≡ came_of payload.now result }
-    ensures some { HasBytes result payload.now }
+    ensures some { SomeBytes result payload.now }
 {
     if holds_datagram(kind, payload) {
         return Sorted::Datagram;
@@ -147,7 +147,7 @@ fn sort_packet(packet: &[u8]) -> Sorted
 
 /// The reply of this host to a request from this pair.
 pub(crate) fn reply(arp: &Arp, addr: Addr, mac: Mac) -> [u8; ARP_FRAME]
-    ensures { result ≡ reply_to (host_of arp.now) (record { addr = addr.0; mac = mac.0 }) }
+    ensures { result ≡ arp_reply (host_of arp.now) (record { addr = addr.0; mac = mac.0 }) }
 {
     arp_frame(mac, REPLY, arp.own, arp.mac, mac, addr)
 }

@@ -1,5 +1,5 @@
 ghost use Rattle.std.specs.Prelude.{◌≡◌, ◌≤◌, List, length};
-ghost use Rattle.ethernet_arp.specs.Frames.{frame_of, request_for, wrapped};
+ghost use Rattle.ethernet_arp.specs.Frames.{frame_with, arp_request, wrapped};
 ghost use Rattle.ethernet_arp.specs.Learning.{Act};
 ghost use Rattle.ethernet_arp.specs.Table.{Knows, host_of};
 ghost use Rattle.ethernet_arp.specs.Wrapping.{Puts};
@@ -32,7 +32,7 @@ fn put_datagram(to: Mac, from: Mac, datagram: &[u8], out: &mut [u8]) -> usize
     requires most { length datagram.now ≤ LARGEST_DATAGRAM }
     requires room { LARGEST_FRAME ≤ length out.old }
     ensures within { result ≤ LARGEST_FRAME }
-    ensures puts { Puts (frame_of to.0 from.0 2048 datagram.now) result out.old out.new }
+    ensures puts { Puts (frame_with to.0 from.0 2048 datagram.now) result out.old out.new }
 {
     let (head, rest) = out.split_at_mut(SMALLEST_FRAME);
     head.copy_from_slice(&datagram_head(to, from));
@@ -44,7 +44,7 @@ fn put_datagram(to: Mac, from: Mac, datagram: &[u8], out: &mut [u8]) -> usize
 fn put_request(arp: &Arp, target: Addr, out: &mut [u8]) -> usize
     requires { LARGEST_FRAME ≤ length out.old }
     ensures within { result ≤ LARGEST_FRAME }
-    ensures puts { Puts (request_for (host_of arp.now) target.0) result out.old out.new }
+    ensures puts { Puts (arp_request (host_of arp.now) target.0) result out.old out.new }
 {
     let nobody = Mac([0; 6]);
     put_front(

@@ -23,11 +23,11 @@ all_brought w before [] = []
 all_brought w before (b ∷ bytes) = w.brings before b ++ all_brought w (before ++ b ∷ []) bytes
 
 -- the acts among what came
-abbrev pub acts_of : {A : Type 0} → List (Came A) → List A
-acts_of [] = []
-acts_of (Own a ∷ cs) = a ∷ acts_of cs
-acts_of (Datagram d ∷ cs) = acts_of cs
-acts_of (Overlong ∷ cs) = acts_of cs
+abbrev pub acts_among : {A : Type 0} → List (Came A) → List A
+acts_among [] = []
+acts_among (Own a ∷ cs) = a ∷ acts_among cs
+acts_among (Datagram d ∷ cs) = acts_among cs
+acts_among (Overlong ∷ cs) = acts_among cs
 
 -- all that acts write
 abbrev pub all_said : {A : Type 0} → Way A → List A → List ℕ
@@ -35,15 +35,15 @@ all_said w [] = []
 all_said w (a ∷ acts) = w.says a ++ all_said w acts
 
 -- what an answer tells, where these bytes can be read of the medium
-abbrev pub Tells : {A : Type 0} → Way A → List ℕ → Brought → List (Came A) → Type 0
-Tells w shown brought.Nothing cs = cs ≡ []
-Tells w shown brought.Overlong cs = cs ≡ Overlong ∷ []
-Tells w shown (brought.Datagram n) cs = cs ≡ Datagram shown ∷ []
-Tells {A = A} w shown (brought.Own n) cs = (a : A) × (cs ≡ Own a ∷ []) × (w.says a ≡ shown)
+abbrev pub TellsBrought : {A : Type 0} → Way A → List ℕ → Brought → List (Came A) → Type 0
+TellsBrought w shown brought.Nothing cs = cs ≡ []
+TellsBrought w shown brought.Overlong cs = cs ≡ Overlong ∷ []
+TellsBrought w shown (brought.Datagram n) cs = cs ≡ Datagram shown ∷ []
+TellsBrought {A = A} w shown (brought.Own n) cs = (a : A) × (cs ≡ Own a ∷ []) × (w.says a ≡ shown)
 
 -- what an answer leaves to be read
-abbrev pub Shows : (ℕ → Type 0) → List ℕ → Brought → Type 0
-Shows shows shown brought.Nothing = ⊤
-Shows shows shown brought.Overlong = ⊤
-Shows shows shown (brought.Datagram n) = shows n × (length shown ≤ LARGEST_DATAGRAM)
-Shows shows shown (brought.Own n) = shows n
+abbrev pub ShowsBrought : (ℕ → Type 0) → List ℕ → Brought → Type 0
+ShowsBrought shows shown brought.Nothing = ⊤
+ShowsBrought shows shown brought.Overlong = ⊤
+ShowsBrought shows shown (brought.Datagram n) = shows n × (length shown ≤ LARGEST_DATAGRAM)
+ShowsBrought shows shown (brought.Own n) = shows n

@@ -2,7 +2,7 @@ ghost use Rattle.std.specs.Prelude.{[], ◌≡◌, ◌<◌, ◌≤◌, ◌++◌,
 ghost use Rattle.std.specs.Io.KnownBytes.{Appends};
 ghost use Rattle.uip_edge.specs.Causes.{HasCause};
 ghost use Rattle.uip_edge.specs.Writing.{AppendsPrefix};
-ghost use Rattle.line_medium.specs.Ways.{Way, Shows, Tells, all_brought, all_said, acts_of};
+ghost use Rattle.line_medium.specs.Ways.{Way, ShowsBrought, TellsBrought, all_brought, all_said, acts_among};
 
 use uip_edge::{Failed, Sink};
 
@@ -56,12 +56,12 @@ pub trait Medium {
         ensures within { result.count ≤ length bytes.now }
         ensures fed { (k : Self.Set) (before : List ℕ) → fed self.old k before
             → fed self.new k (before ++ take result.count bytes.now) }
-        ensures told { (k : Self.Set) (before : List ℕ) → fed self.old k before → Tells (way k)
+        ensures told { (k : Self.Set) (before : List ℕ) → fed self.old k before → TellsBrought (way k)
             (shown self.new) result.brought (all_brought (way k) before (take result.count bytes.now)) }
         ensures did { (k : Self.Set) (before : List ℕ) (acts : List Self.Act)
             → fed self.old k before → did self.old k acts
-            → did self.new k (acts ++ acts_of (all_brought (way k) before (take result.count bytes.now))) }
-        ensures shows { Shows (shows self.new) (shown self.new) result.brought };
+            → did self.new k (acts ++ acts_among (all_brought (way k) before (take result.count bytes.now))) }
+        ensures shows { ShowsBrought (shows self.new) (shown self.new) result.brought };
 
     /// The bytes of what was brought.
     fn shown(&self, count: usize) -> &[u8]

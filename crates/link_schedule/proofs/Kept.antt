@@ -1,12 +1,13 @@
 -- What each schedule keeps, line by line.
-use Rattle.std.proofs.Common.{◌≡◌, ℕ, Bool, true, false, cond, List, [], ◌∷◌, Result, Ok, Err, IfOk, refl}
+use Rattle.std.proofs.Common.{◌≡◌, ℕ, Bool, true, false, cond, List, [], ◌∷◌, Option, None, Some, Result, Ok, Err, IfOk, refl}
 use Rattle.std.specs.Prelude.{codes}
 use Rattle.std.specs.Str.{bytes_eq}
 use Rattle.link_schedule.specs.declared.event.Event.{Event}
 use Rattle.link_schedule.specs.declared.event.Event.TheVariants.{Opens, Again, Closes, Aborts, Window, Ping, Give, Damage, Tick}
 use Rattle.link_schedule.specs.declared.why.Why.{Why}
 use Rattle.link_schedule.specs.declared.why.Why.TheVariants.{Form, NoClient}
-use Rattle.link_schedule.specs.Numbers.{◌>>=◌, address, is_number, named, number_written, within}
+use Rattle.uip_wire.specs.Numerals.{is_numeral, numeral}
+use Rattle.link_schedule.specs.Numbers.{◌>>=◌, address, in_range, named, within}
 use Rattle.link_schedule.specs.Events.{bare, bare_forms, by_verb, event_of_words, forms_with_one, with_one, with_two, with_three, window, damage}
 use Rattle.link_schedule.specs.Kept.{event_in_range, is_between}
 
@@ -30,19 +31,18 @@ pub anything : {A : Type 0} (r : Result A Why) → IfOk r (λ x. Unit {0})
 anything (Ok x) = tt
 anything (Err why) = tt
 
+in_range_between : (low high : ℕ) (why : Why) (n : Option ℕ) → IfOk (in_range low high why n) (λ c. is_between low high c ≡ true)
+in_range_between low high why None = tt
+in_range_between low high why (Some n) =
+    tested (λ c. is_between low high c ≡ true) (is_between low high n) (Ok n) (Err why) (λ e. e) tt
+
 pub named_in_range : (clients : ℕ) (word : List ℕ) → IfOk (named clients word) (λ c. is_between 1 clients c ≡ true)
 named_in_range clients word =
-    either (λ c. is_between 1 clients c ≡ true) (is_number word)
-    (cond (is_between 1 clients (number_written word)) (Ok (number_written word)) (Err NoClient)) (Err Form)
-    (tested (λ c. is_between 1 clients c ≡ true) (is_between 1 clients (number_written word)) (Ok (number_written word)) (Err NoClient) (λ e. e) tt)
-    tt
+    either (λ c. is_between 1 clients c ≡ true) (is_numeral word) (in_range 1 clients NoClient (numeral word)) (Err Form)
+    (in_range_between 1 clients NoClient (numeral word)) tt
 
 pub within_range : (low high : ℕ) (word : List ℕ) → IfOk (within low high word) (λ n. is_between low high n ≡ true)
-within_range low high word =
-    either (λ n. is_between low high n ≡ true) (is_number word)
-    (cond (is_between low high (number_written word)) (Ok (number_written word)) (Err Form)) (Err Form)
-    (tested (λ n. is_between low high n ≡ true) (is_between low high (number_written word)) (Ok (number_written word)) (Err Form) (λ e. e) tt)
-    tt
+within_range low high word = in_range_between low high Form (numeral word)
 
 abbrev Fine : ℕ → Event → Type 0
 Fine clients event = event_in_range clients event ≡ true

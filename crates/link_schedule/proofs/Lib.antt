@@ -1,5 +1,4 @@
 pub mod Clients
-pub mod Digits
 pub mod Keeping
 pub mod Kept
 pub mod Lines

@@ -35,7 +35,7 @@ LineGives (Ok done) after meant = meant ≡ Ok after
 LineGives (Err (Faulty why)) after meant = meant ≡ Err why
 LineGives (Err NoMemory) after meant = Unit {0}
 
--- the same of a client's line, whatever the other lines have said
+-- the same of a client's line, whatever the other lines have line_said
 abbrev pub ClientGives : Result (Unit {0}) Refusal → List ClientPlan → (SchedulePlan → Result SchedulePlan Why) → List ClientPlan → Type 0
 ClientGives result after meant before =
     (lines : List Line) → LineGives result (content_of after lines) (meant (content_of before lines))

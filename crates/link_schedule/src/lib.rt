@@ -24,7 +24,6 @@ pub use client_plan::ClientPlan;
 pub use event::Event;
 pub use laws::worked_schedules;
 pub use line::Line;
-pub use numbers::is_number;
 pub use read_schedule::ReadSchedule;
 pub use schedule::Schedule;
 pub use why::Why;

@@ -17,7 +17,7 @@ use Rattle.uip_node.specs.Events.Event.{EchoAsked, Arrived, Periodic}
 use Rattle.uip_node.specs.Events.Answer.{Silent, NoSlot, EchoReplied}
 use Rattle.uip_node.specs.Events.Reply.{Echo, Tcp}
 use Rattle.uip_node.specs.Counters.{initial_number, ticks_of}
-use Rattle.uip_node.specs.Node.{AbstractNode, NodeStep, reply_of, gone_by, moment, happened, slot_for_syn, is_waiting, longest_wait, or_else, opens_in, opens, refuses, from_stranger, arrives_at, step, passes}
+use Rattle.uip_node.specs.Node.{AbstractNode, NodeStep, reply_of, gone_by, moment, happened, slot_for_syn, is_waiting, longest_wait, opens_in, opens, refuses, from_stranger, arrives_at, step, passes}
 use Rattle.link_client.specs.declared.setup.Setup.{Setup}
 use Rattle.link_client.specs.Client.{AbstractClient, ClientStep, client_takes, client_opens, client_again, client_closes, client_aborts, tells_window}
 use Rattle.link_world.specs.World.{World, Side, Sent, Content, numbered, client_sockets, buries, buries_in, addressed, epoch_at, epoch_of, posts, posts_reply, node_stepped, node_handles, with_client, with_side, posts_of_client, client_stepped, marked, gives_node, gives_client, delivers, hands_to, is_clean}
@@ -40,6 +40,7 @@ use Rattle.link_world.proofs.Setups.{SameSetup, takes_setup, opens_setup, again_
 use Rattle.link_world.proofs.Peers.{on_segment_keeps, asked_keeps, on_tick_keeps, on_tick_closed}
 use Rattle.link_world.proofs.Harmless.{Harmless}
 use Rattle.link_world.proofs.Sides.{Apart, buried, get_buried, buried_sockets, addressed_is, addressed_finds, gone_is, buried_here, buried_elsewhere, put_apart, clean_before}
+use Rattle.std.specs.Option.{option_or}
 
 -- a side whose connection c is gone
 abbrev pub older : Side → Connection → Side
@@ -415,7 +416,7 @@ module _ (m : Meaning) (G : ℕ → Side → Connection → List Sent → Type 0
       passes_framed : (answer : Rattle.uip_node.specs.Events.Answer) → Framed (node_stepped w (passes w.node arrival answer))
       passes_framed answer = node_framed w peer (passes w.node arrival answer) (record { table = w.node.connections; gone = None; said = None }) g record { table = refl; gone = refl; sends = sends_none refl refl } (effect_none w peer None g (λ x y. absurd (cc)))
 
-      either_in : (a b : Option ℕ) (slot : ℕ) → ((i : ℕ) → a ≡ Some i → Inside w.node.connections i) → ((i : ℕ) → b ≡ Some i → Inside w.node.connections i) → or_else a b ≡ Some slot → Inside w.node.connections slot
+      either_in : (a b : Option ℕ) (slot : ℕ) → ((i : ℕ) → a ≡ Some i → Inside w.node.connections i) → ((i : ℕ) → b ≡ Some i → Inside w.node.connections i) → option_or a b ≡ Some slot → Inside w.node.connections slot
       either_in None b slot f h x = h slot x
       either_in (Some i) b slot f h x = only_some (λ z. Inside w.node.connections z) i slot x (f i refl)
 

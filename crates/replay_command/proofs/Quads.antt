@@ -3,7 +3,8 @@ use Rattle.std.specs.Prelude.{IfSome}
 use Rattle.std.proofs.Common.{◌≡◌, ℕ, ◌+◌, ◌*◌, ◌-◌, ◌≤◌, Bool, true, false, cond, not, ◌&&◌, List, [], ◌∷◌, Option, Some, None, refl, arith, eqb, leb, ltb}
 use Rattle.std.proofs.lemmas.Bool.{and_parts, leb-true, ltb-true}
 use Rattle.std.proofs.lemmas.List.Elements.{All-cons, All-nil}
-use Rattle.uip_wire.specs.Addr.{cut_at_dot, is_digit, part_number, quad_of, ◌>>=◌}
+use Rattle.uip_wire.specs.Addr.{cut_at_dot, part_number, quad_of, ◌>>=◌}
+use Rattle.uip_wire.specs.Numerals.{numeral}
 use Rattle.app_events.specs.Pages.{IsAddr, IsByte}
 
 -- what passes a test
@@ -11,24 +12,12 @@ tested : (P : ℕ → Type 0) (b : Bool) (x : ℕ) → (b ≡ true → P x) → 
 tested P true x p = p refl
 tested P false x p = tt
 
-most_digit : (c : ℕ) → is_digit c ≡ true → c ≤ 57
-most_digit c e = leb-true c 57 (and_parts (leb 48 c) (leb c 57) e).1
+below : (n : Option ℕ) → IfSome (n >>= λ x. cond (ltb x 256) (Some x) None) IsByte
+below (Some x) = tested IsByte (ltb x 256) x (λ e. ltb-true x 256 e)
+below None = tt
 
 byte_of : (text : List ℕ) → IfSome (part_number text) IsByte
-byte_of [] = tt
-byte_of (a ∷ []) = tested IsByte (is_digit a) (a - 48) (λ e. let d = most_digit a e in omega (arith, d))
-byte_of (a ∷ b ∷ []) =
-    tested IsByte (is_digit a && is_digit b && not (eqb a 48)) ((a - 48) * 10 + (b - 48))
-    (λ e.
-    let both = and_parts (is_digit a) (is_digit b) (and_parts (is_digit a && is_digit b) (not (eqb a 48)) e).0 in
-    let d = most_digit a both.0 in
-    let f = most_digit b both.1 in
-    omega (arith, d, f))
-byte_of (a ∷ b ∷ c ∷ []) =
-    let n : ℕ = (a - 48) * 100 + (b - 48) * 10 + (c - 48) in
-    tested IsByte (is_digit a && is_digit b && is_digit c && not (eqb a 48) && ltb n 256) n
-    (λ e. ltb-true n 256 (and_parts (is_digit a && is_digit b && is_digit c && not (eqb a 48)) (ltb n 256) e).1)
-byte_of (a ∷ b ∷ c ∷ d ∷ rest) = tt
+byte_of text = below (numeral text)
 
 abbrev IsQuad : List ℕ → Type 0
 IsQuad quad = IsAddr (record { 0 = quad })

@@ -12,7 +12,7 @@ use Rattle.uip_node.specs.Events.Event.{Periodic}
 use Rattle.uip_node.specs.Node.{AbstractNode, step}
 use Rattle.uip_node.specs.Spoken.{IsSent}
 use Rattle.uip_node.specs.StandsFor.{Stands, Steps}
-use Rattle.serve_loop.specs.DeedRuns.{FrontSaid, Deed, Does, Happens, Station, AllSaid, after, after_deed, said, text_behind}
+use Rattle.serve_loop.specs.DeedRuns.{FrontSaid, Deed, Does, Happens, Station, AllSaid, after_deeds, after_deed, said, text_behind}
 use Rattle.line_medium.specs.Ways.{Way, all_said}
 use Rattle.serve_loop.specs.Turns.{IsHere, IsNode}
 use Rattle.serve_loop.proofs.AddrLaws.{step-addr}
@@ -70,7 +70,7 @@ module _ {A S : Type 0} (g : Ghosts A S) where
 
 -- the medium's own acts
 module _ {C : Type 0} (m : Meaning) (served : ℕ → Bool) (w : Way C) (own : Addr) where
-  acts_after : (acts : List C) (s : Station C) → after m served (map Does acts) s ≡ record { acts = s.acts ++ acts; node = s.node }
+  acts_after : (acts : List C) (s : Station C) → after_deeds m served (map Does acts) s ≡ record { acts = s.acts ++ acts; node = s.node }
   acts_after [] s = ap (λ (l : List C). record { acts = l; node = s.node }) (sym (append-nil s.acts))
   acts_after (a ∷ acts) s =
       acts_after acts (after_deed m served s (Does a)) ∙ ap (λ (l : List C). record { acts = l; node = s.node }) (append_assoc s.acts (a ∷ []) acts)

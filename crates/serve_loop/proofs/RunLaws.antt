@@ -8,21 +8,21 @@ use Rattle.uip_edge.proofs.Told.{Appends-then, appends_by, prefix_by, prefix_the
 use Rattle.uip_node.specs.Events.{Event, Reply}
 use Rattle.uip_node.specs.Node.{AbstractNode, NodeStep, Ran, joined, run, step}
 use Rattle.serve_loop.specs.Running.{text_for, text_of}
-use Rattle.serve_loop.specs.DeedRuns.{FrontSaid, Deed, Station, StopsIn, AllSaid, after, after_deed, said, said_at}
+use Rattle.serve_loop.specs.DeedRuns.{FrontSaid, Deed, Station, StopsIn, AllSaid, after_deeds, after_deed, said, said_at}
 use Rattle.line_medium.specs.Ways.{Way}
 
 module _ {A : Type 0} (m : Meaning) (served : ℕ → Bool) (w : Way A) (own : Addr) where
-  after-append : (xs ys : List (Deed A)) (s : Station A) → after m served (xs ++ ys) s ≡ after m served ys (after m served xs s)
+  after-append : (xs ys : List (Deed A)) (s : Station A) → after_deeds m served (xs ++ ys) s ≡ after_deeds m served ys (after_deeds m served xs s)
   after-append [] ys s = refl
   after-append (x ∷ xs) ys s = after-append xs ys (after_deed m served s x)
 
   pub said-append : (xs ys : List (Deed A)) (s : Station A)
-      → said m served w own (xs ++ ys) s ≡ said m served w own xs s ++ said m served w own ys (after m served xs s)
+      → said m served w own (xs ++ ys) s ≡ said m served w own xs s ++ said m served w own ys (after_deeds m served xs s)
   said-append [] ys s = refl
   said-append (x ∷ xs) ys s =
       let next = after_deed m served s x in
       ap (λ l. said_at m served w own s x ++ l) (said-append xs ys next)
-      ∙ sym (append_assoc (said_at m served w own s x) (said m served w own xs next) (said m served w own ys (after m served xs next)))
+      ∙ sym (append_assoc (said_at m served w own s x) (said m served w own xs next) (said m served w own ys (after_deeds m served xs next)))
 
   pub wrote_by : (xs ys : List (Deed A)) (P Q : Station A → Type 0) (a b : Option (List ℕ)) → xs ≡ ys → AllSaid m served w own ys P Q a b → AllSaid m served w own xs P Q a b
   wrote_by xs ys P Q a b e v = subst (λ (l : List (Deed A)). AllSaid m served w own l P Q a b) (sym e) v
@@ -55,7 +55,7 @@ module _ {A : Type 0} (m : Meaning) (served : ℕ → Bool) (w : Way A) (own : A
       → AllSaid m served w own (xs ++ ys) P R a c
   wrote_then xs ys P Q R a b c u v = record {
     each = λ s p.
-        let mid : Station A = after m served xs s in
+        let mid : Station A = after_deeds m served xs s in
         let first = u.each s p in
         let more = v.each mid first.0 in (
           subst (λ (k : Station A). R k) (sym (after-append xs ys s)) more.0,
@@ -64,7 +64,7 @@ module _ {A : Type 0} (m : Meaning) (served : ℕ → Bool) (w : Way A) (own : A
   }
 
   stops_then : (xs ys : List (Deed A)) (R : Station A → Type 0) (a b c : Option (List ℕ)) (s : Station A) → Appends a b (said m served w own xs s)
-      → StopsIn m served w own ys R b c (after m served xs s) → StopsIn m served w own (xs ++ ys) R a c s
+      → StopsIn m served w own ys R b c (after_deeds m served xs s) → StopsIn m served w own (xs ++ ys) R a c s
   stops_then xs ys R a b c s first more = record {
     done = xs ++ more.done;
     later = more.later;
@@ -76,7 +76,7 @@ module _ {A : Type 0} (m : Meaning) (served : ℕ → Bool) (w : Way A) (own : A
   pub broke_then : (xs ys : List (Deed A)) (P Q R : Station A → Type 0) (a b c : Option (List ℕ)) → AllSaid m served w own xs P Q a b → FrontSaid m served w own ys Q R b c
       → FrontSaid m served w own (xs ++ ys) P R a c
   broke_then xs ys P Q R a b c u v = record {
-    each = λ s p. let first = u.each s p in stops_then xs ys R a b c s first.1 (v.each (after m served xs s) first.0);
+    each = λ s p. let first = u.each s p in stops_then xs ys R a b c s first.1 (v.each (after_deeds m served xs s) first.0);
   }
 
   -- further deeds that are not reached

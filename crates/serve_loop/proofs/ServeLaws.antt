@@ -15,7 +15,7 @@ use Rattle.serve_loop.specs.declared.pacer.Pacer.{Pacer}
 use Rattle.serve_loop.specs.LineDeeds.{deeds_behind, line_deeds}
 use Rattle.serve_loop.specs.DeedRuns.{Deed, Station, AllSaid}
 use Rattle.line_medium.specs.Ways.{Way}
-use Rattle.serve_loop.specs.DeedServing.{IsAt, SaidBy, ServesOver}
+use Rattle.serve_loop.specs.DeedServing.{IsStationed, SaidBy, ServesOver}
 use Rattle.serve_loop.specs.Turns.{IsHere, Turns, TurnsBy, WritesOn}
 use Rattle.serve_loop.proofs.EventLaws.{events-then}
 use Rattle.serve_loop.proofs.RunLaws.{broke_by, broke_then, wrote_by, wrote_then}
@@ -55,20 +55,20 @@ module _ {A S : Type 0} (g : Ghosts A S) {C : Type 0} (w : Way C) where
   At did m own node s = IsHere g did m own node s
 
   -- a node stands in the public sense where it stands with its meaning and its address
-  enters : (did : List C → Type 0) (node : Node A S) (s : Station C) → IsAt g did node s → At did (g.meaning (g.kept node.shared)) node.addr node s
+  enters : (did : List C → Type 0) (node : Node A S) (s : Station C) → IsStationed g did node s → At did (g.meaning (g.kept node.shared)) node.addr node s
   enters did node s p = record { stands = record { meant = refl; address = sym p.stands.addr; stands = p.stands }; acted = p.acted }
 
-  leaves : (did : List C → Type 0) (m : Meaning) (own : Addr) (node : Node A S) (s : Station C) → At did m own node s → IsAt g did node s
+  leaves : (did : List C → Type 0) (m : Meaning) (own : Addr) (node : Node A S) (s : Station C) → At did m own node s → IsStationed g did node s
   leaves did m own node s p = record { stands = p.stands.stands; acted = p.acted }
 
   all_public : (did did' : List C → Type 0) (deeds : List (Deed C)) (before after : Node A S) (a b : Option (List ℕ))
       → AllSaid (g.meaning (g.kept before.shared)) g.served w before.addr deeds (At did (g.meaning (g.kept before.shared)) before.addr before) (At did' (g.meaning (g.kept before.shared)) before.addr after) a b
-      → AllSaid (g.meaning (g.kept before.shared)) g.served w before.addr deeds (IsAt g did before) (IsAt g did' after) a b
+      → AllSaid (g.meaning (g.kept before.shared)) g.served w before.addr deeds (IsStationed g did before) (IsStationed g did' after) a b
   all_public did did' deeds before after a b v = record { each = λ s p. let it = v.each s (enters did before s p) in (leaves did' _ _ after _ it.0, it.1) }
 
   public_wrote : (did did' : List C → Type 0) (end : ServeEnd) (deeds : List (Deed C)) (before after : Node A S) (a b : Option (List ℕ))
       → SaidBy end (g.meaning (g.kept before.shared)) g.served w before.addr deeds (At did (g.meaning (g.kept before.shared)) before.addr before) (At did' (g.meaning (g.kept before.shared)) before.addr after) a b
-      → SaidBy end (g.meaning (g.kept before.shared)) g.served w before.addr deeds (IsAt g did before) (IsAt g did' after) a b
+      → SaidBy end (g.meaning (g.kept before.shared)) g.served w before.addr deeds (IsStationed g did before) (IsStationed g did' after) a b
   public_wrote did did' ends.End deeds before after a b v = all_public did did' deeds before after a b v
   public_wrote did did' ends.Budget deeds before after a b v = all_public did did' deeds before after a b v
   public_wrote did did' ends.LinkFault deeds before after a b v = all_public did did' deeds before after a b v

@@ -16,8 +16,8 @@ use Rattle.uip_node.specs.Node.{AbstractNode, joined, run, step}
 use Rattle.uip_node.specs.StandsFor.{Stands}
 use Rattle.serve_loop.specs.LineDeeds.{beat_on, deed_by, deeds_behind, line_deeds, tick_on}
 use Rattle.serve_loop.specs.Pace.{is_beat}
-use Rattle.serve_loop.specs.DeedRuns.{AllSaid, Deed, FrontSaid, Happens, Station, after, after_deed, said, text_behind}
-use Rattle.serve_loop.specs.DeedServing.{IsAt, SaidBy, ServesOver}
+use Rattle.serve_loop.specs.DeedRuns.{AllSaid, Deed, FrontSaid, Happens, Station, after_deeds, after_deed, said, text_behind}
+use Rattle.serve_loop.specs.DeedServing.{IsStationed, SaidBy, ServesOver}
 use Rattle.serve_loop.specs.LineEvents.{beat, completed, event_by, events_behind, line_events}
 use Rattle.serve_loop.specs.Running.{Broke, Wrote, text_of}
 use Rattle.serve_loop.specs.Serving.{Serves, WroteBy}
@@ -62,7 +62,7 @@ front_of (event ∷ events) (x ∷ xs) ys e =
     let same : x ≡ Happens event = cc in
     (event ∷ more.0, more.1, ap (λ l. event ∷ l) more.2, ap (λ l. l ∷ xs) same ∙ ap (λ l. Happens event ∷ l) more.3)
 
-after_is : (m : Meaning) (served : ℕ → Bool) (events : List Event) (s : Station NoAct) → (after m served (all_happen events) s).node ≡ (run m served events s.node).node
+after_is : (m : Meaning) (served : ℕ → Bool) (events : List Event) (s : Station NoAct) → (after_deeds m served (all_happen events) s).node ≡ (run m served events s.node).node
 after_is m served [] s = refl
 after_is m served (e ∷ events) s = after_is m served events (after_deed m served s (Happens e))
 
@@ -82,12 +82,12 @@ module _ {A S : Type 0} (g : Ghosts A S) (did did' : List NoAct → Type 0) (beg
   At node n = Stands g node n n.past
 
   stands_on : (m : Meaning) (events : List Event) (xs : List (Deed NoAct)) (node : Node A S) (s : Station NoAct) → xs ≡ all_happen events
-      → IsAt g did' node (after m g.served xs s) → At node (run m g.served events s.node).node
+      → IsStationed g did' node (after_deeds m g.served xs s) → At node (run m g.served events s.node).node
   stands_on m events xs node s e p =
-      subst (λ (n : AbstractNode). At node n) (ap (λ (l : List (Deed NoAct)). (after m g.served l s).node) e ∙ after_is m g.served events s) p.stands
+      subst (λ (n : AbstractNode). At node n) (ap (λ (l : List (Deed NoAct)). (after_deeds m g.served l s).node) e ∙ after_is m g.served events s) p.stands
 
   slip_wrote : (m : Meaning) (own : Addr) (pace : ℕ) (items : List Item) (before after : Node A S) (a b : Option (List ℕ))
-      → AllSaid m g.served slip_way own (line_deeds slip_way own pace items) (IsAt g did before) (IsAt g did' after) a b
+      → AllSaid m g.served slip_way own (line_deeds slip_way own pace items) (IsStationed g did before) (IsStationed g did' after) a b
       → Wrote m g.served own (line_events own pace items) (At before) (At after) a b
   slip_wrote m own pace items before after a b w = record {
     each = λ n p.
@@ -100,7 +100,7 @@ module _ {A S : Type 0} (g : Ghosts A S) (did did' : List NoAct → Type 0) (beg
   }
 
   slip_broke : (m : Meaning) (own : Addr) (pace : ℕ) (items : List Item) (before after : Node A S) (a b : Option (List ℕ))
-      → FrontSaid m g.served slip_way own (line_deeds slip_way own pace items) (IsAt g did before) (IsAt g did' after) a b
+      → FrontSaid m g.served slip_way own (line_deeds slip_way own pace items) (IsStationed g did before) (IsStationed g did' after) a b
       → Broke m g.served own (line_events own pace items) (At before) (At after) a b
   slip_broke m own pace items before after a b w = record {
     each = λ n p.
@@ -117,7 +117,7 @@ module _ {A S : Type 0} (g : Ghosts A S) (did did' : List NoAct → Type 0) (beg
   }
 
   slip_wrote_by : (end : ServeEnd) (m : Meaning) (own : Addr) (pace : ℕ) (items : List Item) (before after : Node A S) (a b : Option (List ℕ))
-      → SaidBy end m g.served slip_way own (line_deeds slip_way own pace items) (IsAt g did before) (IsAt g did' after) a b
+      → SaidBy end m g.served slip_way own (line_deeds slip_way own pace items) (IsStationed g did before) (IsStationed g did' after) a b
       → WroteBy end m g.served own (line_events own pace items) (At before) (At after) a b
   slip_wrote_by ends.End m own pace items before after a b w = slip_wrote m own pace items before after a b w
   slip_wrote_by ends.Budget m own pace items before after a b w = slip_wrote m own pace items before after a b w

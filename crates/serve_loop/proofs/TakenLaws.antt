@@ -15,13 +15,13 @@ use Rattle.uip_node.specs.StandsFor.{Stands}
 use Rattle.serve_loop.specs.LineDeeds.{deed_by}
 use Rattle.serve_loop.specs.DeedRuns.{FrontSaid, Does, Happens, Station, AllSaid}
 use Rattle.serve_loop.specs.Turns.{IsHere}
-use Rattle.line_medium.specs.Ways.{Came, Datagram, Overlong, Own, Way, acts_of, all_brought}
+use Rattle.line_medium.specs.Ways.{Came, Datagram, Overlong, Own, Way, acts_among, all_brought}
 use Rattle.serve_loop.proofs.NodeLaws.{node_on}
 use Rattle.serve_loop.proofs.RunLaws.{broke_by, broke_from, broke_one, wrote_by, wrote_from, wrote_none, wrote_one}
 
 module _ {A S Set C : Type 0} (g : Ghosts A S)
     (way : Set → Way C) (fed : Set → List ℕ → Type 0) (did did' : Set → List C → Type 0) (bytes : List ℕ) (n : ℕ) (shown : List ℕ) (node : Node A S)
-    (on : (k : Set) (before : List ℕ) (acts : List C) → fed k before → did k acts → did' k (acts ++ acts_of (all_brought (way k) before (take n bytes)))) where
+    (on : (k : Set) (before : List ℕ) (acts : List C) → fed k before → did k acts → did' k (acts ++ acts_among (all_brought (way k) before (take n bytes)))) where
   abbrev Came_of : Set → List ℕ → List (Came C)
   Came_of k before = all_brought (way k) before (take n bytes)
 
@@ -29,11 +29,11 @@ module _ {A S Set C : Type 0} (g : Ghosts A S)
   Here d k m own s = IsHere g (d k) m own node s
 
   -- what came holds no act
-  moved : (k : Set) (m : Meaning) (own : Addr) (before : List ℕ) (ds : List (Came C)) → fed k before → Came_of k before ≡ ds → acts_of ds ≡ []
+  moved : (k : Set) (m : Meaning) (own : Addr) (before : List ℕ) (ds : List (Came C)) → fed k before → Came_of k before ≡ ds → acts_among ds ≡ []
       → (s : Station C) → Here did k m own s → Here did' k m own s
   moved k m own before ds h e none s p = record {
     stands = p.stands;
-    acted = subst (λ (l : List C). did' k l) (ap (λ l. s.acts ++ acts_of l) e ∙ ap (λ l. s.acts ++ l) none ∙ append-nil s.acts) (on k before s.acts h p.acted);
+    acted = subst (λ (l : List C). did' k l) (ap (λ l. s.acts ++ acts_among l) e ∙ ap (λ l. s.acts ++ l) none ∙ append-nil s.acts) (on k before s.acts h p.acted);
   }
 
   -- the last act
@@ -41,7 +41,7 @@ module _ {A S Set C : Type 0} (g : Ghosts A S)
       → (s : Station C) → Here did k m own s → Here did' k m own (record { acts = s.acts ++ act ∷ []; node = s.node })
   acted_on k m own before act h e s p = record {
     stands = p.stands;
-    acted = subst (λ (l : List C). did' k l) (ap (λ l. s.acts ++ acts_of l) e) (on k before s.acts h p.acted);
+    acted = subst (λ (l : List C). did' k l) (ap (λ l. s.acts ++ acts_among l) e) (on k before s.acts h p.acted);
   }
 
   pub nothing_wrote : ((k : Set) (before : List ℕ) → fed k before → Came_of k before ≡ []) → (a : Option (List ℕ))

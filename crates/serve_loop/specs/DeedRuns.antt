@@ -33,9 +33,9 @@ said_at m served w own s (Does a) = w.says a
 said_at m served w own s (Happens e) = text_behind w s.acts own (step m served s.node e).sent
 
 -- where deeds lead
-abbrev pub after : {A : Type 0} → Meaning → (ℕ → Bool) → List (Deed A) → Station A → Station A
-after m served [] s = s
-after m served (d ∷ deeds) s = after m served deeds (after_deed m served s d)
+abbrev pub after_deeds : {A : Type 0} → Meaning → (ℕ → Bool) → List (Deed A) → Station A → Station A
+after_deeds m served [] s = s
+after_deeds m served (d ∷ deeds) s = after_deeds m served deeds (after_deed m served s d)
 
 -- all that is said for them, in order
 abbrev pub said : {A : Type 0} → Meaning → (ℕ → Bool) → Way A → Addr → List (Deed A) → Station A → List ℕ
@@ -45,14 +45,14 @@ said m served w own (d ∷ deeds) s = said_at m served w own s d ++ said m serve
 -- All was written: from each station with the first property, the run over the deeds leads to one with the second,
 -- and what is said for them was appended.
 pub record AllSaid {A : Type 0} (m : Meaning) (served : ℕ → Bool) (w : Way A) (own : Addr) (deeds : List (Deed A)) (Before After : Station A → Type 0) (old new : Option (List ℕ)) : Type 0 where
-  pub each : (s : Station A) → Before s → After (after m served deeds s) × Appends old new (said m served w own deeds s)
+  pub each : (s : Station A) → Before s → After (after_deeds m served deeds s) × Appends old new (said m served w own deeds s)
 
 -- The run from a station stopped behind a front of the deeds, and a front of what is said for it was appended.
 pub record StopsIn {A : Type 0} (m : Meaning) (served : ℕ → Bool) (w : Way A) (own : Addr) (deeds : List (Deed A)) (After : Station A → Type 0) (old new : Option (List ℕ)) (s : Station A) : Type 0 where
   pub done : List (Deed A)
   pub later : List (Deed A)
   pub front : deeds ≡ done ++ later
-  pub after : After (after m served done s)
+  pub after : After (after_deeds m served done s)
   pub written : AppendsPrefix old new (said m served w own done s)
 
 -- The writing broke off: the run from each station with the first property stopped at one with the second.

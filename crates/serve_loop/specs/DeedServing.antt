@@ -21,7 +21,7 @@ SaidBy ends.WriteFault m served w own deeds Before After old new = FrontSaid m s
 SaidBy _ m served w own deeds Before After old new = AllSaid m served w own deeds Before After old new
 
 -- the node stands for the station's node, and the medium did its acts
-pub record IsAt {A S C : Type 0} (g : Ghosts A S) (did : List C → Type 0) (node : Node A S) (s : Station C) : Type 0 where
+pub record IsStationed {A S C : Type 0} (g : Ghosts A S) (did : List C → Type 0) (node : Node A S) (s : Station C) : Type 0 where
   pub stands : Stands g node s.node s.node.past
   pub acted : did s.acts
 
@@ -32,4 +32,4 @@ pub record ServesOver {A S C : Type 0} (g : Ghosts A S) (w : Way C) (did did' : 
   pub taken : List Item
   pub consumed : Consumes old.link.coming new.link.coming taken
   pub ends : EndsBy n old new taken result
-  pub wrote : SaidBy result (g.meaning (g.kept before.shared)) g.served w before.addr (line_deeds w before.addr pace taken) (IsAt g did before) (IsAt g did' after) old.sink.written new.sink.written
+  pub wrote : SaidBy result (g.meaning (g.kept before.shared)) g.served w before.addr (line_deeds w before.addr pace taken) (IsStationed g did before) (IsStationed g did' after) old.sink.written new.sink.written

@@ -57,9 +57,9 @@ pub record HasTaken (pace : ℕ) (before : List ℕ) (fed : List ℕ → Type 0)
   pub passed : HasPassed (length before) pacer
 
 -- a turn takes at least one item and no more than there is room for
-abbrev pub CountFits : Turn → ℕ → Type 0
-CountFits (turns.Went n) room = (0 < n) × (n ≤ room)
-CountFits (turns.Stopped s) room = ⊤
+abbrev pub TurnFits : Turn → ℕ → Type 0
+TurnFits (turns.Went n) room = (0 < n) × (n ≤ room)
+TurnFits (turns.Stopped s) room = ⊤
 
 -- the cause of what a turn tells that took these items
 abbrev pub TurnsBy : LineTold → LineTold → List Item → Turn → Type 0

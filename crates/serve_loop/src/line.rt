@@ -4,7 +4,7 @@ ghost use Rattle.uip_edge.specs.Causes.{HasCause};
 ghost use Rattle.uip_node.specs.StandsFor.{IsWhole};
 ghost use Rattle.line_medium.specs.Ways.{all_brought};
 ghost use Rattle.serve_loop.specs.LineDeeds.{deed_by, deeds_behind};
-ghost use Rattle.serve_loop.specs.Turns.{Breaks, CountFits, HasTaken, Plays, Turns, place};
+ghost use Rattle.serve_loop.specs.Turns.{Breaks, TurnFits, HasTaken, Plays, Turns, place};
 ghost use Rattle.uip_edge.specs.Telling.{line_told};
 
 use crate::node_calls::{take_datagram, tick};
@@ -33,7 +33,7 @@ pub(crate) fn take_turn<A: App, M: Medium, L: Link, K: Sink>(
     requires whole { IsWhole A.App node.old }
     ensures whole { IsWhole A.App node.new }
     ensures same { A.kept node.new.shared ≡ A.kept node.old.shared }
-    ensures fits { CountFits result (length buf.old) }
+    ensures fits { TurnFits result (length buf.old) }
     ensures turns { (k : M.Set) (pace : ℕ) (before : List ℕ) → HasTaken pace before (M.fed medium.old k) pacer.old
         → Turns A.App M.Medium k pace before medium.old medium.new node.old node.new
         (line_told L.Link K.Sink link.old sink.old)

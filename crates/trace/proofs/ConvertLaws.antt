@@ -5,7 +5,7 @@ use Rattle.uip_edge.proofs.Told.{Consumes-then, none_more, took_all}
 use Rattle.uip_edge.specs.declared.item.Item.{Item}
 use Rattle.trace.specs.CaptureReading.{Reading}
 use Rattle.trace.specs.Converting.{Converts, HasNewFault, SlipEndsBy}
-use Rattle.trace.specs.Gathering.{IsReadTo, IsOpen, StopsBy, Reads}
+use Rattle.trace.specs.Gathering.{IsReadTo, IsOpen, StopsBy, ReadsTurn}
 use Rattle.trace.specs.declared.reader.Turn.TheVariants.{Stopped}
 use Rattle.trace.specs.declared.telling.TheConstants.{BLOCK}
 use Rattle.trace.specs.declared.slip_end.CaptureWhy.TheVariants as whys
@@ -35,7 +35,7 @@ pub stopped : (n : ℕ) (taken : List Item) (old mid new : LineTold) (stage stag
     → Consumes old.link.coming mid.link.coming taken → length taken < n → room + length taken ≤ n → room ≤ BLOCK
     → mid.link.faults ≡ old.link.faults → mid.sink.faults ≡ old.sink.faults
     → IsReadTo old.sink.written mid.sink.written (bytes_among taken) stage number part → IsOpen stage part want
-    → Reads old.sink.written taken mid new stage' number' part' room (Stopped end) → Converts n old new end
+    → ReadsTurn old.sink.written taken mid new stage' number' part' room (Stopped end) → Converts n old new end
 stopped n taken old mid new stage stage' number number' part part' want room end c below fits block l k at is t =
     let s = sound_at old.sink.written mid.sink.written (bytes_among taken) stage number part want at is in
     let within = t.within in

@@ -126,7 +126,7 @@ ReadBy start before items old new stage number part (turns.Went n) =
 ReadBy start before items old new stage number part (turns.Stopped end) = EndsIn start before items old new end
 
 -- a turn, behind the items before it
-pub record Reads (start : Option (List ℕ)) (before : List Item) (old new : LineTold) (stage : Stage) (number : ℕ) (part : List ℕ) (room : ℕ) (turn : Turn) : Type 0 where
+pub record ReadsTurn (start : Option (List ℕ)) (before : List Item) (old new : LineTold) (stage : Stage) (number : ℕ) (part : List ℕ) (room : ℕ) (turn : Turn) : Type 0 where
   pub items : List Item
   pub consumed : Consumes old.link.coming new.link.coming items
   pub within : length items ≤ room

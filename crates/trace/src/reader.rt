@@ -1,7 +1,7 @@
 ghost use Rattle.std.specs.Prelude.{◌≡◌, ◌<◌, ◌≤◌, ◌+◌, ◌^◌, ◌++◌, [], List, ℕ, Option, length, take, IfErr, IfOk, OnErr, OnOk};
 ghost use Rattle.uip_edge.specs.Causes.{HasCause};
 ghost use Rattle.uip_edge.specs.declared.item.Item.{Item};
-ghost use Rattle.trace.specs.Gathering.{BrokeOff, ReadFits, HasReadTo, IsAtFault, IsFullIn, IsOpenIn, OpenOn, SinkBy, StopsAt, Reads, end_at};
+ghost use Rattle.trace.specs.Gathering.{BrokeOff, ReadFits, HasReadTo, IsAtFault, IsFullIn, IsOpenIn, OpenOn, SinkBy, StopsAt, ReadsTurn, end_at};
 ghost use Rattle.trace.specs.declared.reader.Stop.TheVariants.{Bad as BadStop, WriteFault};
 ghost use Rattle.trace.specs.declared.slip_end.SlipEnd.TheVariants.{Bad as BadEnd};
 ghost use Rattle.uip_edge.specs.Coming.{bytes_among};
@@ -90,7 +90,7 @@ impl Reader {
         ensures fits { ReadFits result (length buf.old) self.old.number self.new.number }
         ensures turns { (start : Option (List ℕ)) (before : List Item)
             → HasReadTo start (K.written sink.old) (bytes_among before) self.old
-            → Reads start before (line_told L.Link K.Sink link.old sink.old)
+            → ReadsTurn start before (line_told L.Link K.Sink link.old sink.old)
             (line_told L.Link K.Sink link.new sink.new)
             self.new.stage self.new.number self.new.part (length buf.old) result }
     {

@@ -9,7 +9,7 @@ use Rattle.uip_ipv4.specs.declared.head.IpHead.{IpHead}
 use Rattle.uip_ipv4.specs.declared.fate.IpFate.{IpFate}
 use Rattle.uip_ipv4.specs.declared.fate.IpFate.TheVariants.{Short, Version, Length, Fragment, Checksum, NotOurs, Protocol}
 use Rattle.uip_ipv4.specs.Head.{head_or_fate, head_by, proto_of}
-use Rattle.udp_datagram.specs.Udp.{IsWhole, carries_udp, is_of_other_protocol}
+use Rattle.udp_datagram.specs.Udp.{IsWholeUdp, carries_udp, is_of_other_protocol}
 
 lengths_passed : (short version length fragment sum other : Bool) (rest : Result IpHead IpFate)
     → is_of_other_protocol (if short then Err Short else if version then Err Version else if length then Err Length else if fragment then Err Fragment else if sum then Err Checksum else if other then Err NotOurs else rest) ≡ true
@@ -22,7 +22,7 @@ lengths_passed false false false fragment sum other rest e = (refl, refl)
 fits : (total received : ℕ) → ltb total 20 || ltb received total ≡ false → (20 ≤ total) × (total ≤ received)
 fits total received e = (grind (arith, common_steps), grind (arith, common_steps))
 
-pub is_whole : (own datagram : List ℕ) → is_of_other_protocol (head_or_fate datagram own) ≡ true → IsWhole datagram
+pub is_whole : (own datagram : List ℕ) → is_of_other_protocol (head_or_fate datagram own) ≡ true → IsWholeUdp datagram
 unfolding head_or_fate
 is_whole own datagram e =
     let p =

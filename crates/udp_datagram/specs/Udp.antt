@@ -41,8 +41,8 @@ abbrev pub carries_udp : List ℕ → List ℕ → Bool
 carries_udp own datagram = is_of_other_protocol (head_or_fate datagram own) && slice_index datagram 9 == 17
 
 -- the total length in the header is within what was received
-abbrev pub IsWhole : List ℕ → Type 0
-IsWhole datagram = (20 ≤ word_at datagram 2) × (word_at datagram 2 ≤ length datagram)
+abbrev pub IsWholeUdp : List ℕ → Type 0
+IsWholeUdp datagram = (20 ≤ word_at datagram 2) × (word_at datagram 2 ≤ length datagram)
 
 -- what stands behind the Internet header, up to the total length
 abbrev pub behind_head : List ℕ → List ℕ

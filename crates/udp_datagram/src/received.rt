@@ -1,5 +1,5 @@
 ghost use Rattle.std.specs.Prelude.{◌≡◌, ◌<◌, ◌≤◌, ◌++◌, length, option_map, true};
-ghost use Rattle.udp_datagram.specs.Udp.{IsWhole, behind_head, carries_udp, udp_data, udp_in, udp_pseudo_header};
+ghost use Rattle.udp_datagram.specs.Udp.{IsWholeUdp, behind_head, carries_udp, udp_data, udp_in, udp_pseudo_header};
 ghost use Rattle.uip_wire.specs.Checksum.{checksum_of};
 
 use crate::sums::{UDP, pseudo_sum};
@@ -25,7 +25,7 @@ pub fn udp_data(way: Way, datagram: &[u8]) -> Option<&[u8]>
 /// Whether a whole datagram to this address carries UDP.
 fn carries_udp(own: Addr, datagram: &[u8]) -> bool
     ensures exact { result ≡ carries_udp own.0 datagram.now }
-    ensures whole { result ≡ true → IsWhole datagram.now }
+    ensures whole { result ≡ true → IsWholeUdp datagram.now }
 {
     match check(datagram, own) {
         Err(IpFate::Protocol) => datagram[9] == UDP,

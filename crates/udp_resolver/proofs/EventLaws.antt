@@ -5,22 +5,22 @@ use Rattle.rexmit_timer.specs.declared.timer.Beat.{Beat}
 use Rattle.rexmit_timer.specs.declared.timer.Beat.TheVariants.{Again, GiveUp, Wait}
 use Rattle.rexmit_timer.specs.declared.timer.Timer.{Timer}
 use Rattle.udp_resolver.specs.Fates.{is_given_up, silences}
-use Rattle.udp_resolver.specs.LineEvents.{Event, Came, Silence}
-use Rattle.udp_resolver.specs.Steps.{IsAt}
+use Rattle.udp_resolver.specs.LineEvents.{LineEvent, Came, Silence}
+use Rattle.udp_resolver.specs.Steps.{IsClockAt}
 use Rattle.udp_resolver.specs.declared.clock.Clock.{Clock}
 
-pub silences-append : (xs ys : List Event) → silences (xs ++ ys) ≡ silences xs + silences ys
+pub silences-append : (xs ys : List LineEvent) → silences (xs ++ ys) ≡ silences xs + silences ys
 silences-append [] ys = omega arith
 silences-append (Came datagram ∷ xs) ys = silences-append xs ys
 silences-append (Silence ∷ xs) ys = omega (arith, silences-append xs ys)
 
-pub one_more : (xs : List Event) → silences (xs ++ Silence ∷ []) ≡ silences xs + 1
+pub one_more : (xs : List LineEvent) → silences (xs ++ Silence ∷ []) ≡ silences xs + 1
 one_more xs = silences-append xs (Silence ∷ [])
 
 below : (n : ℕ) → leb 249 n ≡ false → n < 249
 below n e = grind arith
 
-pub not_over : (xs : List Event) → is_given_up xs ≡ false → silences xs < 249
+pub not_over : (xs : List LineEvent) → is_given_up xs ≡ false → silences xs < 249
 not_over xs e = below (silences xs) e
 
 not_last_by : (b c : Bool) → Wait ≡ (if b then GiveUp else if c then Again else Wait) → b ≡ false
@@ -43,9 +43,9 @@ reached : (n : ℕ) → eqb n 249 ≡ true → leb 249 n ≡ true
 reached n e = grind arith
 
 -- the clock goes on with the next age
-goes : (happened : List Event) (old : Clock) (timer : Timer) → is_given_up happened ≡ false → IsAt happened old
+goes : (happened : List LineEvent) (old : Clock) (timer : Timer) → is_given_up happened ≡ false → IsClockAt happened old
     → eqb (silences happened + 1) 249 ≡ false → IsAtAge timer (silences happened + 1)
-    → IsAt (happened ++ Silence ∷ []) (record { timer = timer; given_up = old.given_up })
+    → IsClockAt (happened ++ Silence ∷ []) (record { timer = timer; given_up = old.given_up })
 goes happened old timer e at next aged = record {
   given_up =
       at.given_up ∙ e
@@ -53,14 +53,14 @@ goes happened old timer e at next aged = record {
   age = λ h. subst (λ n. IsAtAge timer n) (sym (one_more happened)) aged;
 }
 
-pub ticked_wait : (happened : List Event) (old : Clock) (timer : Timer) (asked : Beat) → asked ≡ Wait → is_given_up happened ≡ false → IsAt happened old
-    → IsBeatOfAge 8 (silences happened) asked timer → IsAt (happened ++ Silence ∷ []) (record { timer = timer; given_up = old.given_up })
+pub ticked_wait : (happened : List LineEvent) (old : Clock) (timer : Timer) (asked : Beat) → asked ≡ Wait → is_given_up happened ≡ false → IsClockAt happened old
+    → IsBeatOfAge 8 (silences happened) asked timer → IsClockAt (happened ++ Silence ∷ []) (record { timer = timer; given_up = old.given_up })
 ticked_wait happened old timer Wait is e at b = goes happened old timer e at (not_last_by _ _ b.beat) b.goes_on
 ticked_wait happened old timer Again is e at b = absurd (cc is)
 ticked_wait happened old timer GiveUp is e at b = absurd (cc is)
 
-pub ticked_again : (happened : List Event) (old : Clock) (timer : Timer) (asked : Beat) → asked ≡ Again → is_given_up happened ≡ false → IsAt happened old
-    → IsBeatOfAge 8 (silences happened) asked timer → IsAt (happened ++ Silence ∷ []) (record { timer = timer; given_up = old.given_up })
+pub ticked_again : (happened : List LineEvent) (old : Clock) (timer : Timer) (asked : Beat) → asked ≡ Again → is_given_up happened ≡ false → IsClockAt happened old
+    → IsBeatOfAge 8 (silences happened) asked timer → IsClockAt (happened ++ Silence ∷ []) (record { timer = timer; given_up = old.given_up })
 ticked_again happened old timer Wait is e at b = absurd (cc is)
 ticked_again happened old timer Again is e at b = goes happened old timer e at (again_by _ _ b.beat) b.goes_on
 ticked_again happened old timer GiveUp is e at b = absurd (cc is)
@@ -68,8 +68,8 @@ ticked_again happened old timer GiveUp is e at b = absurd (cc is)
 too_late : (n : ℕ) → eqb n 249 ≡ true → n < 249 → ⊥
 too_late n e h = grind arith
 
-pub ticked_over : (happened : List Event) (old : Clock) (timer : Timer) (asked : Beat) → asked ≡ GiveUp → is_given_up happened ≡ false → IsAt happened old
-    → IsBeatOfAge 8 (silences happened) asked timer → IsAt (happened ++ Silence ∷ []) (record { timer = timer; given_up = true })
+pub ticked_over : (happened : List LineEvent) (old : Clock) (timer : Timer) (asked : Beat) → asked ≡ GiveUp → is_given_up happened ≡ false → IsClockAt happened old
+    → IsBeatOfAge 8 (silences happened) asked timer → IsClockAt (happened ++ Silence ∷ []) (record { timer = timer; given_up = true })
 ticked_over happened old timer Wait is e at b = absurd (cc is)
 ticked_over happened old timer Again is e at b = absurd (cc is)
 ticked_over happened old timer GiveUp is e at b =

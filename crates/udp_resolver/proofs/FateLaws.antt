@@ -1,13 +1,13 @@
 -- How the answers to questions grow with events.
 use Rattle.std.proofs.Common.{◌≡◌, ℕ, zero, suc, ◌+◌, ◌<◌, ◌≤◌, Bool, true, false, not, ◌&&◌, ◌||◌, cond, eqb, if◌then◌else◌, List, [], ◌∷◌, ◌++◌, map, refl, sym, ap, ◌∙◌, arith, Option, None, Some}
 use Rattle.std.specs.List.{list_all, list_any}
-use Rattle.std.specs.Option.{is_none}
+use Rattle.std.specs.Option.{is_none, option_or}
 use Rattle.dns_message.specs.Replies.{answer_to}
 use Rattle.dns_message.specs.declared.answer.Answer.{Answer}
 use Rattle.udp_resolver.specs.Asked.{open_ones}
-use Rattle.udp_resolver.specs.Fates.{Question, all_settled, answer_among, fate_by, first_answer, in_front_of, is_given_up, is_settled, or_else, silences}
-use Rattle.udp_resolver.specs.LineEvents.{Event, Came, Silence}
-use Rattle.udp_resolver.specs.Steps.{heard, unanswered, unless_answered}
+use Rattle.udp_resolver.specs.Fates.{Question, all_settled, answer_among, fate_by, first_answer, in_front_of, is_given_up, is_settled, silences}
+use Rattle.udp_resolver.specs.LineEvents.{LineEvent, Came, Silence}
+use Rattle.udp_resolver.specs.Steps.{heard_now, unanswered, unless_answered}
 use Rattle.udp_resolver.specs.declared.fate.Fate.TheVariants.{Open, Timeout}
 use Rattle.udp_resolver.proofs.EventLaws.{not_over, one_more, silences-append}
 
@@ -20,23 +20,23 @@ other_of a b e = grind arith
 clash : false ≡ true → ⊥
 clash e = cc e
 
-or_else-none : (a : Option Answer) → or_else a None ≡ a
-or_else-none None = refl
-or_else-none (Some a) = refl
+option_or-none : (a : Option Answer) → option_or a None ≡ a
+option_or-none None = refl
+option_or-none (Some a) = refl
 
-or_else-assoc : (a b c : Option Answer) → or_else (or_else a b) c ≡ or_else a (or_else b c)
-or_else-assoc None b c = refl
-or_else-assoc (Some a) b c = refl
+option_or-assoc : (a b c : Option Answer) → option_or (option_or a b) c ≡ option_or a (option_or b c)
+option_or-assoc None b c = refl
+option_or-assoc (Some a) b c = refl
 
-pub first_answer-append : (q : Question) (xs ys : List Event) → first_answer q (xs ++ ys) ≡ or_else (first_answer q xs) (first_answer q ys)
+pub first_answer-append : (q : Question) (xs ys : List LineEvent) → first_answer q (xs ++ ys) ≡ option_or (first_answer q xs) (first_answer q ys)
 first_answer-append q [] ys = refl
 first_answer-append q (Came datagram ∷ xs) ys =
     let a = answer_to q.asking q.text datagram in
-    ap (λ o. or_else a o) (first_answer-append q xs ys) ∙ sym (or_else-assoc a (first_answer q xs) (first_answer q ys))
+    ap (λ o. option_or a o) (first_answer-append q xs ys) ∙ sym (option_or-assoc a (first_answer q xs) (first_answer q ys))
 first_answer-append q (Silence ∷ xs) ys = first_answer-append q xs ys
 
 -- all events stand in front of a silence that did not come
-pub front_all : (n : ℕ) (xs : List Event) → silences xs < n → in_front_of n xs ≡ xs
+pub front_all : (n : ℕ) (xs : List LineEvent) → silences xs < n → in_front_of n xs ≡ xs
 front_all n [] h = refl
 front_all n (Came datagram ∷ xs) h = ap (λ l. Came datagram ∷ l) (front_all n xs h)
 front_all zero (Silence ∷ xs) h = absurd (omega arith)
@@ -44,7 +44,7 @@ front_all (suc zero) (Silence ∷ xs) h = absurd (omega arith)
 front_all (suc (suc n)) (Silence ∷ xs) h = ap (λ l. Silence ∷ l) (front_all (suc n) xs (omega arith))
 
 -- what comes behind a silence does not stand in front of it
-pub front_kept : (n : ℕ) (xs ys : List Event) → 1 ≤ n → n ≤ silences xs → in_front_of n (xs ++ ys) ≡ in_front_of n xs
+pub front_kept : (n : ℕ) (xs ys : List LineEvent) → 1 ≤ n → n ≤ silences xs → in_front_of n (xs ++ ys) ≡ in_front_of n xs
 front_kept n [] ys some h = absurd (omega arith)
 front_kept n (Came datagram ∷ xs) ys some h = ap (λ l. Came datagram ∷ l) (front_kept n xs ys some h)
 front_kept zero (Silence ∷ xs) ys some h = absurd (omega arith)
@@ -52,7 +52,7 @@ front_kept (suc zero) (Silence ∷ xs) ys some h = refl
 front_kept (suc (suc n)) (Silence ∷ xs) ys some h = ap (λ l. Silence ∷ l) (front_kept (suc n) xs ys (omega arith) (omega arith))
 
 -- all others stand in front of the silence that came last
-pub front_last : (n : ℕ) (xs ys : List Event) → silences xs + 1 ≡ n → in_front_of n (xs ++ Silence ∷ ys) ≡ xs
+pub front_last : (n : ℕ) (xs ys : List LineEvent) → silences xs + 1 ≡ n → in_front_of n (xs ++ Silence ∷ ys) ≡ xs
 front_last zero [] ys h = absurd (omega arith)
 front_last (suc zero) [] ys h = refl
 front_last (suc (suc n)) [] ys h = absurd (omega arith)
@@ -61,22 +61,22 @@ front_last zero (Silence ∷ xs) ys h = absurd (omega arith)
 front_last (suc zero) (Silence ∷ xs) ys h = absurd (omega arith)
 front_last (suc (suc n)) (Silence ∷ xs) ys h = ap (λ l. Silence ∷ l) (front_last (suc n) xs ys (omega arith))
 
-answer_now : (happened : List Event) (q : Question) → is_given_up happened ≡ false → answer_among happened q ≡ first_answer q happened
+answer_now : (happened : List LineEvent) (q : Question) → is_given_up happened ≡ false → answer_among happened q ≡ first_answer q happened
 answer_now happened q e = ap (λ l. first_answer q l) (front_all 249 happened (not_over happened e))
 
 -- a datagram may answer a question that has no answer
-pub answer_came : (happened : List Event) (datagram : List ℕ) (q : Question) → is_given_up happened ≡ false
-    → answer_among (happened ++ Came datagram ∷ []) q ≡ or_else (answer_among happened q) (answer_to q.asking q.text datagram)
+pub answer_came : (happened : List LineEvent) (datagram : List ℕ) (q : Question) → is_given_up happened ≡ false
+    → answer_among (happened ++ Came datagram ∷ []) q ≡ option_or (answer_among happened q) (answer_to q.asking q.text datagram)
 answer_came happened datagram q e =
     let a = answer_to q.asking q.text datagram in
     let short : silences (happened ++ Came datagram ∷ []) < 249 = omega (arith, silences-append happened (Came datagram ∷ []), not_over happened e) in
     ap (λ l. first_answer q l) (front_all 249 (happened ++ Came datagram ∷ []) short)
     ∙ first_answer-append q happened (Came datagram ∷ [])
-    ∙ ap (λ o. or_else (first_answer q happened) o) (or_else-none a)
-    ∙ ap (λ o. or_else o a) (sym (answer_now happened q e))
+    ∙ ap (λ o. option_or (first_answer q happened) o) (option_or-none a)
+    ∙ ap (λ o. option_or o a) (sym (answer_now happened q e))
 
 -- a silence answers nothing
-pub answer_silence : (happened : List Event) (q : Question) → is_given_up happened ≡ false
+pub answer_silence : (happened : List LineEvent) (q : Question) → is_given_up happened ≡ false
     → answer_among (happened ++ Silence ∷ []) q ≡ answer_among happened q
 answer_silence happened q e =
     let low = not_over happened e in
@@ -86,17 +86,17 @@ answer_silence happened q e =
       | true ↦ λ last. ap (λ l. first_answer q l) (front_last 249 happened [] (same_of (silences happened + 1) 249 last))
       | false ↦ λ other.
           ap (λ l. first_answer q l) (front_all 249 next (omega (arith, one_more happened, low, other_of (silences happened + 1) 249 other)))
-          ∙ first_answer-append q happened (Silence ∷ []) ∙ or_else-none (first_answer q happened)
+          ∙ first_answer-append q happened (Silence ∷ []) ∙ option_or-none (first_answer q happened)
     ] refl))
 
-pub heard_map : (datagram : List ℕ) (happened : List Event) (asked : List Question) → is_given_up happened ≡ false
-    → heard datagram asked (map (answer_among happened) asked) ≡ map (answer_among (happened ++ Came datagram ∷ [])) asked
+pub heard_map : (datagram : List ℕ) (happened : List LineEvent) (asked : List Question) → is_given_up happened ≡ false
+    → heard_now datagram asked (map (answer_among happened) asked) ≡ map (answer_among (happened ++ Came datagram ∷ [])) asked
 heard_map datagram happened [] e = refl
 heard_map datagram happened (q ∷ asked) e =
-    ap (λ a. a ∷ heard datagram asked (map (answer_among happened) asked)) (sym (answer_came happened datagram q e))
+    ap (λ a. a ∷ heard_now datagram asked (map (answer_among happened) asked)) (sym (answer_came happened datagram q e))
     ∙ ap (λ l. answer_among (happened ++ Came datagram ∷ []) q ∷ l) (heard_map datagram happened asked e)
 
-pub map_silence : (happened : List Event) (asked : List Question) → is_given_up happened ≡ false
+pub map_silence : (happened : List LineEvent) (asked : List Question) → is_given_up happened ≡ false
     → map (answer_among happened) asked ≡ map (answer_among (happened ++ Silence ∷ [])) asked
 map_silence happened [] e = refl
 map_silence happened (q ∷ asked) e =
@@ -109,7 +109,7 @@ open_by q None is_over rest e = sym (ap (λ b. cond (not (is_settled (if b then 
 open_by q (Some a) is_over rest e = refl
 
 -- the questions without an answer are the open ones, until all are given up
-pub opens : (happened : List Event) (asked : List Question) → is_given_up happened ≡ false
+pub opens : (happened : List LineEvent) (asked : List Question) → is_given_up happened ≡ false
     → unanswered asked (map (answer_among happened) asked) ≡ open_ones asked happened
 opens happened [] e = refl
 opens happened (q ∷ asked) e =
@@ -141,7 +141,7 @@ open_told true f asked = sym (ap not (all_over f asked))
 open_told false f asked = any_told f asked
 
 -- nothing is given up while a question is open
-pub not_given_up : (happened : List Event) (asked : List Question) → all_settled asked happened ≡ false → is_given_up happened ≡ false
+pub not_given_up : (happened : List LineEvent) (asked : List Question) → all_settled asked happened ≡ false → is_given_up happened ≡ false
 not_given_up happened asked e =
     elim (is_given_up happened) as (λ v. is_given_up happened ≡ v → is_given_up happened ≡ false) [
       | true ↦ λ over.

@@ -4,7 +4,7 @@ use Rattle.std.specs.List.{flat_map, list_any}
 use Rattle.rexmit_timer.specs.Ages.{ages}
 use Rattle.udp_resolver.specs.Asked.{asked_at, open_ones, queries}
 use Rattle.udp_resolver.specs.Fates.{Question, in_front_of, silences}
-use Rattle.udp_resolver.specs.LineEvents.{Event, Silence}
+use Rattle.udp_resolver.specs.LineEvents.{LineEvent, Silence}
 use Rattle.udp_resolver.specs.Steps.{asked_next}
 use Rattle.udp_resolver.proofs.EventLaws.{one_more, silences-append}
 use Rattle.udp_resolver.proofs.FateLaws.{front_kept, front_last}
@@ -41,17 +41,17 @@ beyond a n m h e = grind arith
 
 module _ (asked : List Question) where
   -- at an age that was reached before, the same ones are asked
-  at_reached : (happened more : List Event) (a : ℕ) → 1 ≤ a → a ≤ silences happened → asked_at asked (happened ++ more) a ≡ asked_at asked happened a
+  at_reached : (happened more : List LineEvent) (a : ℕ) → 1 ≤ a → a ≤ silences happened → asked_at asked (happened ++ more) a ≡ asked_at asked happened a
   at_reached happened more a some h =
       ap (λ b. if b then open_ones asked (in_front_of a (happened ++ more)) else []) (within a (silences (happened ++ more)) (silences (happened ++ more)) (omega (arith, silences-append happened more)) refl)
       ∙ ap (λ l. open_ones asked l) (front_kept a happened more some h)
       ∙ sym (ap (λ b. if b then open_ones asked (in_front_of a happened) else []) (within a (silences happened) (silences happened) h refl))
 
   -- and at one that is not reached none
-  at_ahead : (happened : List Event) (a : ℕ) → silences happened < a → asked_at asked happened a ≡ []
+  at_ahead : (happened : List LineEvent) (a : ℕ) → silences happened < a → asked_at asked happened a ≡ []
   at_ahead happened a h = ap (λ b. if b then open_ones asked (in_front_of a happened) else []) (beyond a (silences happened) (silences happened) h refl)
 
-  ahead_none : (happened : List Event) (low : ℕ) (list : List ℕ) → rising low list ≡ true → silences happened ≤ low → flat_map (asked_at asked happened) list ≡ []
+  ahead_none : (happened : List LineEvent) (low : ℕ) (list : List ℕ) → rising low list ≡ true → silences happened ≤ low → flat_map (asked_at asked happened) list ≡ []
   ahead_none happened low [] r h = refl
   ahead_none happened low (a ∷ rest) r h =
       let p = both_true (ltb low a) (rising a rest) r in
@@ -59,7 +59,7 @@ module _ (asked : List Question) where
       ap (λ l. l ++ flat_map (asked_at asked happened) rest) (at_ahead happened a (omega arith)) ∙ ahead_none happened a rest p.1 (omega arith)
 
   -- events without a silence ask nothing
-  same_by : (happened more : List Event) (low : ℕ) (list : List ℕ) → silences more ≡ 0 → rising low list ≡ true
+  same_by : (happened more : List LineEvent) (low : ℕ) (list : List ℕ) → silences more ≡ 0 → rising low list ≡ true
       → flat_map (asked_at asked (happened ++ more)) list ≡ flat_map (asked_at asked happened) list
   same_by happened more low [] calm r = refl
   same_by happened more low (a ∷ rest) calm r =
@@ -74,11 +74,11 @@ module _ (asked : List Question) where
       ] refl in
       ap (λ l. l ++ flat_map (asked_at asked (happened ++ more)) rest) first ∙ ap (λ l. asked_at asked happened a ++ l) (same_by happened more a rest calm p.1)
 
-  pub queries_calm : (happened more : List Event) → silences more ≡ 0 → queries asked (happened ++ more) ≡ queries asked happened
+  pub queries_calm : (happened more : List LineEvent) → silences more ≡ 0 → queries asked (happened ++ more) ≡ queries asked happened
   queries_calm happened more calm = ap (λ l. asked ++ l) (same_by happened more 0 (take 8 ages) calm refl)
 
   -- a silence asks the open ones again at an age of the list
-  more_by : (happened : List Event) (low : ℕ) (list : List ℕ) → rising low list ≡ true
+  more_by : (happened : List LineEvent) (low : ℕ) (list : List ℕ) → rising low list ≡ true
       → flat_map (asked_at asked (happened ++ Silence ∷ [])) list
       ≡ flat_map (asked_at asked happened) list ++ (if list_any (λ a. eqb a (silences happened + 1)) list then open_ones asked happened else [])
   more_by happened low [] r = refl
@@ -112,7 +112,7 @@ module _ (asked : List Question) where
             ∙ sym (append_assoc (asked_at asked happened a) before again)
       ] refl
 
-  pub queries_silence : (happened : List Event) → queries asked (happened ++ Silence ∷ []) ≡ queries asked happened ++ asked_next asked happened
+  pub queries_silence : (happened : List LineEvent) → queries asked (happened ++ Silence ∷ []) ≡ queries asked happened ++ asked_next asked happened
   queries_silence happened =
       ap (λ l. asked ++ l) (more_by happened 0 (take 8 ages) refl) ∙ sym (append_assoc asked (flat_map (asked_at asked happened) (take 8 ages)) (asked_next asked happened))
 

@@ -14,10 +14,10 @@ use Rattle.uip_slip.specs.declared.fed.Fed.{Fed}
 use Rattle.uip_slip.specs.declared.fed.Fed.TheVariants as fed
 use Rattle.udp_resolver.specs.Asked.{last_ident, line_text, open_ones, queries, query_texts}
 use Rattle.udp_resolver.specs.Fates.{Question, all_settled, answer_among, fate_of, is_given_up, next_asking, questions, silences}
-use Rattle.udp_resolver.specs.LineEvents.{Event, Came, Silence, by_byte, by_frame, events, events_behind}
+use Rattle.udp_resolver.specs.LineEvents.{LineEvent, Came, Silence, by_byte, by_frame, events, events_behind}
 use Rattle.udp_resolver.specs.Lines.{line_of, lines}
 use Rattle.udp_resolver.specs.Standing.{Adds, Knows}
-use Rattle.udp_resolver.specs.Steps.{IsAt, asked_next, heard, is_due, lines_by, unanswered}
+use Rattle.udp_resolver.specs.Steps.{IsClockAt, asked_next, heard_now, is_due, lines_by, unanswered}
 use Rattle.udp_resolver.specs.declared.clock.Clock.{Clock}
 use Rattle.udp_resolver.specs.declared.run.Run.{Run}
 use Rattle.udp_resolver.proofs.EventLaws.{silences-append}
@@ -33,7 +33,7 @@ questions-length asking [] = refl
 questions-length asking (text ∷ names) = ap suc (questions-length (next_asking asking) names)
 
 pub heard-length : (datagram : List ℕ) (asked : List Question) (answers : List (Option Answer)) → length answers ≡ length asked
-    → length (heard datagram asked answers) ≡ length answers
+    → length (heard_now datagram asked answers) ≡ length answers
 heard-length datagram [] [] h = refl
 heard-length datagram [] (a ∷ answers) h = absurd (omega arith)
 heard-length datagram (q ∷ asked) [] h = refl
@@ -45,18 +45,18 @@ refill_same olds news e =
     ap (λ l. take (length olds) (news ++ l)) (drop_all (length news) olds (omega arith))
     ∙ ap (λ l. take (length olds) l) (append-nil news) ∙ ap (λ n. take n news) (sym e) ∙ take-length news
 
-knows_events : (asked : List Question) (items : List Item) (happened : List Event) (bytes : List ℕ) (run : Run) → events items ≡ happened → bytes_among items ≡ bytes
-    → WasFed bytes run.decoder → IsAt happened run.clock → run.answers.items ≡ map (answer_among happened) asked
+knows_events : (asked : List Question) (items : List Item) (happened : List LineEvent) (bytes : List ℕ) (run : Run) → events items ≡ happened → bytes_among items ≡ bytes
+    → WasFed bytes run.decoder → IsClockAt happened run.clock → run.answers.items ≡ map (answer_among happened) asked
     → run.sender.ident ≡ last_ident 0 (queries asked happened) → Knows asked items run
 knows_events asked items happened bytes run e b fed at answers sent = record {
   fed = subst (λ (l : List ℕ). WasFed l run.decoder) (sym b) fed;
-  at = subst (λ (l : List Event). IsAt l run.clock) (sym e) at;
+  at = subst (λ (l : List LineEvent). IsClockAt l run.clock) (sym e) at;
   heard = answers ∙ ap (λ l. map (answer_among l) asked) (sym e);
   sent = sent ∙ ap (λ l. last_ident 0 (queries asked l)) (sym e);
 }
 
 -- the clock after events without a silence
-at_calm : (happened more : List Event) (clock : Clock) → silences more ≡ 0 → IsAt happened clock → IsAt (happened ++ more) clock
+at_calm : (happened more : List LineEvent) (clock : Clock) → silences more ≡ 0 → IsClockAt happened clock → IsClockAt (happened ++ more) clock
 at_calm happened more clock calm at =
     let same : silences (happened ++ more) ≡ silences happened = omega (arith, silences-append happened more, calm) in
     record {
@@ -71,18 +71,18 @@ pub knows_byte : (asked : List Question) (items : List Item) (b : ℕ) (old new 
 knows_byte asked items b old new k fed brings clock sender answers =
     knows_events asked (items ++ Byte b ∷ []) (events items) (bytes_among items ++ b ∷ []) new
     (events_byte items b ∙ ap (λ l. events items ++ l) brings ∙ append-nil (events items)) (bytes_among-append items (Byte b ∷ []))
-    fed (subst (λ (c : Clock). IsAt (events items) c) (sym clock) k.at) (ap (λ a. a.items) answers ∙ k.heard) (ap (λ s. s.ident) sender ∙ k.sent)
+    fed (subst (λ (c : Clock). IsClockAt (events items) c) (sym clock) k.at) (ap (λ a. a.items) answers ∙ k.heard) (ap (λ s. s.ident) sender ∙ k.sent)
 
 -- a byte that brings a datagram
 pub knows_came : (asked : List Question) (items : List Item) (b : ℕ) (datagram : List ℕ) (old new : Run) → is_given_up (events items) ≡ false → Knows asked items old
     → WasFed (bytes_among items ++ b ∷ []) new.decoder → by_byte (bytes_among items) b ≡ Came datagram ∷ []
-    → new.clock ≡ old.clock → new.sender ≡ old.sender → new.answers.items ≡ heard datagram asked old.answers.items → Knows asked (items ++ Byte b ∷ []) new
+    → new.clock ≡ old.clock → new.sender ≡ old.sender → new.answers.items ≡ heard_now datagram asked old.answers.items → Knows asked (items ++ Byte b ∷ []) new
 knows_came asked items b datagram old new e k fed brings clock sender answers =
     let es = events items in
     knows_events asked (items ++ Byte b ∷ []) (es ++ Came datagram ∷ []) (bytes_among items ++ b ∷ []) new
     (events_byte items b ∙ ap (λ l. es ++ l) brings) (bytes_among-append items (Byte b ∷ []))
-    fed (subst (λ (c : Clock). IsAt (es ++ Came datagram ∷ []) c) (sym clock) (at_calm es (Came datagram ∷ []) old.clock refl k.at))
-    (answers ∙ ap (λ l. heard datagram asked l) k.heard ∙ heard_map datagram es asked e)
+    fed (subst (λ (c : Clock). IsClockAt (es ++ Came datagram ∷ []) c) (sym clock) (at_calm es (Came datagram ∷ []) old.clock refl k.at))
+    (answers ∙ ap (λ l. heard_now datagram asked l) k.heard ∙ heard_map datagram es asked e)
     (ap (λ s. s.ident) sender ∙ k.sent ∙ ap (λ l. last_ident 0 l) (sym (queries_calm asked es (Came datagram ∷ []) refl)))
 
 -- a silence
@@ -90,7 +90,7 @@ pub events_quiet : (items : List Item) → events (items ++ Quiet ∷ []) ≡ ev
 events_quiet items = events-append [] items (Quiet ∷ [])
 
 pub knows_silence : (asked : List Question) (items : List Item) (old new : Run) → is_given_up (events items) ≡ false → Knows asked items old
-    → IsAt (events items ++ Silence ∷ []) new.clock → new.decoder ≡ old.decoder → new.answers ≡ old.answers
+    → IsClockAt (events items ++ Silence ∷ []) new.clock → new.decoder ≡ old.decoder → new.answers ≡ old.answers
     → new.sender.ident ≡ last_ident old.sender.ident (asked_next asked (events items)) → Knows asked (items ++ Quiet ∷ []) new
 knows_silence asked items old new e k at decoder answers sent =
     let es = events items in
@@ -127,7 +127,7 @@ adds_quiet asked items run k =
     ∙ query_texts-append 0 (queries asked es) next
     ∙ ap (λ n. query_texts 0 (queries asked es) ++ query_texts n next) (sym k.sent)
 
-count_same : (xs ys : List Event) → silences ys ≡ 0 → silences (xs ++ ys) ≡ silences xs
+count_same : (xs ys : List LineEvent) → silences ys ≡ 0 → silences (xs ++ ys) ≡ silences xs
 count_same xs ys e = omega (arith, silences-append xs ys, e)
 
 -- bytes give nothing up
@@ -186,7 +186,7 @@ first_asked asked answers e =
     ap (λ l. unanswered asked l) e ∙ opens [] asked refl ∙ all_open asked ∙ sym (queries_first asked)
 
 -- the lines of the answers are the lines of the questions
-pub lines_told : (happened : List Event) (asking : Asking) (names : List (List ℕ))
+pub lines_told : (happened : List LineEvent) (asking : Asking) (names : List (List ℕ))
     → lines_by names (map (answer_among happened) (questions asking names)) (is_given_up happened) ≡ lines (questions asking names) happened
 lines_told happened asking [] = refl
 lines_told happened asking (text ∷ names) =

@@ -10,9 +10,10 @@ use Rattle.dns_message.specs.Replies.{answer_to, query_datagram}
 use Rattle.dns_message.specs.declared.answer.Answer.{Answer}
 use Rattle.dns_message.specs.declared.asking.Asking.{Asking}
 use Rattle.udp_resolver.specs.Asked.{last_ident, next_ident, query_texts}
-use Rattle.udp_resolver.specs.Fates.{Question, fate_by, next_asking, or_else, questions}
+use Rattle.udp_resolver.specs.Fates.{Question, fate_by, next_asking, questions}
 use Rattle.udp_resolver.specs.Lines.{line_of}
-use Rattle.udp_resolver.specs.Steps.{heard, lines_by, unanswered, unless_answered}
+use Rattle.udp_resolver.specs.Steps.{heard_now, lines_by, unanswered, unless_answered}
+use Rattle.std.specs.Option.{option_or}
 
 pub query_texts-append : (ident : ℕ) (xs ys : List Question) → query_texts ident (xs ++ ys) ≡ query_texts ident xs ++ query_texts (last_ident ident xs) ys
 query_texts-append ident [] ys = refl
@@ -44,15 +45,15 @@ module _ {X : Type 0} where
       ap (λ l. set l at b) e ∙ ap (λ n. set (front ++ a ∷ rest) n b) (sym size) ∙ set-append_seam front a rest b ∙ sym (append_assoc front (b ∷ []) rest)
 
 pub heard_step : (datagram : List ℕ) (asking after : Asking) (names later : List (List ℕ)) (name : List ℕ) (olds rest : List (Option Answer)) (a b : Option Answer) (whole front : List (Option Answer))
-    → names ≡ name ∷ later → olds ≡ a ∷ rest → after ≡ next_asking asking → b ≡ or_else a (answer_to asking name datagram)
-    → whole ≡ front ++ heard datagram (questions asking names) olds
-    → whole ≡ (front ++ b ∷ []) ++ heard datagram (questions after later) rest
+    → names ≡ name ∷ later → olds ≡ a ∷ rest → after ≡ next_asking asking → b ≡ option_or a (answer_to asking name datagram)
+    → whole ≡ front ++ heard_now datagram (questions asking names) olds
+    → whole ≡ (front ++ b ∷ []) ++ heard_now datagram (questions after later) rest
 heard_step datagram asking after names later name olds rest a b whole front n o k is e =
-    e ∙ ap (λ l. front ++ heard datagram (questions asking l) olds) n
-    ∙ ap (λ l. front ++ heard datagram (questions asking (name ∷ later)) l) o
-    ∙ ap (λ x. front ++ x ∷ heard datagram (questions (next_asking asking) later) rest) (sym is)
-    ∙ ap (λ x. front ++ b ∷ heard datagram (questions x later) rest) (sym k)
-    ∙ sym (append_assoc front (b ∷ []) (heard datagram (questions after later) rest))
+    e ∙ ap (λ l. front ++ heard_now datagram (questions asking l) olds) n
+    ∙ ap (λ l. front ++ heard_now datagram (questions asking (name ∷ later)) l) o
+    ∙ ap (λ x. front ++ x ∷ heard_now datagram (questions (next_asking asking) later) rest) (sym is)
+    ∙ ap (λ x. front ++ b ∷ heard_now datagram (questions x later) rest) (sym k)
+    ∙ sym (append_assoc front (b ∷ []) (heard_now datagram (questions after later) rest))
 
 pub unanswered_step : (asking after : Asking) (names later : List (List ℕ)) (name : List ℕ) (olds rest : List (Option Answer)) (a : Option Answer) (whole front : List Question)
     → names ≡ name ∷ later → olds ≡ a ∷ rest → after ≡ next_asking asking
@@ -74,8 +75,8 @@ lines_step names later name olds rest a is_over whole front n o e =
     ∙ sym (append_assoc front (line_of name (fate_by a is_over)) (lines_by later rest is_over))
 
 -- nothing is left behind the last name
-pub heard_none : (datagram : List ℕ) (asking : Asking) (names : List (List ℕ)) (olds : List (Option Answer)) → names ≡ [] → heard datagram (questions asking names) olds ≡ []
-heard_none datagram asking names olds e = ap (λ l. heard datagram (questions asking l) olds) e
+pub heard_none : (datagram : List ℕ) (asking : Asking) (names : List (List ℕ)) (olds : List (Option Answer)) → names ≡ [] → heard_now datagram (questions asking names) olds ≡ []
+heard_none datagram asking names olds e = ap (λ l. heard_now datagram (questions asking l) olds) e
 
 pub unanswered_none : (asking : Asking) (names : List (List ℕ)) (olds : List (Option Answer)) → names ≡ [] → unanswered (questions asking names) olds ≡ []
 unanswered_none asking names olds e = ap (λ l. unanswered (questions asking l) olds) e

@@ -9,39 +9,40 @@ use Rattle.dns_message.specs.Records.{Record, answer_by, answer_of_records, is_a
 use Rattle.dns_message.specs.Replies.{answer_to, way_back}
 use Rattle.dns_message.specs.declared.answer.Answer.{Answer}
 use Rattle.dns_message.specs.declared.answer.Answer.TheVariants.{Address, Code}
-use Rattle.udp_resolver.specs.Fates.{Question, answer_among, fate_by, first_answer, in_front_of, is_given_up, last_silence, or_else}
-use Rattle.udp_resolver.specs.LineEvents.{Event, Came, Silence}
+use Rattle.udp_resolver.specs.Fates.{Question, answer_among, fate_by, first_answer, in_front_of, is_given_up, last_silence}
+use Rattle.udp_resolver.specs.LineEvents.{LineEvent, Came, Silence}
 use Rattle.udp_resolver.specs.Told.{AddressesAreFromReplies}
 use Rattle.udp_resolver.specs.declared.fate.Fate.TheVariants.{Answered}
+use Rattle.std.specs.Option.{option_or}
 
 answer_of_fate : (a : Option Answer) (is_over : Bool) (answer : Answer) → fate_by a is_over ≡ Answered answer → a ≡ Some answer
 answer_of_fate (Some a) is_over answer e = cc e
 answer_of_fate None true answer e = absurd (cc e)
 answer_of_fate None false answer e = absurd (cc e)
 
-record Came_with (q : Question) (answer : Answer) (happened : List Event) : Type 0 where
+record Came_with (q : Question) (answer : Answer) (happened : List LineEvent) : Type 0 where
   datagram : List ℕ
-  front : List Event
-  later : List Event
+  front : List LineEvent
+  later : List LineEvent
   came : happened ≡ front ++ Came datagram ∷ later
   said : answer_to q.asking q.text datagram ≡ Some answer
 
-came_behind : (q : Question) (answer : Answer) (first : Event) (happened : List Event) → Came_with q answer happened → Came_with q answer (first ∷ happened)
+came_behind : (q : Question) (answer : Answer) (first : LineEvent) (happened : List LineEvent) → Came_with q answer happened → Came_with q answer (first ∷ happened)
 came_behind q answer first happened c = record { datagram = c.datagram; front = first ∷ c.front; later = c.later; came = ap (λ l. first ∷ l) c.came; said = c.said }
 
-first_or : (q : Question) (answer : Answer) (datagram : List ℕ) (later : List Event) (o : Option Answer) → answer_to q.asking q.text datagram ≡ o
-    → (first_answer q later ≡ Some answer → Came_with q answer later) → or_else o (first_answer q later) ≡ Some answer → Came_with q answer (Came datagram ∷ later)
+first_or : (q : Question) (answer : Answer) (datagram : List ℕ) (later : List LineEvent) (o : Option Answer) → answer_to q.asking q.text datagram ≡ o
+    → (first_answer q later ≡ Some answer → Came_with q answer later) → option_or o (first_answer q later) ≡ Some answer → Came_with q answer (Came datagram ∷ later)
 first_or q answer datagram later (Some a) is more e = record { datagram = datagram; front = []; later = later; came = refl; said = is ∙ e }
 first_or q answer datagram later None is more e = came_behind q answer (Came datagram) later (more e)
 
-first_came : (q : Question) (answer : Answer) (happened : List Event) → first_answer q happened ≡ Some answer → Came_with q answer happened
+first_came : (q : Question) (answer : Answer) (happened : List LineEvent) → first_answer q happened ≡ Some answer → Came_with q answer happened
 first_came q answer [] e = absurd (cc e)
 first_came q answer (Came datagram ∷ later) e =
     first_or q answer datagram later (answer_to q.asking q.text datagram) refl (first_came q answer later) e
 first_came q answer (Silence ∷ later) e = came_behind q answer Silence later (first_came q answer later e)
 
 -- what stands in front of a silence is a front
-is_front : (n : ℕ) (happened : List Event) → (rest : List Event) × (happened ≡ in_front_of n happened ++ rest)
+is_front : (n : ℕ) (happened : List LineEvent) → (rest : List LineEvent) × (happened ≡ in_front_of n happened ++ rest)
 is_front n [] = ([], refl)
 is_front n (Came datagram ∷ later) = let p = is_front n later in (p.0, ap (λ l. Came datagram ∷ l) p.1)
 is_front zero (Silence ∷ later) = (Silence ∷ later, refl)

@@ -5,24 +5,24 @@ use Rattle.uip_edge.specs.declared.item.Item.{Item}
 use Rattle.uip_edge.specs.declared.item.Item.TheVariants.{Byte, Quiet}
 use Rattle.uip_slip.specs.Frames.{Frame, Datagram, Overlong, frame_of, open_part, unescaped}
 
-pub data Event : Type 0 where
-  Came : List ℕ → Event
-  Silence : Event
+pub data LineEvent : Type 0 where
+  Came : List ℕ → LineEvent
+  Silence : LineEvent
 
 -- an overlong frame brings nothing
-abbrev pub by_frame : Frame → List Event
+abbrev pub by_frame : Frame → List LineEvent
 by_frame (Datagram bytes) = Came bytes ∷ []
 by_frame Overlong = []
 
 -- what a byte brings behind the bytes before it: an END closes the part since the last END
-abbrev pub by_byte : List ℕ → ℕ → List Event
+abbrev pub by_byte : List ℕ → ℕ → List LineEvent
 by_byte before b = if b == 192 then flat_map by_frame (frame_of (unescaped (open_part before))) else []
 
-abbrev pub events_behind : List ℕ → List Item → List Event
+abbrev pub events_behind : List ℕ → List Item → List LineEvent
 events_behind before [] = []
 events_behind before (Byte b ∷ items) = by_byte before b ++ events_behind (before ++ b ∷ []) items
 events_behind before (Quiet ∷ items) = Silence ∷ events_behind before items
 
 -- what all items of a line bring, in order
-abbrev pub events : List Item → List Event
+abbrev pub events : List Item → List LineEvent
 events items = events_behind [] items

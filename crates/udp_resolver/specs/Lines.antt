@@ -3,7 +3,7 @@ use Rattle.std.specs.Prelude.{ℕ, List, ◌++◌, codes, decimal, slice_index}
 use Rattle.std.specs.List.{flat_map}
 use Rattle.dns_message.specs.declared.answer.Answer.TheVariants.{Address, Code, NoAddress}
 use Rattle.udp_resolver.specs.Fates.{Question, fate_of}
-use Rattle.udp_resolver.specs.LineEvents.{Event}
+use Rattle.udp_resolver.specs.LineEvents.{LineEvent}
 use Rattle.udp_resolver.specs.declared.fate.Fate.{Fate}
 use Rattle.udp_resolver.specs.declared.fate.Fate.TheVariants.{Answered, Open, Timeout}
 
@@ -25,5 +25,5 @@ abbrev pub line_of : List ℕ → Fate → List ℕ
 line_of text fate = text ++ codes " " ++ fate_text fate ++ codes "\n"
 
 -- the lines of questions, in order
-abbrev pub lines : List Question → List Event → List ℕ
+abbrev pub lines : List Question → List LineEvent → List ℕ
 lines asked happened = flat_map (λ q. line_of q.text (fate_of happened q)) asked

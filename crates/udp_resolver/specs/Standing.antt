@@ -12,7 +12,7 @@ use Rattle.udp_resolver.specs.Asked.{last_ident, line_text, queries}
 use Rattle.udp_resolver.specs.Fates.{Question, answer_among}
 use Rattle.udp_resolver.specs.LineEvents.{events}
 use Rattle.udp_resolver.specs.Resolving.{IsDone, IsOneAnswer, IsOpen, LastAsked}
-use Rattle.udp_resolver.specs.Steps.{IsAt}
+use Rattle.udp_resolver.specs.Steps.{IsClockAt}
 use Rattle.udp_resolver.specs.declared.run.Run.{Run}
 use Rattle.udp_resolver.specs.declared.run.Turn.{Turn}
 use Rattle.uip_edge.specs.Told.{LineTold, IsCalm}
@@ -21,7 +21,7 @@ use Rattle.udp_resolver.specs.declared.run.Turn.TheVariants as turns
 -- the run after these items
 pub record Knows (asked : List Question) (items : List Item) (run : Run) : Type 0 where
   pub fed : WasFed (bytes_among items) run.decoder
-  pub at : IsAt (events items) run.clock
+  pub at : IsClockAt (events items) run.clock
   pub heard : run.answers.items ≡ map (answer_among (events items)) asked
   pub sent : run.sender.ident ≡ last_ident 0 (queries asked (events items))
 
@@ -46,7 +46,7 @@ pub record Kept (asked : List Question) (items more : List Item) (run : Run) (ol
   pub out : new.sink.written ≡ old.sink.written
 
 -- a turn at which the line out failed
-pub record Broke (asked : List Question) (items more : List Item) (old new : LineTold) : Type 0 where
+pub record OutBroke (asked : List Question) (items more : List Item) (old new : LineTold) : Type 0 where
   pub same : new.link.faults ≡ old.link.faults
   pub rose : Rose old.sink.faults new.sink.faults
   pub once : IsOneAnswer more
@@ -61,7 +61,7 @@ TurnsBy asked items more run old new (turns.Stopped ends.End) =
     Kept asked items more run old new × TookAll old.link.coming [] × (new.link.faults ≡ old.link.faults)
 TurnsBy asked items more run old new (turns.Stopped ends.LinkFault) =
     Kept asked items more run old new × Rose old.link.faults new.link.faults
-TurnsBy asked items more run old new (turns.Stopped ends.WriteFault) = Broke asked items more old new
+TurnsBy asked items more run old new (turns.Stopped ends.WriteFault) = OutBroke asked items more old new
 TurnsBy asked items more run old new (turns.Stopped ends.Budget) = ⊥
 
 -- a turn behind these items
@@ -72,9 +72,9 @@ pub record Turns (asked : List Question) (items : List Item) (run : Run) (old ne
   pub by : TurnsBy asked items more run old new turn
 
 -- a turn takes at least one item and no more than there is room for
-abbrev pub CountFits : Turn → ℕ → Type 0
-CountFits (turns.Went n) room = (0 < n) × (n ≤ room)
-CountFits (turns.Stopped end) room = ⊤
+abbrev pub AskFits : Turn → ℕ → Type 0
+AskFits (turns.Went n) room = (0 < n) × (n ≤ room)
+AskFits (turns.Stopped end) room = ⊤
 
 -- why no more is asked, and what was written, where the line did not fail
 pub record Done (asked : List Question) (n : ℕ) (taken : List Item) (run : Run) (old new : LineTold) (end : ServeEnd) : Type 0 where

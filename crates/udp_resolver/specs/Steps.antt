@@ -6,16 +6,17 @@ use Rattle.rexmit_timer.specs.declared.timer.TheConstants.{TEXT_LIMIT}
 use Rattle.dns_message.specs.Replies.{answer_to}
 use Rattle.dns_message.specs.declared.answer.Answer.{Answer}
 use Rattle.udp_resolver.specs.Asked.{open_ones}
-use Rattle.udp_resolver.specs.Fates.{Question, fate_by, is_given_up, last_silence, or_else, silences}
-use Rattle.udp_resolver.specs.LineEvents.{Event}
+use Rattle.udp_resolver.specs.Fates.{Question, fate_by, is_given_up, last_silence, silences}
+use Rattle.udp_resolver.specs.LineEvents.{LineEvent}
 use Rattle.udp_resolver.specs.Lines.{line_of}
 use Rattle.udp_resolver.specs.declared.clock.Clock.{Clock}
+use Rattle.std.specs.Option.{option_or}
 
 -- the answers after a datagram came: those that there were, and what it answers to the other questions
-abbrev pub heard : List ℕ → List Question → List (Option Answer) → List (Option Answer)
-heard datagram [] answers = []
-heard datagram (q ∷ asked) [] = []
-heard datagram (q ∷ asked) (answer ∷ answers) = or_else answer (answer_to q.asking q.text datagram) ∷ heard datagram asked answers
+abbrev pub heard_now : List ℕ → List Question → List (Option Answer) → List (Option Answer)
+heard_now datagram [] answers = []
+heard_now datagram (q ∷ asked) [] = []
+heard_now datagram (q ∷ asked) (answer ∷ answers) = option_or answer (answer_to q.asking q.text datagram) ∷ heard_now datagram asked answers
 
 abbrev pub unless_answered : Question → Option Answer → List Question
 unless_answered q None = q ∷ []
@@ -34,7 +35,7 @@ lines_by (text ∷ names) [] is_over = []
 lines_by (text ∷ names) (answer ∷ answers) is_over = line_of text (fate_by answer is_over) ++ lines_by names answers is_over
 
 -- the clock after these events
-pub record IsAt (happened : List Event) (clock : Clock) : Type 0 where
+pub record IsClockAt (happened : List LineEvent) (clock : Clock) : Type 0 where
   pub given_up : clock.given_up ≡ is_given_up happened
   pub age : silences happened < last_silence → IsAtAge clock.timer (silences happened)
 
@@ -43,5 +44,5 @@ abbrev pub is_due : ℕ → Bool
 is_due age = list_any (λ a. a == age) (take TEXT_LIMIT ages)
 
 -- the questions that a silence behind these events asks again
-abbrev pub asked_next : List Question → List Event → List Question
+abbrev pub asked_next : List Question → List LineEvent → List Question
 asked_next asked happened = if is_due (silences happened + 1) then open_ones asked happened else []

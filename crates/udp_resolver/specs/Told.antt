@@ -8,17 +8,17 @@ use Rattle.dns_message.specs.Replies.{way_back}
 use Rattle.dns_message.specs.declared.answer.Answer.TheVariants.{Address}
 use Rattle.uip_wire.specs.declared.addr.Addr.{Addr}
 use Rattle.udp_resolver.specs.Fates.{Question, fate_of}
-use Rattle.udp_resolver.specs.LineEvents.{Event, Came}
+use Rattle.udp_resolver.specs.LineEvents.{LineEvent, Came}
 use Rattle.udp_resolver.specs.declared.fate.Fate.TheVariants.{Answered}
 
 -- A datagram came that carries a message from the server's port to the asking port; the message is the reply to this question,
 -- without an error; and among the records that its answer section spells is one of an Internet address, which is the one told.
-pub record IsFromReply (q : Question) (address : Addr) (happened : List Event) : Type 0 where
+pub record IsFromReply (q : Question) (address : Addr) (happened : List LineEvent) : Type 0 where
   pub datagram : List ℕ
   pub message : List ℕ
   pub record_ : Record
-  pub front : List Event
-  pub later : List Event
+  pub front : List LineEvent
+  pub later : List LineEvent
   pub came : happened ≡ front ++ Came datagram ∷ later
   pub carried : udp_data (way_back q.asking) datagram ≡ Some message
   pub matching : is_reply q.asking.id q.text message ≡ true
@@ -30,5 +30,5 @@ pub record IsFromReply (q : Question) (address : Addr) (happened : List Event) :
   pub told : address.0 ≡ record_.content
 
 abbrev pub AddressesAreFromReplies : Type 0
-AddressesAreFromReplies = (q : Question) (address : Addr) (happened : List Event)
+AddressesAreFromReplies = (q : Question) (address : Addr) (happened : List LineEvent)
     → fate_of happened q ≡ Answered (Address address) → IsFromReply q address happened

@@ -1,9 +1,9 @@
 ghost use Rattle.std.specs.Prelude.{◌≡◌, length};
 ghost use Rattle.std.specs.List.{list_any};
-ghost use Rattle.std.specs.Option.{is_none};
-ghost use Rattle.udp_resolver.specs.Fates.{next_asking, or_else, questions};
+ghost use Rattle.std.specs.Option.{is_none, option_or};
+ghost use Rattle.udp_resolver.specs.Fates.{next_asking, questions};
 ghost use Rattle.dns_message.specs.Replies.{answer_to};
-ghost use Rattle.udp_resolver.specs.Steps.{heard};
+ghost use Rattle.udp_resolver.specs.Steps.{heard_now};
 
 use dns_message::{Answer, Asking, Name};
 
@@ -20,7 +20,7 @@ pub(crate) fn next_asking(asking: Asking) -> Asking
 
 /// The answer that is known, or else what a datagram answers.
 fn known_or(known: Option<Answer>, asking: Asking, name: &Name, datagram: &[u8]) -> Option<Answer>
-    ensures { result ≡ or_else known (answer_to asking name.now datagram.now) }
+    ensures { result ≡ option_or known (answer_to asking name.now datagram.now) }
 {
     if known.is_some() {
         return known;
@@ -31,7 +31,7 @@ fn known_or(known: Option<Answer>, asking: Asking, name: &Name, datagram: &[u8])
 /// A datagram comes: it may answer questions that have no answer yet.
 pub(crate) fn hear(answers: &mut [Option<Answer>], asking: Asking, names: &[Name], datagram: &[u8])
     requires { length answers.old ≡ length names.now }
-    ensures { answers.new ≡ heard datagram.now (questions asking names.now) answers.old }
+    ensures { answers.new ≡ heard_now datagram.now (questions asking names.now) answers.old }
 {
     let mut asking = asking;
     for at in 0..names.len() {

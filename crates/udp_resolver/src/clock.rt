@@ -1,8 +1,8 @@
 ghost use Rattle.std.specs.Prelude.{◌≡◌, ◌+◌, ◌≤◌, ◌∷◌, ◌++◌, [], List, false};
 ghost use Rattle.rexmit_timer.specs.declared.timer.TheConstants.{TEXT_LIMIT};
 ghost use Rattle.udp_resolver.specs.Fates.{is_given_up, silences};
-ghost use Rattle.udp_resolver.specs.LineEvents.{Event, Silence};
-ghost use Rattle.udp_resolver.specs.Steps.{IsAt, is_due};
+ghost use Rattle.udp_resolver.specs.LineEvents.{LineEvent, Silence};
+ghost use Rattle.udp_resolver.specs.Steps.{IsClockAt, is_due};
 
 use rexmit_timer::{Beat, TEXT_LIMIT, Timer};
 
@@ -16,7 +16,7 @@ pub(crate) struct Clock {
 impl Clock {
     /// The clock when the questions are asked first.
     pub fn new() -> Clock
-        ensures at { IsAt [] result }
+        ensures at { IsClockAt [] result }
         ensures tries { result.timer.tries ≤ TEXT_LIMIT }
     {
         Clock {
@@ -29,9 +29,9 @@ impl Clock {
     pub fn tick(&mut self) -> bool
         requires tries { self.old.timer.tries ≤ TEXT_LIMIT }
         ensures tries { self.new.timer.tries ≤ TEXT_LIMIT }
-        ensures at { (happened : List Event) → is_given_up happened ≡ false → IsAt happened self.old
-            → IsAt (happened ++ Silence ∷ []) self.new }
-        ensures again { (happened : List Event) → is_given_up happened ≡ false → IsAt happened self.old
+        ensures at { (happened : List LineEvent) → is_given_up happened ≡ false → IsClockAt happened self.old
+            → IsClockAt (happened ++ Silence ∷ []) self.new }
+        ensures again { (happened : List LineEvent) → is_given_up happened ≡ false → IsClockAt happened self.old
             → result ≡ is_due (silences happened + 1) }
     {
         match self.timer.tick(TEXT_LIMIT) {

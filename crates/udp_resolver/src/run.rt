@@ -10,8 +10,8 @@ ghost use Rattle.udp_resolver.specs.Asked.{line_text, query_texts};
 ghost use Rattle.udp_resolver.specs.Fates.{all_settled, is_given_up, questions};
 ghost use Rattle.udp_resolver.specs.LineEvents.{events};
 ghost use Rattle.udp_resolver.specs.Resolving.{IsOpen};
-ghost use Rattle.udp_resolver.specs.Standing.{Asks, CountFits, Knows, Turns};
-ghost use Rattle.udp_resolver.specs.Steps.{IsAt, asked_next};
+ghost use Rattle.udp_resolver.specs.Standing.{Asks, AskFits, Knows, Turns};
+ghost use Rattle.udp_resolver.specs.Steps.{IsClockAt, asked_next};
 ghost use Rattle.uip_edge.specs.Telling.{line_told, sink_told};
 
 use crate::MOST_NAMES;
@@ -45,7 +45,7 @@ impl Run {
     pub fn new(count: usize) -> Run
         requires { count ≤ MOST_NAMES }
         ensures fed { WasFed [] result.decoder }
-        ensures at { IsAt [] result.clock }
+        ensures at { IsClockAt [] result.clock }
         ensures tries { result.clock.timer.tries ≤ TEXT_LIMIT }
         ensures answers { result.answers.items ≡ replicate count None }
         ensures ident { result.sender.ident ≡ 0 }
@@ -67,7 +67,7 @@ impl Run {
         out: &mut K,
     ) -> Result<(), Failed>
         requires fed { WasFed [] self.old.decoder }
-        requires at { IsAt [] self.old.clock }
+        requires at { IsClockAt [] self.old.clock }
         requires tries { self.old.clock.timer.tries ≤ TEXT_LIMIT }
         requires answers { self.old.answers.items ≡ replicate (length names.now) None }
         requires ident { self.old.sender.ident ≡ 0 }
@@ -172,7 +172,7 @@ impl Run {
         ensures tries { self.new.clock.timer.tries ≤ TEXT_LIMIT }
         ensures area { length packet.new.area ≡ LARGEST_DATAGRAM }
         ensures each { length self.new.answers.items ≡ length names.now }
-        ensures fits { CountFits result (length buf.old) }
+        ensures fits { AskFits result (length buf.old) }
         ensures turns { (items : List Item) → IsOpen (questions asking names.now) items → Knows (questions asking names.now) items self.old
             → Turns (questions asking names.now) items self.new
             (line_told L.Link K.Sink link.old out.old)
@@ -207,7 +207,7 @@ pub(crate) fn ask<L: Link, K: Sink>(
     items: u64,
 ) -> ServeEnd
     requires fed { WasFed [] run.old.decoder }
-    requires at { IsAt [] run.old.clock }
+    requires at { IsClockAt [] run.old.clock }
     requires tries { run.old.clock.timer.tries ≤ TEXT_LIMIT }
     requires answers { run.old.answers.items ≡ replicate (length names.now) None }
     requires ident { run.old.sender.ident ≡ 0 }

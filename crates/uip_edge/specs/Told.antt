@@ -38,11 +38,11 @@ pub record Outside : Type 0 where
   pub link : LinkTold
   pub sink : SinkTold
 
-abbrev pub line_of : Outside → LineTold
-line_of all = record { link = all.link; sink = all.sink }
+abbrev pub line_in : Outside → LineTold
+line_in all = record { link = all.link; sink = all.sink }
 
-abbrev pub work_of : Outside → WorkTold
-work_of all = record { shelf = all.shelf; sink = all.sink }
+abbrev pub work_in : Outside → WorkTold
+work_in all = record { shelf = all.shelf; sink = all.sink }
 
 -- no call of a line failed
 pub record LineUnfailed (old new : LineTold) : Type 0 where

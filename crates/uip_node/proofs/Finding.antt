@@ -10,7 +10,7 @@ use Rattle.app_events.specs.States.{is_live, is_time_wait}
 use Rattle.app_events.specs.declared.state.State.{State}
 use Rattle.app_events.specs.declared.state.State.TheVariants.{Closed, SynRcvd, Established, CloseWait, FinWait1, FinWait2, Closing, TimeWait, LastAck}
 use Rattle.tcp_table.specs.Connections.{is_at}
-use Rattle.tcp_table.specs.Slots.{has_waited, or_else, waited}
+use Rattle.tcp_table.specs.Slots.{has_waited, waited}
 use Rattle.tcp_table.specs.Slots as table
 use Rattle.tcp_table.specs.declared.conn.Conn.{Conn}
 use Rattle.tcp_machine.specs.Connection.{Connection, Sockets, is_resting, serves, same_sockets}
@@ -18,6 +18,7 @@ use Rattle.tcp_machine.specs.Sound.{HasSoundNumbers, IsSound, LenFits}
 use Rattle.tcp_machine.specs.Stands.{ConnStands, IsLike}
 use Rattle.uip_node.specs.Node.{is_waiting, longest_wait, slot_for_syn}
 use Rattle.uip_node.specs.Slots.{AllKept, SlotsStand}
+use Rattle.std.specs.Option.{option_or}
 
 -- place by place the same
 abbrev pub Agree : {X Y : Type 0} → (X → Bool) → (Y → Bool) → List X → List Y → Type 0
@@ -154,17 +155,17 @@ slot_agrees {A} g k cs abstracts h kept =
     let longest = longest_agrees g k cs abstracts size (λ i c a at there. (h.each i c a at there, (kept i c at).sound)) in
     let waits = position_agrees (has_waited (table.longest_rest cs)) (λ (a : Connection). is_waiting a && (a.age == table.longest_rest cs)) cs abstracts size
     (λ i c a at there. waited_agrees g k (table.longest_rest cs) c a (h.each i c a at there) (kept i c at).sound) in
-    ap (λ (o : Option ℕ). or_else o (position (has_waited (table.longest_rest cs)) cs)) free
-    ∙ ap (or_else (position (λ (a : Connection). not (is_live a.state)) abstracts)) (waits ∙ ap (λ (n : ℕ). position (λ (a : Connection). is_waiting a && (a.age == n)) abstracts) longest)
+    ap (λ (o : Option ℕ). option_or o (position (has_waited (table.longest_rest cs)) cs)) free
+    ∙ ap (option_or (position (λ (a : Connection). not (is_live a.state)) abstracts)) (waits ∙ ap (λ (n : ℕ). position (λ (a : Connection). is_waiting a && (a.age == n)) abstracts) longest)
 
-or_else_some : (o other : Option ℕ) (i : ℕ) → or_else o other ≡ Some i → (o ≡ Some i) ⊎ (other ≡ Some i)
-or_else_some (Some j) other i h = inl h
-or_else_some None other i h = inr h
+option_or_some : (o other : Option ℕ) (i : ℕ) → option_or o other ≡ Some i → (o ≡ Some i) ⊎ (other ≡ Some i)
+option_or_some (Some j) other i h = inl h
+option_or_some None other i h = inr h
 
 -- a slot that is found is one of the table's
 pub slot_within : {A : Type 0} (cs : List (Conn A)) (i : ℕ) → table.slot_to_take cs ≡ Some i → i < length cs
 slot_within {A} cs i h =
-    elim (or_else_some (position (λ (c : Conn A). not (is_live c.state)) cs) (position (has_waited (table.longest_rest cs)) cs) i h) [
+    elim (option_or_some (position (λ (c : Conn A). not (is_live c.state)) cs) (position (has_waited (table.longest_rest cs)) cs) i h) [
       | inl e ↦ (found (λ (c : Conn A). not (is_live c.state)) cs i e).0
       | inr e ↦ (found (has_waited (table.longest_rest cs)) cs i e).0
     ]

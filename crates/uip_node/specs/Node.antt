@@ -5,7 +5,7 @@ use Rattle.tcp_segment.specs.Segments.{PlainSegment, has_rst}
 use Rattle.app_events.specs.Part.{Meaning}
 use Rattle.app_events.specs.declared.now.Now.{Now}
 use Rattle.app_events.specs.States.{is_time_wait}
-pub use Rattle.tcp_table.specs.Slots.{or_else}
+use Rattle.std.specs.Option.{option_or}
 use Rattle.tcp_machine.specs.Connection.{Sockets, Connection, closed, is_live, serves, rows_from}
 use Rattle.tcp_machine.specs.Segments.{is_plain_syn, reset_to_none, segment_of, is_again}
 use Rattle.tcp_machine.specs.Ask.{Outcome, asked}
@@ -81,7 +81,7 @@ longest_wait [] = 0
 longest_wait (c ∷ cs) = if is_waiting c then max c.age (longest_wait cs) else longest_wait cs
 
 abbrev pub slot_for_syn : List Connection → Option ℕ
-slot_for_syn cs = or_else (position (λ c. not (is_live c.state)) cs) (position (λ c. is_waiting c && (c.age == longest_wait cs)) cs)
+slot_for_syn cs = option_or (position (λ c. not (is_live c.state)) cs) (position (λ c. is_waiting c && (c.age == longest_wait cs)) cs)
 
 -- a connection is opened in a slot; the one that waited there is gone
 unfoldable pub opens_in : Meaning → AbstractNode → Sockets → PlainSegment → ℕ → NodeStep

@@ -8,7 +8,7 @@ use Rattle.uip_slip.specs.Frames.{Frame, meant, unescaped, frame_of, open_part, 
 use Rattle.uip_slip.specs.declared.fed.Fed.{Fed}
 use Rattle.uip_slip.specs.declared.fed.Fed.TheVariants as fed
 use Rattle.uip_slip.specs.Decoding.{State, WasFed, waits_after, open_bytes, told_by}
-use Rattle.uip_slip.specs.Steps.{reopened, pushed, taken, joined, Closes}
+use Rattle.uip_slip.specs.Steps.{reopened, pushed, taken, joined_parts, Closes}
 use Rattle.uip_slip.proofs.PartLaws.{frames-end, open_part-end, frames-plain, open_part-plain, parts-byte}
 use Rattle.uip_slip.proofs.PlainLaws.{adds, unescaped-push, waits_after-push, parts-plain, plain_joined}
 
@@ -82,7 +82,7 @@ front_joined n u t run e =
           )
     ] refl
 
-joined_holds : (u : List ℕ) (s : State) (run : List ℕ) → Holds u false s → Holds (u ++ run) false (joined s run)
+joined_holds : (u : List ℕ) (s : State) (run : List ℕ) → Holds u false s → Holds (u ++ run) false (joined_parts s run)
 joined_holds u s run h =
     let both = front_joined 1500 u s.bytes run h.front in
     record { front = both.0; over = ap (λ v. v || nat_lt 1500 (length s.bytes + length run)) h.over ∙ both.1; waits = h.waits; told = h.told }
@@ -148,7 +148,7 @@ fed_end bytes s b (fed.Datagram n) new end f c =
 
 -- a run of plain bytes, which is empty where an ESC waits
 pub fed_run : (before bytes : List ℕ) (n : ℕ) (s mid new : State) → mid ≡ reopened s → list_all is_plain (take n bytes) ≡ true
-    → (mid.waits ≡ true → (n ≡ 0) × (new ≡ mid)) → (mid.waits ≡ false → new ≡ joined mid (take n bytes))
+    → (mid.waits ≡ true → (n ≡ 0) × (new ≡ mid)) → (mid.waits ≡ false → new ≡ joined_parts mid (take n bytes))
     → WasFed before s → WasFed (before ++ take n bytes) new × (frames (before ++ take n bytes) ≡ frames before ++ [])
 fed_run before bytes n s mid new opens plain waiting joins f = let run = take n bytes in (
   elim mid.waits as (λ v. mid.waits ≡ v → WasFed (before ++ run) new) [
@@ -205,7 +205,7 @@ past_room n a b h =
 
 -- a frame takes of a run what there is room for
 pub joined_is : (s : State) (run : List ℕ) (len count : ℕ) → length s.bytes ≡ len → len ≤ 1500 → count ≡ min (length run) (1500 - len)
-    → record s { bytes = s.bytes ++ take count run; over = s.over || nat_lt (1500 - len) (length run) } ≡ joined s run
+    → record s { bytes = s.bytes ++ take count run; over = s.over || nat_lt (1500 - len) (length run) } ≡ joined_parts s run
 joined_is s run len count size h e =
     let bytes : s.bytes ++ take count run ≡ take 1500 (s.bytes ++ run) =
     ap (λ l. s.bytes ++ l) (min_take (1500 - len) count run e ∙ ap (λ k. take (1500 - k) run) (sym size)) ∙ sym (front_then 1500 s.bytes run (omega (arith, size))) in

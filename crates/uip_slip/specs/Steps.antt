@@ -24,8 +24,8 @@ taken s b =
     else pushed s b
 
 -- more bytes of the frame, as they are
-abbrev pub joined : State → List ℕ → State
-joined s run = record s {
+abbrev pub joined_parts : State → List ℕ → State
+joined_parts s run = record s {
   bytes = take LARGEST_DATAGRAM (s.bytes ++ run);
   over = s.over || nat_lt LARGEST_DATAGRAM (length s.bytes + length run);
 }

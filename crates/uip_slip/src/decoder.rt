@@ -51,7 +51,7 @@ fn still_dense(dense: usize, count: usize, last: u8) -> usize {
 
 impl Decoder {
     ghost use Rattle.uip_slip.specs.Decoding.{WasFed, told_by, Leaves};
-    ghost use Rattle.uip_slip.specs.Steps.{reopened, taken, pushed, joined, Closes};
+    ghost use Rattle.uip_slip.specs.Steps.{reopened, taken, pushed, joined_parts, Closes};
 
     /// A decoder that was fed nothing.
     pub fn new() -> Decoder
@@ -211,7 +211,7 @@ impl Decoder {
         ensures within { result ≤ length bytes.now }
         ensures plain { list_all is_plain (take result bytes.now) ≡ true }
         ensures waiting { self.old.waits ≡ true → (result ≡ 0) × (self.new ≡ self.old) }
-        ensures joined { self.old.waits ≡ false → self.new ≡ joined self.old (take result bytes.now) }
+        ensures joined { self.old.waits ≡ false → self.new ≡ joined_parts self.old (take result bytes.now) }
     {
         if self.waits {
             return 0;
@@ -223,7 +223,7 @@ impl Decoder {
 
     /// Adds bytes to the frame, as far as there is room.
     fn join(&mut self, bytes: &[u8])
-        ensures { self.new ≡ joined self.old bytes.now }
+        ensures { self.new ≡ joined_parts self.old bytes.now }
     {
         let room = LARGEST_DATAGRAM - self.len;
         let count = bytes.len().min(room);

@@ -1,4 +1,5 @@
 pub mod Folding
+pub mod NumeralLaws
 pub mod Pieces
 pub mod Rows
 pub mod Wide

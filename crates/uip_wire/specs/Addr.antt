@@ -1,32 +1,25 @@
 -- Addresses in a header (RFC 791, section 3.1), and as dotted quads in words.
-use Rattle.std.specs.Prelude.{ℕ, ◌+◌, ◌-◌, ◌*◌, ◌&&◌, ◌==◌, nat_le, nat_lt, if◌then◌else◌, List, [], ◌∷◌, Option, None, Some, Bool, not, option_map, position, take, drop, slice_index}
+use Rattle.std.specs.Prelude.{ℕ, ◌+◌, ◌==◌, nat_lt, if◌then◌else◌, List, [], ◌∷◌, Option, None, Some, option_map, position, take, drop, slice_index}
+use Rattle.uip_wire.specs.Numerals.{numeral}
 
 -- the four bytes at a place
 abbrev pub address_at : List ℕ → ℕ → List ℕ
 address_at bytes at = slice_index bytes at ∷ slice_index bytes (at + 1) ∷ slice_index bytes (at + 2) ∷ slice_index bytes (at + 3) ∷ []
 
-abbrev pub is_digit : ℕ → Bool
-is_digit c = nat_le 48 c && nat_le c 57
-
--- a number from 0 to 255 in decimal digits, without a leading zero
-abbrev pub part_number : List ℕ → Option ℕ
-part_number [] = None
-part_number (a ∷ []) = if is_digit a then Some (a - 48) else None
-part_number (a ∷ b ∷ []) =
-    if is_digit a && is_digit b && not (a == 48) then Some ((a - 48) * 10 + (b - 48)) else None
-part_number (a ∷ b ∷ c ∷ []) =
-    if is_digit a && is_digit b && is_digit c && not (a == 48) && nat_lt ((a - 48) * 100 + (b - 48) * 10 + (c - 48)) 256
-    then Some ((a - 48) * 100 + (b - 48) * 10 + (c - 48)) else None
-part_number (a ∷ b ∷ c ∷ d ∷ rest) = None
-
--- the part before the first dot, and the part after it
-abbrev pub cut_at_dot : List ℕ → Option (List ℕ × List ℕ)
-cut_at_dot text = option_map (λ dot. (take dot text, drop (dot + 1) text)) (position (λ c. c == 46) text)
-
 infixl 10 ◌>>=◌
 abbrev pub ◌>>=◌ : {A B : Type 0} → Option A → (A → Option B) → Option B
 (Some x) >>= f = f x
 None >>= f = None
+
+-- a number from 0 to 255 in decimal digits, without a leading zero
+abbrev pub part_number : List ℕ → Option ℕ
+part_number text = do
+  n ← numeral text
+  if nat_lt n 256 then Some n else None
+
+-- the part before the first dot, and the part after it
+abbrev pub cut_at_dot : List ℕ → Option (List ℕ × List ℕ)
+cut_at_dot text = option_map (λ dot. (take dot text, drop (dot + 1) text)) (position (λ c. c == 46) text)
 
 -- the four numbers of a dotted quad
 unfoldable pub quad_of : List ℕ → Option (List ℕ)

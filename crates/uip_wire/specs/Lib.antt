@@ -2,4 +2,5 @@ pub mod Addr
 pub mod Checksum
 pub mod Fields
 pub mod Numbers
+pub mod Numerals
 pub mod Sums

@@ -3,6 +3,8 @@ ghost use Rattle.std.specs.Prelude.{◌≡◌, ◌==◌, ◌+◌, ◌≤◌, len
 ghost use Rattle.uip_wire.specs.Addr.{address_at, cut_at_dot, part_number, quad_of};
 ghost use Rattle.uip_wire.specs.Fields.{written};
 
+use crate::numerals::numeral;
+
 /// An Internet address, its first byte first.
 #[derive(Clone, Copy, Debug, PartialEq, Eq)]
 pub struct Addr(pub [u8; 4]);
@@ -69,18 +71,6 @@ fn first_dot(text: &[u8]) -> usize
 fn number(text: &[u8]) -> Option<u8>
     ensures { result ≡ part_number text.now }
 {
-    match text {
-        [a] if a.is_ascii_digit() => Some(a - b'0'),
-        [a, b] if a.is_ascii_digit() && b.is_ascii_digit() && *a != b'0' => {
-            Some((a - b'0') * 10 + (b - b'0'))
-        }
-        [a, b, c] if a.is_ascii_digit() && b.is_ascii_digit() && c.is_ascii_digit() && *a != b'0' =>
-            {
-                let value = u32::from(a - b'0') * 100
-                    + u32::from(b - b'0') * 10
-                    + u32::from(c - b'0');
-                if value < 256 { Some(value as u8) } else { None }
-            }
-        _ => None,
-    }
+    let number = numeral(text)?;
+    if number < 256 { Some(number as u8) } else { None }
 }

@@ -4,6 +4,7 @@
 
 mod addr;
 mod fields;
+mod numerals;
 mod port;
 mod seq;
 mod sizes;
@@ -12,6 +13,7 @@ mod sums;
 
 pub use addr::Addr;
 pub use fields::{get16, get32, put16, put32};
+pub use numerals::{is_numeral, numeral, numerals_print};
 pub use port::{Port, WEB_PORT};
 pub use seq::Seq;
 pub use sizes::{LARGEST_DATAGRAM, OWN_MSS};

@@ -18,7 +18,7 @@ use Rattle.serve_loop.specs.LineEvents.{line_events}
 use Rattle.serve_loop.specs.Running.{Broke, text_of}
 use Rattle.serve_loop.specs.Serving.{Serves as ServesNode, WroteBy}
 use Rattle.serve_loop.specs.DeedRuns.{Deed, FrontSaid, Station, said}
-use Rattle.serve_loop.specs.DeedServing.{IsAt, SaidBy, ServesOver}
+use Rattle.serve_loop.specs.DeedServing.{IsStationed, SaidBy, ServesOver}
 use Rattle.serve_loop.specs.LineDeeds.{line_deeds}
 use Rattle.serve_loop.proofs.RunLaws.{run-text-append, said-append}
 use Rattle.line_medium.specs.Ways.{Way}
@@ -90,8 +90,8 @@ pub ether_pages : {A S : Type 0} (g : Ghosts A S)
     → ServeRuns files (record { own = own; kind = Ethernet mac; limits = limits }) old new (status_of_serving end)
 ether_pages g files own mac limits before after did did' k old new end means serves hits none stands began host it =
     let st = subst (λ h. Stands g before (opening own h) []) none stands in
-    let P : Station Act → Type 0 = λ s. IsAt g did before s in
-    let Q : Station Act → Type 0 = λ s. IsAt g did' after s in
+    let P : Station Act → Type 0 = λ s. IsStationed g did before s in
+    let Q : Station Act → Type 0 = λ s. IsStationed g did' after s in
     let deeds : Host → Addr → List (Deed Act) = λ h o. line_deeds (ether_way h) o limits.pace it.taken in
     let one = subst (λ (m : Meaning). SaidBy end m g.served (ether_way k) before.addr (deeds k before.addr) P Q old.sink.written new.sink.written) means it.wrote in
     let two = subst (λ (s : ℕ → Bool). SaidBy end (web_meaning files) s (ether_way k) before.addr (deeds k before.addr) P Q old.sink.written new.sink.written) serves one in

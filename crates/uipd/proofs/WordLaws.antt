@@ -9,33 +9,7 @@ use Rattle.std.specs.Result.{result_ok, OkIff}
 use Rattle.std.specs.Str.Parse.{digits_value, ParsesUnsigned}
 use Rattle.std.proofs.lemmas.Bool.{ltb-true, lt-ltb}
 use Rattle.std.proofs.lemmas.Str.Parse.{IsNumeralModel, numerals_by_value, parse_digits}
-use Rattle.link_schedule.specs.Numbers.{is_number, leads_badly}
-use Rattle.uipd.specs.Words.{ether_words, is_tty, limits_at, limits_of, load_words, number_of, says_tty}
-
-own : IsNumeralModel (λ ds. list_all is_ascii_digit ds ≡ true) (digits_value 10)
-own = numerals_by_value _ (search rules)
-
-not_empty : (text : List ℕ) → is_number text ≡ true → 0 < length text
-not_empty [] e = absurd (cc e)
-not_empty (c ∷ text) e = omega arith
-
-all_digits : (text : List ℕ) → is_number text ≡ true → list_all is_ascii_digit text ≡ true
-all_digits text e =
-    elim (leads_badly text) as (λ v. cond v false (list_all is_ascii_digit text) ≡ true → list_all is_ascii_digit text ≡ true)
-    [ true ↦ λ e. absurd (cc e) | false ↦ λ e. e ] e
-
-answered : {E : Type 0} (v : ℕ) (r : Result ℕ E) (some : ℕ) → 0 < some → OkIff r ((0 < some) × (v < 2 ^ 64)) v
-    → result_ok r ≡ cond (nat_lt v (2 ^ 64)) (Some v) None
-answered v (Ok x) some more h = (let small = lt-ltb v (2 ^ 64) h.0.1 in rw (small, h.1) refl)
-answered v (Err e) some more h =
-    elim (nat_lt v (2 ^ 64)) as (λ b. nat_lt v (2 ^ 64) ≡ b → None ≡ cond b (Some v) None)
-    [ true ↦ λ q. absurd (h (more, ltb-true _ _ q)) | false ↦ λ q. refl ] refl
-
--- what `parse` answers to digits is the number that they write
-pub number_parsed : {E : Type 0} (text : List ℕ) (r : Result ℕ E) → ParsesUnsigned 64 10 text r → is_number text ≡ true → result_ok r ≡ number_of text
-number_parsed text r h e =
-    answered (digits_value 10 text) r (length text) (not_empty text e) (parse_digits own 64 text r h (all_digits text e))
-    ∙ rw e refl
+use Rattle.uipd.specs.Words.{ether_words, is_tty, limits_at, limits_of, load_words, says_tty}
 
 -- fewer than two words name no pace
 pub few : {A : Type 0} (f : A → List ℕ) (words : List A) → length words < 2 → limits_at 0 (map f words) ≡ limits_of (map f words)

@@ -4,9 +4,10 @@ use Rattle.std.specs.List.{list_all}
 use Rattle.std.specs.Str.{bytes_eq}
 use Rattle.uip_wire.specs.Addr.{◌>>=◌, quad_of}
 use Rattle.uip_wire.specs.declared.addr.Addr.{Addr}
-use Rattle.dns_message.specs.Names.{is_name}
+use Rattle.dns_message.specs.Names.{is_domain}
 use Rattle.udp_resolver.specs.declared.TheConstants.{MOST_NAMES}
-use Rattle.uipd.specs.Words.{all_items, number_of, says_tty}
+use Rattle.uip_wire.specs.Numerals.{numeral}
+use Rattle.uipd.specs.Words.{all_items, says_tty}
 
 -- what the words ask for: to ask a server at an address for names, the first of them under this id, up to so many items
 pub record Resolving : Type 0 where
@@ -19,7 +20,7 @@ pub record Resolving : Type 0 where
 -- an id is a number below 65536
 abbrev pub id_of : List ℕ → Option ℕ
 id_of text = do
-  id ← number_of text
+  id ← numeral text
   if nat_lt id 65536 then Some id else None
 
 -- the words in front of a last `tty`, which says only what a read of nothing means
@@ -28,7 +29,7 @@ without_tty words = if says_tty words then take (length words - 1) words else wo
 
 -- one to four names, each of the form of a name
 abbrev pub are_names : List (List ℕ) → Bool
-are_names words = nat_le 1 (length words) && nat_le (length words) MOST_NAMES && list_all is_name words
+are_names words = nat_le 1 (length words) && nat_le (length words) MOST_NAMES && list_all is_domain words
 
 abbrev pub names_of : List (List ℕ) → Option (List (List ℕ))
 names_of words = if are_names words then Some words else None
@@ -46,7 +47,7 @@ asked_at own server id items words = do
 -- optionally `items N`, then the names, then optionally `tty`
 abbrev pub asked_by : List ℕ → List ℕ → List ℕ → List (List ℕ) → Option Resolving
 asked_by own server id (word ∷ number ∷ words) =
-    if bytes_eq word (codes "items") then asked_at own server id (number_of number) words
+    if bytes_eq word (codes "items") then asked_at own server id (numeral number) words
     else asked_at own server id (Some all_items) (word ∷ number ∷ words)
 asked_by own server id words = asked_at own server id (Some all_items) words
 

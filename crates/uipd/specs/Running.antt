@@ -12,7 +12,7 @@ use Rattle.uipd.specs.declared.status.Status.{Status}
 use Rattle.uipd.specs.declared.status.Status.TheVariants.{BadWords}
 use Rattle.uipd.specs.SiteServing.{SiteServes}
 use Rattle.uipd.specs.Statuses.{RunsAs, status_of_replay, status_of_serving, status_of_site, status_of_slip}
-use Rattle.uip_edge.specs.Told.{LineTold, Outside, WorkTold, line_of, work_of}
+use Rattle.uip_edge.specs.Told.{LineTold, Outside, WorkTold, line_in, work_in}
 use Rattle.uipd.specs.Words.{Task, Serves, Checks, Pages, Packs, Upgrades, Replays, Loads, Dumps, Captures, PlaysBack, task_of}
 use Rattle.uip_edge.specs.Told.{WorkTold}
 
@@ -22,11 +22,11 @@ SiteRuns due old new result = RunsAs status_of_site (Ends due old new) result
 
 -- work on an image, which leaves the line alone
 abbrev pub SiteWorks : (Files → Option Due) → Outside → Outside → Status → Type 0
-SiteWorks due old new result = SiteRuns due (work_of old) (work_of new) result × (new.link ≡ old.link)
+SiteWorks due old new result = SiteRuns due (work_in old) (work_in new) result × (new.link ≡ old.link)
 
 -- work on a line, which leaves the shelf alone
 abbrev pub LineWorks : {E : Type 0} → (E → Status) → (LineTold → LineTold → E → Type 0) → Outside → Outside → Status → Type 0
-LineWorks status_of Ends old new result = RunsAs status_of (Ends (line_of old) (line_of new)) result × (new.shelf ≡ old.shelf)
+LineWorks status_of Ends old new result = RunsAs status_of (Ends (line_in old) (line_in new)) result × (new.shelf ≡ old.shelf)
 
 -- words without a form are told, and only they; other words are done
 abbrev pub TaskRuns : Option Task → Outside → Outside → Status → Type 0
@@ -37,9 +37,9 @@ TaskRuns (Some (Packs files)) old new result = SiteWorks (pack_due files) old ne
 TaskRuns (Some (Upgrades site kinds)) old new result = SiteWorks (upgrade_due site kinds) old new result
 TaskRuns (Some (Pages site target)) old new result = SiteWorks (page_due site target) old new result
 TaskRuns (Some (Replays site schedule show)) old new result =
-    RunsAs status_of_replay (ReplayEnds site schedule show (work_of old) (work_of new)) result × (new.link ≡ old.link)
+    RunsAs status_of_replay (ReplayEnds site schedule show (work_in old) (work_in new)) result × (new.link ≡ old.link)
 TaskRuns (Some (Loads site seed clients)) old new result =
-    RunsAs status_of_replay (LoadEnds site seed clients (work_of old) (work_of new)) result × (new.link ≡ old.link)
+    RunsAs status_of_replay (LoadEnds site seed clients (work_in old) (work_in new)) result × (new.link ≡ old.link)
 TaskRuns (Some (Dumps n)) old new result = LineWorks status_of_serving (TellsLine dump_text n) old new result
 TaskRuns (Some (Captures n)) old new result = LineWorks status_of_serving (TellsLine capture_file n) old new result
 TaskRuns (Some (PlaysBack n)) old new result = LineWorks status_of_slip (Converts n) old new result

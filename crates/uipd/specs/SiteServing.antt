@@ -6,7 +6,7 @@ use Rattle.file_tree.specs.declared.load_fault.LoadFault.{LoadFault}
 use Rattle.file_tree.specs.Opening.{FailsToOpen, IsSiteRead, site_read}
 use Rattle.uip_edge.specs.Shelving.{Files}
 use Rattle.uip_edge.specs.Causes.{IsUnfailed}
-use Rattle.uip_edge.specs.Told.{LineUnfailed, Outside, line_of}
+use Rattle.uip_edge.specs.Told.{LineUnfailed, Outside, line_in}
 use Rattle.uipd.specs.Serving.{ServeRuns}
 use Rattle.uipd.specs.Statuses.{status_of_fault}
 use Rattle.uipd.specs.declared.words.ServedLine.{ServedLine}
@@ -26,14 +26,14 @@ pub record WithoutSite (site : List ℕ) (old new : Outside) (result : Status) :
   pub told : result ≡ status_of_fault fault
   pub fails : FailsToOpen site old.shelf.held old.shelf.faults new.shelf.faults fault
   pub held : new.shelf.held ≡ old.shelf.held
-  pub line : line_of new ≡ line_of old
+  pub line : line_in new ≡ line_in old
 
 -- the line is served with the site under a name
 abbrev pub SiteServes : List ℕ → ServedLine → Outside → Outside → Status → Type 0
 SiteServes site line old new result =
-    WithSite site old new (λ files. ServeRuns files line (line_of old) (line_of new) result) ⊎ WithoutSite site old new result
+    WithSite site old new (λ files. ServeRuns files line (line_in old) (line_in new) result) ⊎ WithoutSite site old new result
 
 -- no call failed
 pub record IsUndisturbed (old new : Outside) : Type 0 where
   pub shelf : IsUnfailed old.shelf.faults new.shelf.faults
-  pub line : LineUnfailed (line_of old) (line_of new)
+  pub line : LineUnfailed (line_in old) (line_in new)

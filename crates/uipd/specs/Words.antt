@@ -3,7 +3,7 @@ use Rattle.std.specs.Prelude.{ℕ, ◌-◌, ◌^◌, ◌==◌, ◌&&◌, nat_le,
 use Rattle.std.specs.List.{list_all, list_any, before_first, after_first}
 use Rattle.std.specs.Str.{bytes_eq}
 use Rattle.std.specs.Str.Parse.{digits_value}
-use Rattle.link_schedule.specs.Numbers.{is_number}
+use Rattle.uip_wire.specs.Numerals.{numeral}
 use Rattle.uip_wire.specs.Addr.{quad_of}
 use Rattle.ethernet_arp.specs.Words.{mac_of_text}
 use Rattle.site_image.specs.Names.{is_kind}
@@ -68,10 +68,6 @@ task_meant (Dump items) = Dumps items
 task_meant (Pcap items) = Captures items
 task_meant (Slip items) = PlaysBack items
 
--- the number that decimal digits write, below 2^64
-abbrev pub number_of : List ℕ → Option ℕ
-number_of text = if is_number text && nat_lt (digits_value 10 text) (2 ^ 64) then Some (digits_value 10 text) else None
-
 -- the greatest number of items, where the words name none
 abbrev pub all_items : ℕ
 all_items = 2 ^ 64 - 1
@@ -99,7 +95,7 @@ limited pace None whole = None
 -- behind the pace: optionally `items N`, then the end
 abbrev pub limits_at : ℕ → List (List ℕ) → Option Limits
 limits_at pace (word ∷ number ∷ words) =
-    if bytes_eq word (codes "items") then limited pace (number_of number) (ends_here words) else None
+    if bytes_eq word (codes "items") then limited pace (numeral number) (ends_here words) else None
 limits_at pace words = limited pace (Some all_items) (ends_here words)
 
 abbrev pub limits_from : Option ℕ → List (List ℕ) → Option Limits
@@ -109,7 +105,7 @@ limits_from None words = None
 -- optionally `pace K`, then what stands behind the pace, which is 0 without these words
 abbrev pub limits_of : List (List ℕ) → Option Limits
 limits_of (word ∷ number ∷ words) =
-    if bytes_eq word (codes "pace") then limits_from (number_of number) words else limits_at 0 (word ∷ number ∷ words)
+    if bytes_eq word (codes "pace") then limits_from (numeral number) words else limits_at 0 (word ∷ number ∷ words)
 limits_of words = limits_at 0 words
 
 abbrev pub serve_at : List ℕ → Option (List ℕ) → Option LineKind → Option Limits → Option Task
@@ -165,29 +161,29 @@ load_at site seed None = None
 
 -- `CLIENTS`, behind the seed
 abbrev pub load_with : List ℕ → Option ℕ → List (List ℕ) → Option Task
-load_with site (Some seed) (clients ∷ []) = load_at site seed (number_of clients)
+load_with site (Some seed) (clients ∷ []) = load_at site seed (numeral clients)
 load_with site (Some seed) words = None
 load_with site None words = None
 
 -- `SITE SEED CLIENTS`
 abbrev pub load_words : List (List ℕ) → Option Task
-load_words (site ∷ seed ∷ words) = load_with site (number_of seed) words
+load_words (site ∷ seed ∷ words) = load_with site (numeral seed) words
 load_words words = None
 
 -- optionally `items N`, then optionally `tty`
-abbrev pub items_of : List (List ℕ) → Option ℕ
-items_of words = option_map (λ limits. limits.items) (limits_at 0 words)
+abbrev pub items_named : List (List ℕ) → Option ℕ
+items_named words = option_map (λ limits. limits.items) (limits_at 0 words)
 
 abbrev pub dump_words : List (List ℕ) → Option Task
-dump_words words = option_map Dumps (items_of words)
+dump_words words = option_map Dumps (items_named words)
 
 abbrev pub pcap_words : List (List ℕ) → Option Task
-pcap_words words = option_map Captures (items_of words)
+pcap_words words = option_map Captures (items_named words)
 
 -- optionally `items N`
 abbrev pub slip_words : List (List ℕ) → Option Task
 slip_words [] = Some (PlaysBack all_items)
-slip_words (word ∷ number ∷ []) = if bytes_eq word (codes "items") then option_map PlaysBack (number_of number) else None
+slip_words (word ∷ number ∷ []) = if bytes_eq word (codes "items") then option_map PlaysBack (numeral number) else None
 slip_words words = None
 
 -- by the command in front

@@ -2,15 +2,14 @@ ghost use Rattle.std.specs.Prelude.{◌≡◌, Option, ℕ, Some, map, option_ma
 ghost use Rattle.uipd.specs.Words.{task_meant, task_of, check_words as words_of_check, pack_words as words_of_pack, serve_words as words_of_serve, ether_words as words_of_ether};
 ghost use Rattle.uipd.specs.Words.{upgrade_words as words_of_upgrade};
 ghost use Rattle.uipd.specs.Words.{load_at as counted, load_with as words_with, load_words as words_of_load, page_words as words_of_page, replay_words as words_of_replay};
-ghost use Rattle.uipd.specs.Words.{dump_words as words_of_dump, pcap_words as words_of_pcap, slip_words as words_of_slip, items_of as items_spelled};
+ghost use Rattle.uipd.specs.Words.{dump_words as words_of_dump, pcap_words as words_of_pcap, slip_words as words_of_slip, items_named as items_spelled};
 ghost use Rattle.uipd.specs.Words.{ends_here as no_more, limited as limits_meant, limits_at as limits_behind, limits_of as limits_spelled, says_tty as terminal_told};
 ghost use Rattle.uipd.specs.Allowed.{IsAllowed};
-ghost use Rattle.uipd.specs.Words.{number_of as number_meant};
+ghost use Rattle.uip_wire.specs.Numerals.{numeral as number_meant};
 
 use crate::parts::{are_kind_words, have_parts};
 use ethernet_arp::Mac;
-use link_schedule::is_number;
-use uip_wire::Addr;
+use uip_wire::{Addr, numeral};
 
 /// At which pace the bytes of a line make ticks, where this is above 0, and how many items are taken of it at most.
 #[derive(Clone, Copy, Debug, PartialEq, Eq)]
@@ -294,12 +293,9 @@ fn slip_words(words: &[String]) -> Option<Command<'_>>
     }
 }
 
-/// A number below 2^64 in decimal digits, without a leading zero.
+/// The number below 2^64 whose numeral a word is.
 pub(crate) fn number_of(text: &str) -> Option<u64>
     ensures { result ≡ number_meant text.now }
 {
-    if !is_number(text.as_bytes()) {
-        return None;
-    }
-    text.parse::<u64>().ok()
+    numeral(text.as_bytes())
 }

@@ -14,7 +14,7 @@ use Rattle.protosocket.specs.Hearing.{none_at_all}
 use Rattle.protosocket.proofs.Pieces.{hears_in_pieces}
 use Rattle.web_pages.specs.Requests.{Wanted, wanted, wanted_by, has_ended, method_of, after_method, target_of, name_in}
 use Rattle.web_pages.specs.Requests.Wanted.{NotYet, Refused, Name}
-use Rattle.web_pages.specs.Words.{told_by, ToldInPieces, LongNames}
+use Rattle.web_pages.specs.Words.{told_so_far, ToldInPieces, LongNames}
 use Rattle.web_pages.specs.Deciding.{by_tests}
 
 -- ---- the method
@@ -77,7 +77,7 @@ kept_front target e = ap wanted_by (take_all 64 (front target) (ltb-false 64 (le
 -- ---- both
 
 pub told_by_heard : (request : List ℕ) → (heard SpaceOrLine (after_method request)).over ≡ false
-    → wanted request ≡ told_by (heard Space request) (heard SpaceOrLine (after_method request))
+    → wanted request ≡ told_so_far (heard Space request) (heard SpaceOrLine (after_method request))
 told_by_heard request e =
     λ i. if not (has_ended Space request) then NotYet
     else (if not (is_get_word (method_of request) i) then Refused
@@ -88,7 +88,7 @@ told_in_pieces pieces later rest e =
     let method : fold after (fresh Space) pieces ≡ heard Space (concat pieces) = hears_in_pieces Space pieces in
     let target : fold after (fresh SpaceOrLine) later ≡ heard SpaceOrLine (after_method (concat pieces)) =
     hears_in_pieces SpaceOrLine later ∙ ap (heard SpaceOrLine) (sym rest) in
-    told_by_heard (concat pieces) (sym (ap (λ (line : Line). line.over) target) ∙ e) ∙ sym (λ i. told_by (method i) (target i))
+    told_by_heard (concat pieces) (sym (ap (λ (line : Line). line.over) target) ∙ e) ∙ sym (λ i. told_so_far (method i) (target i))
 
 -- a long name is the name that is asked for
 pub named_by : (target name : List ℕ) → 64 < length (front target) → wanted_by target ≡ Name name → 64 < length name

@@ -11,8 +11,8 @@ use Rattle.web_pages.specs.Requests.Wanted.{NotYet, Refused, Name}
 abbrev pub is_get : Line → Bool
 is_get method = bytes_eq method.name (codes "GET") && not method.query
 
-abbrev pub told_by : Line → Line → Wanted
-told_by method target =
+abbrev pub told_so_far : Line → Line → Wanted
+told_so_far method target =
     if not method.done then NotYet
     else if not (is_get method) then Refused
     else if not target.done then NotYet
@@ -23,7 +23,7 @@ told_by method target =
 abbrev pub ToldInPieces : Type 0
 ToldInPieces =
     (pieces later : List (List ℕ)) → after_method (concat pieces) ≡ concat later →
-    (fold after (fresh SpaceOrLine) later).over ≡ false → wanted (concat pieces) ≡ told_by (fold after (fresh Space) pieces) (fold after (fresh SpaceOrLine) later)
+    (fold after (fresh SpaceOrLine) later).over ≡ false → wanted (concat pieces) ≡ told_so_far (fold after (fresh Space) pieces) (fold after (fresh SpaceOrLine) later)
 
 -- Where more came, the name that is asked for is longer than any file's.
 abbrev pub LongNames : Type 0

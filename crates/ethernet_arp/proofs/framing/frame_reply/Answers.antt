@@ -1,6 +1,6 @@
 use Rattle.std.proofs.Common.{◌≡◌, ◌∙◌, arith, ap, length, sym}
 use Rattle.uip_wire.specs.Fields.{written}
-use Rattle.ethernet_arp.specs.Frames.{reply_to}
+use Rattle.ethernet_arp.specs.Frames.{arp_reply}
 use Rattle.ethernet_arp.specs.Learning.{Pair}
 use Rattle.ethernet_arp.specs.Table.{host_of}
 use Rattle.ethernet_arp.proofs.Bytes.{framed_is}
@@ -10,7 +10,7 @@ pub returns-clause-text : goal.returns-clause-text
 returns-clause-text c =
     let pair : Pair = record { addr = c.args.addr.0; mac = c.args.mac.0 } in
     let size : length c.reply.result ≡ 42 = omega arith in
-    framed_is c.split_at_mut-length.result.0.now c.split_at_mut-length.result.1.now (reply_to (host_of c.args.arp.now) pair) c.put16.new.bytes c.put_front.new.out
+    framed_is c.split_at_mut-length.result.0.now c.split_at_mut-length.result.1.now (arp_reply (host_of c.args.arp.now) pair) c.put16.new.bytes c.put_front.new.out
     42 c.split_at_mut-length.ensures.front_len c.put16.ensures
     (record {
       size = sym size ∙ ap (λ l. length l) c.reply.ensures;

@@ -1,6 +1,6 @@
 use Rattle.std.proofs.Common.{◌≡◌, ◌++◌, List, length, length-drop, refl, arith, ap, sym, ◌∙◌, subst}
-use Rattle.line_medium.specs.Ways.{Came, acts_of}
-use Rattle.ethernet_arp.specs.Frames.{Host, reply_to}
+use Rattle.line_medium.specs.Ways.{Came, acts_among}
+use Rattle.ethernet_arp.specs.Frames.{Host, arp_reply}
 use Rattle.ethernet_arp.specs.Learning.{Act, Asked, Pair, Replied}
 use Rattle.ethernet_arp.specs.Table.{Knows}
 use Rattle.ethernet_arp.proofs.taking.take.Goals as goal
@@ -16,7 +16,7 @@ returns-in-Datagram-clause-told c = (
 pub returns-in-Asked-clause-told : goal.returns-in-Asked-clause-told
 returns-in-Asked-clause-told c =
     let pair : Pair = record { addr = c.in-Asked.addr.0; mac = c.in-Asked.mac.0 } in
-    let reply = c.reply.ensures ∙ ap (λ (k : Host). reply_to k pair) c.learn.ensures.host in (
+    let reply = c.reply.ensures ∙ ap (λ (k : Host). arp_reply k pair) c.learn.ensures.host in (
       pair,
       rw c.in-Asked.is at c.sort.ensures.brings,
       (let size : length c.reply.result ≡ 42 = omega arith in sym size ∙ ap (λ l. length l) reply),
@@ -26,11 +26,11 @@ returns-in-Asked-clause-told c =
 pub returns-in-Asked-clause-knows : goal.returns-in-Asked-clause-knows
 returns-in-Asked-clause-knows c = λ acts k.
     let pair : Pair = record { addr = c.in-Asked.addr.0; mac = c.in-Asked.mac.0 } in
-    subst (λ (l : List (Came Act)). Knows c.learn.new.self (acts ++ acts_of l)) (sym (rw c.in-Asked.is at c.sort.ensures.brings))
+    subst (λ (l : List (Came Act)). Knows c.learn.new.self (acts ++ acts_among l)) (sym (rw c.in-Asked.is at c.sort.ensures.brings))
     (c.learn.ensures.knows (Asked pair) acts refl k)
 
 pub returns-in-Replied-clause-knows : goal.returns-in-Replied-clause-knows
 returns-in-Replied-clause-knows c = λ acts k.
     let pair : Pair = record { addr = c.in-Replied.addr.0; mac = c.in-Replied.mac.0 } in
-    subst (λ (l : List (Came Act)). Knows c.learn-in-Replied.new.self (acts ++ acts_of l)) (sym (rw c.in-Replied.is at c.sort.ensures.brings))
+    subst (λ (l : List (Came Act)). Knows c.learn-in-Replied.new.self (acts ++ acts_among l)) (sym (rw c.in-Replied.is at c.sort.ensures.brings))
     (c.learn-in-Replied.ensures.knows (Replied pair) acts refl k)

@@ -1,8 +1,8 @@
 use Rattle.std.proofs.Common.{◌∷◌, [], ◌+◌, ◌++◌, ◌∙◌, None, refl, sym, ap, arith, drop, get_or, length-append}
 use Rattle.std.proofs.lemmas.List.{drop_all, drop_more}
 use Rattle.dns_message.specs.Replies.{answer_to}
-use Rattle.udp_resolver.specs.Fates.{or_else}
 use Rattle.udp_resolver.proofs.StepLaws.{get_seam, heard_none, heard_step, here, set_seam}
+use Rattle.std.specs.Option.{option_or}
 use Rattle.udp_resolver.proofs.answers.hear.Goals as goal
 
 pub loop-at-init : goal.loop-at-init
@@ -25,7 +25,7 @@ loop-at-preserved c =
       size = length-append inv.front (b ∷ []) ∙ ap (λ n. n + 1) inv.size;
       answers = set_seam c.loop-at.answers inv.front a b (drop (at + 1) olds) at inv.size now;
       heard = heard_step c.args.datagram.now c.loop-at.asking c.next_asking-asking.result _ _ name _ _ a b _ inv.front named known c.next_asking-asking.ensures
-          (c.known_or.ensures ∙ ap (λ o. or_else o (answer_to c.loop-at.asking name c.args.datagram.now)) same) inv.heard;
+          (c.known_or.ensures ∙ ap (λ o. option_or o (answer_to c.loop-at.asking name c.args.datagram.now)) same) inv.heard;
     }
 
 pub returns : goal.returns

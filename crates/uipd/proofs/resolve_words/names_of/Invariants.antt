@@ -1,10 +1,10 @@
 use Rattle.std.proofs.Common.{◌≡◌, map, string_bytes, take, true}
 use Rattle.std.specs.List.{list_all}
-use Rattle.dns_message.specs.Names.{is_name}
+use Rattle.dns_message.specs.Names.{is_domain}
 use Rattle.uipd.proofs.resolve_words.names_of.Given as goal
 
 abbrev pub invariant-loop-word : goal.invariant-loop-word
 invariant-loop-word l = record {
   names : l.names.items ≡ map string_bytes (take l.word-index l.words);
-  formed : list_all is_name (map string_bytes (take l.word-index l.words)) ≡ true;
+  formed : list_all is_domain (map string_bytes (take l.word-index l.words)) ≡ true;
 }

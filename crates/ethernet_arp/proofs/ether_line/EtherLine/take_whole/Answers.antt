@@ -1,6 +1,6 @@
 use Rattle.std.proofs.Common.{◌-◌, ◌∷◌, ◌∙◌, [], length, take, drop, refl, arith, ap, sym}
 use Rattle.line_medium.specs.Ways.{Datagram}
-use Rattle.ethernet_arp.specs.Frames.{Host, frame_brings, framed, reply_to}
+use Rattle.ethernet_arp.specs.Frames.{Host, frame_brings, framed, arp_reply}
 use Rattle.ethernet_arp.specs.Learning.{Asked, Pair, Replied}
 use Rattle.ethernet_arp.specs.Table.{host_of}
 use Rattle.ethernet_arp.proofs.Bytes.{payload_is}
@@ -31,7 +31,7 @@ returns-in-Asked-clause-told c =
     let pair : Pair = record { addr = c.in-Asked.addr.0; mac = c.in-Asked.mac.0 } in (
       Asked pair,
       ap (λ l. frame_brings (host_of c.args.self.now.arp) l) (sym c.frame.ensures) ∙ c.in-Asked.ensures.brings,
-      ap (λ (k : Host). framed (reply_to k pair)) (sym c.learn.ensures.host) ∙ sym c.frame_reply-self.ensures.text,
+      ap (λ (k : Host). framed (arp_reply k pair)) (sym c.learn.ensures.host) ∙ sym c.frame_reply-self.ensures.text,
     )
 
 pub returns-in-Asked-clause-knows : goal.returns-in-Asked-clause-knows

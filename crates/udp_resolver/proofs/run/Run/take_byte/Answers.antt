@@ -1,6 +1,6 @@
 use Rattle.std.proofs.Common.{◌∙◌, ◌∷◌, [], length, refl, ap, sym}
 use Rattle.udp_resolver.specs.Fates.{questions}
-use Rattle.udp_resolver.specs.Steps.{heard}
+use Rattle.udp_resolver.specs.Steps.{heard_now}
 use Rattle.uip_slip.specs.Decoding.{told_by}
 use Rattle.uip_slip.specs.Frames.{Datagram}
 use Rattle.udp_resolver.proofs.ItemLaws.{by_told}
@@ -19,7 +19,7 @@ returns-in-Datagram-clause-knows c = λ items e k.
     let long = ap (λ l. length l) c.hear.ensures ∙ heard-length c.bytes.result.now asked c.as_mut_slice.result.now size ∙ ap (λ l. length l) lent in
     knows_came asked items c.args.byte datagram c.args.self.now _ e k told.0
     (sym (by_told (bytes_among items) c.args.byte (Datagram datagram ∷ []) told.1)) refl refl
-    (refill_same olds c.hear.new.answers long ∙ c.hear.ensures ∙ ap (λ l. heard l asked c.as_mut_slice.result.now) c.bytes.ensures ∙ ap (λ l. heard datagram asked l) lent)
+    (refill_same olds c.hear.new.answers long ∙ c.hear.ensures ∙ ap (λ l. heard_now l asked c.as_mut_slice.result.now) c.bytes.ensures ∙ ap (λ l. heard_now datagram asked l) lent)
 
 pub returns-in_default : goal.returns-in_default
 returns-in_default c = record {

@@ -1,7 +1,7 @@
 use Rattle.std.proofs.Common.{◌∙◌, ◌≤◌, ap, arith, take}
 use Rattle.std.proofs.lemmas.List.{length-take-le}
 use Rattle.uip_slip.specs.Decoding.{State}
-use Rattle.uip_slip.specs.Steps.{joined}
+use Rattle.uip_slip.specs.Steps.{joined_parts}
 use Rattle.uip_slip.proofs.DecoderLaws.{joined_is}
 use Rattle.uip_slip.proofs.decoder.Decoder.join.Goals as goal
 
@@ -12,4 +12,4 @@ returns c =
     let fits : s.len ≤ 1500 = c.self.invariant in
     c.append.ensures
     ∙ joined_is old c.args.bytes.now s.len c.min-count.result (length-take-le s.len s.area (omega (arith, fits, c.self.told))) fits c.min-count.ensures
-    ∙ ap (λ v. joined v c.args.bytes.now) c.self.view_is
+    ∙ ap (λ v. joined_parts v c.args.bytes.now) c.self.view_is
