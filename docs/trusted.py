@@ -191,10 +191,11 @@ def cited_elsewhere():
 
 
 def namesakes(sources):
-    """The names that two crates define, of which one is cited from another crate, with the files that define them."""
+    """The names that two crates define, of which one is cited from another crate, with the files that define them. Operators, which go by
+    the type of what they are between, are left out."""
     places = collections.defaultdict(dict)
     for definition in sources.definitions.values():
-        if "pub " in definition.lines[0]:
+        if "pub " in definition.lines[0] and "◌" not in definition.name:
             places[definition.name][definition.module.split(".")[0]] = definition.path
     cited = cited_elsewhere()
     return {name: found for name, found in places.items() if len(found) > 1 and any((crate, name) in cited for crate in found)}

@@ -50,7 +50,7 @@ impl Name {
 }
 
 /// Whether a text has the form of a name.
-#[tactic(auto, unfolding(crate::specs::Names::is_name))]
+#[tactic(auto, unfolding(crate::specs::Names::is_domain))]
 fn is_name(text: &[u8]) -> bool
     ensures exact { result ≡ is_domain text.now }
     ensures short { result ≡ true → length text.now ≤ LONGEST_NAME }

@@ -2,4 +2,5 @@ pub mod Clients
 pub mod Keeping
 pub mod Kept
 pub mod Lines
+pub mod NoForm
 pub mod Worked

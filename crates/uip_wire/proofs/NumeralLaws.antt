@@ -1,11 +1,11 @@
 -- Numerals, and the numbers that print as them.
-use Rattle.std.proofs.Common.{◌≡◌, ℕ, ◌+◌, ◌-◌, ◌*◌, ◌^◌, ◌<◌, ◌≤◌, ◌&&◌, ◌↔◌, Bool, true, false, cond, leb, zero, suc, ◌⊎◌, inl, inr, List, [], ◌∷◌, length, take, get_or, nat_lt, eqb, eq-eqb, Option, None, Some, rules, refl, sym, ap, subst, ◌∙◌, arith}
+use Rattle.std.proofs.Common.{◌≡◌, ℕ, ◌+◌, ◌-◌, ◌*◌, ◌^◌, ◌<◌, ◌≤◌, ◌&&◌, Bool, true, false, cond, leb, zero, suc, ◌⊎◌, inl, inr, List, [], ◌∷◌, length, take, get_or, nat_lt, eqb, eq-eqb, None, Some, rules, refl, sym, ap, ◌∙◌, arith}
 use Rattle.std.specs.Char.{digit_value, is_ascii_digit}
 use Rattle.std.specs.Fmt.{decimal}
 use Rattle.std.specs.List.{list_all}
-use Rattle.std.specs.Str.Parse.{AllDigits, IsNumeral, digits_value}
+use Rattle.std.specs.Str.Parse.{digits_value}
 use Rattle.std.proofs.lemmas.Bool.{and_parts, leb-true, ltb-true, lt-ltb, ne_eqb}
-use Rattle.std.proofs.lemmas.Fmt.{decimal-digits_value, decimal_is_IsNumeral, decimal_nonempty, digits_decimal, digits_value-decimal, first_decimal}
+use Rattle.std.proofs.lemmas.Fmt.{decimal-digits_value, decimal_digit, decimal_nonempty, digits_decimal, digits_value-decimal, first_decimal}
 use Rattle.std.proofs.lemmas.Int.Digits.{digits_value_more}
 use Rattle.std.proofs.lemmas.Str.{digit_value_digit}
 use Rattle.std.proofs.lemmas.List.Folds.{list_all_at}
@@ -51,7 +51,7 @@ numeral_prints text n e =
     sym (decimal-digits_value own text (all_digits text q.0) (not_empty text q.0) (zero_alone text (leads_well text q.0)) (ltb-true _ _ q.1)) ∙ ap decimal p.1
 
 decimal_leads : (n : ℕ) → n < 2 ^ 64 → leads_badly (decimal n) ≡ false
-decimal_leads zero small = refl
+decimal_leads zero small = ap leads_badly (decimal_digit 0 (omega arith))
 decimal_leads (suc n) small = leads_so (decimal (suc n)) (decimal_nonempty (suc n) small) (inr (first_decimal (suc n) (omega arith) small))
 
 formed : (a b : Bool) → a ≡ false → b ≡ true → cond a false b ≡ true
@@ -93,3 +93,9 @@ value_more text i inside all = omega (arith, digits_value_more 10 text i inside,
 pub too_great : (text : List ℕ) (i : ℕ) → i < length text → list_all is_ascii_digit text ≡ true
     → 2 ^ 64 ≤ digits_value 10 (take i text) * 10 + (get_or text i 0 - 48) → 2 ^ 64 ≤ digits_value 10 text
 too_great text i inside all great = omega (arith, value_more text i inside all, digits_value-take-le 10 text (i + 1) (omega arith), great)
+
+-- a number that is too great has no numeral below 2^64
+pub none_over : (v : ℕ) → 2 ^ 64 ≤ v → None ≡ cond (nat_lt v (2 ^ 64)) (Some v) None
+none_over v great =
+    elim (nat_lt v (2 ^ 64)) as (λ b. nat_lt v (2 ^ 64) ≡ b → None ≡ cond b (Some v) None)
+    [ true ↦ λ e. absurd (omega (arith, ltb-true v (2 ^ 64) e, great)) | false ↦ λ e. refl ] refl

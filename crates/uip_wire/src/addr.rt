@@ -72,5 +72,9 @@ fn number(text: &[u8]) -> Option<u8>
     ensures { result ≡ part_number text.now }
 {
     let number = numeral(text)?;
-    if number < 256 { Some(number as u8) } else { None }
+    if number < 256 {
+        Some(number as u8)
+    } else {
+        None
+    }
 }
