@@ -23,7 +23,7 @@ use Rattle.tcp_machine.specs.declared.step.Step.{Step}
 use Rattle.uip_node.specs.Counters.{initial_number}
 use Rattle.uip_node.specs.Events.{Event}
 use Rattle.uip_node.specs.Events.Event.{IpRefused, IcmpRefused, TcpRefused, EchoAsked, Arrived, Overlong, Periodic}
-use Rattle.uip_node.specs.Node.{AbstractNode, NodeStep, arrives_at, connection_in, from_stranger, happened, is_waiting, longest_wait, moment, opening, or_else, opens, opens_in, run, slot_for_syn, step}
+use Rattle.uip_node.specs.Node.{AbstractNode, NodeStep, arrives_at, connection_in, from_stranger, happened, is_waiting, longest_wait, moment, opening, opens, opens_in, run, slot_for_syn, step}
 use Rattle.web_pages.specs.Pages.{is_page_whole, place_of}
 use Rattle.web_pages.specs.Requests.{Wanted, wanted}
 use Rattle.web_pages.specs.Requests.Wanted.{NotYet, Refused, Name}
@@ -35,6 +35,7 @@ use Rattle.link_world.proofs.Runs.{all_closed}
 use Rattle.link_world.proofs.Tables.{get_set, index_none, index_of, set_past}
 use Rattle.link_world.proofs.Tables.Written.{here, there}
 use Rattle.replay_command.specs.Hits.{HitsAreCounted, becomes_hit, hits_over, is_at, one_hits}
+use Rattle.std.specs.Option.{option_or}
 
 -- ---- one connection
 
@@ -348,7 +349,7 @@ module _ (files : List File) where
       fresh_by numbers Refused = refl
       fresh_by numbers (Name name) = refl
 
-  either_in : (cs : List Connection) (a b : Option ℕ) (slot : ℕ) → ((i : ℕ) → a ≡ Some i → Inside cs i) → ((i : ℕ) → b ≡ Some i → Inside cs i) → or_else a b ≡ Some slot → Inside cs slot
+  either_in : (cs : List Connection) (a b : Option ℕ) (slot : ℕ) → ((i : ℕ) → a ≡ Some i → Inside cs i) → ((i : ℕ) → b ≡ Some i → Inside cs i) → option_or a b ≡ Some slot → Inside cs slot
   either_in cs None b slot f h x = h slot x
   either_in cs (Some i) b slot f h x = only_some (λ z. Inside cs z) i slot x (f i refl)
 

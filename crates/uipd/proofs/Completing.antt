@@ -14,7 +14,7 @@ use Rattle.replay_command.specs.Laws.{EndsAsDue}
 use Rattle.replay_command.specs.declared.replay_end.ReplayEnd.{ReplayEnd}
 use Rattle.replay_command.specs.declared.replay_end.ReplayEnd.TheVariants as replays
 use Rattle.replay_command.proofs.Undisturbed.{as_due}
-use Rattle.uip_edge.specs.Told.{LineTold, LineUnfailed, Outside, WorkTold, WorkUnfailed, line_of, work_of}
+use Rattle.uip_edge.specs.Told.{LineTold, LineUnfailed, Outside, WorkTold, WorkUnfailed, line_in, work_in}
 use Rattle.trace.specs.Converting.{Converts}
 use Rattle.trace.specs.Telling.{TellsLine}
 use Rattle.trace.specs.declared.slip_end.SlipEnd.{SlipEnd}
@@ -39,7 +39,7 @@ use Rattle.uipd.specs.declared.status.Status.TheVariants as status
 stayed : (before now : ℕ) → now ≡ before → before < 2 ^ 64 - 1 → Rose before now → ⊥
 stayed before now e below rose = omega (arith, e, below, rose)
 
-calm : (old new : Outside) → IsUndisturbed old new → WorkUnfailed (work_of old) (work_of new)
+calm : (old new : Outside) → IsUndisturbed old new → WorkUnfailed (work_in old) (work_in new)
 calm old new u = record { shelf = u.shelf; sink = u.line.sink }
 
 -- ---- a line
@@ -67,14 +67,14 @@ no_site site line old new result loads.NoMemory u there told same = inl told
 serving : (site : List ℕ) (line : ServedLine) (old new : Outside) (result : Status) → SiteServes site line old new result → IsUndisturbed old new → ¬ (LacksSite site old.shelf.held) → OrShort result (ServingDone site line old new result)
 serving site line old new result (inl has) u there =
     elim has.done [
-      | inl run ↦ inr (inl (has.files, has.read, served has.files line (line_of old) (line_of new) result run.0 u.line run.1 run.2))
+      | inl run ↦ inr (inl (has.files, has.read, served has.files line (line_in old) (line_in new) result run.0 u.line run.1 run.2))
       | inr short ↦ inl short.0
     ]
 serving site line old new result (inr none) u there = no_site site line old new result none.fault u there none.told none.fails
 
 -- ---- an image
 
-image_by : (due : Files → Option Due) (old new : Outside) (result : Status) (end : SiteEnd) → Rattle.uipd.specs.Statuses.status_of_site end ≡ result → Ends due (work_of old) (work_of new) end → WorkUnfailed (work_of old) (work_of new)
+image_by : (due : Files → Option Due) (old new : Outside) (result : Status) (end : SiteEnd) → Rattle.uipd.specs.Statuses.status_of_site end ≡ result → Ends due (work_in old) (work_in new) end → WorkUnfailed (work_in old) (work_in new)
     → ¬ (LacksFile due old.shelf.held) → OrShort result (ImageDone due old new result)
 image_by due old new result sites.Done e t c there = inr (record { text = t.0; fault = None }, t.1, t.2.whole, sym e)
 image_by due old new result (sites.Bad error) e t c there = inr (record { text = t.0; fault = Some error }, t.1, t.2.whole, sym e)
@@ -83,22 +83,22 @@ image_by due old new result sites.ShelfFault e t c there =
 image_by due old new result sites.WriteFault e t c there = absurd (stayed old.sink.faults new.sink.faults c.sink.same c.sink.below t.2.rose)
 image_by due old new result sites.NoMemory e t c there = inl (sym e)
 
-image : (due : Files → Option Due) (old new : Outside) (result : Status) → SiteRuns due (work_of old) (work_of new) result → IsUndisturbed old new → ¬ (LacksFile due old.shelf.held) → OrShort result (ImageDone due old new result)
+image : (due : Files → Option Due) (old new : Outside) (result : Status) → SiteRuns due (work_in old) (work_in new) result → IsUndisturbed old new → ¬ (LacksFile due old.shelf.held) → OrShort result (ImageDone due old new result)
 image due old new result run u there = image_by due old new result run.0 (sym run.1) run.2 (calm old new u) there
 
 -- ---- a replay
 
-replayed : (Is : Option Files → List ℕ → ReplayEnd → Type 0) (Missing : Option Files → Type 0) (old new : Outside) (result : Status) → RunsAs status_of_replay (EndsWith Is Missing (work_of old) (work_of new)) result → IsUndisturbed old new
+replayed : (Is : Option Files → List ℕ → ReplayEnd → Type 0) (Missing : Option Files → Type 0) (old new : Outside) (result : Status) → RunsAs status_of_replay (EndsWith Is Missing (work_in old) (work_in new)) result → IsUndisturbed old new
     → ¬ (Missing old.shelf.held) → OrShort result (ReplayDone (Is old.shelf.held) old new result)
 replayed Is Missing old new result run u there =
-    elim (as_due Is Missing (work_of old) (work_of new) run.0 run.2 (calm old new u) there) [
+    elim (as_due Is Missing (work_in old) (work_in new) run.0 run.2 (calm old new u) there) [
       | inl short ↦ inl (run.1 ∙ ap status_of_replay short)
       | inr made ↦ inr (run.0, made.0, made.1, made.2, run.1)
     ]
 
 -- ---- a capture
 
-capture_by : (n : ℕ) (old new : Outside) (result : Status) (end : SlipEnd) → result ≡ status_of_slip end → Converts n (line_of old) (line_of new) end → LineUnfailed (line_of old) (line_of new) → CaptureDone n old new result
+capture_by : (n : ℕ) (old new : Outside) (result : Status) (end : SlipEnd) → result ≡ status_of_slip end → Converts n (line_in old) (line_in new) end → LineUnfailed (line_in old) (line_in new) → CaptureDone n old new result
 capture_by n old new result slips.End e t u = (slips.End, tt, t, e)
 capture_by n old new result slips.Budget e t u = (slips.Budget, tt, t, e)
 capture_by n old new result (slips.Bad number why) e t u = (slips.Bad number why, tt, t, e)
@@ -116,8 +116,8 @@ by_task (Some (Upgrades site kinds)) old new result run u there = image _ old ne
 by_task (Some (Pages site target)) old new result run u there = image _ old new result run.0 u there
 by_task (Some (Replays site schedule show)) old new result run u there = replayed (IsText site schedule show) (LacksEither site schedule) old new result run.0 u there
 by_task (Some (Loads site seed clients)) old new result run u there = replayed (IsLoadText site seed clients) (LacksSite site) old new result run.0 u there
-by_task (Some (Dumps n)) old new result run u there = (let r = run.0 in line_done _ n (line_of old) (line_of new) result r.0 u.line r.1 r.2)
-by_task (Some (Captures n)) old new result run u there = (let r = run.0 in line_done _ n (line_of old) (line_of new) result r.0 u.line r.1 r.2)
+by_task (Some (Dumps n)) old new result run u there = (let r = run.0 in line_done _ n (line_in old) (line_in new) result r.0 u.line r.1 r.2)
+by_task (Some (Captures n)) old new result run u there = (let r = run.0 in line_done _ n (line_in old) (line_in new) result r.0 u.line r.1 r.2)
 by_task (Some (PlaysBack n)) old new result run u there = (let r = run.0 in capture_by n old new result r.0 r.1 r.2 u.line)
 
 pub run_is_complete : RunIsComplete

@@ -14,7 +14,7 @@ use Rattle.trace.specs.DumpText.{dump_text}
 use Rattle.trace.specs.declared.slip_end.SlipEnd.{SlipEnd}
 use Rattle.trace.specs.declared.slip_end.SlipEnd.TheVariants as slips
 use Rattle.uip_edge.specs.Coming.{Consumes, TookAll}
-use Rattle.uip_edge.specs.Told.{LineTold, Outside, line_of}
+use Rattle.uip_edge.specs.Told.{LineTold, Outside, line_in}
 use Rattle.uip_edge.specs.Shelving.{Files}
 use Rattle.uip_edge.specs.declared.item.Item.{Item}
 use Rattle.uipd.specs.Output.{output_of}
@@ -50,7 +50,7 @@ pub record LineDone (text : List Item → List ℕ) (n : ℕ) (old new : LineTol
 -- the line was served with the files of the site, or the site is bad
 abbrev pub ServingDone : List ℕ → ServedLine → Outside → Outside → Status → Type 0
 ServingDone site line old new result =
-    ((files : List File) × IsSiteRead site old.shelf.held (Ok files) × LineDone (output_of files line) line.limits.items (line_of old) (line_of new) result)
+    ((files : List File) × IsSiteRead site old.shelf.held (Ok files) × LineDone (output_of files line) line.limits.items (line_in old) (line_in new) result)
     ⊎ ((error : SiteError) × IsSiteRead site old.shelf.held (Err error) × (result ≡ status.BadSite error))
 
 -- the text that is due for the shelf's files was written, and the answer is the one that goes with it
@@ -69,7 +69,7 @@ IsFaultless slips.Budget = ⊤
 IsFaultless (slips.Bad number why) = ⊤
 
 abbrev pub CaptureDone : ℕ → Outside → Outside → Status → Type 0
-CaptureDone n old new result = (end : SlipEnd) × IsFaultless end × Converts n (line_of old) (line_of new) end × (result ≡ status_of_slip end)
+CaptureDone n old new result = (end : SlipEnd) × IsFaultless end × Converts n (line_in old) (line_in new) end × (result ≡ status_of_slip end)
 
 -- or memory was short
 abbrev pub OrShort : Status → Type 0 → Type 0
@@ -85,8 +85,8 @@ Completes (Some (Upgrades site kinds)) old new result = OrShort result (ImageDon
 Completes (Some (Pages site target)) old new result = OrShort result (ImageDone (page_due site target) old new result)
 Completes (Some (Replays site schedule show)) old new result = OrShort result (ReplayDone (IsText site schedule show old.shelf.held) old new result)
 Completes (Some (Loads site seed clients)) old new result = OrShort result (ReplayDone (IsLoadText site seed clients old.shelf.held) old new result)
-Completes (Some (Dumps n)) old new result = LineDone dump_text n (line_of old) (line_of new) result
-Completes (Some (Captures n)) old new result = LineDone capture_file n (line_of old) (line_of new) result
+Completes (Some (Dumps n)) old new result = LineDone dump_text n (line_in old) (line_in new) result
+Completes (Some (Captures n)) old new result = LineDone capture_file n (line_in old) (line_in new) result
 Completes (Some (PlaysBack n)) old new result = CaptureDone n old new result
 
 -- A run is complete: where no count rose and no file is missing, what is due for the words was done.
