@@ -10,6 +10,7 @@ needs qemu-system-aarch64.
 
     --line DEVICE RATE   no server is started: the node is at the other end of a serial port, as /dev/ttyUSB0 115200
     --ether              Ethernet frames over a TAP interface, with Linux's own ARP, in place of SLIP (`UIPD ether`)
+    --desk               a shell at port 23 beside the pages (`UIPD desk`)
     --board FIRMWARE     no server is started: the node runs on a board of its own, by qemu, and this is its serial port
     --memory FILE        with --board: the board's memory is written to FILE at the end
     --record DIR         writes the bytes of the line to DIR/to-node and DIR/from-node
@@ -210,13 +211,13 @@ class Words:
             sys.exit(print(__doc__))
         self.command = words[words.index("--") + 1:] if "--" in words else []
         words = words[:words.index("--")] if "--" in words else words
-        self.ether = False
+        self.ether = self.desk = False
         self.line = self.folder = self.board = self.memory = None
         plain = []
         while words:
             word, words = words[0], words[1:]
-            if word == "--ether":
-                self.ether = True
+            if word in ("--ether", "--desk"):
+                setattr(self, word[2:], True)
             elif word == "--record" and words:
                 self.folder, words = words[0], words[1:]
             elif word == "--board" and words:
@@ -233,6 +234,8 @@ class Words:
         self.site = plain[1] if len(plain) > 1 else os.path.join(HERE, "site.img")
 
     def check(self):
+        if self.ether and self.desk:
+            fail("--desk is served over a serial line: leave --ether out")
         if not shutil.which("ip"):
             fail("no command `ip` here: it is in the package iproute2")
         if self.board and not shutil.which("qemu-system-aarch64"):
@@ -247,10 +250,12 @@ class Words:
         if self.command and not shutil.which(self.command[0]):
             fail(f"no command {self.command[0]} here")
 
+    def kind(self):
+        return "ether" if self.ether else "desk" if self.desk else "serve"
+
     def server_words(self, rate):
-        kind = "ether" if self.ether else "serve"
         mac = [NODE_MAC] if self.ether else []
-        return [self.uipd, kind, self.site, "10.0.0.1", *mac, "pace", str(rate // 2), "tty"]
+        return [self.uipd, self.kind(), self.site, "10.0.0.1", *mac, "pace", str(rate // 2), "tty"]
 
 
 def recording(folder, name):
@@ -274,7 +279,7 @@ def main():
     elif words.line:
         to_node = output = port
         print(f"On the other end: stty -F PORT {words.line[1]} raw -echo min 0 time 5; "
-              f"uipd serve SITE 10.0.0.1 pace {rate // 2} tty <PORT >PORT")
+              f"uipd {words.kind()} SITE 10.0.0.1 pace {rate // 2} tty <PORT >PORT")
     else:
         server, to_node, output = start_server(words.server_words(rate))
     line = Line(to_node, Frames() if words.ether else Slip(), rate, not words.board, recording(words.folder, "to-node"))
@@ -283,6 +288,8 @@ def main():
         print("The site is at http://10.0.0.1/ in a network of its own. From another terminal:")
         print(f"    {entry} curl http://10.0.0.1/")
         print(f"    {entry} chromium --user-data-dir=/tmp/lowunbisa http://10.0.0.1/", flush=True)
+        if words.desk:
+            print(f"    {entry} telnet 10.0.0.1", flush=True)
     try:
         bridge(interface, line, output, recording(words.folder, "from-node"), lambda: child is not None and child.poll() is not None)
     except KeyboardInterrupt:

@@ -25,9 +25,10 @@ use Rattle.uip_edge.specs.declared.item.Item.{Item}
 use Rattle.uip_edge.specs.declared.serve_end.ServeEnd.{ServeEnd}
 use Rattle.uip_edge.specs.declared.serve_end.ServeEnd.TheVariants as serves
 use Rattle.uipd.specs.Completeness.{CaptureDone, Completes, ImageDone, LacksFor, LineDone, OrShort, ReplayDone, RunIsComplete, ServingDone}
-use Rattle.uipd.specs.Output.{output_of}
+use Rattle.web_pages.specs.Serving.{no_hits}
+use Rattle.uipd.specs.Output.{meaning_of, output_of, ports_of}
 use Rattle.uipd.specs.Running.{SiteRuns, TaskRuns}
-use Rattle.uipd.specs.Serving.{ServeRuns, ServesFiles}
+use Rattle.uipd.specs.Serving.{ServeRuns, ServesBy}
 use Rattle.uipd.specs.SiteServing.{IsUndisturbed, SiteServes}
 use Rattle.uipd.specs.Statuses.{RunsAs, status_of_fault, status_of_replay, status_of_serving, status_of_slip}
 use Rattle.uipd.specs.Words.{Task, Serves, Checks, Pages, Packs, Upgrades, Replays, Loads, Dumps, Captures, PlaysBack, task_of}
@@ -50,7 +51,7 @@ line_done text n old new result serves.Budget u e t = record { taken = t.taken; 
 line_done text n old new result serves.LinkFault u e t = absurd (stayed old.link.faults new.link.faults u.link.same u.link.below t.ends.1)
 line_done text n old new result serves.WriteFault u e t = absurd (stayed old.sink.faults new.sink.faults u.sink.same u.sink.below t.ends.2)
 
-served : (files : List File) (line : ServedLine) (old new : LineTold) (result : Status) (end : ServeEnd) → LineUnfailed old new → result ≡ status_of_serving end → ServesFiles files line old new end
+served : (files : List File) (line : ServedLine) (old new : LineTold) (result : Status) (end : ServeEnd) → LineUnfailed old new → result ≡ status_of_serving end → ServesBy (meaning_of line.application files) (ports_of line.application) (no_hits files) line old new end
     → LineDone (output_of files line) line.limits.items old new result
 served files line old new result serves.End u e t = record { taken = t.taken; consumed = t.consumed; written = t.written; ends = inl (e, t.ends.0, t.ends.1) }
 served files line old new result serves.Budget u e t = record { taken = t.taken; consumed = t.consumed; written = t.written; ends = inr (e, t.ends.0) }

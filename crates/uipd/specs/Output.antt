@@ -1,8 +1,10 @@
 -- What is written for the items of a line.
-use Rattle.std.specs.Prelude.{ℕ, List, []}
+use Rattle.std.specs.Prelude.{ℕ, Bool, List, []}
+use Rattle.app_events.specs.Part.{Meaning}
 use Rattle.site_image.specs.Files.{File}
 use Rattle.web_pages.specs.Serving.{is_served, no_hits}
 use Rattle.web_pages.specs.WebMeaning.{web_meaning}
+use Rattle.telnet_shell.specs.DeskMeaning.{desk_meaning, is_served_at}
 use Rattle.uip_edge.specs.declared.item.Item.{Item}
 use Rattle.uip_node.specs.Node.{opening, run}
 use Rattle.uip_wire.specs.declared.addr.Addr.{Addr}
@@ -13,28 +15,42 @@ use Rattle.serve_loop.specs.Running.{text_of}
 use Rattle.ethernet_arp.specs.EtherWay.{ether_way}
 use Rattle.ethernet_arp.specs.Frames.{Host}
 use Rattle.ethernet_arp.specs.declared.mac.Mac.{Mac}
+use Rattle.uipd.specs.declared.words.Application.{Application}
+use Rattle.uipd.specs.declared.words.Application.TheVariants.{Web, Desk}
 use Rattle.uipd.specs.declared.words.LineKind.{LineKind}
 use Rattle.uipd.specs.declared.words.LineKind.TheVariants.{Ethernet, Serial}
 use Rattle.uipd.specs.declared.words.ServedLine.{ServedLine}
 
--- what is written for the items of a serial line to the address `own` at a pace: the texts of what the node with the files of a
--- site sends, from its opening on, over the events of the line
-abbrev pub serial_output : List File → Addr → ℕ → List Item → List ℕ
-serial_output files own pace items = text_of own (run (web_meaning files) is_served (line_events own pace items) (opening own (no_hits files))).sent
+-- what an application does with the files of a site
+abbrev pub meaning_of : Application → List File → Meaning
+meaning_of Web files = web_meaning files
+meaning_of Desk files = desk_meaning files
+
+-- the ports at which it can be reached
+abbrev pub ports_of : Application → ℕ → Bool
+ports_of Web = is_served
+ports_of Desk = is_served_at
+
+-- what is written for the items of a serial line to the address `own` at a pace: the texts of what the node with an application
+-- sends, from its opening on, over the events of the line
+abbrev pub serial_output : Meaning → (ℕ → Bool) → List ℕ → Addr → ℕ → List Item → List ℕ
+serial_output m ports numbers own pace items = text_of own (run m ports (line_events own pace items) (opening own numbers)).sent
 
 -- and over Ethernet frames, at a hardware address: all that the node and its host say, from the node's opening on and with nothing
 -- learnt, over the deeds of the line
 abbrev pub host_at : Addr → Mac → Host
 host_at own mac = record { addr = own.0; mac = mac.0 }
 
-abbrev pub ether_output : List File → Addr → Mac → ℕ → List Item → List ℕ
-ether_output files own mac pace items =
+abbrev pub ether_output : Meaning → (ℕ → Bool) → List ℕ → Addr → Mac → ℕ → List Item → List ℕ
+ether_output m ports numbers own mac pace items =
     let way = ether_way (host_at own mac) in
-    said (web_meaning files) is_served way own (line_deeds way own pace items) (record { acts = []; node = opening own (no_hits files) })
+    said m ports way own (line_deeds way own pace items) (record { acts = []; node = opening own numbers })
 
-abbrev pub output_over : LineKind → List File → Addr → ℕ → List Item → List ℕ
-output_over Serial files own pace items = serial_output files own pace items
-output_over (Ethernet mac) files own pace items = ether_output files own mac pace items
+abbrev pub output_over : LineKind → Meaning → (ℕ → Bool) → List ℕ → Addr → ℕ → List Item → List ℕ
+output_over Serial m ports numbers own pace items = serial_output m ports numbers own pace items
+output_over (Ethernet mac) m ports numbers own pace items = ether_output m ports numbers own mac pace items
 
+-- with the files of a site, of which none was asked for yet
 abbrev pub output_of : List File → ServedLine → List Item → List ℕ
-output_of files line items = output_over line.kind files line.own line.limits.pace items
+output_of files line items =
+    output_over line.kind (meaning_of line.application files) (ports_of line.application) (no_hits files) line.own line.limits.pace items

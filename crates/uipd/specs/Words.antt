@@ -11,6 +11,8 @@ use Rattle.file_tree.specs.Upgrading.{KindContent}
 use Rattle.site_commands.specs.Gathering.{NamedContent}
 use Rattle.uipd.specs.declared.words.Command.{Command}
 use Rattle.uipd.specs.declared.words.Command.TheVariants.{Serve, Check, Page, Pack, Upgrade, Replay, Load, Dump, Pcap, Slip}
+use Rattle.uipd.specs.declared.words.Application.{Application}
+use Rattle.uipd.specs.declared.words.Application.TheVariants.{Web, Desk}
 use Rattle.uipd.specs.declared.words.Limits.{Limits}
 use Rattle.uipd.specs.declared.words.LineKind.{LineKind}
 use Rattle.uipd.specs.declared.words.LineKind.TheVariants.{Ethernet, Serial}
@@ -108,16 +110,17 @@ limits_of (word ∷ number ∷ words) =
     if bytes_eq word (codes "pace") then limits_from (numeral number) words else limits_at 0 (word ∷ number ∷ words)
 limits_of words = limits_at 0 words
 
-abbrev pub serve_at : List ℕ → Option (List ℕ) → Option LineKind → Option Limits → Option Task
-serve_at site (Some own) (Some kind) (Some limits) = Some (Serves site (record { own = record { 0 = own }; kind = kind; limits = limits }))
-serve_at site (Some own) (Some kind) None = None
-serve_at site (Some own) None limits = None
-serve_at site None kind limits = None
+abbrev pub serve_at : List ℕ → Application → Option (List ℕ) → Option LineKind → Option Limits → Option Task
+serve_at site application (Some own) (Some kind) (Some limits) =
+    Some (Serves site (record { own = record { 0 = own }; kind = kind; application = application; limits = limits }))
+serve_at site application (Some own) (Some kind) None = None
+serve_at site application (Some own) None limits = None
+serve_at site application None kind limits = None
 
 -- `SITE ADDR`, and further words: over a serial line
-abbrev pub serve_words : List (List ℕ) → Option Task
-serve_words (site ∷ address ∷ words) = serve_at site (quad_of address) (Some Serial) (limits_of words)
-serve_words words = None
+abbrev pub serve_words : Application → List (List ℕ) → Option Task
+serve_words application (site ∷ address ∷ words) = serve_at site application (quad_of address) (Some Serial) (limits_of words)
+serve_words application words = None
 
 -- `SITE ADDR MAC`, and further words: over Ethernet frames
 abbrev pub frames_at : Option (List ℕ) → Option LineKind
@@ -125,7 +128,7 @@ frames_at (Some mac) = Some (Ethernet (record { 0 = mac }))
 frames_at None = None
 
 abbrev pub ether_words : List (List ℕ) → Option Task
-ether_words (site ∷ address ∷ mac ∷ words) = serve_at site (quad_of address) (frames_at (mac_of_text mac)) (limits_of words)
+ether_words (site ∷ address ∷ mac ∷ words) = serve_at site Web (quad_of address) (frames_at (mac_of_text mac)) (limits_of words)
 ether_words words = None
 
 -- `SITE`
@@ -190,7 +193,8 @@ slip_words words = None
 abbrev pub task_of : List (List ℕ) → Option Task
 task_of [] = None
 task_of (command ∷ words) =
-    if bytes_eq command (codes "serve") then serve_words words
+    if bytes_eq command (codes "serve") then serve_words Web words
+    else if bytes_eq command (codes "desk") then serve_words Desk words
     else if bytes_eq command (codes "ether") then ether_words words
     else if bytes_eq command (codes "check") then check_words words
     else if bytes_eq command (codes "pack") then pack_words words

@@ -7,6 +7,8 @@
 mod adapter_tests;
 mod adapters;
 #[cfg(test)]
+mod desk_tests;
+#[cfg(test)]
 mod ether_tests;
 mod file_shelf;
 #[cfg(test)]

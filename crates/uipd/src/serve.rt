@@ -3,21 +3,23 @@
 ghost use Rattle.std.specs.Prelude.{◌≡◌};
 ghost use Rattle.file_tree.specs.Site.{files_of};
 ghost use Rattle.web_pages.specs.Serving.{no_hits};
-ghost use Rattle.uipd.specs.Serving.{ServeRuns};
+ghost use Rattle.uipd.specs.Serving.{RunsBy, ServeRuns};
 ghost use Rattle.uipd.specs.SiteServing.{SiteServes};
 ghost use Rattle.uip_edge.specs.Telling.{line_told, outside};
 
 use crate::status::Status;
-use crate::words::{Limits, LineKind, ServedLine};
+use crate::words::{Application, Limits, LineKind, ServedLine};
+use app_events::App;
 use ethernet_arp::{Arp, serve_ether};
 use file_tree::Site;
 use httpd::{Httpd, Web};
 use serve_loop::serve as serve_line;
 use std::alloc::Global;
+use telnet_shell::Desk;
 use uip_edge::{Link, Shelf, Sink};
 use uip_node::Node;
 
-/// Serves the line by the web server of the site that the shelf holds under the name; `-` is the site without
+/// Serves the line by the application that it names, with the site that the shelf holds under the name; `-` is the site without
 /// files. Memory is taken before the first item alone.
 pub fn serve<H: Shelf, L: Link, K: Sink>(
     alloc: Global,
@@ -67,8 +69,27 @@ fn serve_web<L: Link, K: Sink>(
     ensures { ServeRuns (files_of web.site) line (line_told L.Link K.Sink link.old out.old)
         (line_told L.Link K.Sink link.new out.new) result }
 {
+    match line.application {
+        Application::Web => serve_by::<Httpd, L, K>(alloc, web, line, link, out),
+        Application::Desk => serve_by::<Desk, L, K>(alloc, web, line, link, out),
+    }
+}
+
+/// Serves the line by a node with an application. It is a call of its own also when built, so that what it keeps has no place in
+/// the frame of `run`.
+#[inline(never)]
+fn serve_by<A: App, L: Link, K: Sink>(
+    alloc: Global,
+    shared: A::Shared,
+    line: ServedLine,
+    link: &mut L,
+    out: &mut K,
+) -> Status
+    ensures { RunsBy (A.meaning (A.kept shared)) A.served (A.numbers shared) line (line_told L.Link K.Sink link.old out.old)
+        (line_told L.Link K.Sink link.new out.new) result }
+{
     let Limits { pace, items } = line.limits;
-    match Node::<Httpd>::new(alloc, line.own, web) {
+    match Node::<A>::new(alloc, line.own, shared) {
         Ok(mut node) => match line.kind {
             LineKind::Serial => Status::from(serve_line(&mut node, link, out, pace, items)),
             LineKind::Ethernet(mac) => {

@@ -27,18 +27,29 @@ pub enum LineKind {
     Ethernet(Mac),
 }
 
+/// What speaks on the connections of a node.
+#[derive(Clone, Copy, Debug, PartialEq, Eq)]
+pub enum Application {
+    /// The web server, at port 80.
+    Web,
+    /// The web server at port 80, and the shell at port 23.
+    Desk,
+}
+
 /// A line that is served at an address.
 #[derive(Clone, Copy, Debug, PartialEq, Eq)]
 pub struct ServedLine {
     pub own: Addr,
     pub kind: LineKind,
+    pub application: Application,
     pub limits: Limits,
 }
 
 /// What the words ask for.
 #[derive(Clone, Copy, Debug, PartialEq, Eq)]
 pub enum Command<'a> {
-    /// `serve SITE ADDR` or `ether SITE ADDR MAC`, and further words: the web server of a site serves the line.
+    /// `serve SITE ADDR`, `desk SITE ADDR` or `ether SITE ADDR MAC`, and further words: the web server of a site serves the line, at a
+    /// desk beside the shell.
     Serve(&'a str, ServedLine),
     /// `check SITE`: the files of an image are told, with the greatest lengths of their pages.
     Check(&'a str),
@@ -68,7 +79,12 @@ pub fn command_of(words: &[String]) -> Option<Command<'_>>
 {
     match words {
         [] => None,
-        [command, words @ ..] if command.as_str() == "serve" => serve_words(words),
+        [command, words @ ..] if command.as_str() == "serve" => {
+            serve_words(Application::Web, words)
+        }
+        [command, words @ ..] if command.as_str() == "desk" => {
+            serve_words(Application::Desk, words)
+        }
         [command, words @ ..] if command.as_str() == "ether" => ether_words(words),
         [command, words @ ..] if command.as_str() == "check" => check_words(words),
         [command, words @ ..] if command.as_str() == "pack" => pack_words(words),
@@ -83,9 +99,9 @@ pub fn command_of(words: &[String]) -> Option<Command<'_>>
     }
 }
 
-/// The words behind `serve`: `SITE ADDR`, and further words.
-fn serve_words(words: &[String]) -> Option<Command<'_>>
-    ensures { option_map task_meant result ≡ words_of_serve (map string_bytes words.now) }
+/// The words behind `serve` and `desk`: `SITE ADDR`, and further words.
+fn serve_words(application: Application, words: &[String]) -> Option<Command<'_>>
+    ensures { option_map task_meant result ≡ words_of_serve application (map string_bytes words.now) }
 {
     match words {
         [site, address, words @ ..] => Some(Command::Serve(
@@ -93,6 +109,7 @@ fn serve_words(words: &[String]) -> Option<Command<'_>>
             ServedLine {
                 own: Addr::parse(address.as_bytes())?,
                 kind: LineKind::Serial,
+                application,
                 limits: limits_of(words)?,
             },
         )),
@@ -110,6 +127,7 @@ fn ether_words(words: &[String]) -> Option<Command<'_>>
             ServedLine {
                 own: Addr::parse(address.as_bytes())?,
                 kind: LineKind::Ethernet(Mac::parse(mac.as_bytes())?),
+                application: Application::Web,
                 limits: limits_of(words)?,
             },
         )),
