@@ -1,6 +1,8 @@
 // The desk through `run`: talks with the shell worked by hand, pages beside them, and its words.
 use crate::status::Status;
-use crate::tests::{GET, PAGE, PING, PONG, Row, SYN as WEB_SYN, SYN_ACK, check, check_cuts, joined};
+use crate::tests::{
+    GET, PAGE, PING, PONG, Row, SYN as WEB_SYN, SYN_ACK, check, check_cuts, joined,
+};
 use std::test::Fail;
 
 const DESK: [&str; 3] = ["desk", "-", "10.0.0.1"];
