@@ -1,13 +1,14 @@
 #!/usr/bin/env python3
 """Measures the program, and prints the figures. It asserts nothing.
 
-    python3 bench/run.py [PROGRAM] [lines] [ether] [replay] [memory] [--markdown]
+    python3 bench/run.py [PROGRAM] [lines] [ether] [desk] [replay] [memory] [--markdown]
 
 PROGRAM is the built `uipd`, crates/uipd/out/uipd where none is named (`rt run` in crates/uipd builds it). With no further word all is
 measured.
 
     lines     the recorded lines of bench/lines, beside uIP 1.0 and lwIP 2.2.1 on the same work
     ether     the echo requests of ping84 in Ethernet frames (`uipd ether`)
+    desk      pages over `uipd desk`, beside the same over `uipd serve`
     replay    schedules: a made one of 16 and of 64 clients, one of n echo requests and one of n ticks at n, 2n and 4n
     memory    what `serve` takes at the start, the greatest depth of the stack, and the size of the program
 
@@ -31,6 +32,7 @@ EXAMPLE = os.path.join(HERE, "..", "examples", "site.img")
 NODE_MAC, PEER_MAC = bytes([2, 0, 0, 0, 0, 1]), bytes([2, 0, 0, 0, 0, 2])
 NODE, PEER = bytes([10, 0, 0, 1]), bytes([10, 0, 0, 2])
 SERVE = ("serve", SITE, "10.0.0.1")
+DESK = ("desk", SITE, "10.0.0.1")
 ETHER = ("ether", SITE, "10.0.0.1", "02:00:00:00:00:01")
 
 
@@ -92,6 +94,15 @@ def measure_ether(program):
     ask = len(first).to_bytes(2, "big") + first
     spent = instructions(program, ask + b"".join(map(framed, pings)), ETHER) - instructions(program, ask, ETHER)
     print(f"an echo request of 84 bytes in an Ethernet frame: {spent / len(pings):,.0f} instructions")
+
+
+def measure_desk(program):
+    print("pages by   `serve`          `desk`     desk / serve")
+    empty, idle = instructions(program, b""), instructions(program, b"", DESK)
+    for name in ("small", "big", "big536", "big100", "ten"):
+        data = unpacked(name + ".slip")
+        served, desk = instructions(program, data) - empty, instructions(program, data, DESK) - idle
+        print(f"{name:8} {served:>12,} {desk:>14,} {desk / served:>12.4f}")
 
 
 def schedule(program, text):
@@ -159,7 +170,7 @@ def measure_memory(program):
 def main():
     if "--help" in sys.argv or "-h" in sys.argv:
         sys.exit(print(__doc__))
-    parts = {"lines", "ether", "replay", "memory"}
+    parts = {"lines", "ether", "desk", "replay", "memory"}
     words = [word for word in sys.argv[1:] if word != "--markdown"]
     asked = [word for word in words if word in parts] or sorted(parts)
     named = [word for word in words if word not in parts]
@@ -174,6 +185,8 @@ def main():
         measure_lines(program, "--markdown" in sys.argv)
     if "ether" in asked:
         measure_ether(program)
+    if "desk" in asked:
+        measure_desk(program)
     if "replay" in asked:
         measure_replay(program)
     if "memory" in asked:
