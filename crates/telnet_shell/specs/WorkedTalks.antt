@@ -1,13 +1,14 @@
 -- Talks with the shell, worked by hand.
-use Rattle.std.specs.Prelude.{◌≡◌, ℕ, List, [], ◌∷◌, ◌++◌, codes, length, replicate}
+use Rattle.std.specs.Prelude.{◌≡◌, ℕ, true, false, List, [], ◌∷◌, ◌++◌, codes, length, replicate}
 use Rattle.std.specs.List.{concat}
 use Rattle.app_events.specs.Part.{Part, Moment}
 use Rattle.app_events.specs.Laws.{IsLawful, StartsAnew}
-use Rattle.app_events.specs.declared.want.Want.TheVariants.{Send, Close, Abort}
+use Rattle.app_events.specs.declared.want.Want.TheVariants.{Nothing, Send, Close, Abort}
 use Rattle.telnet_shell.specs.declared.command.Command.TheVariants.{Refuse, Help, Stats, Conns, Ticks, Quit, Blank, Other}
 use Rattle.telnet_shell.specs.Reading.{commands_in}
 use Rattle.telnet_shell.specs.Transcript.{transcript}
 use Rattle.telnet_shell.specs.ShellMeaning.{shell_meaning, talk}
+use Rattle.telnet_shell.specs.DeskMeaning.{is_served_at}
 
 -- a moment at which nothing has happened but these ticks
 abbrev pub at_tick : ℕ → Moment
@@ -51,6 +52,14 @@ pub record AreWorkedTalks : Type 0 where
   pub lost : shell_meaning.want [] (heard (many_helps 33)) ≡ Abort
   pub lost_keeps : talk (heard (many_helps 33)) ≡ talk (heard (many_helps 32))
   pub room_again : (shell_meaning.newdata [] (acked (heard (many_helps 32)) 31) (codes "help\n")).part.own ≡ 0
+  -- a silent connection is given up at 1200 ticks, and not before
+  pub silent : shell_meaning.want [] (record opened { polls = 1199 }) ≡ Nothing
+  pub too_silent : shell_meaning.want [] (shell_meaning.polled [] (record opened { polls = 1199 })).part ≡ Abort
+  pub hears_again : (shell_meaning.newdata [] (record opened { polls = 1199 }) (codes "h")).part.polls ≡ 0
+  -- the ports
+  pub pages_served : is_served_at 80 ≡ true
+  pub shell_served : is_served_at 23 ≡ true
+  pub no_other_served : is_served_at 24 ≡ false
   -- the table of the protocol's sequences
   pub byte_255 : commands_in (255 ∷ 255 ∷ 10 ∷ []) ≡ Other ∷ []
   pub offers : commands_in (255 ∷ 251 ∷ 3 ∷ 255 ∷ 253 ∷ 24 ∷ []) ≡ Refuse 254 3 ∷ Refuse 252 24 ∷ []
