@@ -1,4 +1,4 @@
-/// A command of a talk.
+/// A command of a talk. An empty place of a queue holds the empty line.
 #[derive(Clone, Copy, Debug, Drop, PartialEq, Eq)]
 pub enum Command {
     /// The answer to an offer of an option: the verb that refuses, and the option (RFC 854).
@@ -15,6 +15,11 @@ pub enum Command {
 }
 
 impl Default for Command {
+    ghost use Rattle.std.specs.Prelude.{◌≡◌};
+    ghost use Rattle.telnet_shell.specs.declared.command.Command.TheVariants.{Blank};
+
+    ghost is_default = { λ command. command ≡ Blank };
+
     fn default() -> Command {
         Command::Blank
     }
