@@ -111,6 +111,7 @@ impl Shell {
     }
 }
 
+// A call of the shell is a call also where it is built into a desk, so that a page's calls there stay as small as the web server's.
 impl App for Shell {
     ghost use Rattle.file_tree.specs.Site.{SiteContent};
     ghost use Rattle.telnet_shell.specs.declared.shell.TheConstants.{TELNET_PORT};
@@ -145,11 +146,13 @@ impl App for Shell {
         *self = Shell::new();
     }
 
+    #[inline(never)]
     fn newdata(&mut self, _shared: &mut Web, piece: &[u8]) {
         self.polls = 0;
         self.hear_piece(piece);
     }
 
+    #[inline(never)]
     fn prepare(&mut self, _shared: &Web, now: &Now) {
         match due(self.queue.as_slice(), &self.capture) {
             Some(function) => self.capture = take(function, 0, now),
@@ -157,6 +160,7 @@ impl App for Shell {
         }
     }
 
+    #[inline(never)]
     fn want(&self, _shared: &Web) -> Want {
         if self.lost || self.polls == MOST_SILENT_POLLS {
             return Want::Abort;
@@ -172,10 +176,12 @@ impl App for Shell {
         }
     }
 
+    #[inline(never)]
     fn fill(&self, _shared: &Web, out: &mut [u8]) {
         fill_left(self.queue.as_slice(), &self.capture, self.at as usize, out);
     }
 
+    #[inline(never)]
     fn acked(&mut self, _shared: &mut Web, count: usize) {
         self.polls = 0;
         self.at = advance(&mut self.queue, &mut self.capture, self.at, count);
