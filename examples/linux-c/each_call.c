@@ -49,11 +49,11 @@ int main(void) {
     expect(is(uip_hear_datagram(&device, request, 30, out, UIP_DATAGRAM_ROOM), UIP_FINE, 30, 30) && !memcmp(out, reply, 30), "uip_hear_datagram");
     expect(is(uip_call_datagram(&device, 0, out, UIP_DATAGRAM_ROOM), UIP_FINE, 0, 0), "uip_call_datagram");
     uip_done part = uip_hear(&device, request_text, 34, out, 20);
-    expect(part.status == UIP_FINE && part.left == 1 && part.taken == 34 && part.wrote == 20, "uip_hear with little room");
-    expect(is(uip_hear(&device, request_text, 34, out + 20, 14), UIP_TEXT_LEFT, 0, 0), "uip_hear while a text is left");
-    expect(is(uip_call(&device, 0, out + 20, 14), UIP_TEXT_LEFT, 0, 0), "uip_call while a text is left");
-    part = uip_more(&device, out + 20, 14);
-    expect(is(part, UIP_FINE, 0, 14) && part.left == 0 && !memcmp(out, reply_text, 34), "uip_more");
+    expect(part.status == UIP_FINE && part.left == 1 && part.taken == 34 && part.wrote == 19, "uip_hear with little room");
+    expect(is(uip_hear(&device, request_text, 34, out + 19, 15), UIP_TEXT_LEFT, 0, 0), "uip_hear while a text is left");
+    expect(is(uip_call(&device, 0, out + 19, 15), UIP_TEXT_LEFT, 0, 0), "uip_call while a text is left");
+    part = uip_more(&device, out + 19, 15);
+    expect(is(part, UIP_FINE, 0, 15) && part.left == 0 && !memcmp(out, reply_text, 34), "uip_more");
     uip_number ticks = uip_ticks(&device), replies = uip_counter(&device, 12);
     expect(ticks.status == UIP_FINE && ticks.number == 2, "uip_ticks");
     expect(replies.status == UIP_FINE && replies.number == 3, "uip_counter");

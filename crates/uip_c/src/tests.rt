@@ -165,11 +165,26 @@ fn a_text_is_handed_on(rt: HostRuntime) {
     };
     assert_eq!(rt; heard, first);
     assert_eq!(rt; &out[..29], &REPLY_TEXT[..29]);
-    assert_eq!(rt; uip_hear(alloc, &mut device, REQUEST_TEXT, &mut out), answer(TEXT_LEFT));
-    assert_eq!(rt; uip_call(alloc, &mut device, 0, &mut out), answer(TEXT_LEFT));
-    assert_eq!(rt; uip_hear_datagram(alloc, &mut device, REQUEST, &mut out), answer(TEXT_LEFT));
-    assert_eq!(rt; uip_call_datagram(alloc, &mut device, 0, &mut out), answer(TEXT_LEFT));
-    assert_eq!(rt; uip_more(alloc, &mut device, &mut out[..1]), answer(BAD_CALL));
+    assert_eq!(rt;
+        uip_hear(alloc, &mut device, REQUEST_TEXT, &mut out),
+        answer(TEXT_LEFT)
+    );
+    assert_eq!(rt;
+        uip_call(alloc, &mut device, 0, &mut out),
+        answer(TEXT_LEFT)
+    );
+    assert_eq!(rt;
+        uip_hear_datagram(alloc, &mut device, REQUEST, &mut out),
+        answer(TEXT_LEFT)
+    );
+    assert_eq!(rt;
+        uip_call_datagram(alloc, &mut device, 0, &mut out),
+        answer(TEXT_LEFT)
+    );
+    assert_eq!(rt;
+        uip_more(alloc, &mut device, &mut out[..1]),
+        answer(BAD_CALL)
+    );
     let more = uip_more(alloc, &mut device, &mut out[..3]);
     let second = UipDone {
         status: FINE,

@@ -50,10 +50,10 @@ tells_all before (call ∷ calls) a c (text ∷ texts) heard more =
       first.0 ++ rest.0,
       tells_then ghosts (events_by before call) (events_of (before ++ bytes_by call) calls) a.node b.node c.node first.0 rest.0 first.1 rest.1,
       sym (append_assoc (left_of a) first.0 rest.0)
-      ∙ ap (λ l. l ++ rest.0) first.2
-      ∙ append_assoc text (left_of b) rest.0
-      ∙ ap (λ l. text ++ l) rest.2
-      ∙ sym (append_assoc text (concat texts) (left_of c)),
+          ∙ ap (λ l. l ++ rest.0) first.2
+          ∙ append_assoc text (left_of b) rest.0
+          ∙ ap (λ l. text ++ l) rest.2
+          ∙ sym (append_assoc text (concat texts) (left_of c)),
     )
 
 pub all_told : (files : List File) (own : Addr) (calls : List Call) (old new : Device) (texts : List (List ℕ)) → IsFresh files own old → AnswersAll calls old new texts
