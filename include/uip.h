@@ -3,7 +3,7 @@
 // (docs/ARCHITECTURE.md). What C has to keep is all that stands here.
 //
 //     static uip_device device;                    // all bytes 0: a handle without a device
-//     static unsigned char out[UIP_ROOM];
+//     static unsigned char out[UIP_ROOM];          // with less, the text goes out in pieces: see uip_more
 //     uip_opened opened = uip_open(&device, image, image_len, (unsigned char[4]){10, 0, 0, 1});
 //     if (opened.status != UIP_FINE) stop(opened.word, opened.entry);
 //     for (;;) {
@@ -39,11 +39,13 @@ enum {
     UIP_HAS_DEVICE = 3,   // uip_open alone: the handle has a device already
     UIP_BAD_SITE = 4,     // uip_open alone: the image is bad
     UIP_NO_MEMORY = 5,    // uip_open alone
+    UIP_TEXT_LEFT = 6,    // a text is left that uip_more is to hand out first
 };
 
 enum {
-    UIP_ROOM = 3002,             // the room that uip_hear and uip_call ask for: the longest text of a datagram
-    UIP_DATAGRAM_ROOM = 1500,    // the same of uip_hear_datagram and uip_call_datagram, and the longest datagram
+    UIP_ROOM = 3002,             // the longest text of a datagram: with so much room nothing is ever left of one
+    UIP_LEAST_ROOM = 2,          // the room that uip_hear, uip_call and uip_more ask for
+    UIP_DATAGRAM_ROOM = 1500,    // that of uip_hear_datagram and uip_call_datagram, and the longest datagram
     UIP_SLOTS = 10,
     UIP_COUNTERS = 20,
 };
@@ -55,8 +57,8 @@ typedef struct { unsigned is_open; void *at; } uip_device;
 // the number of the entry that has it, from 1; 0 stands for the whole image.
 typedef struct { unsigned status; unsigned entry; char word[8]; } uip_opened;
 
-// What a call did: how many bytes it took, and how many it wrote to the front of `out`.
-typedef struct { unsigned status; uip_size taken, wrote; } uip_done;
+// What a call did: how many bytes it took, how many it wrote to the front of `out`, and whether (1) or not (0) a text is left.
+typedef struct { unsigned status, left; uip_size taken, wrote; } uip_done;
 
 // A number that was read.
 typedef struct { unsigned status; unsigned number; } uip_number;
@@ -66,15 +68,19 @@ typedef struct { unsigned status; unsigned number; } uip_number;
 uip_opened uip_open(uip_device *device, const unsigned char *image, uip_size len, const unsigned char own[4]);
 
 // Takes a front of the bytes that came over the serial line, at least one, and writes what the node sends for them, at most one
-// datagram with its SLIP framing. Call it again with the bytes that it did not take, before any other call that hears.
+// datagram with its SLIP framing, as far as there is room. Call it again with the bytes that it did not take.
 uip_done uip_hear(uip_device *device, const unsigned char *bytes, uip_size len, unsigned char *out, uip_size room);
 
 // The periodic call of a slot. Ten of them, for the slots 0 to 9 in this order, are a tick, which is due twice a second. Writes
 // what the slot's connection sends, as uip_hear.
 uip_done uip_call(uip_device *device, uip_size slot, unsigned char *out, uip_size room);
 
-// The same two over a link that carries datagrams: a datagram of 1 to 1500 bytes comes, and what is sent is a datagram. A device
-// is used over one kind of link.
+// Writes what is left of a text, as far as there is room, and nothing where none is left. While `left` of the last call is 1 no
+// other call but this one, uip_ticks, uip_counter and uip_close does anything: the text is in the one packet that the node has.
+uip_done uip_more(uip_device *device, unsigned char *out, uip_size room);
+
+// uip_hear and uip_call over a link that carries datagrams: a datagram of 1 to 1500 bytes comes, and what is sent is a datagram,
+// which is never left. A device is used over one kind of link.
 uip_done uip_hear_datagram(uip_device *device, const unsigned char *datagram, uip_size len, unsigned char *out, uip_size room);
 uip_done uip_call_datagram(uip_device *device, uip_size slot, unsigned char *out, uip_size room);
 

@@ -5,12 +5,15 @@
 extern const unsigned char site_image[], site_image_end[];
 
 static uip_device device;
-static unsigned char out[UIP_ROOM];
+static unsigned char out[32];
 
-// Sends what a call handed out, and gives what it took.
+// Sends what a call handed out, and what is left of it; gives what the call took.
 static uip_size handed_out(uip_done done) {
-    for (uip_size at = 0; at < done.wrote; at++) port_put(out[at]);
-    return done.taken;
+    uip_size taken = done.taken;
+    for (;; done = uip_more(&device, out, sizeof out)) {
+        for (uip_size at = 0; at < done.wrote; at++) port_put(out[at]);
+        if (!done.left) return taken;
+    }
 }
 
 int main(void) {

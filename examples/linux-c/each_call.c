@@ -27,6 +27,7 @@ int main(void) {
     expect(is(uip_call(&device, 0, out, sizeof out), UIP_NO_DEVICE, 0, 0), "uip_call without a device");
     expect(is(uip_hear_datagram(&device, request, 30, out, sizeof out), UIP_NO_DEVICE, 0, 0), "uip_hear_datagram without a device");
     expect(is(uip_call_datagram(&device, 0, out, sizeof out), UIP_NO_DEVICE, 0, 0), "uip_call_datagram without a device");
+    expect(is(uip_more(&device, out, sizeof out), UIP_NO_DEVICE, 0, 0), "uip_more without a device");
     expect(uip_ticks(&device).status == UIP_NO_DEVICE, "uip_ticks without a device");
     expect(uip_counter(&device, 1).status == UIP_NO_DEVICE, "uip_counter without a device");
     expect(uip_close(&device) == UIP_NO_DEVICE, "uip_close without a device");
@@ -36,7 +37,7 @@ int main(void) {
     expect(uip_open(&device, image, 10, own).status == UIP_FINE, "uip_open");
     expect(uip_open(&device, image, 10, own).status == UIP_HAS_DEVICE, "uip_open twice");
 
-    expect(is(uip_hear(&device, request_text, 34, out, UIP_ROOM - 1), UIP_BAD_CALL, 0, 0), "uip_hear with too little room");
+    expect(is(uip_hear(&device, request_text, 34, out, UIP_LEAST_ROOM - 1), UIP_BAD_CALL, 0, 0), "uip_hear with too little room");
     expect(is(uip_hear(&device, request_text, 0, out, sizeof out), UIP_BAD_CALL, 0, 0), "uip_hear with no bytes");
     expect(is(uip_call(&device, 10, out, sizeof out), UIP_BAD_CALL, 0, 0), "uip_call of slot 10");
     expect(is(uip_hear_datagram(&device, request, UIP_DATAGRAM_ROOM + 1, out, sizeof out), UIP_BAD_CALL, 0, 0), "uip_hear_datagram, too long");
@@ -47,9 +48,15 @@ int main(void) {
     for (uip_size slot = 0; slot < UIP_SLOTS; slot++) expect(is(uip_call(&device, slot, out, sizeof out), UIP_FINE, 0, 0), "uip_call");
     expect(is(uip_hear_datagram(&device, request, 30, out, UIP_DATAGRAM_ROOM), UIP_FINE, 30, 30) && !memcmp(out, reply, 30), "uip_hear_datagram");
     expect(is(uip_call_datagram(&device, 0, out, UIP_DATAGRAM_ROOM), UIP_FINE, 0, 0), "uip_call_datagram");
+    uip_done part = uip_hear(&device, request_text, 34, out, 20);
+    expect(part.status == UIP_FINE && part.left == 1 && part.taken == 34 && part.wrote == 19, "uip_hear with little room");
+    expect(is(uip_hear(&device, request_text, 34, out + 19, 15), UIP_TEXT_LEFT, 0, 0), "uip_hear while a text is left");
+    expect(is(uip_call(&device, 0, out + 19, 15), UIP_TEXT_LEFT, 0, 0), "uip_call while a text is left");
+    part = uip_more(&device, out + 19, 15);
+    expect(is(part, UIP_FINE, 0, 15) && part.left == 0 && !memcmp(out, reply_text, 34), "uip_more");
     uip_number ticks = uip_ticks(&device), replies = uip_counter(&device, 12);
     expect(ticks.status == UIP_FINE && ticks.number == 2, "uip_ticks");
-    expect(replies.status == UIP_FINE && replies.number == 2, "uip_counter");
+    expect(replies.status == UIP_FINE && replies.number == 3, "uip_counter");
     expect(uip_close(&device) == UIP_FINE && uip_close(&device) == UIP_NO_DEVICE, "uip_close");
     expect(uip_open(&device, image, 10, own).status == UIP_FINE && uip_close(&device) == UIP_FINE, "uip_open again");
     if (!wrong) puts("each call answers as it should");

@@ -1,6 +1,7 @@
 // Serves a serial line on standard input and output, as uipd does for the same words:
 //     uip_serve serve SITE ADDRESS [pace K] [tty]
-// With a pace each K-th byte makes a tick, and with tty each half second in which nothing comes.
+// With a pace each K-th byte makes a tick, and with tty each half second in which nothing comes. A text goes out in pieces of 256
+// bytes; with UIP_ROOM in its place each would go out at once.
 #include <fcntl.h>
 #include <poll.h>
 #include <stdio.h>
@@ -10,22 +11,25 @@
 #include "uip.h"
 
 static uip_device device;
-static unsigned char out[UIP_ROOM];
+static unsigned char out[256];
 
 static void stop(int status, const char *why) {
     fprintf(stderr, "uip_serve: %s\n", why);
     exit(status);
 }
 
-// Writes what a call handed out, and gives what it took.
+// Writes what a call handed out, and what is left of it; gives what the call took.
 static uip_size handed_out(uip_done done) {
-    if (done.status != UIP_FINE) stop(3, "a call was refused");
-    for (uip_size at = 0; at < done.wrote;) {
-        ssize_t count = write(1, out + at, done.wrote - at);
-        if (count <= 0) stop(4, "a write failed");
-        at += (uip_size)count;
+    uip_size taken = done.taken;
+    for (;; done = uip_more(&device, out, sizeof out)) {
+        if (done.status != UIP_FINE) stop(3, "a call was refused");
+        for (uip_size at = 0; at < done.wrote;) {
+            ssize_t count = write(1, out + at, done.wrote - at);
+            if (count <= 0) stop(4, "a write failed");
+            at += (uip_size)count;
+        }
+        if (!done.left) return taken;
     }
-    return done.taken;
 }
 
 static void tick(void) {

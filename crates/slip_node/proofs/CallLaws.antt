@@ -8,7 +8,7 @@ use Rattle.uip_node.specs.Events.{tick}
 use Rattle.uip_node.specs.Events.Event.{Periodic}
 use Rattle.serve_loop.specs.LineEvents.{beat, completed, event_by, events_behind, line_events}
 use Rattle.serve_loop.specs.Pace.{is_beat}
-use Rattle.slip_node.specs.Calls.{Bring, Call, Calls, Hears, byte_calls, calls_behind, events_of, tick_calls}
+use Rattle.slip_node.specs.Calls.{Bring, Call, Calls, HandsOn, Hears, byte_calls, calls_behind, events_of, tick_calls}
 
 module _ (own : Addr) where
   -- what single bytes bring, and then other calls
@@ -30,6 +30,8 @@ module _ (own : Addr) where
   cut_events before (Hears bytes ∷ calls) =
       bytes_events before bytes (flat_map byte_calls calls) ∙ ap (λ l. events_behind own 0 before (map Byte bytes) ++ l) (cut_events (before ++ bytes) calls)
   cut_events before (Calls slot ∷ calls) = ap (λ l. Periodic slot ∷ l) (cut_events (before ++ []) calls)
+  cut_events before (HandsOn ∷ calls) =
+      ap (λ l. events_of l (flat_map byte_calls calls) own) (sym (append-nil before)) ∙ cut_events (before ++ []) calls
 
   slots_events : (before slots : List ℕ) (calls : List Call) → events_of before (map Calls slots ++ calls) own ≡ map Periodic slots ++ events_of before calls own
   slots_events before [] calls = refl

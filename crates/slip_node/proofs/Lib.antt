@@ -1,3 +1,4 @@
 pub mod CallLaws
 pub mod FrameLaws
+pub mod HandLaws
 pub mod TellLaws

@@ -9,21 +9,24 @@ use Rattle.uip_node.specs.Events.Event.{Periodic}
 use Rattle.serve_loop.specs.LineEvents.{events_behind}
 use Rattle.serve_loop.specs.Pace.{is_beat}
 
--- a call over a serial line: the node hears bytes, or its slot is called
+-- a call over a serial line: the node hears bytes, its slot is called, or what is left of a text is handed on
 pub data Call : Type 0 where
   Hears : List ℕ → Call
   Calls : ℕ → Call
+  HandsOn : Call
 
 -- the bytes that come by a call
 abbrev pub bytes_by : Call → List ℕ
 bytes_by (Hears bytes) = bytes
 bytes_by (Calls slot) = []
+bytes_by HandsOn = []
 
 -- what a call brings to the node at the address `own`, behind the bytes that were heard before: the frames that its bytes
--- complete, or the periodic call of the slot
+-- complete, or the periodic call of the slot; what is handed on brings nothing
 abbrev pub events_by : List ℕ → Call → Addr → List Event
 events_by before (Hears bytes) own = events_behind own 0 before (map Byte bytes)
 events_by before (Calls slot) own = Periodic slot ∷ []
+events_by before HandsOn own = []
 
 -- what calls in turn bring, behind the bytes that were heard before
 abbrev pub events_of : List ℕ → List Call → Addr → List Event
@@ -42,10 +45,11 @@ calls_behind pace count (Byte b ∷ items) =
     Hears (b ∷ []) ∷ (if is_beat pace (count + 1) then tick_calls else []) ++ calls_behind pace (count + 1) items
 calls_behind pace count (Quiet ∷ items) = tick_calls ++ calls_behind pace count items
 
--- a call by its single bytes
+-- a call by its single bytes; that a text is handed on in pieces brings nothing
 abbrev pub byte_calls : Call → List Call
 byte_calls (Hears bytes) = map (λ b. Hears (b ∷ [])) bytes
 byte_calls (Calls slot) = Calls slot ∷ []
+byte_calls HandsOn = []
 
 -- The calls bring the items of a line at a pace, in order, however its bytes are cut among the calls.
 pub record Bring (pace : ℕ) (items : List Item) (calls : List Call) : Type 0 where

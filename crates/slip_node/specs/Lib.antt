@@ -1,3 +1,4 @@
 pub mod Calls
 pub mod DatagramCalls
+pub mod Handing
 pub mod Telling

@@ -3,7 +3,9 @@
 #![tactic(auto)]
 
 mod datagrams;
+mod handing;
 mod hearing;
 
 pub use datagrams::{call_datagram, hear_datagram};
-pub use hearing::{Heard, LARGEST_TEXT, call, hear};
+pub use handing::{LARGEST_TEXT, Written, hand_on};
+pub use hearing::{Heard, call, hear};

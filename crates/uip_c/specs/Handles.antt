@@ -35,3 +35,8 @@ AllFineDatagrams [] a c (datagram ∷ datagrams) = ⊥
 AllFineDatagrams (call ∷ calls) a c [] = ⊥
 AllFineDatagrams (call ∷ calls) a c (datagram ∷ datagrams) =
     (b : Option Device) × GoesOn (λ d d'. AnswersDatagram call d d' datagram) a b × AllFineDatagrams calls b c datagrams
+
+-- how C is told whether a text is left
+abbrev pub left_flag : Option ℕ → ℕ
+left_flag None = 0
+left_flag (Some at) = 1

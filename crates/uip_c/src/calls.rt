@@ -1,18 +1,22 @@
 //! The calls over a serial line.
 
-ghost use Rattle.std.specs.Prelude.{◌≡◌, ◌==◌, ◌||◌, ◌<◌, ◌≤◌, ◌⊎◌, length, nat_le, nat_lt, take};
+ghost use Rattle.std.specs.Prelude.{◌≡◌, ◌==◌, ◌||◌, ◌<◌, ◌≤◌, ◌⊎◌, length, nat_le, nat_lt, take, true};
+ghost use Rattle.std.specs.Option.{is_some};
 ghost use Rattle.std.specs.declared.option.Option.TheVariants.{None};
-ghost use Rattle.slip_node.specs.Calls.{Calls, Hears};
+ghost use Rattle.slip_node.specs.Calls.{Calls, HandsOn, Hears};
 ghost use Rattle.uip_device.specs.Devices.{Answers};
-ghost use Rattle.uip_c.specs.Handles.{GoesOn};
+ghost use Rattle.uip_c.specs.Handles.{GoesOn, IsOf, left_flag};
 
 use crate::handle::{UipDevice, put_in, take_out};
-use crate::status::{BAD_CALL, FINE, NO_DEVICE, UipDone};
+use crate::status::{BAD_CALL, FINE, NO_DEVICE, TEXT_LEFT, UipDone, is_left};
 use std::alloc::Global;
 use uip_device::LARGEST_TEXT;
 
-/// Takes a front of the bytes that came over the line, at least one, and writes the text of what is sent, at most one
-/// datagram. The bytes that are left are for the next call.
+/// The least room for a text: with less, a byte that is escaped would never fit.
+pub const LEAST_ROOM: usize = 2;
+
+/// Takes a front of the bytes that came over the line, at least one, and hands out the text of what is sent, at most one
+/// datagram, as far as there is room. The bytes that are left are for the next call.
 #[unsafe(no_mangle)]
 pub extern "C" fn uip_hear(
     alloc: Global,
@@ -20,32 +24,41 @@ pub extern "C" fn uip_hear(
     bytes: &[u8],
     out: &mut [u8],
 ) -> UipDone
-    ensures known { (result.status ≡ FINE) ⊎ (result.status ≡ NO_DEVICE) ⊎ (result.status ≡ BAD_CALL) }
+    ensures known { (result.status ≡ FINE) ⊎ (result.status ≡ NO_DEVICE) ⊎ (result.status ≡ BAD_CALL) ⊎ (result.status ≡ TEXT_LEFT) }
     ensures fine { result.status ≡ FINE → GoesOn (λ d d'. Answers (Hears (take result.taken bytes.now)) d d' (take result.wrote out.new)) device.old.held.device device.new.held.device }
     ensures some { result.status ≡ FINE → 0 < result.taken }
     ensures within { (result.taken ≤ length bytes.now) × (result.wrote ≤ length out.new) }
+    ensures left { result.status ≡ FINE → IsOf (λ d. result.left ≡ left_flag d.left) device.new.held.device }
+    ensures all { result.status ≡ FINE → LARGEST_TEXT ≤ length out.old → result.left ≡ 0 }
     ensures no_device { result.status ≡ NO_DEVICE → device.old.held.device ≡ None }
-    ensures bad_call { (result.status == BAD_CALL) ≡ ((length bytes.now == 0) || nat_lt (length out.old) LARGEST_TEXT) }
+    ensures bad_call { (result.status == BAD_CALL) ≡ ((length bytes.now == 0) || nat_lt (length out.old) LEAST_ROOM) }
+    ensures text_left { result.status ≡ TEXT_LEFT → IsOf (λ d. is_some d.left ≡ true) device.old.held.device }
     ensures refused { (result.status ≡ FINE → ⊥) → (result.taken ≡ 0) × (result.wrote ≡ 0) × (out.new ≡ out.old)
         × (device.new.held.device ≡ device.old.held.device) }
 {
-    if bytes.is_empty() || out.len() < LARGEST_TEXT {
+    if bytes.is_empty() || out.len() < LEAST_ROOM {
         return UipDone::refused(BAD_CALL);
     }
     let Some(mut opened) = take_out(alloc, device) else {
         return UipDone::refused(NO_DEVICE);
     };
+    if opened.left.is_some() {
+        put_in(device, opened);
+        return UipDone::refused(TEXT_LEFT);
+    }
     let heard = opened.hear(bytes, out);
+    let left = is_left(opened.left);
     put_in(device, opened);
     UipDone {
         status: FINE,
+        left,
         taken: heard.taken,
         wrote: heard.wrote,
     }
 }
 
-/// The periodic call of a slot, due for each of the ten in turn twice a second. Writes the text of what is sent, at most one
-/// datagram.
+/// The periodic call of a slot, due for each of the ten in turn twice a second. Hands out the text of what is sent, at most one
+/// datagram, as far as there is room.
 #[unsafe(no_mangle)]
 pub extern "C" fn uip_call(
     alloc: Global,
@@ -53,24 +66,63 @@ pub extern "C" fn uip_call(
     slot: usize,
     out: &mut [u8],
 ) -> UipDone
-    ensures known { (result.status ≡ FINE) ⊎ (result.status ≡ NO_DEVICE) ⊎ (result.status ≡ BAD_CALL) }
+    ensures known { (result.status ≡ FINE) ⊎ (result.status ≡ NO_DEVICE) ⊎ (result.status ≡ BAD_CALL) ⊎ (result.status ≡ TEXT_LEFT) }
     ensures fine { result.status ≡ FINE → GoesOn (λ d d'. Answers (Calls slot) d d' (take result.wrote out.new)) device.old.held.device device.new.held.device }
     ensures within { (result.taken ≡ 0) × (result.wrote ≤ length out.new) }
+    ensures left { result.status ≡ FINE → IsOf (λ d. result.left ≡ left_flag d.left) device.new.held.device }
+    ensures all { result.status ≡ FINE → LARGEST_TEXT ≤ length out.old → result.left ≡ 0 }
     ensures no_device { result.status ≡ NO_DEVICE → device.old.held.device ≡ None }
-    ensures bad_call { (result.status == BAD_CALL) ≡ (nat_le 10 slot || nat_lt (length out.old) LARGEST_TEXT) }
+    ensures bad_call { (result.status == BAD_CALL) ≡ (nat_le 10 slot || nat_lt (length out.old) LEAST_ROOM) }
+    ensures text_left { result.status ≡ TEXT_LEFT → IsOf (λ d. is_some d.left ≡ true) device.old.held.device }
     ensures refused { (result.status ≡ FINE → ⊥) → (result.wrote ≡ 0) × (out.new ≡ out.old)
         × (device.new.held.device ≡ device.old.held.device) }
 {
-    if slot >= 10 || out.len() < LARGEST_TEXT {
+    if slot >= 10 || out.len() < LEAST_ROOM {
         return UipDone::refused(BAD_CALL);
     }
     let Some(mut opened) = take_out(alloc, device) else {
         return UipDone::refused(NO_DEVICE);
     };
+    if opened.left.is_some() {
+        put_in(device, opened);
+        return UipDone::refused(TEXT_LEFT);
+    }
     let wrote = opened.call(slot, out);
+    let left = is_left(opened.left);
     put_in(device, opened);
     UipDone {
         status: FINE,
+        left,
+        taken: 0,
+        wrote,
+    }
+}
+
+/// Hands on what is left of a text, as far as there is room; no bytes where nothing is left.
+#[unsafe(no_mangle)]
+pub extern "C" fn uip_more(alloc: Global, device: &mut UipDevice, out: &mut [u8]) -> UipDone
+    ensures known { (result.status ≡ FINE) ⊎ (result.status ≡ NO_DEVICE) ⊎ (result.status ≡ BAD_CALL) }
+    ensures fine { result.status ≡ FINE → GoesOn (λ d d'. Answers HandsOn d d' (take result.wrote out.new)) device.old.held.device device.new.held.device }
+    ensures some { result.status ≡ FINE → IsOf (λ d. is_some d.left ≡ true → 0 < result.wrote) device.old.held.device }
+    ensures within { (result.taken ≡ 0) × (result.wrote ≤ length out.new) }
+    ensures left { result.status ≡ FINE → IsOf (λ d. result.left ≡ left_flag d.left) device.new.held.device }
+    ensures no_device { result.status ≡ NO_DEVICE → device.old.held.device ≡ None }
+    ensures bad_call { (result.status == BAD_CALL) ≡ nat_lt (length out.old) LEAST_ROOM }
+    ensures refused { (result.status ≡ FINE → ⊥) → (result.wrote ≡ 0) × (out.new ≡ out.old)
+        × (device.new.held.device ≡ device.old.held.device) }
+{
+    if out.len() < LEAST_ROOM {
+        return UipDone::refused(BAD_CALL);
+    }
+    let Some(mut opened) = take_out(alloc, device) else {
+        return UipDone::refused(NO_DEVICE);
+    };
+    let wrote = opened.hand_on(out);
+    let left = is_left(opened.left);
+    put_in(device, opened);
+    UipDone {
+        status: FINE,
+        left,
         taken: 0,
         wrote,
     }

@@ -1,13 +1,14 @@
 //! The calls over a link that carries datagrams.
 
-ghost use Rattle.std.specs.Prelude.{◌≡◌, ◌==◌, ◌||◌, ◌≤◌, ◌⊎◌, length, nat_le, nat_lt, take};
+ghost use Rattle.std.specs.Prelude.{◌≡◌, ◌==◌, ◌||◌, ◌≤◌, ◌⊎◌, length, nat_le, nat_lt, take, true};
+ghost use Rattle.std.specs.Option.{is_some};
 ghost use Rattle.std.specs.declared.option.Option.TheVariants.{None};
 ghost use Rattle.slip_node.specs.DatagramCalls.{CallsSlot, HearsDatagram};
 ghost use Rattle.uip_device.specs.Devices.{AnswersDatagram};
-ghost use Rattle.uip_c.specs.Handles.{GoesOn};
+ghost use Rattle.uip_c.specs.Handles.{GoesOn, IsOf};
 
 use crate::handle::{UipDevice, put_in, take_out};
-use crate::status::{BAD_CALL, FINE, NO_DEVICE, UipDone};
+use crate::status::{BAD_CALL, FINE, NO_DEVICE, TEXT_LEFT, UipDone};
 use std::alloc::Global;
 use uip_wire::LARGEST_DATAGRAM;
 
@@ -19,12 +20,13 @@ pub extern "C" fn uip_hear_datagram(
     datagram: &[u8],
     out: &mut [u8],
 ) -> UipDone
-    ensures known { (result.status ≡ FINE) ⊎ (result.status ≡ NO_DEVICE) ⊎ (result.status ≡ BAD_CALL) }
+    ensures known { (result.status ≡ FINE) ⊎ (result.status ≡ NO_DEVICE) ⊎ (result.status ≡ BAD_CALL) ⊎ (result.status ≡ TEXT_LEFT) }
     ensures fine { result.status ≡ FINE → GoesOn (λ d d'. AnswersDatagram (HearsDatagram datagram.now) d d' (take result.wrote out.new)) device.old.held.device device.new.held.device }
     ensures whole { result.status ≡ FINE → result.taken ≡ length datagram.now }
     ensures within { result.wrote ≤ length out.new }
     ensures no_device { result.status ≡ NO_DEVICE → device.old.held.device ≡ None }
     ensures bad_call { (result.status == BAD_CALL) ≡ ((length datagram.now == 0) || nat_lt LARGEST_DATAGRAM (length datagram.now) || nat_lt (length out.old) LARGEST_DATAGRAM) }
+    ensures text_left { result.status ≡ TEXT_LEFT → IsOf (λ d. is_some d.left ≡ true) device.old.held.device }
     ensures refused { (result.status ≡ FINE → ⊥) → (result.taken ≡ 0) × (result.wrote ≡ 0) × (out.new ≡ out.old)
         × (device.new.held.device ≡ device.old.held.device) }
 {
@@ -34,10 +36,15 @@ pub extern "C" fn uip_hear_datagram(
     let Some(mut opened) = take_out(alloc, device) else {
         return UipDone::refused(NO_DEVICE);
     };
+    if opened.left.is_some() {
+        put_in(device, opened);
+        return UipDone::refused(TEXT_LEFT);
+    }
     let wrote = opened.hear_datagram(datagram, out);
     put_in(device, opened);
     UipDone {
         status: FINE,
+        left: 0,
         taken: datagram.len(),
         wrote,
     }
@@ -51,11 +58,12 @@ pub extern "C" fn uip_call_datagram(
     slot: usize,
     out: &mut [u8],
 ) -> UipDone
-    ensures known { (result.status ≡ FINE) ⊎ (result.status ≡ NO_DEVICE) ⊎ (result.status ≡ BAD_CALL) }
+    ensures known { (result.status ≡ FINE) ⊎ (result.status ≡ NO_DEVICE) ⊎ (result.status ≡ BAD_CALL) ⊎ (result.status ≡ TEXT_LEFT) }
     ensures fine { result.status ≡ FINE → GoesOn (λ d d'. AnswersDatagram (CallsSlot slot) d d' (take result.wrote out.new)) device.old.held.device device.new.held.device }
     ensures within { (result.taken ≡ 0) × (result.wrote ≤ length out.new) }
     ensures no_device { result.status ≡ NO_DEVICE → device.old.held.device ≡ None }
     ensures bad_call { (result.status == BAD_CALL) ≡ (nat_le 10 slot || nat_lt (length out.old) LARGEST_DATAGRAM) }
+    ensures text_left { result.status ≡ TEXT_LEFT → IsOf (λ d. is_some d.left ≡ true) device.old.held.device }
     ensures refused { (result.status ≡ FINE → ⊥) → (result.wrote ≡ 0) × (out.new ≡ out.old)
         × (device.new.held.device ≡ device.old.held.device) }
 {
@@ -65,10 +73,15 @@ pub extern "C" fn uip_call_datagram(
     let Some(mut opened) = take_out(alloc, device) else {
         return UipDone::refused(NO_DEVICE);
     };
+    if opened.left.is_some() {
+        put_in(device, opened);
+        return UipDone::refused(TEXT_LEFT);
+    }
     let wrote = opened.call_datagram(slot, out);
     put_in(device, opened);
     UipDone {
         status: FINE,
+        left: 0,
         taken: 0,
         wrote,
     }

@@ -1,6 +1,6 @@
 //! What calls in turn hand out to C.
 
-ghost use Rattle.std.specs.Prelude.{◌≡◌, ℕ, [], List, map};
+ghost use Rattle.std.specs.Prelude.{◌≡◌, ◌++◌, ℕ, [], List, None as NothingLeft, map};
 ghost use Rattle.std.specs.List.{concat};
 ghost use Rattle.std.specs.declared.option.Option.{Option};
 ghost use Rattle.site_image.specs.Files.{File};
@@ -14,20 +14,22 @@ ghost use Rattle.slip_node.specs.Calls.{Bring, Call, events_of};
 ghost use Rattle.slip_node.specs.DatagramCalls.{DatagramCall, event_by_call};
 ghost use Rattle.slip_node.specs.Telling.{datagrams_at};
 ghost use Rattle.uip_device.specs.declared.device.Device.{Device};
+ghost use Rattle.uip_device.specs.Devices.{left_of};
 ghost use Rattle.uip_device.specs.Output.{serial_output};
-ghost use Rattle.uip_c.specs.Handles.{AllFine, AllFineDatagrams, OpensAs};
+ghost use Rattle.uip_c.specs.Handles.{AllFine, AllFineDatagrams, IsOf, OpensAs};
 
-/// Whatever C calls in turn on a handle that was just opened: where each call was fine, what they hand out is the text of what
-/// the opening node sends over what the calls bring.
+/// Whatever C calls in turn on a handle that was just opened: where each call was fine, what they hand out, with what is left, is
+/// the text of what the opening node sends over what the calls bring.
 pub fn calls_from_c_are_told()
     ensures { (files : List File) (own : Addr) (calls : List Call) (closed old new : Option Device) (texts : List (List ℕ)) → OpensAs files own closed old → AllFine calls old new texts
-        → concat texts ≡ text_of own (run (web_meaning files) is_served (events_of [] calls own) (opening own (no_hits files))).sent }
+        → IsOf (λ d. concat texts ++ left_of d ≡ text_of own (run (web_meaning files) is_served (events_of [] calls own) (opening own (no_hits files))).sent) new }
 {}
 
-/// Where these calls bring the items of a line at a pace, in order, it is what the server of a serial line writes for them.
+/// Where these calls bring the items of a line at a pace, in order, and nothing is left of a text, it is what the server of a
+/// serial line writes for them.
 pub fn line_from_c_is_served()
     ensures { (files : List File) (own : Addr) (pace : ℕ) (items : List Item) (calls : List Call) (closed old new : Option Device) (texts : List (List ℕ)) → OpensAs files own closed old
-        → Bring pace items calls → AllFine calls old new texts → concat texts ≡ serial_output files own pace items }
+        → Bring pace items calls → AllFine calls old new texts → IsOf (λ d. d.left ≡ NothingLeft) new → concat texts ≡ serial_output files own pace items }
 {}
 
 /// Over a link that carries datagrams each call hands out the datagram that the opening node sends at its event, or none.

@@ -1,4 +1,5 @@
 ghost use Rattle.std.specs.Prelude.{◌≡◌};
+ghost use Rattle.uip_c.specs.Handles.{left_flag};
 
 /// All was done.
 pub const FINE: u32 = 0;
@@ -19,22 +20,38 @@ pub const BAD_SITE: u32 = 4;
 /// There was not enough memory.
 pub const NO_MEMORY: u32 = 5;
 
-/// What a call did: how many bytes it took, and how many it wrote to the front of the area.
+/// A text is left to be handed out first.
+pub const TEXT_LEFT: u32 = 6;
+
+/// What a call did: how many bytes it took, and how many it wrote to the front of the area; and whether a text is left to be
+/// handed out, which `uip_more` does.
 #[repr(C)]
 #[derive(Clone, Copy, Debug, PartialEq, Eq)]
 pub struct UipDone {
     pub status: u32,
+    pub left: u32,
     pub taken: usize,
     pub wrote: usize,
+}
+
+/// 1 where a text is left, else 0.
+pub(crate) fn is_left(left: Option<usize>) -> u32
+    ensures { result ≡ left_flag left }
+{
+    match left {
+        None => 0,
+        Some(_) => 1,
+    }
 }
 
 impl UipDone {
     /// Nothing was done, for this reason.
     pub(crate) fn refused(status: u32) -> UipDone
-        ensures { result ≡ record { status = status; taken = 0; wrote = 0 } }
+        ensures { result ≡ record { status = status; left = 0; taken = 0; wrote = 0 } }
     {
         UipDone {
             status,
+            left: 0,
             taken: 0,
             wrote: 0,
         }

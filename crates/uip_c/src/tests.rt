@@ -1,10 +1,10 @@
-use crate::calls::{uip_call, uip_hear};
+use crate::calls::{uip_call, uip_hear, uip_more};
 use crate::datagram_calls::{uip_call_datagram, uip_hear_datagram};
 use crate::handle::UipDevice;
 use crate::held::Held;
 use crate::opening::{UipOpened, uip_close, uip_open};
 use crate::reading::{uip_counter, uip_ticks};
-use crate::status::{BAD_CALL, BAD_SITE, FINE, HAS_DEVICE, NO_DEVICE, UipDone};
+use crate::status::{BAD_CALL, BAD_SITE, FINE, HAS_DEVICE, NO_DEVICE, TEXT_LEFT, UipDone};
 use std::alloc::Global;
 use uip_device::LARGEST_TEXT;
 
@@ -47,6 +47,7 @@ fn no_device(alloc: Global) -> UipDevice {
 fn answer(status: u32) -> UipDone {
     UipDone {
         status,
+        left: 0,
         taken: 0,
         wrote: 0,
     }
@@ -63,6 +64,7 @@ fn each_call_is_made_once(rt: HostRuntime) {
     let heard = uip_hear(alloc, &mut device, REQUEST_TEXT, &mut out);
     let took = UipDone {
         status: FINE,
+        left: 0,
         taken: 34,
         wrote: 34,
     };
@@ -73,6 +75,7 @@ fn each_call_is_made_once(rt: HostRuntime) {
     let heard = uip_hear_datagram(alloc, &mut device, REQUEST, &mut out);
     let took = UipDone {
         status: FINE,
+        left: 0,
         taken: 30,
         wrote: 30,
     };
@@ -113,6 +116,7 @@ fn a_call_without_a_device_says_so(rt: HostRuntime) {
         uip_call_datagram(alloc, &mut device, 0, &mut out),
         answer(NO_DEVICE)
     );
+    assert_eq!(rt; uip_more(alloc, &mut device, &mut out), answer(NO_DEVICE));
     assert_eq!(rt; uip_counter(alloc, &mut device, 20).status, NO_DEVICE);
     assert_eq!(rt; uip_ticks(alloc, &mut device).status, NO_DEVICE);
     assert_eq!(rt;
@@ -143,4 +147,62 @@ fn a_bad_image_is_told(rt: HostRuntime) {
         cut
     );
     assert_eq!(rt; uip_close(alloc, &mut device), NO_DEVICE);
+}
+
+/// A text is handed out in pieces, and nothing else is done meanwhile. The piece behind 31 bytes is an END of the datagram.
+#[test]
+fn a_text_is_handed_on(rt: HostRuntime) {
+    let alloc = rt.alloc();
+    let mut device = no_device(alloc);
+    let mut out = [0; LARGEST_TEXT];
+    assert_eq!(rt; uip_open(alloc, &mut device, IMAGE, OWN).status, FINE);
+    let heard = uip_hear(alloc, &mut device, REQUEST_TEXT, &mut out[..30]);
+    let first = UipDone {
+        status: FINE,
+        left: 1,
+        taken: 34,
+        wrote: 29,
+    };
+    assert_eq!(rt; heard, first);
+    assert_eq!(rt; &out[..29], &REPLY_TEXT[..29]);
+    assert_eq!(rt;
+        uip_hear(alloc, &mut device, REQUEST_TEXT, &mut out),
+        answer(TEXT_LEFT)
+    );
+    assert_eq!(rt;
+        uip_call(alloc, &mut device, 0, &mut out),
+        answer(TEXT_LEFT)
+    );
+    assert_eq!(rt;
+        uip_hear_datagram(alloc, &mut device, REQUEST, &mut out),
+        answer(TEXT_LEFT)
+    );
+    assert_eq!(rt;
+        uip_call_datagram(alloc, &mut device, 0, &mut out),
+        answer(TEXT_LEFT)
+    );
+    assert_eq!(rt;
+        uip_more(alloc, &mut device, &mut out[..1]),
+        answer(BAD_CALL)
+    );
+    let more = uip_more(alloc, &mut device, &mut out[..3]);
+    let second = UipDone {
+        status: FINE,
+        left: 1,
+        taken: 0,
+        wrote: 2,
+    };
+    assert_eq!(rt; more, second);
+    assert_eq!(rt; &out[..2], &REPLY_TEXT[29..31]);
+    let more = uip_more(alloc, &mut device, &mut out);
+    let last = UipDone {
+        status: FINE,
+        left: 0,
+        taken: 0,
+        wrote: 3,
+    };
+    assert_eq!(rt; more, last);
+    assert_eq!(rt; &out[..3], &REPLY_TEXT[31..]);
+    assert_eq!(rt; uip_more(alloc, &mut device, &mut out), answer(FINE));
+    assert_eq!(rt; uip_close(alloc, &mut device), FINE);
 }

@@ -1,5 +1,6 @@
 -- A device, and what it hands out at each call.
-use Rattle.std.specs.Prelude.{◌≡◌, ℕ, List, [], ◌∷◌, ◌++◌, Result, Ok, Err, ⊤}
+use Rattle.std.specs.Prelude.{◌≡◌, ◌≤◌, ℕ, List, [], ◌∷◌, ◌++◌, None, IfSome, Result, Ok, Err, length, ⊤}
+use Rattle.packet_buffer.specs.Buffer.{datagram_in}
 use Rattle.site_image.specs.Faults.{read_image}
 use Rattle.site_image.specs.Files.{File}
 use Rattle.site_image.specs.Grammar.{IsImage}
@@ -14,14 +15,20 @@ use Rattle.uip_slip.specs.Decoding.{WasFed}
 use Rattle.serve_loop.specs.Turns.{IsNode}
 use Rattle.slip_node.specs.Calls.{Call, bytes_by, events_by}
 use Rattle.slip_node.specs.DatagramCalls.{DatagramCall, event_by_call}
+use Rattle.slip_node.specs.Handing.{left_text}
 use Rattle.slip_node.specs.Telling.{Replies, Tells}
 use Rattle.uip_device.specs.declared.device.Device.{Device}
 use Rattle.uip_device.specs.declared.open_fault.OpenFault.{OpenFault}
 use Rattle.uip_device.specs.declared.open_fault.OpenFault.TheVariants.{BadSite, NoMemory}
 
--- every connection of the device's node is sound
-abbrev pub IsSound : Device → Type 0
-IsSound d = IsWhole ghosts d.node
+-- every connection of the device's node is sound, and what is left of a text is of the datagram in its packet
+pub record IsSound (d : Device) : Type 0 where
+  pub whole : IsWhole ghosts d.node
+  pub left : IfSome d.left (λ at. at ≤ length (datagram_in d.node.packet))
+
+-- the text that is left to be handed out
+abbrev pub left_of : Device → List ℕ
+left_of d = left_text (datagram_in d.node.packet) d.left
 
 -- the device was fed these bytes
 abbrev pub HasHeard : List ℕ → Device → Type 0
@@ -35,6 +42,7 @@ StandsFor files own d n = IsNode ghosts (web_meaning files) own d.node n
 pub record IsFresh (files : List File) (own : Addr) (d : Device) : Type 0 where
   pub sound : IsSound d
   pub heard : HasHeard [] d
+  pub none : d.left ≡ None
   pub stands : StandsFor files own d (opening own (no_hits files))
 
 -- a fresh device at this address with the files for which the image stands by the grammar
@@ -50,10 +58,12 @@ Opens image own (Err (BadSite error)) = read_image image ≡ Err error
 Opens image own (Err NoMemory) = ⊤
 
 -- A call over a serial line was answered by this text: whatever bytes the device had heard, it has heard these and those of
--- the call, and it hands out the text of what its node sends over what the call brings.
+-- the call; and its node sends, over what the call brings, a text that goes behind what was left before, and of the two together
+-- this one is handed out and the rest is left.
 pub record Answers (call : Call) (old new : Device) (text : List ℕ) : Type 0 where
   pub heard : (before : List ℕ) → HasHeard before old → HasHeard (before ++ bytes_by call) new
-  pub tells : (before : List ℕ) → HasHeard before old → Tells ghosts (events_by before call) old.node new.node text
+  pub tells : (before : List ℕ) → HasHeard before old
+      → (sent : List ℕ) × Tells ghosts (events_by before call) old.node new.node sent × (left_of old ++ sent ≡ text ++ left_of new)
 
 -- calls in turn were answered by these texts
 abbrev pub AnswersAll : List Call → Device → Device → List (List ℕ) → Type 0

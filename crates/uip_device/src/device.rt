@@ -1,7 +1,7 @@
 use crate::open_fault::OpenFault;
 use file_tree::{LoadFault, Site};
 use httpd::{Httpd, Web};
-use slip_node::{Heard, LARGEST_TEXT, call, call_datagram, hear, hear_datagram};
+use slip_node::{Heard, LARGEST_TEXT, call, call_datagram, hand_on, hear, hear_datagram};
 use std::alloc::Global;
 use uip_node::Node;
 use uip_slip::Decoder;
@@ -12,15 +12,17 @@ use uip_wire::{Addr, LARGEST_DATAGRAM};
 pub struct Device {
     pub decoder: Decoder,
     pub node: Node<Httpd>,
+    /// Behind how many bytes of the datagram in the packet its text is left to be handed out; nowhere where none is left.
+    pub left: Option<usize>,
 }
 
 impl Device {
-    ghost use Rattle.std.specs.Prelude.{◌≡◌, ◌<◌, ◌≤◌, List, Some, length, slice_get, take};
+    ghost use Rattle.std.specs.Prelude.{◌≡◌, ◌<◌, ◌≤◌, List, None, Some, length, slice_get, take};
     ghost use Rattle.site_image.specs.Files.{File};
     ghost use Rattle.uip_wire.specs.declared.addr.Addr.{Addr as Address};
     ghost use Rattle.uip_node.specs.Counters.{counters, ticks_of};
     ghost use Rattle.uip_node.specs.Node.{AbstractNode};
-    ghost use Rattle.slip_node.specs.Calls.{Calls, Hears};
+    ghost use Rattle.slip_node.specs.Calls.{Calls, HandsOn, Hears};
     ghost use Rattle.slip_node.specs.DatagramCalls.{CallsSlot, HearsDatagram};
     ghost use Rattle.uip_device.specs.Devices.{Answers, AnswersDatagram, IsSound, Opens, StandsFor};
 
@@ -40,38 +42,66 @@ impl Device {
             Ok(node) => Ok(Device {
                 decoder: Decoder::new(),
                 node,
+                left: None,
             }),
             Err(_) => Err(OpenFault::NoMemory),
         }
     }
 
-    /// Takes a front of the bytes that came over the line, of which the last alone may complete a frame, and writes the text
-    /// of the answer, if one is sent.
+    /// Takes a front of the bytes that came over the line, of which the last alone may complete a frame, and hands out the text
+    /// of the answer, if one is sent, as far as there is room. Nothing is left of a text before.
     pub fn hear(&mut self, bytes: &[u8], out: &mut [u8]) -> Heard
         requires some { 0 < length bytes.now }
-        requires room { LARGEST_TEXT ≤ length out.old }
+        requires room { 0 < length out.old }
+        requires none { self.old.left ≡ None }
         requires sound { IsSound self.old }
         ensures sound { IsSound self.new }
         ensures long { length out.new ≡ length out.old }
         ensures wrote { result.wrote ≤ length out.new }
         ensures taken { (0 < result.taken) × (result.taken ≤ length bytes.now) }
+        ensures all { LARGEST_TEXT ≤ length out.old → self.new.left ≡ None }
         ensures answers { Answers (Hears (take result.taken bytes.now)) self.old self.new (take result.wrote out.new) }
     {
-        hear(&mut self.decoder, &mut self.node, bytes, out)
+        let heard = hear(&mut self.decoder, &mut self.node, bytes, out);
+        self.left = heard.left;
+        heard
     }
 
-    /// The periodic call of a slot, which is due for each of the ten in turn twice a second. Writes the text of what is sent,
-    /// and says how long it is.
+    /// The periodic call of a slot, which is due for each of the ten in turn twice a second. Hands out the text of what is
+    /// sent, as far as there is room, and says how long it is. Nothing is left of a text before.
     pub fn call(&mut self, slot: usize, out: &mut [u8]) -> usize
         requires slot { slot < 10 }
-        requires room { LARGEST_TEXT ≤ length out.old }
+        requires room { 0 < length out.old }
+        requires none { self.old.left ≡ None }
         requires sound { IsSound self.old }
         ensures sound { IsSound self.new }
         ensures long { length out.new ≡ length out.old }
         ensures wrote { result ≤ length out.new }
+        ensures all { LARGEST_TEXT ≤ length out.old → self.new.left ≡ None }
         ensures answers { Answers (Calls slot) self.old self.new (take result out.new) }
     {
-        call(&mut self.node, slot, out)
+        let written = call(&mut self.node, slot, out);
+        self.left = written.left;
+        written.wrote
+    }
+
+    /// Hands on what is left of a text, as far as there is room, and says how many bytes these are.
+    pub fn hand_on(&mut self, out: &mut [u8]) -> usize
+        requires sound { IsSound self.old }
+        ensures sound { IsSound self.new }
+        ensures long { length out.new ≡ length out.old }
+        ensures wrote { result ≤ length out.new }
+        ensures some { (self.old.left ≡ None → ⊥) → 2 ≤ length out.old → 0 < result }
+        ensures answers { Answers HandsOn self.old self.new (take result out.new) }
+    {
+        match self.left {
+            None => 0,
+            Some(at) => {
+                let written = hand_on(&self.node, at, out);
+                self.left = written.left;
+                written.wrote
+            }
+        }
     }
 
     /// Takes a datagram that came over a link that carries datagrams, and writes the answer, if one is sent. Says how long
@@ -79,10 +109,12 @@ impl Device {
     pub fn hear_datagram(&mut self, datagram: &[u8], out: &mut [u8]) -> usize
         requires most { length datagram.now ≤ LARGEST_DATAGRAM }
         requires room { LARGEST_DATAGRAM ≤ length out.old }
+        requires none { self.old.left ≡ None }
         requires sound { IsSound self.old }
         ensures sound { IsSound self.new }
         ensures long { length out.new ≡ length out.old }
         ensures wrote { result ≤ length out.new }
+        ensures none { self.new.left ≡ None }
         ensures answers { AnswersDatagram (HearsDatagram datagram.now) self.old self.new (take result out.new) }
     {
         hear_datagram(&mut self.node, datagram, out)
@@ -92,10 +124,12 @@ impl Device {
     pub fn call_datagram(&mut self, slot: usize, out: &mut [u8]) -> usize
         requires slot { slot < 10 }
         requires room { LARGEST_DATAGRAM ≤ length out.old }
+        requires none { self.old.left ≡ None }
         requires sound { IsSound self.old }
         ensures sound { IsSound self.new }
         ensures long { length out.new ≡ length out.old }
         ensures wrote { result ≤ length out.new }
+        ensures none { self.new.left ≡ None }
         ensures answers { AnswersDatagram (CallsSlot slot) self.old self.new (take result out.new) }
     {
         call_datagram(&mut self.node, slot, out)

@@ -1,6 +1,6 @@
 //! What calls in turn hand out.
 
-ghost use Rattle.std.specs.Prelude.{◌≡◌, ℕ, [], List, map};
+ghost use Rattle.std.specs.Prelude.{◌≡◌, ◌++◌, ℕ, [], List, None, map};
 ghost use Rattle.std.specs.List.{concat};
 ghost use Rattle.site_image.specs.Files.{File};
 ghost use Rattle.web_pages.specs.Serving.{is_served, no_hits};
@@ -13,23 +13,23 @@ ghost use Rattle.slip_node.specs.Calls.{Bring, Call, events_of};
 ghost use Rattle.slip_node.specs.DatagramCalls.{DatagramCall, event_by_call};
 ghost use Rattle.slip_node.specs.Telling.{datagrams_at};
 ghost use Rattle.uip_device.specs.declared.device.Device.{Device};
-ghost use Rattle.uip_device.specs.Devices.{AnswersAll, AnswersAllDatagrams, IsFresh};
+ghost use Rattle.uip_device.specs.Devices.{AnswersAll, AnswersAllDatagrams, IsFresh, left_of};
 ghost use Rattle.uip_device.specs.Output.{serial_output};
 
-/// Whatever is called in turn, of a device that was just opened: what is handed out is the text of what the opening node
-/// sends over what the calls bring.
+/// Whatever is called in turn, of a device that was just opened: what is handed out, with what is left, is the text of what the
+/// opening node sends over what the calls bring.
 #[tactic(auto, using(crate::proofs::AnswerLaws::all_told))]
 pub fn calls_are_told()
     ensures { (files : List File) (own : Addr) (calls : List Call) (old new : Device) (texts : List (List ℕ)) → IsFresh files own old → AnswersAll calls old new texts
-        → concat texts ≡ text_of own (run (web_meaning files) is_served (events_of [] calls own) (opening own (no_hits files))).sent }
+        → concat texts ++ left_of new ≡ text_of own (run (web_meaning files) is_served (events_of [] calls own) (opening own (no_hits files))).sent }
 {}
 
 /// Calls that bring the items of a line at a pace, in order, hand out what the server of a serial line writes for these
-/// items, however the bytes are cut among the calls.
+/// items, however the bytes are cut among the calls and the texts into pieces.
 #[tactic(auto, using(crate::proofs::AnswerLaws::line_served))]
 pub fn line_is_served()
     ensures { (files : List File) (own : Addr) (pace : ℕ) (items : List Item) (calls : List Call) (old new : Device) (texts : List (List ℕ)) → IsFresh files own old → Bring pace items calls
-        → AnswersAll calls old new texts → concat texts ≡ serial_output files own pace items }
+        → AnswersAll calls old new texts → new.left ≡ None → concat texts ≡ serial_output files own pace items }
 {}
 
 /// Over a link that carries datagrams, each call hands out the datagram that the opening node sends at its event, or none.

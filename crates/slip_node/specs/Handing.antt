@@ -1,0 +1,12 @@
+-- What is left to be handed out of a datagram's text.
+use Rattle.std.specs.Prelude.{ℕ, List, [], ◌∷◌, ◌++◌, drop, Option, None, Some}
+use Rattle.uip_slip.specs.Text.{escaped}
+
+-- the bytes that are left, escaped, and the END behind them
+abbrev pub text_behind : List ℕ → List ℕ
+text_behind rest = escaped rest ++ 192 ∷ []
+
+-- behind so many bytes of a datagram; nothing where all was handed out
+abbrev pub left_text : List ℕ → Option ℕ → List ℕ
+left_text datagram None = []
+left_text datagram (Some at) = text_behind (drop at datagram)
