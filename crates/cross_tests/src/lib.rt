@@ -26,4 +26,6 @@ mod site;
 #[cfg(test)]
 mod sites;
 #[cfg(test)]
+mod sizes;
+#[cfg(test)]
 mod web;
