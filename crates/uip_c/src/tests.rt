@@ -36,6 +36,16 @@ const REPLY_TEXT: &[u8; 34] = &[
     0, 1, 219, 220, 219, 221, 192,
 ];
 
+/// The same text as it goes out where there is room for 30 bytes, then for 3, and then for all.
+const FIRST_PIECE: &[u8; 29] = &[
+    192, 69, 0, 0, 30, 0, 0, 0, 0, 64, 1, 102, 221, 10, 0, 0, 1, 10, 0, 0, 2, 0, 0, 63, 28, 0, 7,
+    0, 1,
+];
+
+const SECOND_PIECE: &[u8; 2] = &[219, 220];
+
+const LAST_PIECE: &[u8; 3] = &[219, 221, 192];
+
 fn no_device(alloc: Global) -> UipDevice {
     UipDevice {
         is_open: 0,
@@ -155,8 +165,11 @@ fn a_text_is_handed_on(rt: HostRuntime) {
     let alloc = rt.alloc();
     let mut device = no_device(alloc);
     let mut out = [0; LARGEST_TEXT];
+    let mut most = [0; 30];
+    let mut few = [0; 3];
+    let mut one = [0; 1];
     assert_eq!(rt; uip_open(alloc, &mut device, IMAGE, OWN).status, FINE);
-    let heard = uip_hear(alloc, &mut device, REQUEST_TEXT, &mut out[..30]);
+    let heard = uip_hear(alloc, &mut device, REQUEST_TEXT, &mut most);
     let first = UipDone {
         status: FINE,
         left: 1,
@@ -164,7 +177,7 @@ fn a_text_is_handed_on(rt: HostRuntime) {
         wrote: 29,
     };
     assert_eq!(rt; heard, first);
-    assert_eq!(rt; &out[..29], &REPLY_TEXT[..29]);
+    assert_eq!(rt; &most[..29], &FIRST_PIECE[..]);
     assert_eq!(rt;
         uip_hear(alloc, &mut device, REQUEST_TEXT, &mut out),
         answer(TEXT_LEFT)
@@ -181,11 +194,8 @@ fn a_text_is_handed_on(rt: HostRuntime) {
         uip_call_datagram(alloc, &mut device, 0, &mut out),
         answer(TEXT_LEFT)
     );
-    assert_eq!(rt;
-        uip_more(alloc, &mut device, &mut out[..1]),
-        answer(BAD_CALL)
-    );
-    let more = uip_more(alloc, &mut device, &mut out[..3]);
+    assert_eq!(rt; uip_more(alloc, &mut device, &mut one), answer(BAD_CALL));
+    let more = uip_more(alloc, &mut device, &mut few);
     let second = UipDone {
         status: FINE,
         left: 1,
@@ -193,7 +203,7 @@ fn a_text_is_handed_on(rt: HostRuntime) {
         wrote: 2,
     };
     assert_eq!(rt; more, second);
-    assert_eq!(rt; &out[..2], &REPLY_TEXT[29..31]);
+    assert_eq!(rt; &few[..2], &SECOND_PIECE[..]);
     let more = uip_more(alloc, &mut device, &mut out);
     let last = UipDone {
         status: FINE,
@@ -202,7 +212,7 @@ fn a_text_is_handed_on(rt: HostRuntime) {
         wrote: 3,
     };
     assert_eq!(rt; more, last);
-    assert_eq!(rt; &out[..3], &REPLY_TEXT[31..]);
+    assert_eq!(rt; &out[..3], &LAST_PIECE[..]);
     assert_eq!(rt; uip_more(alloc, &mut device, &mut out), answer(FINE));
     assert_eq!(rt; uip_close(alloc, &mut device), FINE);
 }
