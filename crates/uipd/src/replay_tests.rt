@@ -219,13 +219,15 @@ fn shows_a_line_of_the_report(rt: HostRuntime) -> Result<(), Fail> {
     let alloc = rt.alloc();
     let mut long = b"UIPSITE1\0\x01\x0b/index.html\0\0\x07\xd0".to_vec(alloc)?;
     long.extend_from_slice(&[b'c'; 2000])?;
-    let rows: [(&[u8], &[u8], &str); 6] = [
+    let rows: [(&[u8], &[u8], &str); 8] = [
         (IMAGE, ELEVENTH, "\n83 0 n1 AR 87 0\n"),
         (IMAGE, LATE_SYN, "\nclient 1 closed 86 stale 1\n"),
         (IMAGE, GIVEN_UP, "\nclient 1 reset 0 stale 4\n"),
         (IMAGE, DAMAGED, "\n5 4 n1 AP 1 86 again\n"),
+        (IMAGE, RESET, "\n6 0 n1 AR 1 0\n"),
         (&long, LONG_SEGMENTS, "\n4 0 n1 AP 1 1460\n"),
         (&long, LONG_SEGMENTS, "\n6 0 n1 AP 1461 620\n"),
+        (&long, LONG_SEGMENTS, "\nclient 1 closed 2080 clean\n"),
     ];
     for (site, schedule, line) in rows {
         let row = Row {
