@@ -10,6 +10,8 @@ mod adapters;
 mod desk_tests;
 #[cfg(test)]
 mod ether_tests;
+#[cfg(test)]
+mod fault_tests;
 mod file_shelf;
 #[cfg(test)]
 mod load_tests;

@@ -1,5 +1,5 @@
 // Schedules that were worked by hand: the file `h` holds the image of a site, and `i` the schedule.
-use crate::site_tests::{HITS, IMAGE, Row, bad, check_rows, running};
+use crate::site_tests::{HITS, IMAGE, Row, bad, check_rows, running, shows};
 use crate::status::Status;
 use replay_command::Why;
 use site_commands::SiteWhy;
@@ -159,6 +159,97 @@ fn replays_a_page(rt: HostRuntime) -> Result<(), Fail> {
         },
     ];
     check_rows(&rt, rt.alloc(), &rows)
+}
+
+// The eleventh SYN takes the slot of a connection in TIME-WAIT, and a late datagram of that connection comes.
+const ELEVENTH: &[u8] =
+    b"client 10.0.0.2 1025 0 536 get /\nclient 10.0.0.2 1026 0 536 get /\nclient 10.0.0.2 1027 0 536 get /\n\
+    client 10.0.0.2 1028 0 536 get /\nclient 10.0.0.2 1029 0 536 get /\nclient 10.0.0.2 1030 0 536 get /\n\
+    client 10.0.0.2 1031 0 536 get /\nclient 10.0.0.2 1032 0 536 get /\nclient 10.0.0.2 1033 0 536 get /\n\
+    client 10.0.0.2 1034 0 536 get /\nclient 10.0.0.2 1035 0 536 get /\nopen 1\nopen 2\nopen 3\nopen 4\nopen 5\n\
+    open 6\nopen 7\nopen 8\nopen 9\nopen 10\nround\nround\nround\nround\nround\nround\nround\nround\nopen 11\n\
+    round\ngive 41\nround\nround\nround\nround\nround\nround\nround\n";
+
+const ELEVENTH_REPORT: &[u8] =
+    b"client 1 closed 86 stale\nclient 2 closed 86 clean\nclient 3 closed 86 clean\nclient 4 closed 86 clean\n\
+    client 5 closed 86 clean\nclient 6 closed 86 clean\nclient 7 closed 86 clean\nclient 8 closed 86 clean\n\
+    client 9 closed 86 clean\nclient 10 closed 86 clean\nclient 11 closed 86 clean\nticks 0 datagrams 89\n";
+
+// The client gives up, and what it sent before comes later.
+const GIVEN_UP: &[u8] =
+    b"client 10.0.0.2 1025 0 536 get /\nopen 1\nround\nround\nround\nabort 1\ngive 5\ngive 4\n";
+
+// A request that is never decided, for as long as the server waits, and one tick less.
+const PATIENT: &[u8] =
+    b"client 10.0.0.2 1025 0 536 raw 474554\nopen 1\nround\nround\nround\nround\ntick 19\nround\n";
+
+const GIVEN_UP_ON: &[u8] =
+    b"client 10.0.0.2 1025 0 536 raw 474554\nopen 1\nround\nround\nround\nround\ntick 20\nround\n";
+
+#[test]
+fn replays_what_comes_late(rt: HostRuntime) -> Result<(), Fail> {
+    let rows = [
+        replaying(IMAGE, ELEVENTH, ELEVENTH_REPORT),
+        replaying(
+            IMAGE,
+            GIVEN_UP,
+            b"client 1 reset 0 stale\nticks 0 datagrams 5\n",
+        ),
+        replaying(
+            IMAGE,
+            PATIENT,
+            b"client 1 open 0 clean\nticks 19 datagrams 4\n",
+        ),
+        replaying(
+            IMAGE,
+            GIVEN_UP_ON,
+            b"client 1 reset 0 clean\nticks 20 datagrams 5\n",
+        ),
+    ];
+    check_rows(&rt, rt.alloc(), &rows)
+}
+
+// A page in segments of the greatest length.
+const LONG_SEGMENTS: &[u8] =
+    b"client 10.0.0.2 1025 1460 536 get /\nopen 1\nround\nround\nround\nround\nround\nround\nround\nround\n\
+    round\nround\nround\n";
+
+#[test]
+fn shows_a_line_of_the_report(rt: HostRuntime) -> Result<(), Fail> {
+    let alloc = rt.alloc();
+    let mut long = b"UIPSITE1\0\x01\x0b/index.html\0\0\x07\xd0".to_vec(alloc)?;
+    long.extend_from_slice(&[b'c'; 2000])?;
+    let rows: [(&[u8], &[u8], &str); 8] = [
+        (IMAGE, ELEVENTH, "\n83 0 n1 AR 87 0\n"),
+        (IMAGE, LATE_SYN, "\nclient 1 closed 86 stale 1\n"),
+        (IMAGE, GIVEN_UP, "\nclient 1 reset 0 stale 4\n"),
+        (IMAGE, DAMAGED, "\n5 4 n1 AP 1 86 again\n"),
+        (IMAGE, RESET, "\n6 0 n1 AR 1 0\n"),
+        (&long, LONG_SEGMENTS, "\n4 0 n1 AP 1 1460\n"),
+        (&long, LONG_SEGMENTS, "\n6 0 n1 AP 1461 620\n"),
+        (&long, LONG_SEGMENTS, "\nclient 1 closed 2080 clean\n"),
+    ];
+    for (site, schedule, line) in rows {
+        let row = Row {
+            words: &["replay", "h", "i", "show"],
+            room: 65_536,
+            ..replaying(site, schedule, b"")
+        };
+        assert!(rt; shows(alloc, &row, line)?);
+    }
+    Ok(())
+}
+
+// Where every number is used, one more datagram is refused.
+#[test]
+fn refuses_what_has_no_number(rt: HostRuntime) -> Result<(), Fail> {
+    let alloc = rt.alloc();
+    let mut schedule = b"client 10.0.0.2 1025 0 536 get /\nopen 1\n".to_vec(alloc)?;
+    for _ in 0..65_535 {
+        schedule.extend_from_slice(b"again 1\n")?;
+    }
+    let row = refused(&schedule, b"bad schedule full 65537\n", 65_537, Why::Full);
+    check_rows(&rt, alloc, &[row])
 }
 
 #[test]

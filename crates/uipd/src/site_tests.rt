@@ -78,6 +78,21 @@ fn check_row(rt: &impl Abort, alloc: Global, row: &Row<'_>) -> Result<(), Fail> 
     Ok(())
 }
 
+/// Whether what a run writes has this line.
+pub fn shows(alloc: Global, row: &Row<'_>, line: &str) -> Result<bool, Fail> {
+    let words = words_of(alloc, row.words)?;
+    let mut shelf = shelf_of(alloc, row)?;
+    let mut link = SureLink::new(Vec::new(alloc), 1);
+    let Ok(mut out) = MemSink::new(alloc, row.room, Vec::new(alloc)) else {
+        return Err("no memory".into());
+    };
+    let status = run(alloc, &words, &mut shelf, &mut link, &mut out);
+    match str::from_utf8(out.written()) {
+        Ok(text) => Ok(status == Status::Done && text.contains(line)),
+        Err(_) => Ok(false),
+    }
+}
+
 pub fn check_rows(rt: &impl Abort, alloc: Global, rows: &[Row<'_>]) -> Result<(), Fail> {
     for row in rows {
         check_row(rt, alloc, row)?;

@@ -21,12 +21,12 @@ pub const PONG: [u8; 30] = [
 ];
 
 // With an END and an ESC in the payload.
-const ESCAPED_PING: [u8; 34] = [
+pub const ESCAPED_PING: [u8; 34] = [
     0xC0, 0x45, 0, 0, 0x1E, 0, 1, 0, 0, 0x40, 1, 0x66, 0xDC, 10, 0, 0, 2, 10, 0, 0, 1, 8, 0, 0x37,
     0x22, 0, 1, 0, 1, 0xDB, 0xDC, 0xDB, 0xDD, 0xC0,
 ];
 
-const ESCAPED_PONG: [u8; 34] = [
+pub const ESCAPED_PONG: [u8; 34] = [
     0xC0, 0x45, 0, 0, 0x1E, 0, 1, 0, 0, 0x40, 1, 0x66, 0xDC, 10, 0, 0, 1, 10, 0, 0, 2, 0, 0, 0x3F,
     0x22, 0, 1, 0, 1, 0xDB, 0xDC, 0xDB, 0xDD, 0xC0,
 ];
