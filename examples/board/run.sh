@@ -24,11 +24,12 @@ mkdir -p "$out"
 if [ ! -f "$library" ] || [ -n "$(find "$top/crates" -name '*.rt' -newer "$library" | head -1)" ]; then
     command -v rt >/dev/null || fail "no library of these sources at $library, and no command rt to build it"
     built=$top/crates/uip_c/out/libuip_c.a
-    [ -f "$built" ] && mv "$built" "$out/host.a"    # the library for this machine
-    (cd "$top/crates/uip_c" && rt lib --target aarch64-unknown-linux-gnu) >"$out/lib.log" 2>&1 && mv "$built" "$library"
-    status=$?
-    [ -f "$out/host.a" ] && mv "$out/host.a" "$built"
-    [ $status = 0 ] || { tail -5 "$out/lib.log" >&2; fail "rt lib failed in crates/uip_c"; }
+    put_back() { if [ -f "$out/host.a" ]; then mv "$out/host.a" "$built"; fi; }    # the library for this machine
+    trap put_back EXIT
+    trap 'exit 1' INT TERM
+    if [ -f "$built" ]; then mv "$built" "$out/host.a"; fi
+    (cd "$top/crates/uip_c" && rt lib --target aarch64-unknown-linux-gnu) >"$out/lib.log" 2>&1 || { tail -5 "$out/lib.log" >&2; fail "rt lib failed in crates/uip_c"; }
+    mv "$built" "$library" && put_back
 fi
 
 compile() { "$clang" --target=aarch64-none-elf -ffreestanding -fno-builtin -Os -Wall -Wextra -ffunction-sections -I"$top/include" "$@" || fail "clang failed"; }
