@@ -17,7 +17,7 @@ use Rattle.uip_node.specs.Events.Event.{EchoAsked, Arrived, Periodic}
 use Rattle.uip_node.specs.Events.Answer.{Silent, NoSlot, EchoReplied}
 use Rattle.uip_node.specs.Events.Reply.{Echo, Tcp}
 use Rattle.uip_node.specs.Counters.{initial_number, ticks_of}
-use Rattle.uip_node.specs.Node.{AbstractNode, NodeStep, reply_of, gone_by, moment, happened, slot_for_syn, is_waiting, longest_wait, opens_in, opens, refuses, from_stranger, arrives_at, step, passes}
+use Rattle.uip_node.specs.Node.{AbstractNode, NodeStep, reply_of, gone_by, moment, happened, slot_for_syn, opens_in, opens, refuses, from_stranger, arrives_at, step, passes}
 use Rattle.link_client.specs.declared.setup.Setup.{Setup}
 use Rattle.link_client.specs.Client.{AbstractClient, ClientStep, client_takes, client_opens, client_again, client_closes, client_aborts, tells_window}
 use Rattle.link_world.specs.World.{World, Side, Sent, Content, numbered, client_sockets, buries, buries_in, addressed, epoch_at, epoch_of, posts, posts_reply, node_stepped, node_handles, with_client, with_side, posts_of_client, client_stepped, marked, gives_node, gives_client, delivers, hands_to, is_clean}
@@ -35,12 +35,11 @@ use Rattle.link_world.proofs.Tables.{find_is, get_set_same, set_same, set_past, 
 use Rattle.link_world.proofs.Tables.Finds.{finds, finds_none}
 use Rattle.link_world.proofs.Tables.Written.{here, there}
 use Rattle.link_world.proofs.Fits.{FitConn, accepted_fits}
-use Rattle.link_world.proofs.FitWorlds.{FitWorld, node_moment, era_fits, serving_fits, position_in, Inside, put_fits, periodic_fits}
+use Rattle.link_world.proofs.FitWorlds.{FitWorld, node_moment, era_fits, serving_fits, slot_inside, put_fits, periodic_fits}
 use Rattle.link_world.proofs.Setups.{SameSetup, takes_setup, opens_setup, again_setup, closes_setup, aborts_setup}
 use Rattle.link_world.proofs.Peers.{on_segment_keeps, asked_keeps, on_tick_keeps, on_tick_closed}
 use Rattle.link_world.proofs.Harmless.{Harmless}
 use Rattle.link_world.proofs.Sides.{Apart, buried, get_buried, buried_sockets, addressed_is, addressed_finds, gone_is, buried_here, buried_elsewhere, put_apart, clean_before}
-use Rattle.std.specs.Option.{option_or}
 
 -- a side whose connection c is gone
 abbrev pub older : Side → Connection → Side
@@ -416,19 +415,9 @@ module _ (m : Meaning) (G : ℕ → Side → Connection → List Sent → Type 0
       passes_framed : (answer : Rattle.uip_node.specs.Events.Answer) → Framed (node_stepped w (passes w.node arrival answer))
       passes_framed answer = node_framed w peer (passes w.node arrival answer) (record { table = w.node.connections; gone = None; said = None }) g record { table = refl; gone = refl; sends = sends_none refl refl } (effect_none w peer None g (λ x y. absurd (cc)))
 
-      either_in : (a b : Option ℕ) (slot : ℕ) → ((i : ℕ) → a ≡ Some i → Inside w.node.connections i) → ((i : ℕ) → b ≡ Some i → Inside w.node.connections i) → option_or a b ≡ Some slot → Inside w.node.connections slot
-      either_in None b slot f h x = h slot x
-      either_in (Some i) b slot f h x = only_some (λ z. Inside w.node.connections z) i slot x (f i refl)
-
-      slot_in : (slot : ℕ) → slot_for_syn w.node.connections ≡ Some slot → Inside w.node.connections slot
-      slot_in slot x =
-          either_in (position (λ (c : Connection). not (is_live c.state)) w.node.connections) (position (λ (c : Connection). is_waiting c && eqb c.age (longest_wait w.node.connections)) w.node.connections) slot
-          (λ i h. position_in (λ (c : Connection). not (is_live c.state)) w.node.connections i h)
-          (λ i h. position_in (λ (c : Connection). is_waiting c && eqb c.age (longest_wait w.node.connections)) w.node.connections i h) x
-
       slot_framed : (slot : Option ℕ) → slot_for_syn w.node.connections ≡ slot → Free (client_sockets side) w.node.connections → is_plain_syn (seg e) ≡ true → Framed (node_stepped w (opens m w.node (client_sockets side) (seg e) slot))
       slot_framed None q f plain = passes_framed NoSlot
-      slot_framed (Some slot) q f plain = let i = slot_in slot q in opens_there slot i.item i.get f plain
+      slot_framed (Some slot) q f plain = let i = slot_inside w.node.connections slot q in opens_there slot i.item i.get f plain
 
       stranger_framed : Free (client_sockets side) w.node.connections → Framed (node_stepped w (from_stranger m served w.node (client_sockets side) (seg e)))
       unfolding from_stranger

@@ -17,6 +17,8 @@ use Rattle.uip_node.specs.Events.Event.{IpRefused, IcmpRefused, TcpRefused, Echo
 use Rattle.uip_node.specs.Events.Reply.{Echo, Tcp}
 use Rattle.uip_node.specs.Counters.{initial_number}
 use Rattle.uip_node.specs.Node.{AbstractNode, NodeStep, moment, happened, connection_in, slot_for_syn, opens_in, opens, from_stranger, arrives_at, remembers, step}
+use Rattle.uip_node.proofs.Finding.{syn_slot_within}
+use Rattle.uip_node.proofs.Stepping.{slice_get-element}
 use Rattle.link_client.specs.Client.{ClientStep}
 use Rattle.link_world.specs.World.{World, Side, Era, Content, client_sockets, buries, buries_in, addressed, posts, posts_reply, node_stepped, node_handles, with_client, with_side, posts_of_client, client_stepped}
 use Rattle.link_world.specs.declared.who.Who.{Who}
@@ -125,6 +127,12 @@ pub position_in : {X : Type 0} (p : X → Bool) (xs : List X) (i : ℕ) → posi
 position_in p xs i h =
     let r = placed_from p 0 xs i (sym (position_from-zero p xs) ∙ h) in
     record { item = r.item; get = ap (slice_get xs) (let e : i ≡ r.index = omega (arith, r.is) in e) ∙ r.get }
+
+-- the slot for a SYN is one of the ten
+pub slot_inside : (cs : List Connection) (slot : ℕ) → slot_for_syn cs ≡ Some slot → Inside cs slot
+slot_inside cs slot h =
+    let there = slice_get-element cs slot (syn_slot_within cs slot h) in
+    record { item = there.0; get = there.1 }
 
 module _ (m : Meaning) (steady : IsSteady m) where
   happened_fits : (n : AbstractNode) (event : Event) (slot : ℕ) (old : Connection) (o : Outcome) → FitNode n → FitOut o → FitStep (happened m n event slot old o)

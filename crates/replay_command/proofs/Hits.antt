@@ -23,19 +23,18 @@ use Rattle.tcp_machine.specs.declared.step.Step.{Step}
 use Rattle.uip_node.specs.Counters.{initial_number}
 use Rattle.uip_node.specs.Events.{Event}
 use Rattle.uip_node.specs.Events.Event.{IpRefused, IcmpRefused, TcpRefused, EchoAsked, Arrived, Overlong, Periodic}
-use Rattle.uip_node.specs.Node.{AbstractNode, NodeStep, arrives_at, connection_in, from_stranger, happened, is_waiting, longest_wait, moment, opening, opens, opens_in, run, slot_for_syn, step}
+use Rattle.uip_node.specs.Node.{AbstractNode, NodeStep, arrives_at, connection_in, from_stranger, happened, moment, opening, opens, opens_in, run, slot_for_syn, step}
 use Rattle.web_pages.specs.Pages.{is_page_whole, place_of}
 use Rattle.web_pages.specs.Requests.{Wanted, wanted}
 use Rattle.web_pages.specs.Requests.Wanted.{NotYet, Refused, Name}
 use Rattle.web_pages.specs.Serving.{is_served, no_hits}
 use Rattle.web_pages.specs.WebMeaning.{hit_at, hits_by, is_acknowledged, waits_for_capture, web_meaning}
 use Rattle.link_world.proofs.Basics.{choose, eqb-eq, only_some, wrap_wrap}
-use Rattle.link_world.proofs.FitWorlds.{Inside, position_in}
+use Rattle.link_world.proofs.FitWorlds.{Inside, position_in, slot_inside}
 use Rattle.link_world.proofs.Runs.{all_closed}
 use Rattle.link_world.proofs.Tables.{get_set, index_none, index_of, set_past}
 use Rattle.link_world.proofs.Tables.Written.{here, there}
 use Rattle.replay_command.specs.Hits.{HitsAreCounted, becomes_hit, hits_over, is_at, one_hits}
-use Rattle.std.specs.Option.{option_or}
 
 -- ---- one connection
 
@@ -349,19 +348,10 @@ module _ (files : List File) where
       fresh_by numbers Refused = refl
       fresh_by numbers (Name name) = refl
 
-  either_in : (cs : List Connection) (a b : Option ℕ) (slot : ℕ) → ((i : ℕ) → a ≡ Some i → Inside cs i) → ((i : ℕ) → b ≡ Some i → Inside cs i) → option_or a b ≡ Some slot → Inside cs slot
-  either_in cs None b slot f h x = h slot x
-  either_in cs (Some i) b slot f h x = only_some (λ z. Inside cs z) i slot x (f i refl)
-
-  syn_in : (cs : List Connection) (slot : ℕ) → slot_for_syn cs ≡ Some slot → Inside cs slot
-  syn_in cs slot x =
-      either_in cs (position (λ (c : Connection). not (is_live c.state)) cs) (position (λ (c : Connection). is_waiting c && eqb c.age (longest_wait cs)) cs) slot
-      (λ i h. position_in (λ (c : Connection). not (is_live c.state)) cs i h) (λ i h. position_in (λ (c : Connection). is_waiting c && eqb c.age (longest_wait cs)) cs i h) x
-
   stranger_stepped : (place : ℕ) (n : AbstractNode) (sockets : Sockets) (s : PlainSegment) → AllFresh n.connections → Stepped place n (from_stranger m is_served n sockets s).node
   unfolding from_stranger
   stranger_stepped place n sockets s f =
-      choose (λ (x : NodeStep). Stepped place n x.node) (is_plain_syn s && is_served sockets.own_port.0) _ _ (λ e. opened_stepped place n sockets s (slot_for_syn n.connections) (syn_in n.connections) f)
+      choose (λ (x : NodeStep). Stepped place n x.node) (is_plain_syn s && is_served sockets.own_port.0) _ _ (λ e. opened_stepped place n sockets s (slot_for_syn n.connections) (slot_inside n.connections) f)
       (λ e. choose (λ (x : NodeStep). Stepped place n x.node) (has_rst s.flags) _ _ (λ g. still place n _ refl refl f) (λ g. still place n _ refl refl f))
 
   -- the connection in a slot

@@ -10,13 +10,13 @@ use Rattle.app_events.specs.States.{is_live, is_time_wait}
 use Rattle.app_events.specs.declared.state.State.{State}
 use Rattle.app_events.specs.declared.state.State.TheVariants.{Closed, SynRcvd, Established, CloseWait, FinWait1, FinWait2, Closing, TimeWait, LastAck}
 use Rattle.tcp_table.specs.Connections.{is_at}
-use Rattle.tcp_table.specs.Slots.{has_waited, waited}
+use Rattle.tcp_table.specs.Slots.{has_waited, longest_wait, slot_by}
 use Rattle.tcp_table.specs.Slots as table
 use Rattle.tcp_table.specs.declared.conn.Conn.{Conn}
 use Rattle.tcp_machine.specs.Connection.{Connection, Sockets, is_resting, serves, same_sockets}
 use Rattle.tcp_machine.specs.Sound.{HasSoundNumbers, IsSound, LenFits}
 use Rattle.tcp_machine.specs.Stands.{ConnStands, IsLike}
-use Rattle.uip_node.specs.Node.{is_waiting, longest_wait, slot_for_syn}
+use Rattle.uip_node.specs.Node.{slot_for_syn}
 use Rattle.uip_node.specs.Slots.{AllKept, SlotsStand}
 use Rattle.std.specs.Option.{option_or}
 
@@ -128,17 +128,17 @@ if_waits : (b : Bool) (x y t : ℕ) → (b ≡ true → x ≡ y) → (b && (x ==
 if_waits true x y t h = ap (λ (n : ℕ). n == t) (h refl)
 if_waits false x y t h = refl
 
-waited_agrees : {A S : Type 0} (g : Ghosts A S) (k : g.Kept) (t : ℕ) (c : Conn A) (a : Connection) → ConnStands g k c a → IsSound g k c → has_waited t c ≡ (is_waiting a && (a.age == t))
+waited_agrees : {A S : Type 0} (g : Ghosts A S) (k : g.Kept) (t : ℕ) (c : Conn A) (a : Connection) → ConnStands g k c a → IsSound g k c → has_waited t c ≡ (is_time_wait a.state && (a.age == t))
 waited_agrees g k t c a h sound =
     ap (λ (s : State). is_time_wait s && (c.timer.count == t)) h.numbers.state
     ∙ if_waits (is_time_wait a.state) c.timer.count a.age t (age_counted g k c a h sound)
 
-greater : (b : Bool) (x y rest more : ℕ) → (b ≡ true → x ≡ y) → rest ≡ more → max (if b then x else 0) rest ≡ (if b then max y more else more)
+greater : (b : Bool) (x y rest more : ℕ) → (b ≡ true → x ≡ y) → rest ≡ more → max (if b then x else 0) rest ≡ max (if b then y else 0) more
 greater true x y rest more h e = let same = h refl in cc
-greater false x y rest more h e = omega (arith, e)
+greater false x y rest more h e = cc
 
 longest_agrees : {A S : Type 0} (g : Ghosts A S) (k : g.Kept) (cs : List (Conn A)) (abstracts : List Connection) → length cs ≡ length abstracts →
-    ((i : ℕ) (c : Conn A) (a : Connection) → slice_get cs i ≡ Some c → slice_get abstracts i ≡ Some a → ConnStands g k c a × IsSound g k c) → table.longest_rest cs ≡ longest_wait abstracts
+    ((i : ℕ) (c : Conn A) (a : Connection) → slice_get cs i ≡ Some c → slice_get abstracts i ≡ Some a → ConnStands g k c a × IsSound g k c) → table.longest_rest cs ≡ longest_wait (λ (a : Connection). a.state) (λ (a : Connection). a.age) abstracts
 longest_agrees g k [] [] e h = refl
 longest_agrees g k [] (a ∷ abstracts) e h = absurd (omega (arith, e))
 longest_agrees g k (c ∷ cs) [] e h = absurd (omega (arith, e))
@@ -146,26 +146,34 @@ longest_agrees g k (c ∷ cs) (a ∷ abstracts) e h =
     let here = h 0 c a refl refl in
     let rest = longest_agrees g k cs abstracts (omega (arith, e)) (λ i d b at there. h (suc i) d b at there) in
     ap (λ (s : State). max (if is_time_wait s then c.timer.count else 0) (table.longest_rest cs)) here.0.numbers.state
-    ∙ greater (is_time_wait a.state) c.timer.count a.age (table.longest_rest cs) (longest_wait abstracts) (age_counted g k c a here.0 here.1) rest
+    ∙ greater (is_time_wait a.state) c.timer.count a.age (table.longest_rest cs) (longest_wait (λ (a : Connection). a.state) (λ (a : Connection). a.age) abstracts) (age_counted g k c a here.0 here.1) rest
 
 pub slot_agrees : {A S : Type 0} (g : Ghosts A S) (k : g.Kept) (cs : List (Conn A)) (abstracts : List Connection) → SlotsStand g k cs abstracts → AllKept g k cs → table.slot_to_take cs ≡ slot_for_syn abstracts
 slot_agrees {A} g k cs abstracts h kept =
     let size : length cs ≡ length abstracts = sym h.same_length in
     let free = position_agrees (λ (c : Conn A). not (is_live c.state)) (λ (a : Connection). not (is_live a.state)) cs abstracts size (λ i c a at there. ap (λ (s : State). not (is_live s)) (h.each i c a at there).numbers.state) in
     let longest = longest_agrees g k cs abstracts size (λ i c a at there. (h.each i c a at there, (kept i c at).sound)) in
-    let waits = position_agrees (has_waited (table.longest_rest cs)) (λ (a : Connection). is_waiting a && (a.age == table.longest_rest cs)) cs abstracts size
+    let waits = position_agrees (has_waited (table.longest_rest cs)) (λ (a : Connection). is_time_wait a.state && (a.age == table.longest_rest cs)) cs abstracts size
     (λ i c a at there. waited_agrees g k (table.longest_rest cs) c a (h.each i c a at there) (kept i c at).sound) in
     ap (λ (o : Option ℕ). option_or o (position (has_waited (table.longest_rest cs)) cs)) free
-    ∙ ap (option_or (position (λ (a : Connection). not (is_live a.state)) abstracts)) (waits ∙ ap (λ (n : ℕ). position (λ (a : Connection). is_waiting a && (a.age == n)) abstracts) longest)
+    ∙ ap (option_or (position (λ (a : Connection). not (is_live a.state)) abstracts)) (waits ∙ ap (λ (n : ℕ). position (λ (a : Connection). is_time_wait a.state && (a.age == n)) abstracts) longest)
 
 option_or_some : (o other : Option ℕ) (i : ℕ) → option_or o other ≡ Some i → (o ≡ Some i) ⊎ (other ≡ Some i)
 option_or_some (Some j) other i h = inl h
 option_or_some None other i h = inr h
 
 -- a slot that is found is one of the table's
-pub slot_within : {A : Type 0} (cs : List (Conn A)) (i : ℕ) → table.slot_to_take cs ≡ Some i → i < length cs
-slot_within {A} cs i h =
-    elim (option_or_some (position (λ (c : Conn A). not (is_live c.state)) cs) (position (has_waited (table.longest_rest cs)) cs) i h) [
-      | inl e ↦ (found (λ (c : Conn A). not (is_live c.state)) cs i e).0
-      | inr e ↦ (found (has_waited (table.longest_rest cs)) cs i e).0
+within : {C : Type 0} (state : C → State) (ticks : C → ℕ) (cs : List C) (i : ℕ) → slot_by state ticks cs ≡ Some i → i < length cs
+within {C} state ticks cs i h =
+    let free : C → Bool = λ c. not (is_live (state c)) in
+    let rested : C → Bool = λ c. is_time_wait (state c) && (ticks c == longest_wait state ticks cs) in
+    elim (option_or_some (position free cs) (position rested cs) i h) [
+      | inl e ↦ (found free cs i e).0
+      | inr e ↦ (found rested cs i e).0
     ]
+
+pub slot_within : {A : Type 0} (cs : List (Conn A)) (i : ℕ) → table.slot_to_take cs ≡ Some i → i < length cs
+slot_within cs i h = within (λ c. c.state) (λ c. c.timer.count) cs i h
+
+pub syn_slot_within : (cs : List Connection) (i : ℕ) → slot_for_syn cs ≡ Some i → i < length cs
+syn_slot_within cs i h = within (λ c. c.state) (λ c. c.age) cs i h

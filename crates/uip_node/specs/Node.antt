@@ -1,11 +1,10 @@
 -- The abstract node, and its step at each event.
-use Rattle.std.specs.Prelude.{ℕ, ◌==◌, ◌&&◌, Bool, false, not, max, List, [], ◌∷◌, replicate, position, slice_set, slice_index_or, Option, Some, None, if◌then◌else◌}
+use Rattle.std.specs.Prelude.{ℕ, ◌&&◌, Bool, false, not, List, [], ◌∷◌, replicate, position, slice_set, slice_index_or, Option, Some, None, if◌then◌else◌}
 use Rattle.uip_wire.specs.declared.addr.Addr.{Addr}
 use Rattle.tcp_segment.specs.Segments.{PlainSegment, has_rst}
 use Rattle.app_events.specs.Part.{Meaning}
 use Rattle.app_events.specs.declared.now.Now.{Now}
-use Rattle.app_events.specs.States.{is_time_wait}
-use Rattle.std.specs.Option.{option_or}
+use Rattle.tcp_table.specs.Slots.{slot_by}
 use Rattle.tcp_machine.specs.Connection.{Sockets, Connection, closed, is_live, serves, rows_from}
 use Rattle.tcp_machine.specs.Segments.{is_plain_syn, reset_to_none, segment_of, is_again}
 use Rattle.tcp_machine.specs.Ask.{Outcome, asked}
@@ -72,16 +71,9 @@ happened m n event slot old o =
 abbrev pub connection_in : ℕ → AbstractNode → Connection
 connection_in slot n = slice_index_or n.connections slot closed
 
--- A plain SYN takes the first CLOSED slot, else the slot that has been in TIME-WAIT the longest, the first among equals.
-abbrev pub is_waiting : Connection → Bool
-is_waiting c = is_time_wait c.state
-
-abbrev pub longest_wait : List Connection → ℕ
-longest_wait [] = 0
-longest_wait (c ∷ cs) = if is_waiting c then max c.age (longest_wait cs) else longest_wait cs
-
+-- the slot that a plain SYN takes, by the states and the ages of the connections
 abbrev pub slot_for_syn : List Connection → Option ℕ
-slot_for_syn cs = option_or (position (λ c. not (is_live c.state)) cs) (position (λ c. is_waiting c && (c.age == longest_wait cs)) cs)
+slot_for_syn cs = slot_by (λ c. c.state) (λ c. c.age) cs
 
 -- a connection is opened in a slot; the one that waited there is gone
 unfoldable pub opens_in : Meaning → AbstractNode → Sockets → PlainSegment → ℕ → NodeStep

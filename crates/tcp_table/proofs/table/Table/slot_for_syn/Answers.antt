@@ -1,0 +1,8 @@
+use Rattle.std.proofs.Common.{ap, ◌∙◌}
+use Rattle.tcp_table.specs.Connections.{Connections}
+use Rattle.tcp_table.specs.Slots.{slot_to_take}
+use Rattle.tcp_table.proofs.table.Table.slot_for_syn.Goals as goal
+
+-- src/table.rt:55:5
+pub returns : goal.returns
+returns g c = c.slot_in.ensures ∙ ap slot_to_take c.deref.ensures.value ∙ ap (λ (t : Connections _). slot_to_take t.conns) c.self.view_is
