@@ -127,9 +127,8 @@ sends_next owed c =
 
 -- what was out of the FIN is acknowledged
 abbrev pub fin_heard : FinAt → FinAt
-fin_heard FinAt.NotSent = FinAt.NotSent
 fin_heard FinAt.Out = FinAt.Acked
-fin_heard FinAt.Acked = FinAt.Acked
+fin_heard fin = fin
 
 -- what is outstanding is acknowledged where the number is its next own one
 abbrev pub hears_ack : AbstractClient → PlainSegment → AbstractClient
@@ -142,11 +141,7 @@ hears_ack c s =
 abbrev pub after_fin : ClientState → ClientState
 after_fin Opened = Closed
 after_fin Closing = Ended
-after_fin Idle = Idle
-after_fin Opening = Opening
-after_fin Closed = Closed
-after_fin Ended = Ended
-after_fin Reset = Reset
+after_fin state = state
 
 -- the text of a segment at the expected number, and then its FIN
 abbrev pub takes_text : AbstractClient → PlainSegment → AbstractClient
@@ -171,10 +166,7 @@ abbrev pub is_reset_by : ClientState → AbstractClient → PlainSegment → Boo
 is_reset_by Opening c s = has_ack s.flags && (s.ack == wrap (own_first c + 1))
 is_reset_by Opened c s = s.seq == c.expected
 is_reset_by Closing c s = s.seq == c.expected
-is_reset_by Idle c s = false
-is_reset_by Closed c s = false
-is_reset_by Ended c s = false
-is_reset_by Reset c s = false
+is_reset_by _ c s = false
 
 unfoldable pub takes_by : ClientState → AbstractClient → PlainSegment → ClientStep
 takes_by Idle c s = keeps c
@@ -182,10 +174,7 @@ takes_by Reset c s = keeps c
 takes_by Opening c s =
     if has_syn s.flags && (has_ack s.flags && (s.ack == wrap (own_first c + 1))) then sends_next true (opened_by c s)
     else keeps c
-takes_by Opened c s = takes_in_order (hears_ack c s) s
-takes_by Closing c s = takes_in_order (hears_ack c s) s
-takes_by Closed c s = takes_in_order (hears_ack c s) s
-takes_by Ended c s = takes_in_order (hears_ack c s) s
+takes_by _ c s = takes_in_order (hears_ack c s) s
 
 -- the step on a segment of the server
 unfoldable pub client_takes : AbstractClient → PlainSegment → ClientStep

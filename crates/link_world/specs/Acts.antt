@@ -92,11 +92,9 @@ named_fault w (Act.Opens number) = if is_idle (state_at (numbered w.sides number
 named_fault w (Act.Again number) = if_idle (numbered w.sides number)
 named_fault w (Act.Closes number) = if_idle (numbered w.sides number)
 named_fault w (Act.Aborts number) = if_idle (numbered w.sides number)
-named_fault w (Act.Window number window) = None
-named_fault w (Act.Ping source) = None
 named_fault w (Act.Give k) = no_datagram (numbered w.sent k)
 named_fault w (Act.Damage k at mask) = no_byte w at (numbered w.sent k)
-named_fault w Act.Tick = None
+named_fault w _ = None
 
 abbrev pub or_full : World → Act → Option StepFault → Option StepFault
 or_full w act (Some fault) = Some fault

@@ -7,7 +7,7 @@ use Rattle.icmp_echo.specs.Echo.{echo_reply}
 use Rattle.tcp_segment.specs.Segments.{PlainSegment, datagram_bytes}
 use Rattle.tcp_machine.specs.Connection.{Sockets, same_sockets}
 use Rattle.uip_node.specs.Events.{Event}
-use Rattle.uip_node.specs.Events.Event.{IpRefused, IcmpRefused, TcpRefused, EchoAsked, Arrived, Overlong, Periodic}
+use Rattle.uip_node.specs.Events.Event.{Arrived}
 use Rattle.uip_node.specs.Edge.{event_of, datagram_to}
 use Rattle.link_client.specs.declared.setup.Setup.{Setup}
 use Rattle.link_world.specs.World.{World, Side, Sent, Content, client_sockets, numbered}
@@ -49,12 +49,7 @@ changed bytes at mask = slice_set bytes at (bit_xor (slice_index bytes at) mask)
 -- What a client hears in an event of its address: a segment of its server, or nothing.
 abbrev pub heard_by : Setup → Event → Option PlainSegment
 heard_by setup (Arrived sockets s) = if same_sockets sockets (server_of setup) then Some s else None
-heard_by setup (IpRefused fate) = None
-heard_by setup (IcmpRefused fate) = None
-heard_by setup (TcpRefused fate) = None
-heard_by setup (EchoAsked datagram) = None
-heard_by setup Overlong = None
-heard_by setup (Periodic place) = None
+heard_by setup _ = None
 
 abbrev pub hears_datagram : Setup → List ℕ → Option PlainSegment
 hears_datagram setup bytes = heard_by setup (event_of setup.addr bytes)

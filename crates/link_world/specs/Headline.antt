@@ -9,7 +9,7 @@ use Rattle.app_events.specs.Laws.{IsPrefixOf}
 use Rattle.app_events.specs.Pages.{Pages, IsPaged, IsMoment, IsWord, IsByte, IsAddr}
 use Rattle.link_client.specs.Client.{AbstractClient, has_closed}
 use Rattle.app_events.specs.declared.state.State.{State}
-use Rattle.app_events.specs.declared.state.State.TheVariants.{SynRcvd, Established, CloseWait, FinWait1, Closing, LastAck}
+use Rattle.app_events.specs.declared.state.State.TheVariants.{Closed, FinWait2, TimeWait}
 use Rattle.tcp_machine.specs.Connection.{Connection, is_live, count_of, tries_of}
 use Rattle.tcp_machine.specs.Segments.{has_place, segment_of}
 use Rattle.tcp_machine.specs.OnTick.{limit_of, outstanding, grows_older}
@@ -214,13 +214,10 @@ OneSegment =
 
 -- the states in which something may be outstanding
 abbrev pub may_wait : State → Bool
-may_wait SynRcvd = true
-may_wait Established = true
-may_wait CloseWait = true
-may_wait FinWait1 = true
-may_wait Closing = true
-may_wait LastAck = true
-may_wait _ = false
+may_wait Closed = false
+may_wait FinWait2 = false
+may_wait TimeWait = false
+may_wait _ = true
 
 -- Something is outstanding, the timer has run out, and retransmissions are left.
 pub record IsExpired (c : Connection) : Type 0 where

@@ -63,12 +63,7 @@ ask m now fresh c numbers =
 -- The application is asked where a step says so. The moment is that of the connection as the step left it.
 abbrev pub asked_for : Meaning → (Connection → Now) → Outcome → Step → Outcome
 asked_for m moment o (Step.Ask fresh) = ask m (moment o.connection) fresh o.connection o.numbers
-asked_for m moment o Step.Drop = o
-asked_for m moment o Step.Ack = o
-asked_for m moment o (Step.SynAck again) = o
-asked_for m moment o (Step.Text again) = o
-asked_for m moment o (Step.Fin again) = o
-asked_for m moment o Step.Reset = o
+asked_for m moment o _ = o
 
 abbrev pub asked : Meaning → (Connection → Now) → Outcome → Outcome
 asked m moment o = asked_for m moment o o.step

@@ -42,13 +42,7 @@ accept first sockets s numbers = leaves (accepted first sockets s) numbers (Step
 abbrev pub told_end : Meaning → Ending → State → Part → List ℕ → List ℕ
 told_end m how Established p numbers = m.ended numbers p how
 told_end m how CloseWait p numbers = m.ended numbers p how
-told_end m how Closed p numbers = numbers
-told_end m how SynRcvd p numbers = numbers
-told_end m how FinWait1 p numbers = numbers
-told_end m how FinWait2 p numbers = numbers
-told_end m how Closing p numbers = numbers
-told_end m how TimeWait p numbers = numbers
-told_end m how LastAck p numbers = numbers
+told_end m how _ p numbers = numbers
 
 -- Check 2: what stands in its order stands at another number than the expected one.
 abbrev pub is_out_of_order : Connection → PlainSegment → Bool

@@ -31,9 +31,7 @@ outstanding again CloseWait = Step.Text again
 outstanding again FinWait1 = Step.Fin again
 outstanding again Closing = Step.Fin again
 outstanding again LastAck = Step.Fin again
-outstanding again Closed = Step.Drop
-outstanding again FinWait2 = Step.Drop
-outstanding again TimeWait = Step.Drop
+outstanding again _ = Step.Drop
 
 abbrev pub grows_older : Connection → Connection
 grows_older c = record c { age = c.age + 1 }

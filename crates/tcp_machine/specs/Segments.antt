@@ -49,10 +49,7 @@ segment_of m c (Step.Ask fresh) = None
 
 -- it sends again what is outstanding
 abbrev pub is_again : Step → Bool
-is_again Step.Drop = false
-is_again Step.Ack = false
 is_again (Step.SynAck again) = again
 is_again (Step.Text again) = again
 is_again (Step.Fin again) = again
-is_again Step.Reset = false
-is_again (Step.Ask fresh) = false
+is_again _ = false

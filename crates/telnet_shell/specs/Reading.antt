@@ -76,13 +76,7 @@ line_after line (Byte byte ∷ more) =
 
 abbrev pub is_quit : Command → Bool
 is_quit Quit = true
-is_quit (Refuse verb option) = false
-is_quit Help = false
-is_quit Stats = false
-is_quit Conns = false
-is_quit Ticks = false
-is_quit Blank = false
-is_quit Other = false
+is_quit _ = false
 
 -- nothing behind `quit` counts
 abbrev pub until_quit : List Command → List Command

@@ -16,21 +16,13 @@ abbrev pub function_of : Command → Function
 function_of Stats = function.NetStats
 function_of Conns = function.TcpConnections
 function_of Ticks = function.Ticks
-function_of (Refuse verb option) = function.Unknown
-function_of Help = function.Unknown
-function_of Quit = function.Unknown
-function_of Blank = function.Unknown
-function_of Other = function.Unknown
+function_of _ = function.Unknown
 
 abbrev pub needs_capture : Command → Bool
 needs_capture Stats = true
 needs_capture Conns = true
 needs_capture Ticks = true
-needs_capture (Refuse verb option) = false
-needs_capture Help = false
-needs_capture Quit = false
-needs_capture Blank = false
-needs_capture Other = false
+needs_capture _ = false
 
 -- what a command says with its capture
 abbrev pub said_with : Command → Capture → List ℕ

@@ -79,19 +79,15 @@ IsReadAs bytes (BadLength records) = (order : ByteOrder) × (rest : List ℕ) ×
 
 -- what is wrong with the bytes so far, and in which record: the header has number 0
 abbrev pub fault_in : Reading → Option (ℕ × CaptureWhy)
-fault_in InHeader = None
 fault_in BadHeader = Some (0, Head)
-fault_in (Whole records) = None
-fault_in (InRecord records) = None
 fault_in (BadLength records) = Some (length records + 1, Length)
+fault_in _ = None
 
 -- the record that an end of the bytes cuts
 abbrev pub cut_in : Reading → Option ℕ
 cut_in InHeader = Some 0
-cut_in BadHeader = None
-cut_in (Whole records) = None
 cut_in (InRecord records) = Some (length records + 1)
-cut_in (BadLength records) = None
+cut_in _ = None
 
 -- the whole records
 abbrev pub captured_in : Reading → List Captured

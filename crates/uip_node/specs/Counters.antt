@@ -16,13 +16,9 @@ times test (p ∷ past) = if test p then times test past + 1 else times test pas
 
 -- What a datagram was, as the group of counters that it raises.
 abbrev pub is_datagram : Event → Bool
-is_datagram (IpRefused fate) = true
-is_datagram (IcmpRefused fate) = true
-is_datagram (TcpRefused fate) = true
-is_datagram (EchoAsked datagram) = true
-is_datagram (Arrived sockets segment) = true
 is_datagram Overlong = false
 is_datagram (Periodic place) = false
+is_datagram _ = true
 
 abbrev pub is_overlong : Event → Bool
 is_overlong Overlong = true

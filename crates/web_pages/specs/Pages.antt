@@ -4,7 +4,7 @@ use Rattle.std.specs.Prelude.{ℕ, Bool, true, false, List, [], ◌∷◌, ◌++
 use Rattle.std.specs.List.{slice_index_or}
 use Rattle.std.specs.Str.{bytes_eq}
 use Rattle.script_lang.specs.declared.function.Function.{Function}
-use Rattle.script_lang.specs.declared.function.Function.TheVariants.{FileStats, TcpConnections, NetStats, Ticks, Unknown}
+use Rattle.script_lang.specs.declared.function.Function.TheVariants.{Unknown}
 use Rattle.site_image.specs.Files.{File}
 use Rattle.generators.specs.Captures.{capture_of}
 use Rattle.generators.specs.Text.{capture_text}
@@ -17,11 +17,8 @@ use Rattle.web_pages.specs.Pieces.Say.{Plain, Made}
 
 -- a call of an unknown function says nothing and takes no capture
 abbrev pub takes_capture : Function → Bool
-takes_capture FileStats = true
-takes_capture TcpConnections = true
-takes_capture NetStats = true
-takes_capture Ticks = true
 takes_capture Unknown = false
+takes_capture _ = true
 
 -- the number of a file among the numbers of all files, 0 where there is no file
 abbrev pub number_at : List ℕ → Option ℕ → ℕ

@@ -7,7 +7,7 @@ use Rattle.app_events.specs.declared.want.Want.{Want}
 use Rattle.app_events.specs.declared.want.Want.TheVariants.{Nothing, Send, Close, Abort}
 use Rattle.site_image.specs.Files.{File}
 use Rattle.web_pages.specs.Requests.{Wanted, wanted}
-use Rattle.web_pages.specs.Requests.Wanted.{NotYet, Refused, Name}
+use Rattle.web_pages.specs.Requests.Wanted.{NotYet, Name}
 use Rattle.web_pages.specs.Pages.{page, is_page_whole, place_of}
 use Rattle.web_pages.specs.declared.TheConstants.{MOST_POLLS, LARGEST_SEGMENT}
 
@@ -18,11 +18,8 @@ hit_at hits (Some place) = slice_set hits place ((slice_index_or hits place 0 + 
 
 -- the hits where what is decided was open before: the file that is asked for is hit
 abbrev pub hits_by : List File → List ℕ → Wanted → Wanted → List ℕ
-hits_by files hits NotYet NotYet = hits
-hits_by files hits NotYet Refused = hits
 hits_by files hits NotYet (Name name) = hit_at hits (place_of files name)
-hits_by files hits Refused after = hits
-hits_by files hits (Name name) after = hits
+hits_by files hits _ _ = hits
 
 -- all of the page so far is acknowledged
 abbrev pub is_acknowledged : List File → Part → Bool
@@ -30,9 +27,8 @@ is_acknowledged files part = part.acked == length (page files part.heard part.ca
 
 -- a call that has no capture stops the page of a request that is decided
 abbrev pub waits_for_capture : List File → Wanted → Part → Bool
-waits_for_capture files NotYet part = false
-waits_for_capture files Refused part = false
 waits_for_capture files (Name name) part = not (is_page_whole files part.heard part.captures)
+waits_for_capture files _ part = false
 
 -- what is left of the page so far
 abbrev pub left_of : List File → Part → ℕ
