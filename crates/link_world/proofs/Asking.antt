@@ -1,11 +1,12 @@
 -- How far a client's request has come: what its steps add to what it said, and what a step of the connection takes of it. No
 -- premise on the other side.
-use Rattle.std.proofs.Common.{◌≡◌, ℕ, ◌+◌, ◌-◌, ◌<◌, ◌≤◌, min, Bool, true, false, not, ◌&&◌, ◌||◌, ◌⊎◌, inl, inr, List, length, drop, refl, sym, ap, ◌∙◌, arith, Some, eqb, ltb, length-take}
+use Rattle.std.proofs.Common.{◌≡◌, ℕ, ◌+◌, ◌-◌, ◌<◌, ◌≤◌, min, Bool, true, false, not, ◌&&◌, ◌||◌, ◌⊎◌, inl, inr, List, length, length-append, drop, refl, sym, ap, ◌∙◌, arith, Some, eqb, ltb, length-take}
 use Rattle.uip_wire.specs.Numbers.{wrap}
 use Rattle.tcp_segment.specs.Segments.{PlainSegment, has_syn, has_fin, has_rst, has_ack}
 use Rattle.rexmit_timer.specs.Ages.{beat_at}
 use Rattle.rexmit_timer.specs.declared.timer.Beat.{Beat}
-use Rattle.app_events.specs.Part.{Meaning}
+use Rattle.app_events.specs.Part.{Part, After, Meaning}
+use Rattle.app_events.specs.Pages.{Pages, IsPaged}
 use Rattle.app_events.specs.declared.now.Now.{Now}
 use Rattle.app_events.specs.declared.state.State.{State}
 use Rattle.app_events.specs.declared.state.State.TheVariants.{Closed, SynRcvd, Established, CloseWait, FinWait1, FinWait2, Closing, TimeWait, LastAck}
@@ -14,7 +15,7 @@ use Rattle.app_events.specs.declared.want.Want.TheVariants.{Nothing, Send, Close
 use Rattle.tcp_machine.specs.Connection.{Connection, rcv_nxt}
 use Rattle.tcp_machine.specs.Segments.{has_place, segment_of}
 use Rattle.tcp_machine.specs.Ask.{Outcome, peer_has_closed, idles, does_as_wanted, asked_for, asked}
-use Rattle.tcp_machine.specs.OnSegment.{is_out_of_order, is_acked, has_text, in_established, peer_closes, goes_on, fin_acked, fin_waits, in_fin_wait_2, by_state, on_segment}
+use Rattle.tcp_machine.specs.OnSegment.{is_out_of_order, is_acked, has_text, hears, connects, in_established, peer_closes, goes_on, fin_acked, fin_waits, in_fin_wait_2, by_state, on_segment}
 use Rattle.tcp_machine.specs.OnTick.{limit_of, by_beat, rests_on, rest_time, ticks_established, tick_by, on_tick}
 use Rattle.tcp_machine.specs.declared.step.Step.{Step}
 use Rattle.link_client.specs.Client.{AbstractClient, ClientStep, sends_next, has_outstanding, is_receiving, may_finish, fin_sent, fin_out, fin_heard, own_request, ack_of, syn_of, own_fin, own_reset, keeps, steps_with, hears_ack, takes_in_order, takes_text, takes_by, client_takes, is_reset_by, opened_by, opens_by, again_by, closes_by, aborts_by, one_if, next_own, own_first, tells_window}
@@ -23,18 +24,29 @@ use Rattle.link_client.specs.declared.client_state.ClientState.TheVariants as Is
 use Rattle.link_client.specs.declared.fin_at.FinAt.{FinAt}
 use Rattle.link_world.proofs.Basics.{choose, and_true, and_false, only_some, eqb-eq, not-false, not-true, ltb-zero, same_place}
 use Rattle.link_world.proofs.Good.{Steady, is_early}
+use Rattle.link_world.proofs.Steps.{hears_is}
+
+-- how many bytes of its request the client has sent
+abbrev pub asked_bytes : AbstractClient → ℕ
+asked_bytes c = c.acked + c.out
 
 -- how many of its numbers after the SYN the client has used: request bytes, and its FIN
 abbrev pub used : AbstractClient → ℕ
-used c = c.acked + c.out + one_if (fin_sent c.fin)
+used c = asked_bytes c + one_if (fin_sent c.fin)
 
--- request bytes and FIN of a segment end where the client has used its numbers
+-- a segment at this place has no more text than the client has sent, and ends where the client has used its numbers
+pub record EndsAt (c : AbstractClient) (s : PlainSegment) (at : ℕ) : Type 0 where
+  pub text : at + length s.text ≤ asked_bytes c
+  pub all : at + length s.text + one_if (has_fin s.flags) ≤ used c
+
+-- request bytes and FIN of a segment end in what the client has sent
 abbrev pub EndsIn : AbstractClient → PlainSegment → Type 0
-EndsIn c s = has_rst s.flags ≡ false → has_syn s.flags ≡ false → has_place s ≡ true → (at : ℕ) → at < 4294967296 → s.seq ≡ wrap (own_first c + 1 + at) → at + length s.text + one_if (has_fin s.flags) ≤ used c
+EndsIn c s = has_rst s.flags ≡ false → has_syn s.flags ≡ false → has_place s ≡ true → (at : ℕ) → at < 4294967296 → s.seq ≡ wrap (own_first c + 1 + at) → EndsAt c s at
 
 -- a step of the client's own
 pub record Asks (c : AbstractClient) (t : ClientStep) : Type 0 where
   pub more : used c ≤ used t.client
+  pub further : asked_bytes c ≤ asked_bytes t.client
   pub acked : t.client.acked ≡ c.acked
   pub first : own_first t.client ≡ own_first c
   pub early : is_early t.client.state ≡ true → used t.client ≡ used c
@@ -43,6 +55,7 @@ pub record Asks (c : AbstractClient) (t : ClientStep) : Type 0 where
 -- a step on a segment, which may acknowledge what is outstanding
 pub record AsksOn (c : AbstractClient) (s : PlainSegment) (t : ClientStep) : Type 0 where
   pub more : used c ≤ used t.client
+  pub further : asked_bytes c ≤ asked_bytes t.client
   pub acked : (t.client.acked ≡ c.acked) ⊎ ((has_rst s.flags ≡ false) × (has_ack s.flags ≡ true) × (s.ack ≡ next_own c) × (t.client.acked ≡ c.acked + c.out))
   pub first : own_first t.client ≡ own_first c
   pub early : is_early t.client.state ≡ true → used t.client ≡ used c
@@ -55,14 +68,14 @@ request_ends c st nr ns p at low e =
     let short = st.short in
     let here : at ≡ c.acked = same_place (own_first c + 1) at c.acked low (omega (arith, fits, short)) (sym e) in
     let size = length-take c.out (drop c.acked c.request) in
-    omega (arith, here, size)
+    record { text = omega (arith, here, size); all = omega (arith, here, size) }
 
 fin_ends : (c : AbstractClient) → fin_sent c.fin ≡ true → Steady c → EndsIn c (own_fin c)
 fin_ends c f st nr ns p at low e =
     let fits = st.out_fits in
     let short = st.short in
     let here : at ≡ c.acked + c.out = same_place (own_first c + 1) at (c.acked + c.out) low (omega (arith, fits, short)) (sym e ∙ ap wrap (let z : own_first c + 1 + c.acked + c.out ≡ own_first c + 1 + (c.acked + c.out) = omega arith in z)) in
-    omega (arith, here, ap one_if f)
+    record { text = omega (arith, here); all = omega (arith, here, ap one_if f) }
 
 nothing_waits : (c : AbstractClient) → not (has_outstanding c) ≡ true → c.out ≡ 0
 nothing_waits c e = none (ltb 0 c.out) (fin_out c.fin) refl (not-true (has_outstanding c) e)
@@ -98,6 +111,7 @@ asks_next owed c =
     let d : AbstractClient = record c { out = min c.setup.seg (length c.request - c.acked) } in
     record {
       more = omega (arith, none);
+      further = omega (arith, none);
       acked = refl;
       first = refl;
       early = λ y. absurd (receiving_late c.state (and_true (is_receiving c.state) (ltb c.acked (length c.request)) both.1).0 y);
@@ -110,28 +124,30 @@ asks_next owed c =
     let d : AbstractClient = record c { fin = FinAt.Out } in
     record {
       more = omega (arith, ap one_if unsent);
+      further = omega arith;
       acked = refl;
       first = refl;
       early = λ y. absurd (finishing_late c.state more.0 y);
       ends = λ st x p. only_some (λ (y : PlainSegment). EndsIn d y) (own_fin c) x p (fin_ends d refl st);
     }))
     (λ f. choose (λ x. Asks c x) owed _ _
-    (λ g. record { more = omega arith; acked = refl; first = refl; early = λ y. refl; ends = λ st x p. only_some (λ (y : PlainSegment). EndsIn c y) (ack_of c) x p (λ nr ns z. absurd (cc)) })
-    (λ g. record { more = omega arith; acked = refl; first = refl; early = λ y. refl; ends = λ st x p. absurd (cc) })))
+    (λ g. record { more = omega arith; further = omega arith; acked = refl; first = refl; early = λ y. refl; ends = λ st x p. only_some (λ (y : PlainSegment). EndsIn c y) (ack_of c) x p (λ nr ns z. absurd (cc)) })
+    (λ g. record { more = omega arith; further = omega arith; acked = refl; first = refl; early = λ y. refl; ends = λ st x p. absurd (cc) })))
 
 -- from a client that has used the same
-as_asked : (c d : AbstractClient) (s : PlainSegment) (t : ClientStep) → used d ≡ used c → own_first d ≡ own_first c →
+as_asked : (c d : AbstractClient) (s : PlainSegment) (t : ClientStep) → used d ≡ used c → asked_bytes d ≡ asked_bytes c → own_first d ≡ own_first c →
     (d.acked ≡ c.acked) ⊎ ((has_rst s.flags ≡ false) × (has_ack s.flags ≡ true) × (s.ack ≡ next_own c) × (d.acked ≡ c.acked + c.out)) → Asks d t → AsksOn c s t
-as_asked c d s t u f a g = record {
+as_asked c d s t u b f a g = record {
   more = omega (arith, u, g.more);
+  further = omega (arith, b, g.further);
   early = λ y. g.early y ∙ u;
   acked = elim a [ inl e ↦ inl (g.acked ∙ e) | inr e ↦ inr (e.0, e.1, e.2, g.acked ∙ e.3) ];
   first = g.first ∙ f;
   ends = g.ends;
 }
 
-keeps_asked : (c d : AbstractClient) (s : PlainSegment) → used d ≡ used c → own_first d ≡ own_first c → d.acked ≡ c.acked → AsksOn c s (keeps d)
-keeps_asked c d s u f a = record { more = omega (arith, u); acked = inl a; first = f; early = λ y. u; ends = λ st x p. absurd (cc) }
+keeps_asked : (c d : AbstractClient) (s : PlainSegment) → used d ≡ used c → asked_bytes d ≡ asked_bytes c → own_first d ≡ own_first c → d.acked ≡ c.acked → AsksOn c s (keeps d)
+keeps_asked c d s u b f a = record { more = omega (arith, u); further = omega (arith, b); acked = inl a; first = f; early = λ y. u; ends = λ st x p. absurd (cc) }
 
 fin_stays : (f : FinAt) → fin_sent (fin_heard f) ≡ fin_sent f
 fin_stays FinAt.NotSent = refl
@@ -140,6 +156,7 @@ fin_stays FinAt.Acked = refl
 
 record HasHeard (c : AbstractClient) (s : PlainSegment) (d : AbstractClient) : Type 0 where
   used_is : used d ≡ used c
+  asked_is : asked_bytes d ≡ asked_bytes c
   first : own_first d ≡ own_first c
   acked : (d.acked ≡ c.acked) ⊎ ((has_ack s.flags ≡ true) × (s.ack ≡ next_own c) × (d.acked ≡ c.acked + c.out))
 
@@ -148,8 +165,8 @@ has_heard c s =
     choose (λ d. HasHeard c s d) (has_ack s.flags && (has_outstanding c && eqb s.ack (next_own c))) _ _
     (λ e. (let a = and_true (has_ack s.flags) (has_outstanding c && eqb s.ack (next_own c)) e in
     let b = and_true (has_outstanding c) (eqb s.ack (next_own c)) a.1 in
-    record { used_is = omega (arith, ap one_if (fin_stays c.fin)); first = refl; acked = inr (a.0, eqb-eq s.ack (next_own c) b.1, refl) }))
-    (λ e. record { used_is = refl; first = refl; acked = inl refl })
+    record { used_is = omega (arith, ap one_if (fin_stays c.fin)); asked_is = omega arith; first = refl; acked = inr (a.0, eqb-eq s.ack (next_own c) b.1, refl) }))
+    (λ e. record { used_is = refl; asked_is = refl; first = refl; acked = inl refl })
 
 in_order_asks : (c : AbstractClient) (s : PlainSegment) → has_rst s.flags ≡ false → AsksOn c s (takes_in_order (hears_ack c s) s)
 unfolding takes_in_order
@@ -158,20 +175,20 @@ in_order_asks c s nr =
     let h = has_heard c s in
     let acked = elim h.acked as (λ _. (d.acked ≡ c.acked) ⊎ ((has_rst s.flags ≡ false) × (has_ack s.flags ≡ true) × (s.ack ≡ next_own c) × (d.acked ≡ c.acked + c.out))) [ inl e ↦ inl e | inr e ↦ inr (nr, e.0, e.1, e.2) ] in
     let same : used d ≡ used c = h.used_is in
-    choose (λ x. AsksOn c s x) (has_syn s.flags) _ _ (λ e. as_asked c d s (sends_next true d) same h.first acked (asks_next true d))
-    (λ e. choose (λ x. AsksOn c s x) (not (has_place s)) _ _ (λ f. as_asked c d s (sends_next false d) same h.first acked (asks_next false d))
+    choose (λ x. AsksOn c s x) (has_syn s.flags) _ _ (λ e. as_asked c d s (sends_next true d) same h.asked_is h.first acked (asks_next true d))
+    (λ e. choose (λ x. AsksOn c s x) (not (has_place s)) _ _ (λ f. as_asked c d s (sends_next false d) same h.asked_is h.first acked (asks_next false d))
     (λ f. choose (λ x. AsksOn c s x) (eqb s.seq d.expected && is_receiving d.state) _ _
-    (λ g. as_asked c (takes_text d s) s (sends_next true (takes_text d s)) same h.first acked (asks_next true (takes_text d s)))
-    (λ g. as_asked c d s (sends_next true d) same h.first acked (asks_next true d))))
+    (λ g. as_asked c (takes_text d s) s (sends_next true (takes_text d s)) same h.asked_is h.first acked (asks_next true (takes_text d s)))
+    (λ g. as_asked c d s (sends_next true d) same h.asked_is h.first acked (asks_next true d))))
 
 takes_asks : (st : ClientState) (c : AbstractClient) (s : PlainSegment) → has_rst s.flags ≡ false → AsksOn c s (takes_by st c s)
 unfolding takes_by
-takes_asks Is.Idle c s nr = keeps_asked c c s refl refl refl
-takes_asks Is.Reset c s nr = keeps_asked c c s refl refl refl
+takes_asks Is.Idle c s nr = keeps_asked c c s refl refl refl refl
+takes_asks Is.Reset c s nr = keeps_asked c c s refl refl refl refl
 takes_asks Is.Opening c s nr =
     choose (λ x. AsksOn c s x) (has_syn s.flags && (has_ack s.flags && eqb s.ack (wrap (own_first c + 1)))) _ _
-    (λ e. as_asked c (opened_by c s) s (sends_next true (opened_by c s)) refl refl (inl refl) (asks_next true (opened_by c s)))
-    (λ e. keeps_asked c c s refl refl refl)
+    (λ e. as_asked c (opened_by c s) s (sends_next true (opened_by c s)) refl refl refl (inl refl) (asks_next true (opened_by c s)))
+    (λ e. keeps_asked c c s refl refl refl refl)
 takes_asks Is.Opened c s nr = in_order_asks c s nr
 takes_asks Is.Closing c s nr = in_order_asks c s nr
 takes_asks Is.Closed c s nr = in_order_asks c s nr
@@ -182,26 +199,26 @@ unfolding client_takes
 client_asks c s =
     choose (λ x. AsksOn c s x) (has_rst s.flags) _ _
     (λ r. choose (λ x. AsksOn c s (keeps x)) (is_reset_by c.state c s) _ _
-    (λ b. keeps_asked c (record c { state = Is.Reset }) s refl refl refl)
-    (λ b. keeps_asked c c s refl refl refl))
+    (λ b. keeps_asked c (record c { state = Is.Reset }) s refl refl refl refl)
+    (λ b. keeps_asked c c s refl refl refl refl))
     (λ r. takes_asks c.state c s r)
 
 -- its own acts
-quiet_asks : (c d : AbstractClient) → used d ≡ used c → d.acked ≡ c.acked → own_first d ≡ own_first c → Asks c (keeps d)
-quiet_asks c d u a f = record { more = omega (arith, u); acked = a; first = f; early = λ y. u; ends = λ st x p. absurd (cc) }
+quiet_asks : (c d : AbstractClient) → used d ≡ used c → asked_bytes d ≡ asked_bytes c → d.acked ≡ c.acked → own_first d ≡ own_first c → Asks c (keeps d)
+quiet_asks c d u b a f = record { more = omega (arith, u); further = omega (arith, b); acked = a; first = f; early = λ y. u; ends = λ st x p. absurd (cc) }
 
-says_asks : (c d : AbstractClient) (s : PlainSegment) → used d ≡ used c → d.acked ≡ c.acked → own_first d ≡ own_first c → (Steady d → EndsIn d s) → Asks c (steps_with d s)
-says_asks c d s u a f e = record { more = omega (arith, u); acked = a; first = f; early = λ y. u; ends = λ st x p. only_some (λ (y : PlainSegment). EndsIn d y) s x p (e st) }
+says_asks : (c d : AbstractClient) (s : PlainSegment) → used d ≡ used c → asked_bytes d ≡ asked_bytes c → d.acked ≡ c.acked → own_first d ≡ own_first c → (Steady d → EndsIn d s) → Asks c (steps_with d s)
+says_asks c d s u b a f e = record { more = omega (arith, u); further = omega (arith, b); acked = a; first = f; early = λ y. u; ends = λ st x p. only_some (λ (y : PlainSegment). EndsIn d y) s x p (e st) }
 
 pub opens_asks : (st : ClientState) (c : AbstractClient) → Asks c (opens_by st c)
 unfolding opens_by
-opens_asks Is.Idle c = says_asks c (record c { state = Is.Opening }) (syn_of (record c { state = Is.Opening })) refl refl refl (λ st nr ns. absurd (cc))
-opens_asks Is.Opening c = quiet_asks c c refl refl refl
-opens_asks Is.Opened c = quiet_asks c c refl refl refl
-opens_asks Is.Closing c = quiet_asks c c refl refl refl
-opens_asks Is.Closed c = quiet_asks c c refl refl refl
-opens_asks Is.Ended c = quiet_asks c c refl refl refl
-opens_asks Is.Reset c = quiet_asks c c refl refl refl
+opens_asks Is.Idle c = says_asks c (record c { state = Is.Opening }) (syn_of (record c { state = Is.Opening })) refl refl refl refl (λ st nr ns. absurd (cc))
+opens_asks Is.Opening c = quiet_asks c c refl refl refl refl
+opens_asks Is.Opened c = quiet_asks c c refl refl refl refl
+opens_asks Is.Closing c = quiet_asks c c refl refl refl refl
+opens_asks Is.Closed c = quiet_asks c c refl refl refl refl
+opens_asks Is.Ended c = quiet_asks c c refl refl refl refl
+opens_asks Is.Reset c = quiet_asks c c refl refl refl refl
 
 out_is_sent : (f : FinAt) → fin_out f ≡ true → fin_sent f ≡ true
 out_is_sent FinAt.NotSent e = absurd (cc)
@@ -211,15 +228,15 @@ out_is_sent FinAt.Acked e = refl
 data_asks : (c : AbstractClient) → Asks c (again_by Is.Opened c)
 unfolding again_by
 data_asks c =
-    choose (λ x. Asks c x) (ltb 0 c.out) _ _ (λ e. says_asks c c (own_request c) refl refl refl (request_ends c))
-    (λ e. choose (λ x. Asks c x) (fin_out c.fin) _ _ (λ f. says_asks c c (own_fin c) refl refl refl (fin_ends c (out_is_sent c.fin f)))
-    (λ f. says_asks c c (ack_of c) refl refl refl (λ st nr ns z. absurd (cc))))
+    choose (λ x. Asks c x) (ltb 0 c.out) _ _ (λ e. says_asks c c (own_request c) refl refl refl refl (request_ends c))
+    (λ e. choose (λ x. Asks c x) (fin_out c.fin) _ _ (λ f. says_asks c c (own_fin c) refl refl refl refl (fin_ends c (out_is_sent c.fin f)))
+    (λ f. says_asks c c (ack_of c) refl refl refl refl (λ st nr ns z. absurd (cc))))
 
 pub again_asks : (st : ClientState) (c : AbstractClient) → Asks c (again_by st c)
 unfolding again_by
-again_asks Is.Idle c = quiet_asks c c refl refl refl
-again_asks Is.Reset c = quiet_asks c c refl refl refl
-again_asks Is.Opening c = says_asks c c (syn_of c) refl refl refl (λ st nr ns. absurd (cc))
+again_asks Is.Idle c = quiet_asks c c refl refl refl refl
+again_asks Is.Reset c = quiet_asks c c refl refl refl refl
+again_asks Is.Opening c = says_asks c c (syn_of c) refl refl refl refl (λ st nr ns. absurd (cc))
 again_asks Is.Opened c = data_asks c
 again_asks Is.Closing c = data_asks c
 again_asks Is.Closed c = data_asks c
@@ -227,113 +244,164 @@ again_asks Is.Ended c = data_asks c
 
 pub closes_asks : (st : ClientState) (c : AbstractClient) → Asks c (closes_by st c)
 unfolding closes_by
-closes_asks Is.Opened c = (let g = asks_next false (record c { state = Is.Closing }) in record { more = g.more; acked = g.acked; first = g.first; early = g.early; ends = g.ends })
-closes_asks Is.Idle c = quiet_asks c c refl refl refl
-closes_asks Is.Opening c = quiet_asks c c refl refl refl
-closes_asks Is.Closing c = quiet_asks c c refl refl refl
-closes_asks Is.Closed c = quiet_asks c c refl refl refl
-closes_asks Is.Ended c = quiet_asks c c refl refl refl
-closes_asks Is.Reset c = quiet_asks c c refl refl refl
+closes_asks Is.Opened c = (let g = asks_next false (record c { state = Is.Closing }) in record { more = g.more; further = g.further; acked = g.acked; first = g.first; early = g.early; ends = g.ends })
+closes_asks Is.Idle c = quiet_asks c c refl refl refl refl
+closes_asks Is.Opening c = quiet_asks c c refl refl refl refl
+closes_asks Is.Closing c = quiet_asks c c refl refl refl refl
+closes_asks Is.Closed c = quiet_asks c c refl refl refl refl
+closes_asks Is.Ended c = quiet_asks c c refl refl refl refl
+closes_asks Is.Reset c = quiet_asks c c refl refl refl refl
 
 pub aborts_asks : (st : ClientState) (c : AbstractClient) → Asks c (aborts_by st c)
 unfolding aborts_by
-aborts_asks Is.Opening c = says_asks c (record c { state = Is.Reset }) (own_reset c) refl refl refl (λ st nr. absurd (cc))
-aborts_asks Is.Opened c = says_asks c (record c { state = Is.Reset }) (own_reset c) refl refl refl (λ st nr. absurd (cc))
-aborts_asks Is.Closing c = says_asks c (record c { state = Is.Reset }) (own_reset c) refl refl refl (λ st nr. absurd (cc))
-aborts_asks Is.Idle c = quiet_asks c c refl refl refl
-aborts_asks Is.Closed c = quiet_asks c c refl refl refl
-aborts_asks Is.Ended c = quiet_asks c c refl refl refl
-aborts_asks Is.Reset c = quiet_asks c c refl refl refl
+aborts_asks Is.Opening c = says_asks c (record c { state = Is.Reset }) (own_reset c) refl refl refl refl (λ st nr. absurd (cc))
+aborts_asks Is.Opened c = says_asks c (record c { state = Is.Reset }) (own_reset c) refl refl refl refl (λ st nr. absurd (cc))
+aborts_asks Is.Closing c = says_asks c (record c { state = Is.Reset }) (own_reset c) refl refl refl refl (λ st nr. absurd (cc))
+aborts_asks Is.Idle c = quiet_asks c c refl refl refl refl
+aborts_asks Is.Closed c = quiet_asks c c refl refl refl refl
+aborts_asks Is.Ended c = quiet_asks c c refl refl refl refl
+aborts_asks Is.Reset c = quiet_asks c c refl refl refl refl
 
 pub window_asks : (x : ℕ) (c : AbstractClient) → Asks c (tells_window x c)
-window_asks x c = quiet_asks c (record c { window = x }) refl refl refl
+window_asks x c = quiet_asks c (record c { window = x }) refl refl refl refl
 
--- What a step of a connection takes of a segment: at most its text and its FIN, and only at the expected number.
-pub record Takes (c d : Connection) (s : PlainSegment) : Type 0 where
+-- What a row of the step table takes of a segment: at most its text and its FIN. What it hands to the application is text that it
+-- takes.
+pub record Row (c d : Connection) (s : PlainSegment) : Type 0 where
   pub peer : d.peer_first ≡ c.peer_first
   pub count : ℕ
   pub more : d.taken ≡ c.taken + count
   pub most : count ≤ length s.text + one_if (has_fin s.flags)
-  pub place : 0 < count → (s.seq ≡ rcv_nxt c) × (has_rst s.flags ≡ false)
+  pub handed : ℕ
+  pub heard : length d.part.heard ≤ length c.part.heard + handed
+  pub handed_text : handed ≤ length s.text
+  pub handed_taken : handed ≤ count
 
-takes_none : (c d : Connection) (s : PlainSegment) → d.peer_first ≡ c.peer_first → d.taken ≡ c.taken → Takes c d s
-takes_none c d s p t = record { peer = p; count = 0; more = omega (arith, t); most = omega arith; place = λ l. absurd (omega arith) }
+-- What a step of a connection takes of a segment: what a row takes, and only at the expected number.
+pub record Takes (c d : Connection) (s : PlainSegment) : Type 0 where
+  pub row : Row c d s
+  pub place : 0 < row.count → (s.seq ≡ rcv_nxt c) × (has_rst s.flags ≡ false)
 
-takes_some : (c d : Connection) (s : PlainSegment) (n : ℕ) → d.peer_first ≡ c.peer_first → d.taken ≡ c.taken + n → n ≤ length s.text + one_if (has_fin s.flags) → (0 < n → (s.seq ≡ rcv_nxt c) × (has_rst s.flags ≡ false)) → Takes c d s
-takes_some c d s n p t l q = record { peer = p; count = n; more = t; most = l; place = q }
-
--- the part of an application is asked for, and what was taken stays
+-- what was taken and heard stays
 record Stays (c d : Connection) : Type 0 where
   peer : d.peer_first ≡ c.peer_first
   taken : d.taken ≡ c.taken
+  heard : d.part.heard ≡ c.part.heard
 
-module _ (m : Meaning) where
+as_long : (p q : Part) → q.heard ≡ p.heard → length q.heard ≡ length p.heard
+as_long p q e = ap (λ (x : List ℕ). length x) e
+
+abbrev row_none : (c d : Connection) (s : PlainSegment) → Stays c d → Row c d s
+row_none c d s g = record {
+  peer = g.peer;
+  count = 0;
+  more = (let z = g.taken in omega (arith, z));
+  most = omega arith;
+  handed = 0;
+  heard = omega (arith, as_long c.part d.part g.heard);
+  handed_text = omega arith;
+  handed_taken = omega arith;
+}
+
+takes_none : (c d : Connection) (s : PlainSegment) → Stays c d → Takes c d s
+takes_none c d s g = record { row = row_none c d s g; place = λ l. absurd (let z : 0 < 0 = l in omega (arith, z)) }
+
+row_text : (c d : Connection) (s : PlainSegment) → d.peer_first ≡ c.peer_first → d.taken ≡ c.taken + length s.text → length d.part.heard ≤ length c.part.heard + length s.text → Row c d s
+row_text c d s p t h = record { peer = p; count = length s.text; more = t; most = omega arith; handed = length s.text; heard = h; handed_text = omega arith; handed_taken = omega arith }
+
+row_fin : (c d : Connection) (s : PlainSegment) → has_fin s.flags ≡ true → d.peer_first ≡ c.peer_first → d.taken ≡ c.taken + (length s.text + 1) → length d.part.heard ≤ length c.part.heard + length s.text → Row c d s
+row_fin c d s f p t h = record { peer = p; count = length s.text + 1; more = t; most = omega (arith, ap one_if f); handed = length s.text; heard = h; handed_text = omega arith; handed_taken = omega arith }
+
+module _ (m : Meaning) (pages : Pages) (lawful : IsPaged m pages) where
+  hears_at_most : (numbers : List ℕ) (p : Part) (text : List ℕ) → length (hears m numbers p text).part.heard ≤ length p.heard + length text
+  hears_at_most numbers p text = omega (arith, ap (λ (y : List ℕ). length y) (hears_is m pages lawful numbers p text).heard, length-append p.heard text)
+
   wanted_stays : (w : Want) (fresh : Bool) (c : Connection) (numbers : List ℕ) → Stays c (does_as_wanted w fresh c numbers).connection
   unfolding idles
-  wanted_stays Abort fresh c numbers = record { peer = refl; taken = refl }
-  wanted_stays Close fresh c numbers = record { peer = refl; taken = refl }
-  wanted_stays (Send n) fresh c numbers = record { peer = refl; taken = refl }
+  wanted_stays Abort fresh c numbers = record { peer = refl; taken = refl; heard = refl }
+  wanted_stays Close fresh c numbers = record { peer = refl; taken = refl; heard = refl }
+  wanted_stays (Send n) fresh c numbers = record { peer = refl; taken = refl; heard = refl }
   wanted_stays Nothing fresh c numbers =
-      choose (λ (o : Outcome). Stays c o.connection) (peer_has_closed c.state) _ _ (λ e. record { peer = refl; taken = refl })
-      (λ e. choose (λ (o : Outcome). Stays c o.connection) fresh _ _ (λ f. record { peer = refl; taken = refl }) (λ f. record { peer = refl; taken = refl }))
+      choose (λ (o : Outcome). Stays c o.connection) (peer_has_closed c.state) _ _ (λ e. record { peer = refl; taken = refl; heard = refl })
+      (λ e. choose (λ (o : Outcome). Stays c o.connection) fresh _ _ (λ f. record { peer = refl; taken = refl; heard = refl }) (λ f. record { peer = refl; taken = refl; heard = refl }))
 
   asked_for_stays : (now : Connection → Now) (o : Outcome) (s : Step) → Stays o.connection (asked_for m now o s).connection
-  asked_for_stays now o (Step.Ask fresh) = (let g = wanted_stays (m.want o.numbers (m.prepare o.numbers o.connection.part (now o.connection))) fresh (record o.connection { part = m.prepare o.numbers o.connection.part (now o.connection) }) o.numbers in record { peer = g.peer; taken = g.taken })
-  asked_for_stays now o Step.Drop = record { peer = refl; taken = refl }
-  asked_for_stays now o Step.Ack = record { peer = refl; taken = refl }
-  asked_for_stays now o (Step.SynAck again) = record { peer = refl; taken = refl }
-  asked_for_stays now o (Step.Text again) = record { peer = refl; taken = refl }
-  asked_for_stays now o (Step.Fin again) = record { peer = refl; taken = refl }
-  asked_for_stays now o Step.Reset = record { peer = refl; taken = refl }
+  asked_for_stays now o (Step.Ask fresh) =
+      let part : Part = m.prepare o.numbers o.connection.part (now o.connection) in
+      let g = wanted_stays (m.want o.numbers part) fresh (record o.connection { part = part }) o.numbers in
+      record { peer = g.peer; taken = g.taken; heard = g.heard ∙ lawful.prepare_heard o.numbers o.connection.part (now o.connection) }
+  asked_for_stays now o Step.Drop = record { peer = refl; taken = refl; heard = refl }
+  asked_for_stays now o Step.Ack = record { peer = refl; taken = refl; heard = refl }
+  asked_for_stays now o (Step.SynAck again) = record { peer = refl; taken = refl; heard = refl }
+  asked_for_stays now o (Step.Text again) = record { peer = refl; taken = refl; heard = refl }
+  asked_for_stays now o (Step.Fin again) = record { peer = refl; taken = refl; heard = refl }
+  asked_for_stays now o Step.Reset = record { peer = refl; taken = refl; heard = refl }
 
   pub asked_takes : (now : Connection → Now) (c : Connection) (s : PlainSegment) (o : Outcome) → Takes c o.connection s → Takes c (asked m now o).connection s
-  asked_takes now c s o t = (let g = asked_for_stays now o o.step in record { peer = g.peer ∙ t.peer; count = t.count; more = g.taken ∙ t.more; most = t.most; place = t.place })
+  asked_takes now c s o t =
+      let d : Connection = (asked m now o).connection in
+      let g = asked_for_stays now o o.step in
+      let r = t.row in
+      let h = r.heard in
+      record {
+        row = record {
+          peer = g.peer ∙ r.peer;
+          count = r.count;
+          more = g.taken ∙ r.more;
+          most = r.most;
+          handed = r.handed;
+          heard = omega (arith, as_long o.connection.part d.part g.heard, h);
+          handed_text = r.handed_text;
+          handed_taken = r.handed_taken;
+        };
+        place = t.place;
+      }
 
-  -- the row of the state
-  record Row (c d : Connection) (s : PlainSegment) : Type 0 where
-    peer : d.peer_first ≡ c.peer_first
-    count : ℕ
-    more : d.taken ≡ c.taken + count
-    most : count ≤ length s.text + one_if (has_fin s.flags)
-
-  row_none : (c d : Connection) (s : PlainSegment) → d.peer_first ≡ c.peer_first → d.taken ≡ c.taken → Row c d s
-  row_none c d s p t = record { peer = p; count = 0; more = omega (arith, t); most = omega arith }
-
-  row_text : (c d : Connection) (s : PlainSegment) → d.peer_first ≡ c.peer_first → d.taken ≡ c.taken + length s.text → Row c d s
-  row_text c d s p t = record { peer = p; count = length s.text; more = t; most = omega arith }
-
-  row_fin : (c d : Connection) (s : PlainSegment) → has_fin s.flags ≡ true → d.peer_first ≡ c.peer_first → d.taken ≡ c.taken + (length s.text + 1) → Row c d s
-  row_fin c d s f p t = record { peer = p; count = length s.text + 1; more = t; most = omega (arith, ap one_if f) }
-
-  established_row : (acked : Bool) (b c : Connection) (numbers : List ℕ) (s : PlainSegment) → c.peer_first ≡ b.peer_first → c.taken ≡ b.taken → Row b (in_established m acked c numbers s).connection s
+  established_row : (acked : Bool) (b c : Connection) (numbers : List ℕ) (s : PlainSegment) → Stays b c → Row b (in_established m acked c numbers s).connection s
   unfolding in_established peer_closes goes_on
-  established_row acked b c numbers s p t =
+  established_row acked b c numbers s g =
+      let with_fin = ap (λ n. n + (length s.text + 1)) g.taken in
+      let with_text = ap (λ n. n + length s.text) g.taken in
+      let said : length (hears m numbers c.part s.text).part.heard ≤ length b.part.heard + length s.text = omega (arith, as_long b.part c.part g.heard, hears_at_most numbers c.part s.text) in
       choose (λ (o : Outcome). Row b o.connection s) (has_fin s.flags) _ _
-      (λ f. choose (λ (o : Outcome). Row b o.connection s) (ltb 0 c.len) _ _ (λ l. row_fin b _ s f p (ap (λ n. n + (length s.text + 1)) t)) (λ l. row_fin b _ s f p (ap (λ n. n + (length s.text + 1)) t)))
-      (λ f. choose (λ (o : Outcome). Row b o.connection s) (not acked && not (has_text s)) _ _ (λ l. row_text b _ s p (ap (λ n. n + length s.text) t))
-      (λ l. choose (λ (o : Outcome). Row b o.connection s) (ltb 0 c.len) _ _ (λ i. row_text b _ s p (ap (λ n. n + length s.text) t)) (λ i. row_text b _ s p (ap (λ n. n + length s.text) t))))
+      (λ f. choose (λ (o : Outcome). Row b o.connection s) (ltb 0 c.len) _ _ (λ l. row_fin b _ s f g.peer with_fin said) (λ l. row_fin b _ s f g.peer with_fin said))
+      (λ f. choose (λ (o : Outcome). Row b o.connection s) (not acked && not (has_text s)) _ _ (λ l. row_text b _ s g.peer with_text said)
+      (λ l. choose (λ (o : Outcome). Row b o.connection s) (ltb 0 c.len) _ _ (λ i. row_text b _ s g.peer with_text said) (λ i. row_text b _ s g.peer with_text said)))
+
+  connects_at_most : (c : Connection) (numbers : List ℕ) (s : PlainSegment) → length (connects m c numbers s).connection.part.heard ≤ length c.part.heard + length s.text
+  connects_at_most c numbers s =
+      let start : After = m.connected numbers c.sockets.own_port.0 in
+      let none : length start.part.heard ≡ 0 = ap (λ (x : List ℕ). length x) (lawful.connected_heard numbers c.sockets.own_port.0) in
+      omega (arith, none, hears_at_most start.numbers start.part s.text)
+
+  -- text is let go
+  let_go_fin : (c d : Connection) (s : PlainSegment) → has_fin s.flags ≡ true → d.peer_first ≡ c.peer_first → d.taken ≡ c.taken + (length s.text + 1) → d.part.heard ≡ c.part.heard → Row c d s
+  let_go_fin c d s f p t h = row_fin c d s f p t (omega (arith, as_long c.part d.part h))
+
+  let_go_text : (c d : Connection) (s : PlainSegment) → d.peer_first ≡ c.peer_first → d.taken ≡ c.taken + length s.text → d.part.heard ≡ c.part.heard → Row c d s
+  let_go_text c d s p t h = row_text c d s p t (omega (arith, as_long c.part d.part h))
 
   by_state_row : (st : State) (acked : Bool) (c : Connection) (numbers : List ℕ) (s : PlainSegment) → Row c (by_state m st acked c numbers s).connection s
   unfolding fin_acked fin_waits in_fin_wait_2
-  by_state_row SynRcvd true c numbers s = row_text c _ s refl refl
-  by_state_row SynRcvd false c numbers s = row_none c _ s refl refl
-  by_state_row Established true c numbers s = established_row true c _ (m.acked numbers c.part c.len).numbers s refl refl
-  by_state_row Established false c numbers s = established_row false c c numbers s refl refl
-  by_state_row CloseWait true c numbers s = row_none c _ s refl refl
-  by_state_row CloseWait false c numbers s = row_none c _ s refl refl
-  by_state_row FinWait1 true c numbers s = choose (λ (o : Outcome). Row c o.connection s) (has_fin s.flags) _ _ (λ f. row_fin c _ s f refl refl) (λ f. row_text c _ s refl refl)
+  by_state_row SynRcvd true c numbers s = row_text c _ s refl refl (connects_at_most c numbers s)
+  by_state_row SynRcvd false c numbers s = row_none c _ s record { peer = refl; taken = refl; heard = refl }
+  by_state_row Established true c numbers s = established_row true c _ (m.acked numbers c.part c.len).numbers s record { peer = refl; taken = refl; heard = lawful.acked_like numbers c.part c.len }
+  by_state_row Established false c numbers s = established_row false c c numbers s record { peer = refl; taken = refl; heard = refl }
+  by_state_row CloseWait true c numbers s = row_none c _ s record { peer = refl; taken = refl; heard = lawful.acked_like numbers c.part c.len }
+  by_state_row CloseWait false c numbers s = row_none c _ s record { peer = refl; taken = refl; heard = refl }
+  by_state_row FinWait1 true c numbers s = choose (λ (o : Outcome). Row c o.connection s) (has_fin s.flags) _ _ (λ f. let_go_fin c _ s f refl refl refl) (λ f. let_go_text c _ s refl refl refl)
   by_state_row FinWait1 false c numbers s =
-      choose (λ (o : Outcome). Row c o.connection s) (has_fin s.flags) _ _ (λ f. row_fin c _ s f refl refl)
-      (λ f. choose (λ (o : Outcome). Row c o.connection s) (has_text s) _ _ (λ l. row_text c _ s refl refl) (λ l. row_none c _ s refl refl))
+      choose (λ (o : Outcome). Row c o.connection s) (has_fin s.flags) _ _ (λ f. let_go_fin c _ s f refl refl refl)
+      (λ f. choose (λ (o : Outcome). Row c o.connection s) (has_text s) _ _ (λ l. let_go_text c _ s refl refl refl) (λ l. row_none c _ s record { peer = refl; taken = refl; heard = refl }))
   by_state_row FinWait2 acked c numbers s =
-      choose (λ (o : Outcome). Row c o.connection s) (has_fin s.flags) _ _ (λ f. row_fin c _ s f refl refl)
-      (λ f. choose (λ (o : Outcome). Row c o.connection s) (has_text s) _ _ (λ l. row_text c _ s refl refl) (λ l. row_none c _ s refl refl))
-  by_state_row Closing true c numbers s = row_none c _ s refl refl
-  by_state_row Closing false c numbers s = row_none c _ s refl refl
-  by_state_row LastAck true c numbers s = row_none c _ s refl refl
-  by_state_row LastAck false c numbers s = row_none c _ s refl refl
-  by_state_row TimeWait acked c numbers s = row_none c _ s refl refl
-  by_state_row Closed acked c numbers s = row_none c _ s refl refl
+      choose (λ (o : Outcome). Row c o.connection s) (has_fin s.flags) _ _ (λ f. let_go_fin c _ s f refl refl refl)
+      (λ f. choose (λ (o : Outcome). Row c o.connection s) (has_text s) _ _ (λ l. let_go_text c _ s refl refl refl) (λ l. row_none c _ s record { peer = refl; taken = refl; heard = refl }))
+  by_state_row Closing true c numbers s = row_none c _ s record { peer = refl; taken = refl; heard = refl }
+  by_state_row Closing false c numbers s = row_none c _ s record { peer = refl; taken = refl; heard = refl }
+  by_state_row LastAck true c numbers s = row_none c _ s record { peer = refl; taken = refl; heard = refl }
+  by_state_row LastAck false c numbers s = row_none c _ s record { peer = refl; taken = refl; heard = refl }
+  by_state_row TimeWait acked c numbers s = row_none c _ s record { peer = refl; taken = refl; heard = refl }
+  by_state_row Closed acked c numbers s = row_none c _ s record { peer = refl; taken = refl; heard = refl }
 
   pub some_place : (s : PlainSegment) (n : ℕ) → n ≤ length s.text + one_if (has_fin s.flags) → 0 < n → has_place s ≡ true
   some_place s n h l = placed (ltb 0 (length s.text)) (has_syn s.flags) (has_fin s.flags) refl refl
@@ -347,33 +415,35 @@ module _ (m : Meaning) where
   pub segment_takes : (c : Connection) (numbers : List ℕ) (s : PlainSegment) → Takes c (on_segment m c numbers s).connection s
   unfolding on_segment
   segment_takes c numbers s =
-      choose (λ (o : Outcome). Takes c o.connection s) (has_rst s.flags) _ _ (λ r. takes_none c _ s refl refl)
-      (λ r. choose (λ (o : Outcome). Takes c o.connection s) (is_out_of_order c s) _ _ (λ i. takes_none c _ s refl refl)
+      choose (λ (o : Outcome). Takes c o.connection s) (has_rst s.flags) _ _ (λ r. takes_none c _ s record { peer = refl; taken = refl; heard = refl })
+      (λ r. choose (λ (o : Outcome). Takes c o.connection s) (is_out_of_order c s) _ _ (λ i. takes_none c _ s record { peer = refl; taken = refl; heard = refl })
       (λ i. let g = by_state_row c.state (is_acked c s) c numbers s in
-      takes_some c _ s g.count g.peer g.more g.most
-      (λ l. (
-        elim (and_false (has_place s) (not (eqb s.seq (rcv_nxt c))) i) [
-          | inl x ↦ absurd (let y : has_place s ≡ true = some_place s g.count g.most l in cc)
-          | inr x ↦ eqb-eq s.seq (rcv_nxt c) (not-false (eqb s.seq (rcv_nxt c)) x)
-        ],
-        r,
-      ))))
+      record {
+        row = g;
+        place = λ l. (
+          elim (and_false (has_place s) (not (eqb s.seq (rcv_nxt c))) i) [
+            | inl x ↦ absurd (let y : has_place s ≡ true = some_place s g.count g.most l in cc)
+            | inr x ↦ eqb-eq s.seq (rcv_nxt c) (not-false (eqb s.seq (rcv_nxt c)) x)
+          ],
+          r,
+        );
+      }))
 
   beat_stays : (b : Beat) (c : Connection) (numbers : List ℕ) → Stays c (by_beat m b c numbers).connection
-  beat_stays Beat.Wait c numbers = record { peer = refl; taken = refl }
-  beat_stays Beat.Again c numbers = record { peer = refl; taken = refl }
-  beat_stays Beat.GiveUp c numbers = record { peer = refl; taken = refl }
+  beat_stays Beat.Wait c numbers = record { peer = refl; taken = refl; heard = refl }
+  beat_stays Beat.Again c numbers = record { peer = refl; taken = refl; heard = refl }
+  beat_stays Beat.GiveUp c numbers = record { peer = refl; taken = refl; heard = refl }
 
   rest_stays : (c : Connection) (numbers : List ℕ) → Stays c (rests_on c numbers).connection
   unfolding rests_on
-  rest_stays c numbers = choose (λ (o : Outcome). Stays c o.connection) (eqb (c.age + 1) rest_time) _ _ (λ e. record { peer = refl; taken = refl }) (λ e. record { peer = refl; taken = refl })
+  rest_stays c numbers = choose (λ (o : Outcome). Stays c o.connection) (eqb (c.age + 1) rest_time) _ _ (λ e. record { peer = refl; taken = refl; heard = refl }) (λ e. record { peer = refl; taken = refl; heard = refl })
 
   ticks_stay : (c : Connection) (numbers : List ℕ) → Stays c (ticks_established m c numbers).connection
   unfolding ticks_established
-  ticks_stay c numbers = choose (λ (o : Outcome). Stays c o.connection) (ltb 0 c.len) _ _ (λ e. beat_stays (beat_at (limit_of c.state) (c.age + 1)) c numbers) (λ e. record { peer = refl; taken = refl })
+  ticks_stay c numbers = choose (λ (o : Outcome). Stays c o.connection) (ltb 0 c.len) _ _ (λ e. beat_stays (beat_at (limit_of c.state) (c.age + 1)) c numbers) (λ e. (let g = lawful.polled_like numbers c.part in record { peer = refl; taken = refl; heard = g.heard }))
 
   tick_by_stays : (st : State) (c : Connection) (numbers : List ℕ) → Stays c (tick_by m st c numbers).connection
-  tick_by_stays Closed c numbers = record { peer = refl; taken = refl }
+  tick_by_stays Closed c numbers = record { peer = refl; taken = refl; heard = refl }
   tick_by_stays SynRcvd c numbers = beat_stays (beat_at (limit_of c.state) (c.age + 1)) c numbers
   tick_by_stays Established c numbers = ticks_stay c numbers
   tick_by_stays CloseWait c numbers = beat_stays (beat_at (limit_of c.state) (c.age + 1)) c numbers
@@ -384,7 +454,7 @@ module _ (m : Meaning) where
   tick_by_stays LastAck c numbers = beat_stays (beat_at (limit_of c.state) (c.age + 1)) c numbers
 
   pub tick_takes : (c : Connection) (numbers : List ℕ) (s : PlainSegment) → Takes c (on_tick m c numbers).connection s
-  tick_takes c numbers s = (let g = tick_by_stays c.state c numbers in takes_none c _ s g.peer g.taken)
+  tick_takes c numbers s = (let g = tick_by_stays c.state c numbers in takes_none c _ s g)
 
   -- what a connection says acknowledges all that it took
   pub says_taken : (d : Connection) (step : Step) (x : PlainSegment) → segment_of m d step ≡ Some x → has_rst x.flags ≡ false → x.ack ≡ rcv_nxt d

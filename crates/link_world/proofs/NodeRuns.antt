@@ -14,22 +14,24 @@ use Rattle.tcp_machine.specs.OnTick.{on_tick}
 use Rattle.uip_node.specs.Counters.{initial_number}
 use Rattle.uip_node.specs.Events.{Event}
 use Rattle.uip_node.specs.Events.Event.{IpRefused, IcmpRefused, TcpRefused, EchoAsked, Arrived, Overlong, Periodic}
-use Rattle.uip_node.specs.Node.{AbstractNode, NodeStep, arrives_at, connection_in, from_stranger, happened, moment, opening, opens, opens_in, run, slot_for_syn, step}
+use Rattle.uip_node.specs.Node.{AbstractNode, NodeStep, arrives_at, connection_in, from_stranger, happened, moment, opening, opens, opens_in, periodic, run, slot_for_syn, step}
 use Rattle.link_world.specs.Nodes.{CapturesFit, IsEvent, IsOfNode, TextNumbers, TextsAreShort}
 use Rattle.link_world.proofs.Steadiness.{steady_of}
 use Rattle.link_world.proofs.Basics.{choose}
-use Rattle.link_world.proofs.Tables.{get_set}
+use Rattle.link_world.proofs.Tables.{get_set, set_past}
 use Rattle.link_world.proofs.Tables.Written.{here, there}
 use Rattle.link_world.proofs.Fits.{FitConn}
-use Rattle.link_world.proofs.FitWorlds.{FitNode, closed_fits, event_fits}
+use Rattle.link_world.proofs.FitWorlds.{FitNode, closed_fits, event_fits, position_in}
 use Rattle.link_world.proofs.Runs.{all_closed}
 use Rattle.link_world.proofs.TextNumbers.{Num, accepted_num, closed_num, segment_num, text_numbers, tick_num}
 
--- ---- a fact that each step of a connection keeps
+-- ---- a fact that each step of a connection keeps at the moments of a node
 
-module _ (m : Meaning) (P : Connection → Type 0) (shut : P closed) (born : (first : ℕ) (sockets : Sockets) (s : PlainSegment) → P (accepted first sockets s))
-    (hears : (at : Connection → Now) (c : Connection) (numbers : List ℕ) (s : PlainSegment) → P c → P (asked m at (on_segment m c numbers s)).connection)
-    (ticks : (at : Connection → Now) (c : Connection) (numbers : List ℕ) → P c → P (asked m at (on_tick m c numbers)).connection) where
+module _ (m : Meaning) (P : Connection → Type 0) (IsAt : (Connection → Now) → Type 0)
+    (moments : (n : AbstractNode) (event : Event) (slot : ℕ) (old : Connection) → slice_get n.connections slot ≡ Some old → IsAt (moment n event slot))
+    (shut : P closed) (born : (first : ℕ) (sockets : Sockets) (s : PlainSegment) → P (accepted first sockets s))
+    (hears : (at : Connection → Now) → IsAt at → (c : Connection) (numbers : List ℕ) (s : PlainSegment) → P c → P (asked m at (on_segment m c numbers s)).connection)
+    (ticks : (at : Connection → Now) → IsAt at → (c : Connection) (numbers : List ℕ) → P c → P (asked m at (on_tick m c numbers)).connection) where
   abbrev Each : List Connection → Type 0
   Each cs = (i : ℕ) (c : Connection) → slice_get cs i ≡ Some c → P c
 
@@ -57,19 +59,31 @@ module _ (m : Meaning) (P : Connection → Type 0) (shut : P closed) (born : (fi
       choose (λ (x : NodeStep). Each x.node.connections) (is_plain_syn s && served sockets.own_port.0) _ _ (λ e. opens_each n sockets s (slot_for_syn n.connections) h)
       (λ e. choose (λ (x : NodeStep). Each x.node.connections) (has_rst s.flags) _ _ (λ g. h) (λ g. h))
 
-  arrives_each : (served : ℕ → Bool) (n : AbstractNode) (sockets : Sockets) (s : PlainSegment) (found : Option ℕ) → Each n.connections → Each (arrives_at m served n sockets s found).node.connections
-  arrives_each served n sockets s None h = stranger_each served n sockets s h
-  arrives_each served n sockets s (Some slot) h =
-      happened_each n (Arrived sockets s) slot (connection_in slot n) _ (hears (moment n (Arrived sockets s) slot) (connection_in slot n) n.numbers s (index_each n.connections slot h)) h
+  arrives_each : (served : ℕ → Bool) (n : AbstractNode) (sockets : Sockets) (s : PlainSegment) (found : Option ℕ) → position (serves sockets) n.connections ≡ found → Each n.connections → Each (arrives_at m served n sockets s found).node.connections
+  arrives_each served n sockets s None e h = stranger_each served n sockets s h
+  arrives_each served n sockets s (Some slot) e h =
+      let at = position_in (serves sockets) n.connections slot e in
+      let event : Event = Arrived sockets s in
+      happened_each n event slot (connection_in slot n) _ (hears (moment n event slot) (moments n event slot at.item at.get) (connection_in slot n) n.numbers s (index_each n.connections slot h)) h
+
+  -- a slot that is none keeps nothing
+  periodic_each : (n : AbstractNode) (slot : ℕ) (old : Option Connection) → slice_get n.connections slot ≡ old → Each n.connections → Each (periodic m n slot).node.connections
+  unfolding happened
+  periodic_each n slot None e h =
+      let new : Connection = (asked m (moment n (Periodic slot) slot) (on_tick m (connection_in slot n) n.numbers)).connection in
+      subst (λ (cs : List Connection). Each cs) (sym (set_past n.connections slot new e)) h
+  periodic_each n slot (Some old) e h =
+      let event : Event = Periodic slot in
+      set_each n.connections slot _ (ticks (moment n event slot) (moments n event slot old e) (connection_in slot n) n.numbers (index_each n.connections slot h)) h
 
   step_each : (served : ℕ → Bool) (n : AbstractNode) (event : Event) → Each n.connections → Each (step m served n event).node.connections
   step_each served n (IpRefused fate) h = h
   step_each served n (IcmpRefused fate) h = h
   step_each served n (TcpRefused fate) h = h
   step_each served n (EchoAsked datagram) h = h
-  step_each served n (Arrived sockets s) h = arrives_each served n sockets s (position (serves sockets) n.connections) h
+  step_each served n (Arrived sockets s) h = arrives_each served n sockets s (position (serves sockets) n.connections) refl h
   step_each served n Overlong h = h
-  step_each served n (Periodic slot) h = happened_each n (Periodic slot) slot (connection_in slot n) _ (ticks (moment n (Periodic slot) slot) (connection_in slot n) n.numbers (index_each n.connections slot h)) h
+  step_each served n (Periodic slot) h = periodic_each n slot (slice_get n.connections slot) refl h
 
   run_each : (served : ℕ → Bool) (events : List Event) (n : AbstractNode) → Each n.connections → Each (run m served events n).node.connections
   run_each served [] n h = h
@@ -80,7 +94,7 @@ module _ (m : Meaning) (P : Connection → Type 0) (shut : P closed) (born : (fi
 
 pub text_numbers_hold : TextNumbers
 text_numbers_hold m pages lawful c r =
-    text_numbers c (every m Num closed_num accepted_num (segment_num m pages lawful) (tick_num m pages lawful) r.served r.events r.addr r.numbers r.slot c r.there)
+    text_numbers c (every m Num (λ at. Unit {0}) (λ n event slot old e. tt) closed_num accepted_num (λ at x. segment_num m pages lawful at) (λ at x. tick_num m pages lawful at) r.served r.events r.addr r.numbers r.slot c r.there)
 
 -- ---- captures
 

@@ -1,5 +1,6 @@
 -- The parts that hold together of a clean client, from what is known of it.
-use Rattle.std.proofs.Common.{◌≡◌, ℕ, ◌+◌, ◌<◌, ◌≤◌, ◌⊎◌, inl, inr, Bool, true, false, List, [], length, refl, sym, ap, ◌∙◌, subst, arith, Option, Some, None, is_some}
+use Rattle.std.proofs.Common.{◌≡◌, ℕ, ◌+◌, ◌-◌, ◌<◌, ◌≤◌, ◌⊎◌, inl, inr, Bool, true, false, List, [], ◌++◌, length, take, refl, sym, ap, ◌∙◌, subst, arith, Option, Some, None, is_some}
+use Rattle.std.proofs.Math.Seq.{take-append-add}
 use Rattle.std.proofs.lemmas.Bool.{cases_lt}
 use Rattle.uip_wire.specs.Numbers.{wrap}
 use Rattle.tcp_segment.specs.Segments.{PlainSegment, has_syn, has_fin, has_rst, has_ack}
@@ -88,14 +89,20 @@ one_epoch pages side c (Some o) q h s = record {
 }
 
 -- the numbers that were taken are request bytes, and maybe the FIN behind them
-split_taken : (client : AbstractClient) (taken : ℕ) (b : Bool) → fin_sent client.fin ≡ b → client.acked ≤ taken → taken ≤ client.acked + client.out + one_if b →
-    (n : ℕ) × (client.acked ≤ n) × (n ≤ client.acked + client.out) × ((taken ≡ n) ⊎ ((fin_sent client.fin ≡ true) × (taken ≡ n + 1)))
-split_taken client taken false e l h = (taken, l, omega (arith, h), inl refl)
-split_taken client taken true e l h =
+split_taken : (client : AbstractClient) (taken heard : ℕ) (b : Bool) → fin_sent client.fin ≡ b → client.acked ≤ taken → taken ≤ client.acked + client.out + one_if b → heard ≤ taken → heard ≤ client.acked + client.out →
+    (n : ℕ) × (client.acked ≤ n) × (n ≤ client.acked + client.out) × ((taken ≡ n) ⊎ ((fin_sent client.fin ≡ true) × (taken ≡ n + 1))) × (heard ≤ n)
+split_taken client taken heard false e l h t a = (taken, l, omega (arith, h), inl refl, t)
+split_taken client taken heard true e l h t a =
     elim (cases_lt (client.acked + client.out) taken) [
-      | inl i ↦ (client.acked + client.out, omega arith, omega arith, inr (e, omega (arith, i, h)))
-      | inr i ↦ (taken, l, i, inl refl)
+      | inl i ↦ (client.acked + client.out, omega arith, omega arith, inr (e, omega (arith, i, h)), a)
+      | inr i ↦ (taken, l, i, inl refl, t)
     ]
+
+-- what begins a list and is no longer than this ends inside its front
+front_within : (xs ys : List ℕ) (n : ℕ) → length xs ≤ n → IsPrefixOf xs ys → IsPrefixOf xs (take n ys)
+front_within xs ys n l p =
+    let room : length xs + (n - length xs) ≡ n = omega (arith, l) in
+    record { rest = take (n - length xs) p.rest; joined = sym (take-append-add xs p.rest (n - length xs)) ∙ ap (λ k. take k (xs ++ p.rest)) room ∙ ap (λ (zs : List ℕ). take n zs) p.joined }
 
 -- what was heard is a front of the request
 heard_front : (pages : Pages) (opened : Option ℕ) (client : AbstractClient) (c : Connection) (st : State) → is_live st ≡ true → StateGood pages opened client c st → IsPrefixOf c.part.heard client.request
@@ -113,8 +120,9 @@ has_taken : (pages : Pages) (k : ℕ) (client : AbstractClient) (c : Connection)
 has_taken pages k client c sent None r s l g n = absurd (cc)
 has_taken pages k client c sent (Some o) r s l g n =
     let q = r l in
-    let p = split_taken client c.taken (fin_sent client.fin) refl q.low q.high in
-    record { bytes = p.0; least = p.1; most = p.2; taken = p.3; heard = heard_front pages (Some o) client c c.state l g; numbers = n }
+    let v = q.within in
+    let p = split_taken client c.taken (length c.part.heard) (fin_sent client.fin) refl q.low v.high v.heard v.asked in
+    record { bytes = p.0; least = p.1; most = p.2; taken = p.3; heard = front_within c.part.heard client.request p.0 p.4 (heard_front pages (Some o) client c c.state l g); numbers = n }
 
 pub clean_parts : CleanParts
 clean_parts m pages lawful w r k side x clean =

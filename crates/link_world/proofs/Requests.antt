@@ -29,14 +29,21 @@ use Rattle.link_world.proofs.Tables.{get_map}
 use Rattle.link_world.proofs.Runs.{reached}
 use Rattle.link_world.proofs.Any.{Framed, Steps, Takes, speech, entry, does_framed}
 use Rattle.link_world.proofs.Any
-use Rattle.link_world.proofs.Asking.{used, EndsIn, AsksOn, client_asks, opens_asks, again_asks, closes_asks, aborts_asks, window_asks, asked_takes, some_place, segment_takes, tick_takes, says_taken}
+use Rattle.link_world.proofs.Asking.{used, asked_bytes, EndsIn, AsksOn, client_asks, opens_asks, again_asks, closes_asks, aborts_asks, window_asks, asked_takes, some_place, segment_takes, tick_takes, says_taken}
 use Rattle.link_world.proofs.Asking
 use Rattle.link_world.proofs.Prefix
+
+-- The connection took no more of the client's numbers than were used, and its application heard no more than was taken, and no
+-- more of the request than was sent.
+pub record Within (client : AbstractClient) (c : Connection) : Type 0 where
+  pub high : c.taken ≤ used client
+  pub heard : length c.part.heard ≤ c.taken
+  pub asked : length c.part.heard ≤ asked_bytes client
 
 -- what the connection took of the client's numbers, and where each datagram of the client ends
 pub record Requested (k : ℕ) (client : AbstractClient) (c : Connection) (sent : List Sent) : Type 0 where
   pub low : client.acked ≤ c.taken
-  pub high : c.taken ≤ used client
+  pub within : Within client c
   pub ends : (j : ℕ) (e : Sent) → slice_get sent j ≡ Some e → e.who ≡ from k → EndsIn client (seg e)
 
 abbrev pub RequestedBy : ℕ → AbstractClient → Connection → List Sent → Option ℕ → Type 0
@@ -62,7 +69,7 @@ push_requested : (k : ℕ) (client : AbstractClient) (c : Connection) (sent : Li
 push_requested k client c sent e None g n = g
 push_requested k client c sent e (Some o) g n = λ l. (let r = g l in record {
   low = r.low;
-  high = r.high;
+  within = r.within;
   ends = λ j f x w. elim (get_push sent e j f x) [ older z ↦ r.ends j f z w | newest i z ↦ subst (λ (y : Sent). EndsIn client (seg y)) z (n (ap (λ (y : Sent). y.who) z ∙ w)) ];
 })
 
@@ -72,9 +79,9 @@ dead_requested k client c sent None g = g
 dead_requested k client c sent (Some o) g = λ l. absurd (cc)
 
 -- the connection took so much more
-live_requested : (k : ℕ) (client : AbstractClient) (c d : Connection) (sent : List Sent) (opened : Option ℕ) → is_live c.state ≡ true → c.taken ≤ d.taken → (Requested k client c sent → d.taken ≤ used client) → RequestedBy k client c sent opened → RequestedBy k client d sent opened
+live_requested : (k : ℕ) (client : AbstractClient) (c d : Connection) (sent : List Sent) (opened : Option ℕ) → is_live c.state ≡ true → c.taken ≤ d.taken → (Requested k client c sent → Within client d) → RequestedBy k client c sent opened → RequestedBy k client d sent opened
 live_requested k client c d sent None l m n g = g
-live_requested k client c d sent (Some o) l m n g = λ y. (let r = g l in record { low = (let z = r.low in omega (arith, z, m)); high = n r; ends = r.ends })
+live_requested k client c d sent (Some o) l m n g = λ y. (let r = g l in record { low = (let z = r.low in omega (arith, z, m)); within = n r; ends = r.ends })
 
 live_acks : (k : ℕ) (client : AbstractClient) (epoch : ℕ) (c d : Connection) (sent : List Sent) → is_live c.state ≡ true → c.taken ≤ d.taken → Acks k client epoch c sent → Acks k client epoch d sent
 live_acks k client epoch c d sent l m g y j e x w q r a = (let t = g l j e x w q r a in record { at = t.at; low = (let z = t.low in omega (arith, z, m)); is = t.is })
@@ -137,10 +144,10 @@ module _ (m : Meaning) (pages : Pages) (lawful : IsPaged m pages) where
   GoodSteps w o k side = Steps m (Prefix.G m pages lawful) (Prefix.other m pages lawful) (Prefix.reset m pages lawful) (Prefix.evict m pages lawful) (Prefix.mark m pages lawful) w o k side
 
   steps_by : (w : World) (old : Connection) (o : Outcome) (k : ℕ) (side : Side) (s : PlainSegment) → is_live old.state ≡ true → G k side old w.sent → Asking.Takes old o.connection s →
-      (is_clean side ≡ true → Requested k side.client old w.sent → o.connection.taken ≤ used side.client) → GoodSteps w o k side → Steps m G other reset evict mark w o k side
+      (is_clean side ≡ true → Requested k side.client old w.sent → Within side.client o.connection) → GoodSteps w o k side → Steps m G other reset evict mark w o k side
   steps_by w old o k side s lv g t enough p =
       let d : Connection = o.connection in
-      let more : old.taken ≤ d.taken = (let z = t.more in omega (arith, z)) in
+      let more : old.taken ≤ d.taken = (let z = t.row.more in omega (arith, z)) in
       let live = λ (cl : is_clean side ≡ true). live_requested k side.client old d w.sent side.opened lv more (enough cl) (g.asked_by cl) in
       let acked = λ (cl : is_clean side ≡ true). live_acks k side.client (length side.past) old d w.sent lv more (g.acks cl) in
       let dead = λ (cl : is_clean side ≡ true). dead_requested k side.client old w.sent side.opened (g.asked_by cl) in
@@ -151,7 +158,7 @@ module _ (m : Meaning) (pages : Pages) (lawful : IsPaged m pages) where
           good = p.says x e l tick id;
           asked_by = λ cl. push_requested k side.client d w.sent new side.opened (live cl) (λ y. absurd (cc));
           acks = λ cl. push_acks k side.client (length side.past) d w.sent new (acked cl)
-              (λ y r. record { at = d.taken; low = omega arith; is = says_taken m d o.step x e r ∙ ap (λ n. wrap (n + 1 + d.taken)) (t.peer ∙ (let y = (g.good cl).connection lv in y.peer_first)) });
+              (λ y r. record { at = d.taken; low = omega arith; is = says_taken m pages lawful d o.step x e r ∙ ap (λ n. wrap (n + 1 + d.taken)) (t.row.peer ∙ (let y = (g.good cl).connection lv in y.peer_first)) });
         });
         says_last = λ x e l tick id. (let new : Sent = entry (to k) (Any.older side d) tick id (speech (is_again o.step) x) in record {
           good = p.says_last x e l tick id;
@@ -162,37 +169,58 @@ module _ (m : Meaning) (pages : Pages) (lawful : IsPaged m pages) where
 
   -- a segment of the client at its connection
   enough_room : (client : AbstractClient) (opened : Option ℕ) (epoch k j : ℕ) (c d : Connection) (sent : List Sent) (e : Sent) → Steady client → ClientSaid client opened epoch (seg e) → c.peer_first ≡ own_first client → slice_get sent j ≡ Some e → e.who ≡ from k →
-      Asking.Takes c d (seg e) → Requested k client c sent → d.taken ≤ used client
+      Asking.Takes c d (seg e) → Requested k client c sent → Within client d
   enough_room client opened epoch k j c d sent e st said first there who t r =
-      let high = r.high in
-      let more = t.more in
-      elim (zero_or_more t.count) [
-        | inl z ↦ omega (arith, z, high, more)
+      let row = t.row in
+      let more = row.more in
+      let now = row.heard in
+      let text = row.handed_text in
+      let taken = row.handed_taken in
+      let high = r.within.high in
+      let heard = r.within.heard in
+      let before = r.within.asked in
+      elim (zero_or_more row.count) [
+        | inl z ↦ record { high = omega (arith, z, high, more); heard = omega (arith, z, heard, more, now, taken); asked = omega (arith, z, before, now, taken) }
         | inr l ↦ (let at = t.place l in
             let seq : (seg e).seq ≡ wrap (own_first client + 1 + c.taken) = at.0 ∙ ap (λ n. wrap (n + 1 + c.taken)) first in
             let small : one_if (fin_sent client.fin) ≤ 1 = one_small (fin_sent client.fin) in
             let short = st.short in
             let fits = st.out_fits in
             let low : c.taken < 4294967296 = omega (arith, high, short, fits, small) in
-            let end = r.ends j e there who at.1 (not_syn client opened epoch c.taken (seg e) st said at.1 high seq) (some_place m (seg e) t.count t.most l) c.taken low seq in
-            omega (arith, end, more, t.most))
+            let end = r.ends j e there who at.1 (not_syn client opened epoch c.taken (seg e) st said at.1 high seq) (some_place m pages lawful (seg e) row.count row.most l) c.taken low seq in
+            let all = end.all in
+            let most = row.most in
+            let said = end.text in
+            record { high = omega (arith, all, more, most); heard = omega (arith, heard, more, now, taken); asked = omega (arith, heard, now, text, said) })
       ]
 
   segment : (w : World) (old : Connection) (numbers : List ℕ) (now : Connection → Now) (k j : ℕ) (side : Side) (e : Sent) → is_live old.state ≡ true → FitConn old → All IsWord numbers → ((c : Connection) → FitConn c → IsNow (now c)) →
       slice_get w.sent j ≡ Some e → e.who ≡ from k → (is_clean side ≡ true → e.epoch ≡ length side.past) → G k side old w.sent → Steps m G other reset evict mark w (asked m now (on_segment m old numbers (seg e))) k side
   segment w old numbers now k j side e lv f n is sent who fresh g =
       let o : Outcome = on_segment m old numbers (seg e) in
-      let t = asked_takes m now old (seg e) o (segment_takes m old numbers (seg e)) in
+      let t = asked_takes m pages lawful now old (seg e) o (segment_takes m pages lawful old numbers (seg e)) in
       steps_by w old (asked m now o) k side (seg e) lv g t
       (λ cl r. (let h = g.good cl in let c = h.connection lv in enough_room side.client side.opened e.epoch k j old (asked m now o).connection w.sent e h.steady (h.of_client j e sent who).said c.peer_first sent who t r))
       (Prefix.segment m pages lawful w old numbers now k j side e lv f n is sent who fresh g.good)
+
+  -- a tick brings no segment
+  nothing_more : (client : AbstractClient) (c d : Connection) → Asking.Row c d no_segment → Within client c → Within client d
+  nothing_more client c d row g =
+      let more = row.more in
+      let most = row.most in
+      let now = row.heard in
+      let none = row.handed_text in
+      let high = g.high in
+      let heard = g.heard in
+      let asked = g.asked in
+      record { high = omega (arith, high, more, most); heard = omega (arith, heard, more, now, none); asked = omega (arith, asked, now, none) }
 
   tick : (w : World) (old : Connection) (numbers : List ℕ) (now : Connection → Now) (k : ℕ) (side : Side) → is_live old.state ≡ true → FitConn old → All IsWord numbers → ((c : Connection) → FitConn c → IsNow (now c)) →
       G k side old w.sent → Steps m G other reset evict mark w (asked m now (on_tick m old numbers)) k side
   tick w old numbers now k side lv f n is g =
       let o : Outcome = on_tick m old numbers in
-      let t = asked_takes m now old no_segment o (tick_takes m old numbers no_segment) in
-      steps_by w old (asked m now o) k side no_segment lv g t (λ cl r. (let high = r.high in omega (arith, high, t.more, t.most)))
+      let t = asked_takes m pages lawful now old no_segment o (tick_takes m pages lawful old numbers no_segment) in
+      steps_by w old (asked m now o) k side no_segment lv g t (λ cl r. nothing_more side.client old (asked m now o).connection t.row r.within)
       (Prefix.tick m pages lawful w old numbers now k side lv f n is g.good)
 
   born_requested : (k : ℕ) (client : AbstractClient) (past : List Era) (d : Connection) (sent : List Sent) (opened : Option ℕ) → ((o : ℕ) → opened ≡ Some o → length past ≤ o) → OpenedGood pages client past closed opened → RequestedBy k client closed sent opened → RequestedBy k client d sent opened
@@ -219,19 +247,20 @@ module _ (m : Meaning) (pages : Pages) (lawful : IsPaged m pages) where
       }
 
   -- the client's numbers go on
-  goes_on : (k : ℕ) (client d : AbstractClient) (c : Connection) (sent : List Sent) → used client ≤ used d → own_first d ≡ own_first client → d.acked ≤ c.taken → Requested k client c sent → Requested k d c sent
-  goes_on k client d c sent u f l r = record {
+  goes_on : (k : ℕ) (client d : AbstractClient) (c : Connection) (sent : List Sent) → used client ≤ used d → asked_bytes client ≤ asked_bytes d → own_first d ≡ own_first client → d.acked ≤ c.taken → Requested k client c sent → Requested k d c sent
+  goes_on k client d c sent u b f l r = record {
     low = l;
-    high = (let z = r.high in omega (arith, z, u));
-    ends = λ j e x w nr ns p at lo q. (let z = r.ends j e x w nr ns p at lo (q ∙ ap (λ n. wrap (n + 1 + at)) f) in omega (arith, z, u));
+    within = (let z = r.within.high in let y = r.within.asked in record { high = omega (arith, z, u); heard = r.within.heard; asked = omega (arith, y, b) });
+    ends = λ j e x w nr ns p at lo q.
+        (let z = r.ends j e x w nr ns p at lo (q ∙ ap (λ n. wrap (n + 1 + at)) f) in let all = z.all in let text = z.text in record { text = omega (arith, text, b); all = omega (arith, all, u) });
   }
 
   acks_go_on : (k : ℕ) (client d : AbstractClient) (epoch : ℕ) (c : Connection) (sent : List Sent) → own_first d ≡ own_first client → Acks k client epoch c sent → Acks k d epoch c sent
   acks_go_on k client d epoch c sent f g l j e x w q r a = (let t = g l j e x w q r a in record { at = t.at; low = t.low; is = t.is ∙ ap (λ n. wrap (n + 1 + t.at)) (sym f) })
 
-  nothing_taken : (c : Connection) (st : State) (client : AbstractClient) → is_live st ≡ true → StateGood pages None client c st → c.taken ≡ 0
+  nothing_taken : (c : Connection) (st : State) (client : AbstractClient) → is_live st ≡ true → StateGood pages None client c st → (c.taken ≡ 0) × (c.part.heard ≡ [])
   nothing_taken c Closed client l g = absurd (cc)
-  nothing_taken c SynRcvd client l g = g.taken
+  nothing_taken c SynRcvd client l g = (g.taken, g.heard)
   nothing_taken c Established client l g = absurd (let z : false ≡ true = g.text.opened_is in cc)
   nothing_taken c CloseWait client l g = absurd (let z : false ≡ true = g.opened_is in cc)
   nothing_taken c FinWait1 client l g = absurd (let z : false ≡ true = g.opened_is in cc)
@@ -255,12 +284,14 @@ module _ (m : Meaning) (pages : Pages) (lawful : IsPaged m pages) where
   -- what a step of the client leaves
   after_step : (k : ℕ) (client : AbstractClient) (past : List Era) (c : Connection) (sent later : List Sent) (opened : Option ℕ) (s : PlainSegment) (t : ClientStep) (b : Bool) → Good pages k client opened past c sent → AsksOn client s t →
       Good pages k t.client (if b then Some (length past) else opened) past c later → (is_live c.state ≡ true → Requested k client c sent → t.client.acked ≤ c.taken) → RequestedBy k client c sent opened → RequestedBy k t.client c sent (if b then Some (length past) else opened)
-  after_step k client past c sent later (Some o) s t true g a h low r = λ l. goes_on k client t.client c sent a.more a.first (low l (r l)) (r l)
-  after_step k client past c sent later (Some o) s t false g a h low r = λ l. goes_on k client t.client c sent a.more a.first (low l (r l)) (r l)
+  after_step k client past c sent later (Some o) s t true g a h low r = λ l. goes_on k client t.client c sent a.more a.further a.first (low l (r l)) (r l)
+  after_step k client past c sent later (Some o) s t false g a h low r = λ l. goes_on k client t.client c sent a.more a.further a.first (low l (r l)) (r l)
   after_step k client past c sent later None s t false g a h low r = a.early h.opened_good.early ∙ r
   after_step k client past c sent later None s t true g a h low r = λ l. (let none = nothing_taken c c.state client l (g.connection l).state in
       let zero = acked_low client s t a r in
-      record { low = omega (arith, zero); high = omega (arith, none); ends = λ j e x w. never_asked client t.client e.epoch (seg e) (g.of_client j e x w).said })
+      let silent : length c.part.heard ≡ 0 = ap (λ (x : List ℕ). length x) none.1 in
+      let start : c.taken ≡ 0 = none.0 in
+      record { low = omega (arith, zero); within = record { high = omega (arith, start); heard = omega (arith, silent); asked = omega (arith, silent) }; ends = λ j e x w. never_asked client t.client e.epoch (seg e) (g.of_client j e x w).said })
 
   abbrev GoodTakes : World → ℕ → Side → Connection → ClientStep → Type 0
   GoodTakes w k base c t = Takes m (Prefix.G m pages lawful) (Prefix.other m pages lawful) (Prefix.reset m pages lawful) (Prefix.evict m pages lawful) (Prefix.mark m pages lawful) w k base c t
@@ -304,11 +335,11 @@ module _ (m : Meaning) (pages : Pages) (lawful : IsPaged m pages) where
       let a = client_asks side.client (seg e) in
       took_by w k (marked side number e) c (seg e) (client_takes side.client (seg e)) (mark k side c w.sent number e g) (Prefix.took m pages lawful w k j side c number e fit sent who g.good) a
       (λ cl l r. (let b = clean_before side number e cl in
-      heard_taken side.client c (seg e) (client_takes side.client (seg e)) (g.good b.0).steady a (λ n h. g.acks b.0 l j e sent who b.1 n h) r.low r.high))
+      heard_taken side.client c (seg e) (client_takes side.client (seg e)) (g.good b.0).steady a (λ n h. g.acks b.0 l j e sent who b.1 n h) r.low r.within.high))
 
   own_by : (w : World) (k : ℕ) (side : Side) (c : Connection) (t : ClientStep) → G k side c w.sent → Asking.Asks side.client t → GoodTakes w k side c t → Takes m G other reset evict mark w k side c t
   own_by w k side c t g n p =
-      took_by w k side c no_segment t g p record { more = n.more; acked = inl n.acked; first = n.first; early = n.early; ends = n.ends } (λ cl l r. (let z = r.low in omega (arith, z, n.acked)))
+      took_by w k side c no_segment t g p record { more = n.more; further = n.further; acked = inl n.acked; first = n.first; early = n.early; ends = n.ends } (λ cl l r. (let z = r.low in omega (arith, z, n.acked)))
 
   nothing_opened : (o : Option ℕ) → o ≡ None → (k : ℕ) (client : AbstractClient) (c : Connection) (sent : List Sent) → used client ≡ 0 → RequestedBy k client c sent o
   nothing_opened None e k client c sent z = z

@@ -59,14 +59,14 @@ pub record HasOneEpoch (side : Side) (c : Connection) : Type 0 where
   pub opened_in : (o : ℕ) → side.opened ≡ Some o → is_live c.state ≡ true → o ≡ length side.past
 
 -- How much of the request the server has taken: so many bytes, from what is acknowledged up to what is outstanding, and maybe the
--- FIN behind them. What the application was handed is a front of the request, and no more than was taken: in ESTABLISHED all that was
--- taken, in CLOSE-WAIT all but the FIN.
+-- FIN behind them. What the application was handed is a front of these bytes: in ESTABLISHED all that was taken, in CLOSE-WAIT all
+-- but the FIN.
 pub record HasTaken (client : AbstractClient) (c : Connection) : Type 0 where
   pub bytes : ℕ
   pub least : client.acked ≤ bytes
   pub most : bytes ≤ client.acked + client.out
   pub taken : (c.taken ≡ bytes) ⊎ ((fin_sent client.fin ≡ true) × (c.taken ≡ bytes + 1))
-  pub heard : IsPrefixOf c.part.heard client.request
+  pub heard : IsPrefixOf c.part.heard (take bytes client.request)
   pub numbers : HasTextNumbers c
 
 -- Every datagram of the node and of the client says what it may, a client acknowledges nothing before it opened, and its server has

@@ -13,3 +13,4 @@ pub mod Web
 pub mod Worked
 pub mod MadeLaws
 pub mod Hits
+pub mod Apart

@@ -6,3 +6,4 @@ pub mod Telling
 pub mod Web
 pub mod Worked
 pub mod Hits
+pub mod Apart

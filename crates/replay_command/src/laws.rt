@@ -1,5 +1,6 @@
 //! What a replay comes to where nothing disturbs. Each law is the clause of a function without parameters.
 
+ghost use Rattle.replay_command.specs.Apart.{AbortAndCloseApart};
 ghost use Rattle.replay_command.specs.Hits.{HitsAreCounted};
 ghost use Rattle.replay_command.specs.Laws.{HonestReplay, LoadIsTold, OnlyFull, ReplayIsTold};
 
@@ -27,4 +28,10 @@ pub fn only_full()
 /// At a node of the web server the hits of a file are the events at which a connection's request became decided as its name.
 pub fn hits_are_counted()
     ensures { HitsAreCounted }
+{}
+
+/// At a node of the web server a connection is closed as soon as all of its whole page is acknowledged, so that giving up and closing
+/// never meet.
+pub fn abort_and_close_apart()
+    ensures { AbortAndCloseApart }
 {}

@@ -14,7 +14,9 @@ mod telling;
 
 pub use file_tree::{SiteError, SiteWhy};
 pub use headline::{honest_pages, pages_are_received, worked_replays};
-pub use laws::{hits_are_counted, honest_replay, load_is_told, only_full, replay_is_told};
+pub use laws::{
+    abort_and_close_apart, hits_are_counted, honest_replay, load_is_told, only_full, replay_is_told,
+};
 pub use link_schedule::Why;
 pub use loading::load;
 pub use replay_end::ReplayEnd;

@@ -53,6 +53,11 @@ const REPEATS: &[u8] =
     b"client 10.0.0.2 1025 0 536 get /\nopen 1\nround\nround\nround\nround\ngive 4\nround\nround\nround\ngive 5\n\
     round\nround\nround\nround\nround\n";
 
+// Rounds alone: two for the request, eight for the four parts of the page, and six more.
+const HONEST: &[u8] =
+    b"client 10.0.0.2 1025 0 536 get /\nopen 1\nround\nround\nround\nround\nround\nround\nround\nround\n\
+    round\nround\nround\nround\nround\nround\nround\nround\n";
+
 // The client closes first.
 const CLIENT_FIRST: &[u8] =
     b"client 10.0.0.2 1025 0 536 get /\nopen 1\nround\nround\nround\nround\nclose 1\ngive 6\ngive 7\ngive 8\n\
@@ -267,6 +272,11 @@ fn replays_larger_pages(rt: HostRuntime) -> Result<(), Fail> {
             &large,
             REPEATS,
             b"client 1 closed 1080 clean\nticks 0 datagrams 13\n",
+        ),
+        replaying(
+            &large,
+            HONEST,
+            b"client 1 closed 1080 clean\nticks 0 datagrams 12\n",
         ),
         replaying(
             &large,
