@@ -13,7 +13,7 @@ use Rattle.web_pages.specs.Requests.{Wanted, wanted}
 use Rattle.web_pages.specs.Requests.Wanted.{Name, NotYet, Refused}
 use Rattle.web_pages.specs.Pieces.{Say, reply_pieces}
 use Rattle.web_pages.specs.Pieces.Say.{Made}
-use Rattle.web_pages.specs.Pages.{hits_of, is_page_whole, page, page_for, reach_end, page_text, whole_for}
+use Rattle.web_pages.specs.Pages.{hits_of, is_page_whole, page, page_for, reach_end, page_text, takes_capture, whole_for}
 use Rattle.web_pages.specs.WebMeaning.{is_acknowledged, left_of, waits_for_capture, web_want}
 use Rattle.web_pages.specs.Growing.{made_end, made_first, stopped_end, stopped_text, text_grows}
 use Rattle.httpd.specs.declared.httpd.Httpd.{Httpd}
@@ -23,6 +23,7 @@ use Rattle.httpd.specs.declared.thread.Thread.TheVariants.{Head, Kind, Body, Ins
 use Rattle.httpd.specs.declared.saying.Due.{Due}
 use Rattle.httpd.specs.Reply.{body_from, calls_in, left_from, reply_in}
 use Rattle.httpd.specs.Places.{Fits, IsInner}
+use Rattle.httpd.specs.Kept.{Keeps}
 use Rattle.httpd.specs.Looking.{SeesCall}
 use Rattle.httpd.specs.Saying.{IsDueReply, IsNotDue, want_left}
 use Rattle.httpd.specs.HttpdStands.{HttpdStands, IsLeft, IsReplying, SaysNothing, StandsIn}
@@ -149,21 +150,23 @@ begins_call a capture next = record a { capture = capture; thread = next }
 -- what it says then
 record Begun (site : SiteContent) (found : Option FileId) (old new : Capture) (pieces : List Say) (f : Function) (argument : List ℕ) (next : Thread) : Type 0 where
   fits : Fits (reply_in site found new) next
+  takes : takes_capture f ≡ true
   more : List Say
   pieces_are : pieces ≡ Made f argument ∷ more
   says : (later : List Moment) → page_text (files_of site) (left_from (reply_in site found new) next) later ≡ Rattle.generators.specs.Text.capture_text new ++ page_text (files_of site) more later
   ends : (later : List Moment) → reach_end (left_from (reply_in site found new) next) later ≡ reach_end more later
   calls : calls_in (left_from (reply_in site found new) next) ≡ calls_in more
 
-begun : (site : SiteContent) (found : Option FileId) (old new : Capture) (pieces : List Say) (f : Function) (argument : List ℕ) (next : Thread) → SeesCall (reply_in site found old) pieces (Made f argument) next
+begun : (site : SiteContent) (found : Option FileId) (old new : Capture) (pieces : List Say) (f : Function) (argument : List ℕ) (next : Thread) → SeesCall (reply_in site found old) pieces f argument next
     → Begun site found old new pieces f argument next
 unfolding Fits left_from
 begun site found old new pieces f argument (Making next at) call =
     let front : drop at (Rattle.generators.specs.Text.capture_text new) ≡ Rattle.generators.specs.Text.capture_text new = ap (λ n. drop n (Rattle.generators.specs.Text.capture_text new)) call.1 in
     record {
-      fits = (other_inner site found old new next call.2, omega (arith, call.1));
+      fits = (other_inner site found old new next call.0.inner, omega (arith, call.1));
+      takes = call.0.takes;
       more = body_from (reply_in site found old) next;
-      pieces_are = call.0;
+      pieces_are = call.0.first;
       says = λ later. ap (λ xs. xs ++ page_text (files_of site) (body_from (reply_in site found old) next) later) front;
       ends = λ later. refl;
       calls = refl;
@@ -184,14 +187,14 @@ due_left a site found p name due capture moment is_due is made =
       text = λ later.
           b.says later
           ∙ ap (λ c. Rattle.generators.specs.Text.capture_text c ++ page_text files b.more later) made
-          ∙ sym (made_first files due.function due.argument.now b.more moment later is_due.takes)
+          ∙ sym (made_first files due.function due.argument.now b.more moment later b.takes)
           ∙ ap (λ ps. page_text files ps (moment ∷ later)) (sym b.pieces_are)
           ∙ is_due.past.text (moment ∷ later)
           ∙ is.left.text (moment ∷ later)
           ∙ ap (λ ks. drop p.acked (page_text files reply ks)) (sym (append_assoc p.captures (moment ∷ []) later));
       whole = λ later.
           b.ends later
-          ∙ sym (made_end due.function due.argument.now b.more moment later is_due.takes)
+          ∙ sym (made_end due.function due.argument.now b.more moment later b.takes)
           ∙ ap (λ ps. reach_end ps (moment ∷ later)) (sym b.pieces_are)
           ∙ is_due.past.whole (moment ∷ later)
           ∙ is.left.whole (moment ∷ later)
@@ -203,12 +206,38 @@ due_left a site found p name due capture moment is_due is made =
         is.left.calls,
         is_due.past.calls,
         ap calls_in b.pieces_are,
-        ap (λ t. if t then 1 + calls_in b.more else calls_in b.more) is_due.takes,
+        ap (λ t. if t then 1 + calls_in b.more else calls_in b.more) b.takes,
       );
       within =
           let grows = text_grows files reply p.captures (moment ∷ []) in
           omega (arith, is.left.within, ap length grows.joined, length-append (page_text files reply p.captures) grows.rest);
     }
+
+-- the record is that of the last capture
+taken_by : (site : SiteContent) (found : Option FileId) (old new : Capture) (pieces : List Say) (f : Function) (argument : List ℕ) (next : Thread) (captures : List Moment) (moment : Moment) → SeesCall (reply_in site found old) pieces f argument next
+    → new ≡ capture_of f (hits_of (files_of site) moment.numbers argument) moment.now → Keeps (reply_in site found new) (captures ++ moment ∷ []) next
+taken_by site found old new pieces f argument (Making next at) captures moment call made = record {
+  function = f;
+  argument = argument;
+  earlier = captures;
+  last = moment;
+  directive = record {
+    from = call.0.directive.from;
+    at = call.0.directive.at;
+    len = call.0.directive.len;
+    begins = call.0.directive.begins;
+    piece = call.0.directive.piece;
+    names = call.0.directive.names;
+  };
+  takes = call.0.takes;
+  taken = refl;
+  record_is = made;
+}
+taken_by site found old new pieces f argument (Head at) captures moment call made = absurd call
+taken_by site found old new pieces f argument (Kind at) captures moment call made = absurd call
+taken_by site found old new pieces f argument (Body at) captures moment call made = absurd call
+taken_by site found old new pieces f argument (Inside next file at) captures moment call made = absurd call
+taken_by site found old new pieces f argument End captures moment call made = absurd call
 
 -- nothing is left before the call, and the end is not reached
 due_waits : (a : Httpd) (site : SiteContent) (found : Option FileId) (p : Part) (name : List ℕ) (due : Due) → IsDueReply (reply_in site found a.capture) a.thread due → IsReplying a site name found p
@@ -217,8 +246,8 @@ due_waits a site found p name due is_due is =
     let files = files_of site in
     let said = is_said a site found p name is in
     let b = begun site found a.capture a.capture is_due.pieces due.function due.argument.now due.next is_due.call in
-    let none : length (left_text a site found) ≡ 0 = ap length (sym (is_due.past.text []) ∙ ap (λ ps. page_text files ps []) b.pieces_are ∙ stopped_text files due.function due.argument.now b.more is_due.takes) in
-    let stops : left_end a site found ≡ false = sym (is_due.past.whole []) ∙ ap (λ ps. reach_end ps []) b.pieces_are ∙ stopped_end due.function due.argument.now b.more is_due.takes in
+    let none : length (left_text a site found) ≡ 0 = ap length (sym (is_due.past.text []) ∙ ap (λ ps. page_text files ps []) b.pieces_are ∙ stopped_text files due.function due.argument.now b.more b.takes) in
+    let stops : left_end a site found ≡ false = sym (is_due.past.whole []) ∙ ap (λ ps. reach_end ps []) b.pieces_are ∙ stopped_end due.function due.argument.now b.more b.takes in
     (λ i. (acked_all files p (left_text a site found) (left_end a site found) said ∙ eq-eqb (length (left_text a site found)) 0 none) i && (waits files p name is.wanted ∙ ap not (said.ends ∙ stops)) i)
 
 pub due_stands : (a : Httpd) (site : SiteContent) (found : Option FileId) (p : Part) (due : Due) (capture : Capture) (moment : Moment) → a.stage ≡ stage.Reply found → IsDueReply (reply_in site found a.capture) a.thread due → HttpdStands a site p
@@ -235,6 +264,7 @@ due_stands a site found p due capture moment e is_due s made =
           there = is.1.there;
           file = is.1.file;
           fits = (begun site found a.capture capture is_due.pieces due.function due.argument.now due.next is_due.call).fits;
+          kept = taken_by site found a.capture capture is_due.pieces due.function due.argument.now due.next p.captures moment is_due.call made;
           left = due_left a site found p is.0 due capture moment is_due is.1 made;
         },
       );

@@ -2,6 +2,7 @@
 use Rattle.std.specs.Prelude.{◌≡◌, ◌≤◌, ◌<◌, ℕ, ◌+◌, true, List, [], ◌∷◌, ◌++◌, length, drop, slice_range}
 use Rattle.app_events.specs.Part.{Moment}
 use Rattle.generators.specs.Text.{capture_text}
+use Rattle.script_lang.specs.declared.function.Function.{Function}
 use Rattle.site_image.specs.Files.{File}
 use Rattle.web_pages.specs.Pieces.{Say, kind_line}
 use Rattle.web_pages.specs.Pieces.Say.{Made}
@@ -13,6 +14,7 @@ use Rattle.httpd.specs.declared.thread.Thread.{Thread}
 use Rattle.httpd.specs.declared.thread.Thread.TheVariants.{Head, Kind, Body, Inside, Making, End}
 use Rattle.httpd.specs.Reply.{FileReply, body_from, calls_in, left_from}
 use Rattle.httpd.specs.Places.{Fits, IsInner, moved, thread_place}
+use Rattle.httpd.specs.Kept.{EndsCall, KeepsAll}
 
 -- what is left of the piece
 abbrev pub span_text : Span → List ℕ
@@ -54,22 +56,30 @@ pub record SeesText (reply : FileReply) (pieces : List Say) (look : Look) : Type
   pub no_more : length (left_from reply look.next) ≤ length pieces
   pub fewer : length (span_text look.span) ≡ 0 → length (left_from reply look.next) < length pieces
   pub next : Fits reply look.next
+  pub begins : KeepsAll reply look.next
   pub within : (n : ℕ) → n < length (span_text look.span) → IsInPiece reply pieces look.here n
 
--- It is a call that takes a capture, behind which the script goes on at a place.
-abbrev pub SeesCall : FileReply → List Say → Say → Thread → Type 0
-SeesCall reply pieces call (Making next at) = (pieces ≡ call ∷ body_from reply next) × (at ≡ 0) × IsInner reply next
-SeesCall reply pieces call (Head at) = ⊥
-SeesCall reply pieces call (Kind at) = ⊥
-SeesCall reply pieces call (Body at) = ⊥
-SeesCall reply pieces call (Inside next file at) = ⊥
-SeesCall reply pieces call End = ⊥
+-- It is a call that takes a capture. The script goes on where the call's directive ends.
+pub record IsCallBefore (reply : FileReply) (pieces : List Say) (function : Function) (argument : List ℕ) (next : ℕ) : Type 0 where
+  pub first : pieces ≡ Made function argument ∷ body_from reply next
+  pub takes : takes_capture function ≡ true
+  pub inner : IsInner reply next
+  pub directive : EndsCall reply next function argument
+
+-- The thread stands at the front of the text of its record.
+abbrev pub SeesCall : FileReply → List Say → Function → List ℕ → Thread → Type 0
+SeesCall reply pieces function argument (Making next at) = IsCallBefore reply pieces function argument next × (at ≡ 0)
+SeesCall reply pieces function argument (Head at) = ⊥
+SeesCall reply pieces function argument (Kind at) = ⊥
+SeesCall reply pieces function argument (Body at) = ⊥
+SeesCall reply pieces function argument (Inside next file at) = ⊥
+SeesCall reply pieces function argument End = ⊥
 
 abbrev pub SeesBy : FileReply → List Say → Look → Span → Type 0
 SeesBy reply pieces look (span.Bytes world send) = SeesText reply pieces look
 SeesBy reply pieces look (span.Line kind at) = SeesText reply pieces look
 SeesBy reply pieces look (span.Made capture at end) = SeesText reply pieces look
-SeesBy reply pieces look (span.Call function argument) = SeesCall reply pieces (Made function argument.now) look.next × (takes_capture function ≡ true)
+SeesBy reply pieces look (span.Call function argument) = SeesCall reply pieces function argument.now look.next
 SeesBy reply pieces look span.End = pieces ≡ []
 
 -- what is seen where the pieces are left

@@ -4,8 +4,7 @@ use Rattle.app_events.specs.declared.want.Want.{Want}
 use Rattle.app_events.specs.declared.want.Want.TheVariants.{Nothing, Send, Close}
 use Rattle.site_image.specs.Files.{File}
 use Rattle.web_pages.specs.Pieces.{Say}
-use Rattle.web_pages.specs.Pieces.Say.{Made}
-use Rattle.web_pages.specs.Pages.{reach_end, takes_capture, page_text}
+use Rattle.web_pages.specs.Pages.{reach_end, page_text}
 use Rattle.web_pages.specs.declared.TheConstants.{LARGEST_SEGMENT}
 use Rattle.httpd.specs.declared.saying.Due.{Due}
 use Rattle.httpd.specs.declared.thread.Thread.{Thread}
@@ -27,5 +26,4 @@ IsNotDue files pieces = length (page_text files pieces []) ≡ 0 → reach_end p
 pub record IsDueReply (reply : FileReply) (thread : Thread) (due : Due) : Type 0 where
   pub pieces : List Say
   pub past : IsPast reply.files 0 (left_from reply thread) pieces
-  pub call : SeesCall reply pieces (Made due.function due.argument.now) due.next
-  pub takes : takes_capture due.function ≡ true
+  pub call : SeesCall reply pieces due.function due.argument.now due.next

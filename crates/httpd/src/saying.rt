@@ -5,6 +5,7 @@ ghost use Rattle.file_tree.specs.Site.{files_of};
 ghost use Rattle.web_pages.specs.Pages.{reach_end, page_text};
 ghost use Rattle.httpd.specs.Reply.{left_from, reply_in};
 ghost use Rattle.httpd.specs.Places.{Fits, IsFound};
+ghost use Rattle.httpd.specs.Kept.{KeepsOn};
 ghost use Rattle.httpd.specs.Looking.{IsPast};
 ghost use Rattle.httpd.specs.Saying.{IsDueReply, IsNotDue, want_left};
 
@@ -53,6 +54,7 @@ pub(crate) fn acked_reply(
     requires fits { Fits (reply_in site.now found capture.now) thread }
     requires enough { count ≤ length (page_text (files_of site.now) (left_from (reply_in site.now found capture.now) thread) []) }
     ensures fits { Fits (reply_in site.now found capture.now) result }
+    ensures kept { KeepsOn (reply_in site.now found capture.now) thread result }
     ensures past { IsPast (files_of site.now) count (left_from (reply_in site.now found capture.now) thread) (left_from (reply_in site.now found capture.now) result) }
 {
     let mut place = thread;

@@ -44,7 +44,7 @@ pub(crate) enum Span<'a> {
 #[derive(Clone, Copy)]
 pub(crate) struct Look<'a> {
     pub span: Span<'a>,
-    /// The same place, as one inside the piece.
+    /// The same place, as one inside the piece, where it is a piece of text.
     pub here: Thread,
     /// Where the next piece begins. Behind a call it is the front of the text of its record.
     pub next: Thread,
