@@ -25,28 +25,28 @@ use Rattle.httpd.specs.Reply.{body_from, calls_in, left_from, reply_in}
 use Rattle.httpd.specs.Places.{Fits, IsInner}
 use Rattle.httpd.specs.Kept.{Keeps}
 use Rattle.httpd.specs.Looking.{SeesCall}
-use Rattle.httpd.specs.Saying.{IsDueReply, IsNotDue, want_left}
+use Rattle.httpd.specs.Saying.{IsDueReply, IsNotDue, left_text, left_whole, want_left}
 use Rattle.httpd.specs.HttpdStands.{HttpdStands, IsLeft, IsReplying, SaysNothing, StandsIn}
 use Rattle.httpd.proofs.Standing.{replying}
 
 -- what is left of the page of a reply
-abbrev left_text : Httpd → SiteContent → Option FileId → List ℕ
-left_text a site found = page_text (files_of site) (left_from (reply_in site found a.capture) a.thread) []
+abbrev text_of : Httpd → SiteContent → Option FileId → List ℕ
+text_of a site found = left_text (reply_in site found a.capture) a.thread
 
-abbrev left_end : Httpd → SiteContent → Option FileId → Bool
-left_end a site found = reach_end (left_from (reply_in site found a.capture) a.thread) []
+abbrev end_of : Httpd → SiteContent → Option FileId → Bool
+end_of a site found = left_whole (reply_in site found a.capture) a.thread
 
 record IsSaid (files : List File) (p : Part) (text : List ℕ) (whole : Bool) : Type 0 where
   left : left_of files p ≡ length text
   ends : is_page_whole files p.heard p.captures ≡ whole
   within : p.acked ≤ length (page files p.heard p.captures)
 
-is_said : (a : Httpd) (site : SiteContent) (found : Option FileId) (p : Part) (name : List ℕ) → IsReplying a site name found p → IsSaid (files_of site) p (left_text a site found) (left_end a site found)
+is_said : (a : Httpd) (site : SiteContent) (found : Option FileId) (p : Part) (name : List ℕ) → IsReplying a site name found p → IsSaid (files_of site) p (text_of a site found) (end_of a site found)
 is_said a site found p name is =
     let files = files_of site in
     let text : page files p.heard p.captures ≡ page_text files (reply_pieces files name) p.captures = ap (λ w. page_for files w p.captures) is.wanted in
     let end : is_page_whole files p.heard p.captures ≡ reach_end (reply_pieces files name) p.captures = ap (λ w. whole_for files w p.captures) is.wanted in
-    let rest : left_text a site found ≡ drop p.acked (page_text files (reply_pieces files name) p.captures) =
+    let rest : text_of a site found ≡ drop p.acked (page_text files (reply_pieces files name) p.captures) =
     is.left.text [] ∙ ap (λ ks. drop p.acked (page_text files (reply_pieces files name) ks)) (append-nil p.captures) in
     let size = ap length text in
     record {
@@ -74,10 +74,10 @@ want_by files p text whole said polls = sym (
     ∙ (λ i. if said.ends i && acked_all files p text whole said i then Close else (if nat_lt 0 (said.left i) then Send (min 1460 (said.left i)) else Nothing)))
 
 pub reply_wants : (a : Httpd) (site : SiteContent) (found : Option FileId) (p : Part) → a.stage ≡ stage.Reply found → (a.polls ≡ 20 → ⊥) → HttpdStands a site p
-    → want_left (left_text a site found) (left_end a site found) ≡ web_want (files_of site) p
+    → want_left (text_of a site found) (end_of a site found) ≡ web_want (files_of site) p
 reply_wants a site found p e polls s =
     let is = replying a site p found e s in
-    want_by (files_of site) p (left_text a site found) (left_end a site found) (is_said a site found p is.0 is.1) (ne_eqb p.polls 20 (λ h. polls (s.polls ∙ h)))
+    want_by (files_of site) p (text_of a site found) (end_of a site found) (is_said a site found p is.0 is.1) (ne_eqb p.polls 20 (λ h. polls (s.polls ∙ h)))
 
 -- where nothing is said
 nothing_said : (files : List File) (p : Part) (w : Wanted) (whole : Bool) → wanted p.heard ≡ w → page_for files w p.captures ≡ [] → whole_for files w p.captures ≡ whole → SaysNothing p → IsSaid files p [] whole
@@ -121,7 +121,7 @@ waits : (files : List File) (p : Part) (name : List ℕ) → wanted p.heard ≡ 
 waits files p name e = ap (λ w. waits_for_capture files w p) e
 
 -- no call is due: the part stays
-pub not_due : (a : Httpd) (site : SiteContent) (found : Option FileId) (p : Part) (moment : Moment) → a.stage ≡ stage.Reply found → IsNotDue (files_of site) (left_from (reply_in site found a.capture) a.thread) → HttpdStands a site p
+pub not_due : (a : Httpd) (site : SiteContent) (found : Option FileId) (p : Part) (moment : Moment) → a.stage ≡ stage.Reply found → IsNotDue (reply_in site found a.capture) a.thread → HttpdStands a site p
     → HttpdStands a site (prepared (files_of site) p moment)
 not_due a site found p moment e due s =
     let is = replying a site p found e s in
@@ -129,7 +129,7 @@ not_due a site found p moment e due s =
     let stays : (is_acknowledged (files_of site) p && waits_for_capture (files_of site) (wanted p.heard) p) ≡ false =
     ap (λ w. is_acknowledged (files_of site) p && w) (waits (files_of site) p is.0 is.1.wanted)
     ∙ unless_whole (is_acknowledged (files_of site) p) (is_page_whole (files_of site) p.heard p.captures)
-    (λ h. said.ends ∙ due (eqb-true (length (left_text a site found)) 0 (sym (acked_all (files_of site) p (left_text a site found) (left_end a site found) said) ∙ h))) in
+    (λ h. said.ends ∙ due (eqb-true (length (text_of a site found)) 0 (sym (acked_all (files_of site) p (text_of a site found) (end_of a site found) said) ∙ h))) in
     subst (λ q. HttpdStands a site q) (sym (prepared_by (files_of site) p moment false stays)) s
 
 -- a request that is not decided, or refused: the part stays
@@ -246,9 +246,9 @@ due_waits a site found p name due is_due is =
     let files = files_of site in
     let said = is_said a site found p name is in
     let b = begun site found a.capture a.capture is_due.pieces due.function due.argument.now due.next is_due.call in
-    let none : length (left_text a site found) ≡ 0 = ap length (sym (is_due.past.text []) ∙ ap (λ ps. page_text files ps []) b.pieces_are ∙ stopped_text files due.function due.argument.now b.more b.takes) in
-    let stops : left_end a site found ≡ false = sym (is_due.past.whole []) ∙ ap (λ ps. reach_end ps []) b.pieces_are ∙ stopped_end due.function due.argument.now b.more b.takes in
-    (λ i. (acked_all files p (left_text a site found) (left_end a site found) said ∙ eq-eqb (length (left_text a site found)) 0 none) i && (waits files p name is.wanted ∙ ap not (said.ends ∙ stops)) i)
+    let none : length (text_of a site found) ≡ 0 = ap length (sym (is_due.past.text []) ∙ ap (λ ps. page_text files ps []) b.pieces_are ∙ stopped_text files due.function due.argument.now b.more b.takes) in
+    let stops : end_of a site found ≡ false = sym (is_due.past.whole []) ∙ ap (λ ps. reach_end ps []) b.pieces_are ∙ stopped_end due.function due.argument.now b.more b.takes in
+    (λ i. (acked_all files p (text_of a site found) (end_of a site found) said ∙ eq-eqb (length (text_of a site found)) 0 none) i && (waits files p name is.wanted ∙ ap not (said.ends ∙ stops)) i)
 
 pub due_stands : (a : Httpd) (site : SiteContent) (found : Option FileId) (p : Part) (due : Due) (capture : Capture) (moment : Moment) → a.stage ≡ stage.Reply found → IsDueReply (reply_in site found a.capture) a.thread due → HttpdStands a site p
     → capture ≡ capture_of due.function (hits_of (files_of site) moment.numbers due.argument.now) moment.now → HttpdStands (record a { capture = capture; thread = due.next }) site (prepared (files_of site) p moment)

@@ -58,7 +58,7 @@ pub decided_stands : (a : Httpd) (site : SiteContent) (p : Part) (s : Stage) →
 decided_stands a site p stage.Method e none is = (is, none)
 decided_stands a site p stage.Target e none is = (is, none)
 decided_stands a site p stage.Refused e none is = (is, none)
-decided_stands a site p (stage.Reply found) e none is = (is.0, begins a site p found is.0 e none is.1 is.2 is.3)
+decided_stands a site p (stage.Reply found) e none is = (is.name, begins a site p found is.name e none is.wanted is.there is.file)
 
 abbrev pub with_more : Part → List ℕ → Part
 with_more p piece = record p { heard = p.heard ++ piece; polls = 0 }

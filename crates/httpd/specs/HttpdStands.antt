@@ -20,8 +20,10 @@ use Rattle.httpd.specs.Hearing.{HearsMethod, HearsTarget}
 -- Whatever captures are still to come: what the thread has left to say with them is the page of the name past the acknowledged
 -- offset, and it reaches the end where the page does. Of the calls of the reply, as many as there are captures are behind it.
 pub record IsLeft (reply : FileReply) (thread : Thread) (name : List ℕ) (part : Part) : Type 0 where
-  pub text : (later : List Moment) → page_text reply.files (left_from reply thread) later ≡ drop part.acked (page_text reply.files (reply_pieces reply.files name) (part.captures ++ later))
-  pub whole : (later : List Moment) → reach_end (left_from reply thread) later ≡ reach_end (reply_pieces reply.files name) (part.captures ++ later)
+  pub text : (later : List Moment) → page_text reply.files (left_from reply thread) later
+      ≡ drop part.acked (page_text reply.files (reply_pieces reply.files name) (part.captures ++ later))
+  pub whole : (later : List Moment) → reach_end (left_from reply thread) later
+      ≡ reach_end (reply_pieces reply.files name) (part.captures ++ later)
   pub calls : length part.captures + calls_in (left_from reply thread) ≡ calls_in (reply_pieces reply.files name)
   pub within : part.acked ≤ length (page_text reply.files (reply_pieces reply.files name) part.captures)
 

@@ -1,12 +1,14 @@
 -- What a thread sees where it stands.
-use Rattle.std.specs.Prelude.{◌≡◌, ◌≤◌, ◌<◌, ℕ, ◌+◌, true, List, [], ◌∷◌, ◌++◌, length, drop, slice_range}
+use Rattle.std.specs.Prelude.{◌≡◌, ◌≤◌, ◌<◌, ℕ, ◌+◌, ◌^◌, true, List, [], ◌∷◌, ◌++◌, length, drop, slice_range}
 use Rattle.app_events.specs.Part.{Moment}
 use Rattle.generators.specs.Text.{capture_text}
 use Rattle.script_lang.specs.declared.function.Function.{Function}
 use Rattle.site_image.specs.Files.{File}
+use Rattle.site_image.specs.declared.TheConstants.{LONGEST_IMAGE, LONGEST_KIND}
 use Rattle.web_pages.specs.Pieces.{Say, kind_line}
 use Rattle.web_pages.specs.Pieces.Say.{Made}
 use Rattle.web_pages.specs.Pages.{page_text, reach_end, takes_capture}
+use Rattle.httpd.specs.declared.texts.TheConstants.{LONGEST_TEXT}
 use Rattle.httpd.specs.declared.span.Span.{Span}
 use Rattle.httpd.specs.declared.span.Span.TheVariants as span
 use Rattle.httpd.specs.declared.span.Look.{Look}
@@ -26,9 +28,10 @@ span_text span.End = []
 
 -- the places lie within the texts
 abbrev pub SpanFits : Span → Type 0
-SpanFits (span.Bytes world send) = (send.run.at ≤ send.run.end) × (send.run.end ≤ length world.now) × (length world.now ≤ 16777216)
-SpanFits (span.Line kind at) = (length kind.now ≤ 64) × (at ≤ length (kind_line kind.now))
-SpanFits (span.Made capture at end) = (at ≤ end) × (end ≡ length (capture_text capture.now)) × (end ≤ 4200)
+SpanFits (span.Bytes world send) =
+    (send.run.at ≤ send.run.end) × (send.run.end ≤ length world.now) × (length world.now ≤ LONGEST_IMAGE)
+SpanFits (span.Line kind at) = (length kind.now ≤ LONGEST_KIND) × (at ≤ length (kind_line kind.now))
+SpanFits (span.Made capture at end) = (at ≤ end) × (end ≡ length (capture_text capture.now)) × (end ≤ LONGEST_TEXT)
 SpanFits (span.Call function argument) = Unit {0}
 SpanFits span.End = Unit {0}
 
@@ -47,7 +50,7 @@ pub record IsPast (files : List File) (n : ℕ) (pieces others : List Say) : Typ
 -- a place n bytes further in the same piece
 pub record IsInPiece (reply : FileReply) (pieces : List Say) (here : Thread) (n : ℕ) : Type 0 where
   pub fits : Fits reply (moved here n)
-  pub small : thread_place here + n < 2147483648
+  pub small : thread_place here + n < 2 ^ 31
   pub past : IsPast reply.files n pieces (left_from reply (moved here n))
 
 -- The first piece takes no capture. What is seen is all that is left of it, or a front of a long one.

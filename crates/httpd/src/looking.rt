@@ -2,6 +2,7 @@
 
 ghost use Rattle.std.specs.Prelude.{◌≡◌, ◌≤◌, ◌<◌, ◌+◌, ◌∷◌, [], true, drop, length, slice_range};
 ghost use Rattle.file_tree.specs.Site.{files_of};
+ghost use Rattle.site_image.specs.declared.TheConstants.{LONGEST_IMAGE};
 ghost use Rattle.site_image.specs.Files.{file_named};
 ghost use Rattle.web_pages.specs.Pieces.{piece_bytes};
 ghost use Rattle.web_pages.specs.Pieces.Say.{Plain, Made};
@@ -47,7 +48,7 @@ pub(crate) fn look<'a>(
 /// What is left of the bytes from a place on.
 fn rest_of(world: &[u8], at: u32) -> Span<'_>
     requires within { at ≤ length world.now }
-    requires short { length world.now ≤ 16777216 }
+    requires short { length world.now ≤ LONGEST_IMAGE }
     ensures { IsSpan result (drop at world.now) }
 {
     part_of(world, at, world.len() as u32)
@@ -57,7 +58,7 @@ fn rest_of(world: &[u8], at: u32) -> Span<'_>
 fn part_of(world: &[u8], at: u32, end: u32) -> Span<'_>
     requires ordered { at ≤ end }
     requires within { end ≤ length world.now }
-    requires short { length world.now ≤ 16777216 }
+    requires short { length world.now ≤ LONGEST_IMAGE }
     ensures { IsSpan result (slice_range world.now at end) }
 {
     let run = Run { at, end };
@@ -198,7 +199,8 @@ fn look_include<'a>(
     requires found { IsFound (files_of site.now) found }
     requires inner { IsInner (reply_in site.now found capture.now) next }
     requires directive { EndsInclude (reply_in site.now found capture.now) next name.now }
-    ensures sees { Sees (reply_in site.now found capture.now) (Plain (piece_bytes (file_named (files_of site.now) name.now)) ∷ body_from (reply_in site.now found capture.now) next) result }
+    ensures sees { let reply = reply_in site.now found capture.now in
+        Sees reply (Plain (piece_bytes (file_named reply.files name.now)) ∷ body_from reply next) result }
     ensures kept { KeepsAll (reply_in site.now found capture.now) result.here }
 {
     match place_in(site, name) {
@@ -231,7 +233,8 @@ fn look_inside<'a>(
 ) -> Look<'a>
     requires found { IsFound (files_of site.now) found }
     requires fits { Fits (reply_in site.now found capture.now) (Thread.Inside next file at) }
-    ensures sees { Sees (reply_in site.now found capture.now) (left_from (reply_in site.now found capture.now) (Thread.Inside next file at)) result }
+    ensures sees { let reply = reply_in site.now found capture.now in
+        Sees reply (left_from reply (Thread.Inside next file at)) result }
     ensures here { result.here ≡ Thread.Inside next file at }
 {
     Look {
@@ -252,7 +255,8 @@ fn look_call<'a>(
 ) -> Look<'a>
     requires inner { IsInner (reply_in site.now found capture.now) next }
     requires directive { EndsCall (reply_in site.now found capture.now) next function argument.now }
-    ensures sees { Sees (reply_in site.now found capture.now) (Made function argument.now ∷ body_from (reply_in site.now found capture.now) next) result }
+    ensures sees { let reply = reply_in site.now found capture.now in
+        Sees reply (Made function argument.now ∷ body_from reply next) result }
     ensures kept { KeepsAll (reply_in site.now found capture.now) result.here }
 {
     match function {
@@ -276,7 +280,8 @@ fn look_making<'a>(
     at: u32,
 ) -> Look<'a>
     requires { Fits (reply_in site.now found capture.now) (Thread.Making next at) }
-    ensures sees { Sees (reply_in site.now found capture.now) (left_from (reply_in site.now found capture.now) (Thread.Making next at)) result }
+    ensures sees { let reply = reply_in site.now found capture.now in
+        Sees reply (left_from reply (Thread.Making next at)) result }
     ensures here { result.here ≡ Thread.Making next at }
 {
     let end = text_len(capture) as u32;
