@@ -13,7 +13,7 @@ use Rattle.web_pages.specs.Requests.{Wanted, wanted}
 use Rattle.web_pages.specs.Requests.Wanted.{Name, NotYet, Refused}
 use Rattle.web_pages.specs.Pieces.{Say, reply_pieces}
 use Rattle.web_pages.specs.Pieces.Say.{Made}
-use Rattle.web_pages.specs.Pages.{hits_of, is_page_whole, page, page_for, reach_end, page_text, whole_for}
+use Rattle.web_pages.specs.Pages.{hits_of, is_page_whole, page, page_for, reach_end, page_text, takes_capture, whole_for}
 use Rattle.web_pages.specs.WebMeaning.{is_acknowledged, left_of, waits_for_capture, web_want}
 use Rattle.web_pages.specs.Growing.{made_end, made_first, stopped_end, stopped_text, text_grows}
 use Rattle.httpd.specs.declared.httpd.Httpd.{Httpd}
@@ -23,29 +23,30 @@ use Rattle.httpd.specs.declared.thread.Thread.TheVariants.{Head, Kind, Body, Ins
 use Rattle.httpd.specs.declared.saying.Due.{Due}
 use Rattle.httpd.specs.Reply.{body_from, calls_in, left_from, reply_in}
 use Rattle.httpd.specs.Places.{Fits, IsInner}
+use Rattle.httpd.specs.Kept.{Keeps}
 use Rattle.httpd.specs.Looking.{SeesCall}
-use Rattle.httpd.specs.Saying.{IsDueReply, IsNotDue, want_left}
+use Rattle.httpd.specs.Saying.{IsDueReply, IsNotDue, left_text, left_whole, want_left}
 use Rattle.httpd.specs.HttpdStands.{HttpdStands, IsLeft, IsReplying, SaysNothing, StandsIn}
 use Rattle.httpd.proofs.Standing.{replying}
 
 -- what is left of the page of a reply
-abbrev left_text : Httpd → SiteContent → Option FileId → List ℕ
-left_text a site found = page_text (files_of site) (left_from (reply_in site found a.capture) a.thread) []
+abbrev text_of : Httpd → SiteContent → Option FileId → List ℕ
+text_of a site found = left_text (reply_in site found a.capture) a.thread
 
-abbrev left_end : Httpd → SiteContent → Option FileId → Bool
-left_end a site found = reach_end (left_from (reply_in site found a.capture) a.thread) []
+abbrev end_of : Httpd → SiteContent → Option FileId → Bool
+end_of a site found = left_whole (reply_in site found a.capture) a.thread
 
 record IsSaid (files : List File) (p : Part) (text : List ℕ) (whole : Bool) : Type 0 where
   left : left_of files p ≡ length text
   ends : is_page_whole files p.heard p.captures ≡ whole
   within : p.acked ≤ length (page files p.heard p.captures)
 
-is_said : (a : Httpd) (site : SiteContent) (found : Option FileId) (p : Part) (name : List ℕ) → IsReplying a site name found p → IsSaid (files_of site) p (left_text a site found) (left_end a site found)
+is_said : (a : Httpd) (site : SiteContent) (found : Option FileId) (p : Part) (name : List ℕ) → IsReplying a site name found p → IsSaid (files_of site) p (text_of a site found) (end_of a site found)
 is_said a site found p name is =
     let files = files_of site in
     let text : page files p.heard p.captures ≡ page_text files (reply_pieces files name) p.captures = ap (λ w. page_for files w p.captures) is.wanted in
     let end : is_page_whole files p.heard p.captures ≡ reach_end (reply_pieces files name) p.captures = ap (λ w. whole_for files w p.captures) is.wanted in
-    let rest : left_text a site found ≡ drop p.acked (page_text files (reply_pieces files name) p.captures) =
+    let rest : text_of a site found ≡ drop p.acked (page_text files (reply_pieces files name) p.captures) =
     is.left.text [] ∙ ap (λ ks. drop p.acked (page_text files (reply_pieces files name) ks)) (append-nil p.captures) in
     let size = ap length text in
     record {
@@ -73,10 +74,10 @@ want_by files p text whole said polls = sym (
     ∙ (λ i. if said.ends i && acked_all files p text whole said i then Close else (if nat_lt 0 (said.left i) then Send (min 1460 (said.left i)) else Nothing)))
 
 pub reply_wants : (a : Httpd) (site : SiteContent) (found : Option FileId) (p : Part) → a.stage ≡ stage.Reply found → (a.polls ≡ 20 → ⊥) → HttpdStands a site p
-    → want_left (left_text a site found) (left_end a site found) ≡ web_want (files_of site) p
+    → want_left (text_of a site found) (end_of a site found) ≡ web_want (files_of site) p
 reply_wants a site found p e polls s =
     let is = replying a site p found e s in
-    want_by (files_of site) p (left_text a site found) (left_end a site found) (is_said a site found p is.0 is.1) (ne_eqb p.polls 20 (λ h. polls (s.polls ∙ h)))
+    want_by (files_of site) p (text_of a site found) (end_of a site found) (is_said a site found p is.0 is.1) (ne_eqb p.polls 20 (λ h. polls (s.polls ∙ h)))
 
 -- where nothing is said
 nothing_said : (files : List File) (p : Part) (w : Wanted) (whole : Bool) → wanted p.heard ≡ w → page_for files w p.captures ≡ [] → whole_for files w p.captures ≡ whole → SaysNothing p → IsSaid files p [] whole
@@ -120,7 +121,7 @@ waits : (files : List File) (p : Part) (name : List ℕ) → wanted p.heard ≡ 
 waits files p name e = ap (λ w. waits_for_capture files w p) e
 
 -- no call is due: the part stays
-pub not_due : (a : Httpd) (site : SiteContent) (found : Option FileId) (p : Part) (moment : Moment) → a.stage ≡ stage.Reply found → IsNotDue (files_of site) (left_from (reply_in site found a.capture) a.thread) → HttpdStands a site p
+pub not_due : (a : Httpd) (site : SiteContent) (found : Option FileId) (p : Part) (moment : Moment) → a.stage ≡ stage.Reply found → IsNotDue (reply_in site found a.capture) a.thread → HttpdStands a site p
     → HttpdStands a site (prepared (files_of site) p moment)
 not_due a site found p moment e due s =
     let is = replying a site p found e s in
@@ -128,7 +129,7 @@ not_due a site found p moment e due s =
     let stays : (is_acknowledged (files_of site) p && waits_for_capture (files_of site) (wanted p.heard) p) ≡ false =
     ap (λ w. is_acknowledged (files_of site) p && w) (waits (files_of site) p is.0 is.1.wanted)
     ∙ unless_whole (is_acknowledged (files_of site) p) (is_page_whole (files_of site) p.heard p.captures)
-    (λ h. said.ends ∙ due (eqb-true (length (left_text a site found)) 0 (sym (acked_all (files_of site) p (left_text a site found) (left_end a site found) said) ∙ h))) in
+    (λ h. said.ends ∙ due (eqb-true (length (text_of a site found)) 0 (sym (acked_all (files_of site) p (text_of a site found) (end_of a site found) said) ∙ h))) in
     subst (λ q. HttpdStands a site q) (sym (prepared_by (files_of site) p moment false stays)) s
 
 -- a request that is not decided, or refused: the part stays
@@ -149,21 +150,23 @@ begins_call a capture next = record a { capture = capture; thread = next }
 -- what it says then
 record Begun (site : SiteContent) (found : Option FileId) (old new : Capture) (pieces : List Say) (f : Function) (argument : List ℕ) (next : Thread) : Type 0 where
   fits : Fits (reply_in site found new) next
+  takes : takes_capture f ≡ true
   more : List Say
   pieces_are : pieces ≡ Made f argument ∷ more
   says : (later : List Moment) → page_text (files_of site) (left_from (reply_in site found new) next) later ≡ Rattle.generators.specs.Text.capture_text new ++ page_text (files_of site) more later
   ends : (later : List Moment) → reach_end (left_from (reply_in site found new) next) later ≡ reach_end more later
   calls : calls_in (left_from (reply_in site found new) next) ≡ calls_in more
 
-begun : (site : SiteContent) (found : Option FileId) (old new : Capture) (pieces : List Say) (f : Function) (argument : List ℕ) (next : Thread) → SeesCall (reply_in site found old) pieces (Made f argument) next
+begun : (site : SiteContent) (found : Option FileId) (old new : Capture) (pieces : List Say) (f : Function) (argument : List ℕ) (next : Thread) → SeesCall (reply_in site found old) pieces f argument next
     → Begun site found old new pieces f argument next
 unfolding Fits left_from
 begun site found old new pieces f argument (Making next at) call =
     let front : drop at (Rattle.generators.specs.Text.capture_text new) ≡ Rattle.generators.specs.Text.capture_text new = ap (λ n. drop n (Rattle.generators.specs.Text.capture_text new)) call.1 in
     record {
-      fits = (other_inner site found old new next call.2, omega (arith, call.1));
+      fits = (other_inner site found old new next call.0.inner, omega (arith, call.1));
+      takes = call.0.takes;
       more = body_from (reply_in site found old) next;
-      pieces_are = call.0;
+      pieces_are = call.0.first;
       says = λ later. ap (λ xs. xs ++ page_text (files_of site) (body_from (reply_in site found old) next) later) front;
       ends = λ later. refl;
       calls = refl;
@@ -184,14 +187,14 @@ due_left a site found p name due capture moment is_due is made =
       text = λ later.
           b.says later
           ∙ ap (λ c. Rattle.generators.specs.Text.capture_text c ++ page_text files b.more later) made
-          ∙ sym (made_first files due.function due.argument.now b.more moment later is_due.takes)
+          ∙ sym (made_first files due.function due.argument.now b.more moment later b.takes)
           ∙ ap (λ ps. page_text files ps (moment ∷ later)) (sym b.pieces_are)
           ∙ is_due.past.text (moment ∷ later)
           ∙ is.left.text (moment ∷ later)
           ∙ ap (λ ks. drop p.acked (page_text files reply ks)) (sym (append_assoc p.captures (moment ∷ []) later));
       whole = λ later.
           b.ends later
-          ∙ sym (made_end due.function due.argument.now b.more moment later is_due.takes)
+          ∙ sym (made_end due.function due.argument.now b.more moment later b.takes)
           ∙ ap (λ ps. reach_end ps (moment ∷ later)) (sym b.pieces_are)
           ∙ is_due.past.whole (moment ∷ later)
           ∙ is.left.whole (moment ∷ later)
@@ -203,12 +206,38 @@ due_left a site found p name due capture moment is_due is made =
         is.left.calls,
         is_due.past.calls,
         ap calls_in b.pieces_are,
-        ap (λ t. if t then 1 + calls_in b.more else calls_in b.more) is_due.takes,
+        ap (λ t. if t then 1 + calls_in b.more else calls_in b.more) b.takes,
       );
       within =
           let grows = text_grows files reply p.captures (moment ∷ []) in
           omega (arith, is.left.within, ap length grows.joined, length-append (page_text files reply p.captures) grows.rest);
     }
+
+-- the record is that of the last capture
+taken_by : (site : SiteContent) (found : Option FileId) (old new : Capture) (pieces : List Say) (f : Function) (argument : List ℕ) (next : Thread) (captures : List Moment) (moment : Moment) → SeesCall (reply_in site found old) pieces f argument next
+    → new ≡ capture_of f (hits_of (files_of site) moment.numbers argument) moment.now → Keeps (reply_in site found new) (captures ++ moment ∷ []) next
+taken_by site found old new pieces f argument (Making next at) captures moment call made = record {
+  function = f;
+  argument = argument;
+  earlier = captures;
+  last = moment;
+  directive = record {
+    from = call.0.directive.from;
+    at = call.0.directive.at;
+    len = call.0.directive.len;
+    begins = call.0.directive.begins;
+    piece = call.0.directive.piece;
+    names = call.0.directive.names;
+  };
+  takes = call.0.takes;
+  taken = refl;
+  record_is = made;
+}
+taken_by site found old new pieces f argument (Head at) captures moment call made = absurd call
+taken_by site found old new pieces f argument (Kind at) captures moment call made = absurd call
+taken_by site found old new pieces f argument (Body at) captures moment call made = absurd call
+taken_by site found old new pieces f argument (Inside next file at) captures moment call made = absurd call
+taken_by site found old new pieces f argument End captures moment call made = absurd call
 
 -- nothing is left before the call, and the end is not reached
 due_waits : (a : Httpd) (site : SiteContent) (found : Option FileId) (p : Part) (name : List ℕ) (due : Due) → IsDueReply (reply_in site found a.capture) a.thread due → IsReplying a site name found p
@@ -217,9 +246,9 @@ due_waits a site found p name due is_due is =
     let files = files_of site in
     let said = is_said a site found p name is in
     let b = begun site found a.capture a.capture is_due.pieces due.function due.argument.now due.next is_due.call in
-    let none : length (left_text a site found) ≡ 0 = ap length (sym (is_due.past.text []) ∙ ap (λ ps. page_text files ps []) b.pieces_are ∙ stopped_text files due.function due.argument.now b.more is_due.takes) in
-    let stops : left_end a site found ≡ false = sym (is_due.past.whole []) ∙ ap (λ ps. reach_end ps []) b.pieces_are ∙ stopped_end due.function due.argument.now b.more is_due.takes in
-    (λ i. (acked_all files p (left_text a site found) (left_end a site found) said ∙ eq-eqb (length (left_text a site found)) 0 none) i && (waits files p name is.wanted ∙ ap not (said.ends ∙ stops)) i)
+    let none : length (text_of a site found) ≡ 0 = ap length (sym (is_due.past.text []) ∙ ap (λ ps. page_text files ps []) b.pieces_are ∙ stopped_text files due.function due.argument.now b.more b.takes) in
+    let stops : end_of a site found ≡ false = sym (is_due.past.whole []) ∙ ap (λ ps. reach_end ps []) b.pieces_are ∙ stopped_end due.function due.argument.now b.more b.takes in
+    (λ i. (acked_all files p (text_of a site found) (end_of a site found) said ∙ eq-eqb (length (text_of a site found)) 0 none) i && (waits files p name is.wanted ∙ ap not (said.ends ∙ stops)) i)
 
 pub due_stands : (a : Httpd) (site : SiteContent) (found : Option FileId) (p : Part) (due : Due) (capture : Capture) (moment : Moment) → a.stage ≡ stage.Reply found → IsDueReply (reply_in site found a.capture) a.thread due → HttpdStands a site p
     → capture ≡ capture_of due.function (hits_of (files_of site) moment.numbers due.argument.now) moment.now → HttpdStands (record a { capture = capture; thread = due.next }) site (prepared (files_of site) p moment)
@@ -235,6 +264,7 @@ due_stands a site found p due capture moment e is_due s made =
           there = is.1.there;
           file = is.1.file;
           fits = (begun site found a.capture capture is_due.pieces due.function due.argument.now due.next is_due.call).fits;
+          kept = taken_by site found a.capture capture is_due.pieces due.function due.argument.now due.next p.captures moment is_due.call made;
           left = due_left a site found p is.0 due capture moment is_due is.1 made;
         },
       );

@@ -1,13 +1,14 @@
 -- What a thread sees in a script.
 use Rattle.std.proofs.Common.{◌≡◌, ℕ, ◌+◌, ◌-◌, ◌<◌, ◌≤◌, Bool, true, false, ◌⊎◌, inl, inr, List, [], ◌∷◌, length, take, drop, map, min, refl, sym, ap, subst, ◌∙◌, arith, true≢false, if◌then◌else◌}
-use Rattle.std.specs.Prelude.{slice_range, nat_lt, ◌&&◌}
+use Rattle.std.specs.Prelude.{slice_range, nat_lt, ◌&&◌, not}
 use Rattle.std.proofs.lemmas.List.{drop-drop, drop-take, take-take}
 use Rattle.script_lang.specs.declared.function.Function.{Function}
 use Rattle.script_lang.specs.declared.piece.Found.{Found}
+use Rattle.script_lang.specs.declared.piece.Piece.{Piece}
 use Rattle.script_lang.specs.declared.piece.Piece.TheVariants.{Text, Include, Call}
 use Rattle.script_lang.specs.Places.{is_byte, word, word_start, word_end}
 use Rattle.script_lang.specs.Functions.{function_named}
-use Rattle.script_lang.specs.Directives.{IsPlace, is_directive_mark, is_inside_directive, line_end, before_cr, directive}
+use Rattle.script_lang.specs.Directives.{IsPlace, begins, is_directive_mark, is_inside_directive, line_end, before_cr, directive}
 use Rattle.script_lang.specs.Pieces.{piece_at, pieces_from, run_end}
 use Rattle.script_lang.proofs.PieceLemmas.{found-goes, pieces_from-step, run-rest}
 use Rattle.script_lang.proofs.PlaceLemmas.{first_place-is}
@@ -19,6 +20,7 @@ use Rattle.httpd.specs.declared.span.Span.{Span}
 use Rattle.httpd.specs.declared.thread.Thread.TheVariants.{Body}
 use Rattle.httpd.specs.Reply.{FileReply, body, body_from, is_scripted, left_from}
 use Rattle.httpd.specs.Places.{Fits, IsBodyPlace, IsInner}
+use Rattle.httpd.specs.Kept.{EndsCall, EndsDirective, EndsInclude}
 use Rattle.httpd.specs.Looking.{IsSpan, Sees}
 use Rattle.httpd.proofs.Seeing.{IsFurther, sees_first, sees_front, span_along}
 
@@ -154,7 +156,7 @@ run_seen r at from len next s script is short read span =
     let end_is : at + len ≡ run_end (body r) at = omega (arith, run.len_is, run.next_is, read.after) in
     subst (λ ps. Sees r ps (record { span = s; here = Body at; next = Body next }))
     (ap (λ f. Plain f ∷ more) front ∙ sym (script_step r at (text_found from len next) script read.pieces))
-    (sees_first r (slice_range (body r) at (at + len)) more (record { span = s; here = Body at; next = Body next }) span refl (body_place r next read.place)
+    (sees_first r (slice_range (body r) at (at + len)) more (record { span = s; here = Body at; next = Body next }) span refl (body_place r next read.place) (λ captures. tt)
     (λ n h.
     let inside : at + n < run_end (body r) at = omega (arith, end_is, h, length-slice (body r) at (at + len)) in
     subst (λ e. IsFurther r (slice_range (body r) at e) more (Body at) n) (sym end_is)
@@ -177,7 +179,7 @@ long_seen r at n s script is short some long span =
     let part : slice_range (body r) at (at + n) ≡ take n front =
     ap (λ k. take k (drop at (body r))) (omega arith) ∙ sym (take-take n (run_end (body r) at - at) (drop at (body r)) (omega (arith, long))) in
     subst (λ ps. Sees r ps (record { span = s; here = Body at; next = Body (at + n) })) (sym here)
-    (sees_front r front more s (Body at) n some (omega (arith, size, long)) (span_along s _ _ part span) (λ k h. further k (omega (arith, h, long))))
+    (sees_front r front more s (Body at) n some (omega (arith, size, long)) (span_along s _ _ part span) (λ captures. tt) (λ k h. further k (omega (arith, h, long))))
 
 -- a text run is read from the place on
 pub text_at : (script : List ℕ) (at from len next : ℕ) → IsPlace script at → Reads script at (text_found from len next) → from ≡ at
@@ -198,3 +200,43 @@ call_step r at script read f from len e scripted reads is =
     ap (λ s. Made f (slice_range s from (from + len)) ∷ body_from r read.next) e
     ∙ ap (λ p. says r.files (body r) p ∷ body_from r read.next) (sym is)
     ∙ sym (script_step r at read scripted reads.pieces)
+
+-- ---- the directive that ends where a script goes on
+
+mark_by : (m : Bool) (script : List ℕ) (at : ℕ) (found : Found) → ((from len : ℕ) → found.piece ≡ Text from len → ⊥)
+    → found ≡ (if m then record { piece = directive script at; next = min (line_end script (at + 2) + 1) (length script) } else record { piece = Text at (run_end script at - at); next = run_end script at })
+    → m ≡ true
+mark_by true script at found other e = refl
+mark_by false script at found other e = absurd (other at (run_end script at - at) (ap (λ (f : Found). f.piece) e))
+
+-- a piece that is no text run begins with a directive's mark
+begins_at : (script : List ℕ) (at : ℕ) (found : Found) → IsPlace script at → at < length script → ((from len : ℕ) → found.piece ≡ Text from len → ⊥) → found ≡ piece_at script at → begins script at ≡ true
+begins_at script at found place before other e =
+    (λ i. mark_by (is_directive_mark script at) script at found other e i && not (closed_at script at before place.1 i))
+
+-- a directive that is read ends where the script goes on
+ends_directive : (script : List ℕ) (at : ℕ) (read : Found) (kind : ℕ → ℕ → Piece) (from len : ℕ) → IsPlace script at → Reads script at read → ((a n : ℕ) → kind from len ≡ Text a n → ⊥) → read.piece ≡ kind from len
+    → EndsDirective script read.next kind (slice_range script from (from + len))
+ends_directive script at read kind from len place reads other is =
+    let before : at < length script = omega (arith, reads.after, reads.place.0) in
+    let found : read ≡ piece_at script at = piece_read script at read place before reads.pieces in
+    record {
+      from = at;
+      at = from;
+      len = len;
+      begins = begins_at script at read place before (λ a n t. other a n (sym is ∙ t)) found;
+      piece = sym found ∙ ap (λ p. record { piece = p; next = read.next }) is;
+      names = refl;
+    }
+
+pub ends_include : (r : FileReply) (at : ℕ) (script : List ℕ) (read : Found) (from len : ℕ) → script ≡ body r → is_scripted r.file ≡ true → IsBodyPlace r at → Reads (body r) at read → read.piece ≡ Include from len
+    → EndsInclude r read.next (slice_range script from (from + len))
+ends_include r at script read from len e scripted is reads piece =
+    subst (λ s. EndsInclude r read.next (slice_range s from (from + len))) (sym e)
+    (ends_directive (body r) at read (λ a n. Include a n) from len (is_place r at scripted is) reads (λ a n t. cc) piece)
+
+pub ends_call : (r : FileReply) (at : ℕ) (script : List ℕ) (read : Found) (f : Function) (from len : ℕ) → script ≡ body r → is_scripted r.file ≡ true → IsBodyPlace r at → Reads (body r) at read → read.piece ≡ Call f from len
+    → EndsCall r read.next f (slice_range script from (from + len))
+ends_call r at script read f from len e scripted is reads piece =
+    subst (λ s. EndsCall r read.next f (slice_range s from (from + len))) (sym e)
+    (ends_directive (body r) at read (λ a n. Call f a n) from len (is_place r at scripted is) reads (λ a n t. cc) piece)

@@ -17,6 +17,7 @@ use Rattle.httpd.specs.declared.thread.Thread.{Thread}
 use Rattle.httpd.specs.declared.thread.Thread.TheVariants.{Head, Kind, Body, Inside, Making, End}
 use Rattle.httpd.specs.Reply.{FileReply, body, is_scripted, left_from, reply_in}
 use Rattle.httpd.specs.Places.{Fits, IsBodyPlace, IsFound, IsInner}
+use Rattle.httpd.specs.Kept.{KeepsOn}
 use Rattle.httpd.specs.Looking.{IsPast}
 use Rattle.httpd.specs.HttpdStands.{HttpdStands, IsLeft, IsReplying, StandsIn}
 use Rattle.httpd.specs.SameLeft.{left_in, left_of_value}
@@ -106,11 +107,11 @@ acked_left r t u name p n is past enough = record {
       omega (arith, here, enough, is.within, length-drop p.acked (page_text r.files (reply_pieces r.files name) p.captures));
 }
 
-pub reply_acked : (a : Httpd) (site : SiteContent) (found : Option FileId) (p : Part) (n : ℕ) (u : Thread) → a.stage ≡ stage.Reply found → Fits (reply_in site found a.capture) u
+pub reply_acked : (a : Httpd) (site : SiteContent) (found : Option FileId) (p : Part) (n : ℕ) (u : Thread) → a.stage ≡ stage.Reply found → Fits (reply_in site found a.capture) u → KeepsOn (reply_in site found a.capture) a.thread u
     → IsPast (files_of site) n (left_from (reply_in site found a.capture) a.thread) (left_from (reply_in site found a.capture) u)
     → n ≤ length (page_text (files_of site) (left_from (reply_in site found a.capture) a.thread) []) → HttpdStands a site p
     → HttpdStands (record a { thread = u; polls = 0 }) site (record p { acked = p.acked + n; polls = 0 })
-reply_acked a site found p n u e fits past enough s =
+reply_acked a site found p n u e fits kept past enough s =
     let is = replying a site p found e s in
     record {
       polls = refl;
@@ -121,6 +122,7 @@ reply_acked a site found p n u e fits past enough s =
           there = is.1.there;
           file = is.1.file;
           fits = fits;
+          kept = kept p.captures is.1.kept;
           left = acked_left (reply_in site found a.capture) a.thread u is.0 p n is.1.left past enough;
         },
       );

@@ -17,6 +17,7 @@ use Rattle.httpd.specs.declared.stage.Stage.TheVariants as stage
 use Rattle.httpd.specs.declared.thread.Thread.TheVariants.{Head}
 use Rattle.httpd.specs.Reply.{FileReply, calls_in, found_file, left_from, reply_in}
 use Rattle.httpd.specs.Places.{Fits, IsFound}
+use Rattle.httpd.specs.Kept.{Keeps}
 use Rattle.httpd.specs.Hearing.{HearsMethod, HearsTarget, IsDecided}
 use Rattle.httpd.specs.HttpdStands.{HttpdStands, IsLeft, IsReplying, SaysNothing, StandsIn}
 
@@ -48,6 +49,7 @@ begins a site p found name e none is there file = record {
   there = there;
   file = file;
   fits = subst (λ t. Fits (reply_in site found a.capture) t) (sym e) (front_fits (reply_in site found a.capture));
+  kept = subst (λ t. Keeps (reply_in site found a.capture) p.captures t) (sym e) tt;
   left = subst (λ t. IsLeft (reply_in site found a.capture) t name p) (sym e) (front_left (reply_in site found a.capture) name p file none);
 }
 
@@ -56,7 +58,7 @@ pub decided_stands : (a : Httpd) (site : SiteContent) (p : Part) (s : Stage) →
 decided_stands a site p stage.Method e none is = (is, none)
 decided_stands a site p stage.Target e none is = (is, none)
 decided_stands a site p stage.Refused e none is = (is, none)
-decided_stands a site p (stage.Reply found) e none is = (is.0, begins a site p found is.0 e none is.1 is.2 is.3)
+decided_stands a site p (stage.Reply found) e none is = (is.name, begins a site p found is.name e none is.wanted is.there is.file)
 
 abbrev pub with_more : Part → List ℕ → Part
 with_more p piece = record p { heard = p.heard ++ piece; polls = 0 }
@@ -90,6 +92,7 @@ reply_stays a site p piece found e s =
           there = is.1.there;
           file = is.1.file;
           fits = is.1.fits;
+          kept = is.1.kept;
           left = record { text = is.1.left.text; whole = is.1.left.whole; calls = is.1.left.calls; within = is.1.left.within };
         },
       );

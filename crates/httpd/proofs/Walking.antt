@@ -4,10 +4,10 @@ use Rattle.std.proofs.lemmas.Bool.{cases_eq, ne_eqb, lt-ltb}
 use Rattle.std.proofs.lemmas.List.{drop-drop, drop_at}
 use Rattle.app_events.specs.declared.want.Want.{Want}
 use Rattle.app_events.specs.declared.want.Want.TheVariants.{Nothing, Send, Close}
+use Rattle.script_lang.specs.declared.function.Function.{Function}
 use Rattle.site_image.specs.Files.{File}
 use Rattle.web_pages.specs.Pieces.{Say}
-use Rattle.web_pages.specs.Pieces.Say.{Made}
-use Rattle.web_pages.specs.Pages.{reach_end, takes_capture, page_text}
+use Rattle.web_pages.specs.Pages.{reach_end, page_text}
 use Rattle.web_pages.specs.Growing.{stopped_text, stopped_end}
 use Rattle.httpd.specs.declared.span.Span.{Span}
 use Rattle.httpd.specs.declared.span.Span.TheVariants as span
@@ -16,8 +16,10 @@ use Rattle.httpd.specs.declared.thread.Thread.{Thread}
 use Rattle.httpd.specs.declared.thread.Thread.TheVariants.{Head, Kind, Body, Inside, Making, End}
 use Rattle.httpd.specs.Reply.{FileReply, body_from, left_from}
 use Rattle.httpd.specs.Places.{Fits, moved, thread_place}
+use Rattle.httpd.specs.Kept.{KeepsOn}
 use Rattle.httpd.specs.Saying.{want_left}
-use Rattle.httpd.specs.Looking.{IsText, IsPast, Leads, Sees, SeesBy, SeesCall, SeesText, span_text}
+use Rattle.httpd.specs.Looking.{IsCallBefore, IsText, IsPast, Leads, Sees, SeesBy, SeesCall, SeesText, span_text}
+use Rattle.httpd.proofs.Seeing.{keeps_in}
 
 -- ---- text past a place
 
@@ -47,21 +49,22 @@ left_past files n a b p = ap length (p.text []) ∙ length-drop n (page_text fil
 
 -- ---- what is seen where text is left
 
-call_more : (r : FileReply) (pieces : List Say) (call : Say) (t : Thread) → SeesCall r pieces call t → (more : List Say) × (pieces ≡ call ∷ more)
-call_more r pieces call (Making next at) s = (body_from r next, s.0)
-call_more r pieces call (Head at) s = absurd s
-call_more r pieces call (Kind at) s = absurd s
-call_more r pieces call (Body at) s = absurd s
-call_more r pieces call (Inside next file at) s = absurd s
-call_more r pieces call End s = absurd s
+pub call_before : (r : FileReply) (pieces : List Say) (f : Function) (argument : List ℕ) (t : Thread) → SeesCall r pieces f argument t → (next : ℕ) × IsCallBefore r pieces f argument next × (t ≡ Making next 0)
+call_before r pieces f argument (Making next at) s = (next, s.0, ap (λ n. Making next n) s.1)
+call_before r pieces f argument (Head at) s = absurd s
+call_before r pieces f argument (Kind at) s = absurd s
+call_before r pieces f argument (Body at) s = absurd s
+call_before r pieces f argument (Inside next file at) s = absurd s
+call_before r pieces f argument End s = absurd s
 
 -- before a call nothing is left, and the end is not reached
-pub call_stops : (r : FileReply) (pieces : List Say) (look : Look) (f : Rattle.script_lang.specs.declared.function.Function.Function) (argument : List ℕ) → SeesCall r pieces (Made f argument) look.next → takes_capture f ≡ true
+pub call_stops : (r : FileReply) (pieces : List Say) (f : Function) (argument : List ℕ) (t : Thread) → SeesCall r pieces f argument t
     → (page_text r.files pieces [] ≡ []) × (reach_end pieces [] ≡ false)
-call_stops r pieces look f argument s takes =
-    let m = call_more r pieces (Made f argument) look.next s in (
-      ap (λ p. page_text r.files p []) m.1 ∙ stopped_text r.files f argument m.0 takes,
-      ap (λ p. reach_end p []) m.1 ∙ stopped_end f argument m.0 takes,
+call_stops r pieces f argument t s =
+    let call = call_before r pieces f argument t s in
+    let more = body_from r call.0 in (
+      ap (λ p. page_text r.files p []) call.1.first ∙ stopped_text r.files f argument more call.1.takes,
+      ap (λ p. reach_end p []) call.1.first ∙ stopped_end f argument more call.1.takes,
     )
 
 some_by : (r : FileReply) (pieces : List Say) (look : Look) (s : Span) → SeesBy r pieces look s → 0 < length (page_text r.files pieces []) → SeesText r pieces look
@@ -69,7 +72,7 @@ some_by r pieces look (span.Bytes world send) sees h = sees
 some_by r pieces look (span.Line kind at) sees h = sees
 some_by r pieces look (span.Made capture at end) sees h = sees
 some_by r pieces look (span.Call f argument) sees h =
-    let none : length (page_text r.files pieces []) ≡ 0 = ap length ((call_stops r pieces look f argument.now sees.0 sees.1).0) in
+    let none : length (page_text r.files pieces []) ≡ 0 = ap length ((call_stops r pieces f argument.now look.next sees).0) in
     absurd (omega (arith, none, h))
 some_by r pieces look span.End sees h =
     let none : length (page_text r.files pieces []) ≡ 0 = ap (λ p. length (page_text r.files p [])) sees in
@@ -83,10 +86,11 @@ some_seen r pieces look sees h = some_by r pieces look look.span sees.sees h
 -- the thread is n bytes past the start
 pub record Walks (r : FileReply) (start thread : Thread) (n : ℕ) : Type 0 where
   pub fits : Fits r thread
+  pub kept : KeepsOn r start thread
   pub past : IsPast r.files n (left_from r start) (left_from r thread)
 
 pub walks_none : (r : FileReply) (start : Thread) → Fits r start → Walks r start start 0
-walks_none r start fits = record { fits = fits; past = past_none r.files (left_from r start) }
+walks_none r start fits = record { fits = fits; kept = λ captures keeps. keeps; past = past_none r.files (left_from r start) }
 
 pub walks_to : (r : FileReply) (start thread : Thread) (n m : ℕ) → n ≡ m → Walks r start thread n → Walks r start thread m
 walks_to r start thread n m e w = subst (λ k. Walks r start thread k) e w
@@ -94,15 +98,18 @@ walks_to r start thread n m e w = subst (λ k. Walks r start thread k) e w
 pub walks_on : (r : FileReply) (start thread : Thread) (n len : ℕ) (look : Look) → Walks r start thread n → SeesText r (left_from r thread) look → len ≡ length (span_text look.span) → Walks r start look.next (n + len)
 walks_on r start thread n len look w sees e = record {
   fits = sees.next;
+  kept = λ captures keeps. sees.begins captures;
   past = past_more r.files n len (left_from r start) (left_from r thread) (left_from r look.next) w.past
       (past_leads r.files (left_from r thread) (left_from r look.next) (span_text look.span) len e sees.leads);
 }
 
-pub walks_in : (r : FileReply) (start thread : Thread) (n m : ℕ) (look : Look) → Walks r start thread n → SeesText r (left_from r thread) look → m < length (span_text look.span) → Walks r start (moved look.here m) (n + m)
-walks_in r start thread n m look w sees h =
+pub walks_in : (r : FileReply) (start thread : Thread) (n m : ℕ) (look : Look) → Walks r start thread n → SeesText r (left_from r thread) look → KeepsOn r thread look.here → m < length (span_text look.span)
+    → Walks r start (moved look.here m) (n + m)
+walks_in r start thread n m look w sees here h =
     let inside = sees.within m h in
     record {
       fits = inside.fits;
+      kept = λ captures keeps. keeps_in r look.here m captures (here captures (w.kept captures keeps));
       past = past_more r.files n m (left_from r start) (left_from r thread) (left_from r (moved look.here m)) w.past inside.past;
     }
 
@@ -170,11 +177,11 @@ acked_on r start thread count left len look enough walks h pos sees size le =
     walks_to r start look.next ((count - left) + len) (count - (left - len)) (omega (arith, h, le)) (walks_on r start thread (count - left) len look walks some size)
 
 pub acked_in : (r : FileReply) (start thread : Thread) (count left : ℕ) (look : Look) → count ≤ length (page_text r.files (left_from r start) []) → Walks r start thread (count - left) → left ≤ count → 0 < left
-    → Sees r (left_from r thread) look → left < length (span_text look.span) → Walks r start (moved look.here left) count × (thread_place look.here + left < 2147483648)
-acked_in r start thread count left look enough walks h pos sees lt =
+    → Sees r (left_from r thread) look → KeepsOn r thread look.here → left < length (span_text look.span) → Walks r start (moved look.here left) count × (thread_place look.here + left < 2147483648)
+acked_in r start thread count left look enough walks h pos sees kept lt =
     let here = walks_left r start thread (count - left) walks in
     let some : SeesText r (left_from r thread) look = some_seen r (left_from r thread) look sees (omega (arith, here, enough, h, pos)) in (
-      walks_to r start (moved look.here left) ((count - left) + left) count (omega (arith, h)) (walks_in r start thread (count - left) left look walks some lt),
+      walks_to r start (moved look.here left) ((count - left) + left) count (omega (arith, h)) (walks_in r start thread (count - left) left look walks some kept lt),
       (some.within left lt).small,
     )
 
@@ -232,7 +239,7 @@ want_at r start thread n other whole walks h lt none end e =
 
 -- ---- what a span is
 
-pub text_unless : (s : Span) → ((f : Rattle.script_lang.specs.declared.function.Function.Function) (argument : Rattle.std.proofs.Common.Bor (List ℕ)) → s ≡ span.Call f argument → ⊥) → (s ≡ span.End → ⊥) → IsText s
+pub text_unless : (s : Span) → ((f : Function) (argument : Rattle.std.proofs.Common.Bor (List ℕ)) → s ≡ span.Call f argument → ⊥) → (s ≡ span.End → ⊥) → IsText s
 text_unless (span.Bytes world send) call end = tt
 text_unless (span.Line kind at) call end = tt
 text_unless (span.Made capture at last) call end = tt
@@ -249,8 +256,8 @@ plain_by r pieces look span.End t sees = absurd t
 pub plain_seen : (r : FileReply) (pieces : List Say) (look : Look) → IsText look.span → Sees r pieces look → SeesText r pieces look
 plain_seen r pieces look t sees = plain_by r pieces look look.span t sees.sees
 
-pub call_seen : (r : FileReply) (pieces : List Say) (look : Look) (f : Rattle.script_lang.specs.declared.function.Function.Function) (argument : Rattle.std.proofs.Common.Bor (List ℕ)) → look.span ≡ span.Call f argument → Sees r pieces look
-    → SeesCall r pieces (Made f argument.now) look.next × (takes_capture f ≡ true)
+pub call_seen : (r : FileReply) (pieces : List Say) (look : Look) (f : Function) (argument : Rattle.std.proofs.Common.Bor (List ℕ)) → look.span ≡ span.Call f argument → Sees r pieces look
+    → SeesCall r pieces f argument.now look.next
 call_seen r pieces look f argument e sees = subst (λ s. SeesBy r pieces look s) e sees.sees
 
 pub end_reached : (r : FileReply) (pieces : List Say) (look : Look) → look.span ≡ span.End → Sees r pieces look → pieces ≡ []

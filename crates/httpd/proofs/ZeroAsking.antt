@@ -24,12 +24,14 @@ hears_method line e = record { method_ended = refl; method = refl; goes_on = ref
 pub asked_name : (files : List File) (line : Line) (request : List ℕ) (found : Option FileId) → HasName line request → IsFound files found
     → ((bytes : List ℕ) → line ≡ heard_line SpaceOrLine bytes → found_file files found ≡ file_named files (name_in (word_of SpaceOrLine bytes)))
     → IsAsked files (wanted request) (Some found)
-asked_name files line request found name is file = (is, (name_in (target_of request), name.wanted, file (after_method request) name.holds))
+asked_name files line request found name is file =
+    record { name = name_in (target_of request); wanted = name.wanted; there = is; file = file (after_method request) name.holds }
 
 -- and so it is by further bytes
 pub asked_more : (files : List File) (request more : List ℕ) (found : Option FileId) → IsAsked files (wanted request) (Some found)
     → IsAsked files (wanted (request ++ more)) (Some found)
-asked_more files request more found is = (is.0, (is.1.0, name_stays request more is.1.0 is.1.1, is.1.2))
+asked_more files request more found is =
+    record { name = is.name; wanted = name_stays request more is.name is.wanted; there = is.there; file = is.file }
 
 -- the method has ended
 pub no_method : (target : List ℕ) (line : Line) → HearsMethod line (codes "GET " ++ target) → ⊥

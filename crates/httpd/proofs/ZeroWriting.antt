@@ -98,4 +98,4 @@ asked_none files target e = sym (zero_asked files target Refused e)
 pub asked_some : (files : List File) (target : List ℕ) (found : Option FileId) → IsAsked files (wanted (request_for target)) (Some found)
     → zero_reply files (found_file files found) ≡ zero_page files target
 asked_some files target found is =
-    ap (zero_reply files) is.1.2 ∙ sym (zero_asked files target (Name is.1.0) is.1.1)
+    ap (zero_reply files) is.file ∙ sym (zero_asked files target (Name is.name) is.wanted)

@@ -1,12 +1,13 @@
 -- How far a request was heard, and what the line holds of it.
-use Rattle.std.specs.Prelude.{◌≡◌, ℕ, false, true, List, codes}
+use Rattle.std.specs.Prelude.{◌≡◌, ℕ, false, true, List, codes, Option}
 use Rattle.std.specs.Str.{bytes_eq}
 use Rattle.protosocket.specs.declared.stops.Stops.TheVariants.{Space, SpaceOrLine}
 use Rattle.protosocket.specs.Line.{Line}
 use Rattle.protosocket.specs.Line.{heard as heard_line}
-use Rattle.web_pages.specs.Requests.{wanted, has_ended, method_of, after_method, name_in, target_of}
+use Rattle.web_pages.specs.Requests.{Wanted, wanted, has_ended, method_of, after_method, name_in, target_of}
 use Rattle.web_pages.specs.Requests.Wanted.{Refused, Name}
 use Rattle.site_image.specs.Files.{File, file_named}
+use Rattle.file_tree.specs.declared.file_id.FileId.{FileId}
 use Rattle.httpd.specs.declared.stage.Stage.{Stage}
 use Rattle.httpd.specs.declared.stage.Stage.TheVariants as stage
 use Rattle.httpd.specs.Reply.{found_file}
@@ -31,6 +32,13 @@ pub record HasName (line : Line) (request : List ℕ) : Type 0 where
   pub wanted : wanted request ≡ Name (name_in (target_of request))
   pub holds : line ≡ heard_line SpaceOrLine (after_method request)
 
+-- a name is wanted, and what was found is the file of that name
+pub record IsFileAsked (files : List File) (asked : Wanted) (found : Option FileId) : Type 0 where
+  pub name : List ℕ
+  pub wanted : asked ≡ Name name
+  pub there : IsFound files found
+  pub file : found_file files found ≡ file_named files name
+
 -- what was heard of a request
 abbrev pub HearsTo : Heard → Line → List ℕ → Type 0
 HearsTo heard.Method line request = HearsMethod line request
@@ -43,5 +51,4 @@ abbrev pub IsDecided : List File → Line → List ℕ → Stage → Type 0
 IsDecided files line request stage.Method = HearsMethod line request
 IsDecided files line request stage.Target = HearsTarget line request
 IsDecided files line request stage.Refused = wanted request ≡ Refused
-IsDecided files line request (stage.Reply found) =
-    (name : List ℕ) × (wanted request ≡ Name name) × IsFound files found × (found_file files found ≡ file_named files name)
+IsDecided files line request (stage.Reply found) = IsFileAsked files (wanted request) found

@@ -14,13 +14,16 @@ use Rattle.httpd.specs.declared.httpd.Httpd.{Httpd}
 use Rattle.httpd.specs.declared.thread.Thread.{Thread}
 use Rattle.httpd.specs.Reply.{FileReply, calls_in, found_file, left_from, reply_in}
 use Rattle.httpd.specs.Places.{IsFound, Fits}
+use Rattle.httpd.specs.Kept.{Keeps}
 use Rattle.httpd.specs.Hearing.{HearsMethod, HearsTarget}
 
 -- Whatever captures are still to come: what the thread has left to say with them is the page of the name past the acknowledged
 -- offset, and it reaches the end where the page does. Of the calls of the reply, as many as there are captures are behind it.
 pub record IsLeft (reply : FileReply) (thread : Thread) (name : List ℕ) (part : Part) : Type 0 where
-  pub text : (later : List Moment) → page_text reply.files (left_from reply thread) later ≡ drop part.acked (page_text reply.files (reply_pieces reply.files name) (part.captures ++ later))
-  pub whole : (later : List Moment) → reach_end (left_from reply thread) later ≡ reach_end (reply_pieces reply.files name) (part.captures ++ later)
+  pub text : (later : List Moment) → page_text reply.files (left_from reply thread) later
+      ≡ drop part.acked (page_text reply.files (reply_pieces reply.files name) (part.captures ++ later))
+  pub whole : (later : List Moment) → reach_end (left_from reply thread) later
+      ≡ reach_end (reply_pieces reply.files name) (part.captures ++ later)
   pub calls : length part.captures + calls_in (left_from reply thread) ≡ calls_in (reply_pieces reply.files name)
   pub within : part.acked ≤ length (page_text reply.files (reply_pieces reply.files name) part.captures)
 
@@ -30,6 +33,7 @@ pub record IsReplying (a : Httpd) (site : SiteContent) (name : List ℕ) (found 
   pub there : IsFound (files_of site) found
   pub file : found_file (files_of site) found ≡ file_named (files_of site) name
   pub fits : Fits (reply_in site found a.capture) a.thread
+  pub kept : Keeps (reply_in site found a.capture) part.captures a.thread
   pub left : IsLeft (reply_in site found a.capture) a.thread name part
 
 -- nothing is said, captured or acknowledged

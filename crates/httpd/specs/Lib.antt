@@ -1,5 +1,6 @@
 pub mod Reply
 pub mod Places
+pub mod Kept
 pub mod Looking
 pub mod Saying
 pub mod Web

@@ -1,11 +1,14 @@
 -- What a thread sees where it stands.
-use Rattle.std.specs.Prelude.{◌≡◌, ◌≤◌, ◌<◌, ℕ, ◌+◌, true, List, [], ◌∷◌, ◌++◌, length, drop, slice_range}
+use Rattle.std.specs.Prelude.{◌≡◌, ◌≤◌, ◌<◌, ℕ, ◌+◌, ◌^◌, true, List, [], ◌∷◌, ◌++◌, length, drop, slice_range}
 use Rattle.app_events.specs.Part.{Moment}
 use Rattle.generators.specs.Text.{capture_text}
+use Rattle.script_lang.specs.declared.function.Function.{Function}
 use Rattle.site_image.specs.Files.{File}
+use Rattle.site_image.specs.declared.TheConstants.{LONGEST_IMAGE, LONGEST_KIND}
 use Rattle.web_pages.specs.Pieces.{Say, kind_line}
 use Rattle.web_pages.specs.Pieces.Say.{Made}
 use Rattle.web_pages.specs.Pages.{page_text, reach_end, takes_capture}
+use Rattle.httpd.specs.declared.texts.TheConstants.{LONGEST_TEXT}
 use Rattle.httpd.specs.declared.span.Span.{Span}
 use Rattle.httpd.specs.declared.span.Span.TheVariants as span
 use Rattle.httpd.specs.declared.span.Look.{Look}
@@ -13,6 +16,7 @@ use Rattle.httpd.specs.declared.thread.Thread.{Thread}
 use Rattle.httpd.specs.declared.thread.Thread.TheVariants.{Head, Kind, Body, Inside, Making, End}
 use Rattle.httpd.specs.Reply.{FileReply, body_from, calls_in, left_from}
 use Rattle.httpd.specs.Places.{Fits, IsInner, moved, thread_place}
+use Rattle.httpd.specs.Kept.{EndsCall, KeepsAll}
 
 -- what is left of the piece
 abbrev pub span_text : Span → List ℕ
@@ -24,9 +28,10 @@ span_text span.End = []
 
 -- the places lie within the texts
 abbrev pub SpanFits : Span → Type 0
-SpanFits (span.Bytes world send) = (send.run.at ≤ send.run.end) × (send.run.end ≤ length world.now) × (length world.now ≤ 16777216)
-SpanFits (span.Line kind at) = (length kind.now ≤ 64) × (at ≤ length (kind_line kind.now))
-SpanFits (span.Made capture at end) = (at ≤ end) × (end ≡ length (capture_text capture.now)) × (end ≤ 4200)
+SpanFits (span.Bytes world send) =
+    (send.run.at ≤ send.run.end) × (send.run.end ≤ length world.now) × (length world.now ≤ LONGEST_IMAGE)
+SpanFits (span.Line kind at) = (length kind.now ≤ LONGEST_KIND) × (at ≤ length (kind_line kind.now))
+SpanFits (span.Made capture at end) = (at ≤ end) × (end ≡ length (capture_text capture.now)) × (end ≤ LONGEST_TEXT)
 SpanFits (span.Call function argument) = Unit {0}
 SpanFits span.End = Unit {0}
 
@@ -45,7 +50,7 @@ pub record IsPast (files : List File) (n : ℕ) (pieces others : List Say) : Typ
 -- a place n bytes further in the same piece
 pub record IsInPiece (reply : FileReply) (pieces : List Say) (here : Thread) (n : ℕ) : Type 0 where
   pub fits : Fits reply (moved here n)
-  pub small : thread_place here + n < 2147483648
+  pub small : thread_place here + n < 2 ^ 31
   pub past : IsPast reply.files n pieces (left_from reply (moved here n))
 
 -- The first piece takes no capture. What is seen is all that is left of it, or a front of a long one.
@@ -54,22 +59,30 @@ pub record SeesText (reply : FileReply) (pieces : List Say) (look : Look) : Type
   pub no_more : length (left_from reply look.next) ≤ length pieces
   pub fewer : length (span_text look.span) ≡ 0 → length (left_from reply look.next) < length pieces
   pub next : Fits reply look.next
+  pub begins : KeepsAll reply look.next
   pub within : (n : ℕ) → n < length (span_text look.span) → IsInPiece reply pieces look.here n
 
--- It is a call that takes a capture, behind which the script goes on at a place.
-abbrev pub SeesCall : FileReply → List Say → Say → Thread → Type 0
-SeesCall reply pieces call (Making next at) = (pieces ≡ call ∷ body_from reply next) × (at ≡ 0) × IsInner reply next
-SeesCall reply pieces call (Head at) = ⊥
-SeesCall reply pieces call (Kind at) = ⊥
-SeesCall reply pieces call (Body at) = ⊥
-SeesCall reply pieces call (Inside next file at) = ⊥
-SeesCall reply pieces call End = ⊥
+-- It is a call that takes a capture. The script goes on where the call's directive ends.
+pub record IsCallBefore (reply : FileReply) (pieces : List Say) (function : Function) (argument : List ℕ) (next : ℕ) : Type 0 where
+  pub first : pieces ≡ Made function argument ∷ body_from reply next
+  pub takes : takes_capture function ≡ true
+  pub inner : IsInner reply next
+  pub directive : EndsCall reply next function argument
+
+-- The thread stands at the front of the text of its record.
+abbrev pub SeesCall : FileReply → List Say → Function → List ℕ → Thread → Type 0
+SeesCall reply pieces function argument (Making next at) = IsCallBefore reply pieces function argument next × (at ≡ 0)
+SeesCall reply pieces function argument (Head at) = ⊥
+SeesCall reply pieces function argument (Kind at) = ⊥
+SeesCall reply pieces function argument (Body at) = ⊥
+SeesCall reply pieces function argument (Inside next file at) = ⊥
+SeesCall reply pieces function argument End = ⊥
 
 abbrev pub SeesBy : FileReply → List Say → Look → Span → Type 0
 SeesBy reply pieces look (span.Bytes world send) = SeesText reply pieces look
 SeesBy reply pieces look (span.Line kind at) = SeesText reply pieces look
 SeesBy reply pieces look (span.Made capture at end) = SeesText reply pieces look
-SeesBy reply pieces look (span.Call function argument) = SeesCall reply pieces (Made function argument.now) look.next × (takes_capture function ≡ true)
+SeesBy reply pieces look (span.Call function argument) = SeesCall reply pieces function argument.now look.next
 SeesBy reply pieces look span.End = pieces ≡ []
 
 -- what is seen where the pieces are left

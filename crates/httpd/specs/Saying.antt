@@ -2,17 +2,23 @@
 use Rattle.std.specs.Prelude.{◌≡◌, ℕ, ◌==◌, ◌&&◌, Bool, true, List, [], length, min, nat_lt, if◌then◌else◌}
 use Rattle.app_events.specs.declared.want.Want.{Want}
 use Rattle.app_events.specs.declared.want.Want.TheVariants.{Nothing, Send, Close}
-use Rattle.site_image.specs.Files.{File}
 use Rattle.web_pages.specs.Pieces.{Say}
-use Rattle.web_pages.specs.Pieces.Say.{Made}
-use Rattle.web_pages.specs.Pages.{reach_end, takes_capture, page_text}
+use Rattle.web_pages.specs.Pages.{reach_end, page_text}
 use Rattle.web_pages.specs.declared.TheConstants.{LARGEST_SEGMENT}
 use Rattle.httpd.specs.declared.saying.Due.{Due}
 use Rattle.httpd.specs.declared.thread.Thread.{Thread}
 use Rattle.httpd.specs.Reply.{FileReply, left_from}
 use Rattle.httpd.specs.Looking.{IsPast, SeesCall}
 
--- by the text that is left and whether it reaches the end of the page
+-- the text that is left, as far as no further capture is needed
+abbrev pub left_text : FileReply → Thread → List ℕ
+left_text reply thread = page_text reply.files (left_from reply thread) []
+
+-- and whether it reaches the end of the page
+abbrev pub left_whole : FileReply → Thread → Bool
+left_whole reply thread = reach_end (left_from reply thread) []
+
+-- what is wanted by the two
 abbrev pub want_left : List ℕ → Bool → Want
 want_left text whole =
     if whole && (length text == 0) then Close
@@ -20,12 +26,11 @@ want_left text whole =
     else Nothing
 
 -- text is left, or the end is reached
-abbrev pub IsNotDue : List File → List Say → Type 0
-IsNotDue files pieces = length (page_text files pieces []) ≡ 0 → reach_end pieces [] ≡ true
+abbrev pub IsNotDue : FileReply → Thread → Type 0
+IsNotDue reply thread = length (left_text reply thread) ≡ 0 → left_whole reply thread ≡ true
 
 -- what is left is what a call and the rest of the script behind it say
 pub record IsDueReply (reply : FileReply) (thread : Thread) (due : Due) : Type 0 where
   pub pieces : List Say
   pub past : IsPast reply.files 0 (left_from reply thread) pieces
-  pub call : SeesCall reply pieces (Made due.function due.argument.now) due.next
-  pub takes : takes_capture due.function ≡ true
+  pub call : SeesCall reply pieces due.function due.argument.now due.next

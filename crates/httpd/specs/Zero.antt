@@ -3,13 +3,13 @@ use Rattle.std.specs.Prelude.{◌≡◌, ℕ, map, List, if◌then◌else◌, Op
 use Rattle.std.specs.List.{flat_map}
 use Rattle.script_lang.specs.Pieces.{pieces_from}
 use Rattle.file_tree.specs.declared.file_id.FileId.{FileId}
-use Rattle.site_image.specs.Files.{File, file_named}
+use Rattle.site_image.specs.Files.{File}
 use Rattle.web_pages.specs.Requests.{Wanted}
-use Rattle.web_pages.specs.Requests.Wanted.{Refused, Name}
+use Rattle.web_pages.specs.Requests.Wanted.{Refused}
 use Rattle.web_pages.specs.Pieces.{says}
 use Rattle.web_pages.specs.ZeroPages.{zero_said}
-use Rattle.httpd.specs.Reply.{body_bytes, found_file, is_scripted}
-use Rattle.httpd.specs.Places.{IsFound}
+use Rattle.httpd.specs.Reply.{body_bytes, is_scripted}
+use Rattle.httpd.specs.Hearing.{IsFileAsked}
 
 -- what the pieces of a script say from a place on
 abbrev pub script_said : List File → List ℕ → ℕ → List ℕ
@@ -22,4 +22,4 @@ zero_body files found = if is_scripted found then script_said files (body_bytes 
 -- what is asked for: the file that was found, or nothing
 abbrev pub IsAsked : List File → Wanted → Option (Option FileId) → Type 0
 IsAsked files asked None = asked ≡ Refused
-IsAsked files asked (Some found) = IsFound files found × ((name : List ℕ) × (asked ≡ Name name) × (found_file files found ≡ file_named files name))
+IsAsked files asked (Some found) = IsFileAsked files asked found

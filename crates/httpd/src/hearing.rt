@@ -103,9 +103,11 @@ fn name_asked(line: &LineIn) -> &[u8]
 
 /// The file of the name that the line holds. No file has a name that is longer than what a line keeps.
 pub(crate) fn file_asked(site: &Site, line: &LineIn) -> Option<FileId>
-    ensures place { (bytes : List ℕ) → line.now ≡ heard SpaceOrLine bytes → option_map (λ id. id.0) result ≡ place_of (files_of site.now) (name_in (word_of SpaceOrLine bytes)) }
+    ensures place { (bytes : List ℕ) → line.now ≡ heard SpaceOrLine bytes
+        → option_map (λ id. id.0) result ≡ place_of (files_of site.now) (name_in (word_of SpaceOrLine bytes)) }
     ensures found { IsFound (files_of site.now) result }
-    ensures file { (bytes : List ℕ) → line.now ≡ heard SpaceOrLine bytes → found_file (files_of site.now) result ≡ file_named (files_of site.now) (name_in (word_of SpaceOrLine bytes)) }
+    ensures file { (bytes : List ℕ) → line.now ≡ heard SpaceOrLine bytes
+        → found_file (files_of site.now) result ≡ file_named (files_of site.now) (name_in (word_of SpaceOrLine bytes)) }
 {
     see_loaded(site);
     if line.over {
@@ -118,7 +120,8 @@ pub(crate) fn file_asked(site: &Site, line: &LineIn) -> Option<FileId>
 pub(crate) fn decide(web: &mut Web, line: &LineIn, heard: Heard) -> Stage
     ensures site { web.new.site ≡ web.old.site }
     ensures stage { (request : List ℕ) → HearsTo heard line.now request → IsDecided (files_of web.old.site) line.now request result }
-    ensures hits { (request : List ℕ) → HearsTo heard line.now request → web.new.hits ≡ hits_by (files_of web.old.site) web.old.hits NotYet (wanted request) }
+    ensures hits { (request : List ℕ) → HearsTo heard line.now request
+        → web.new.hits ≡ hits_by (files_of web.old.site) web.old.hits NotYet (wanted request) }
 {
     match heard {
         Heard::Method => Stage::Method,

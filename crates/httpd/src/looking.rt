@@ -2,17 +2,20 @@
 
 ghost use Rattle.std.specs.Prelude.{◌≡◌, ◌≤◌, ◌<◌, ◌+◌, ◌∷◌, [], true, drop, length, slice_range};
 ghost use Rattle.file_tree.specs.Site.{files_of};
+ghost use Rattle.site_image.specs.declared.TheConstants.{LONGEST_IMAGE};
 ghost use Rattle.site_image.specs.Files.{file_named};
 ghost use Rattle.web_pages.specs.Pieces.{piece_bytes};
 ghost use Rattle.web_pages.specs.Pieces.Say.{Plain, Made};
 ghost use Rattle.httpd.specs.Reply.{body, body_from, found_file, is_scripted, left_from, reply_in};
 ghost use Rattle.script_lang.specs.Pieces.{run_end};
 ghost use Rattle.httpd.specs.Places.{Fits, IsBodyPlace, IsFound, IsInner};
+ghost use Rattle.httpd.specs.Kept.{EndsCall, EndsInclude, KeepsAll, KeepsOn};
 ghost use Rattle.httpd.specs.Looking.{IsSpan, Sees};
 
 use crate::span::{Look, Span};
 use crate::texts::{body_of, bytes_at, head_of, is_scripted, kind_of};
 use crate::thread::Thread;
+use crate::web::place_in;
 use file_tree::{FileId, Site};
 use generators::{Capture, text_len};
 use protosocket::SendOut;
@@ -29,7 +32,8 @@ pub(crate) fn look<'a>(
 ) -> Look<'a>
     requires found { IsFound (files_of site.now) found }
     requires fits { Fits (reply_in site.now found capture.now) thread }
-    ensures { Sees (reply_in site.now found capture.now) (left_from (reply_in site.now found capture.now) thread) result }
+    ensures sees { Sees (reply_in site.now found capture.now) (left_from (reply_in site.now found capture.now) thread) result }
+    ensures kept { KeepsOn (reply_in site.now found capture.now) thread result.here }
 {
     match thread {
         Thread::Head { at } => look_head(site, found, capture, at),
@@ -44,7 +48,7 @@ pub(crate) fn look<'a>(
 /// What is left of the bytes from a place on.
 fn rest_of(world: &[u8], at: u32) -> Span<'_>
     requires within { at ≤ length world.now }
-    requires short { length world.now ≤ 16777216 }
+    requires short { length world.now ≤ LONGEST_IMAGE }
     ensures { IsSpan result (drop at world.now) }
 {
     part_of(world, at, world.len() as u32)
@@ -54,7 +58,7 @@ fn rest_of(world: &[u8], at: u32) -> Span<'_>
 fn part_of(world: &[u8], at: u32, end: u32) -> Span<'_>
     requires ordered { at ≤ end }
     requires within { end ≤ length world.now }
-    requires short { length world.now ≤ 16777216 }
+    requires short { length world.now ≤ LONGEST_IMAGE }
     ensures { IsSpan result (slice_range world.now at end) }
 {
     let run = Run { at, end };
@@ -68,7 +72,8 @@ fn part_of(world: &[u8], at: u32, end: u32) -> Span<'_>
 fn look_head<'a>(site: &'a Site, found: Option<FileId>, capture: &'a Capture, at: u32) -> Look<'a>
     requires found { IsFound (files_of site.now) found }
     requires fits { Fits (reply_in site.now found capture.now) (Thread.Head at) }
-    ensures { Sees (reply_in site.now found capture.now) (left_from (reply_in site.now found capture.now) (Thread.Head at)) result }
+    ensures sees { Sees (reply_in site.now found capture.now) (left_from (reply_in site.now found capture.now) (Thread.Head at)) result }
+    ensures here { result.here ≡ Thread.Head at }
 {
     Look {
         span: rest_of(head_of(site, found), at),
@@ -81,7 +86,8 @@ fn look_head<'a>(site: &'a Site, found: Option<FileId>, capture: &'a Capture, at
 fn look_kind<'a>(site: &'a Site, found: Option<FileId>, capture: &'a Capture, at: u32) -> Look<'a>
     requires found { IsFound (files_of site.now) found }
     requires fits { Fits (reply_in site.now found capture.now) (Thread.Kind at) }
-    ensures { Sees (reply_in site.now found capture.now) (left_from (reply_in site.now found capture.now) (Thread.Kind at)) result }
+    ensures sees { Sees (reply_in site.now found capture.now) (left_from (reply_in site.now found capture.now) (Thread.Kind at)) result }
+    ensures here { result.here ≡ Thread.Kind at }
 {
     Look {
         span: Span::Line {
@@ -97,7 +103,8 @@ fn look_kind<'a>(site: &'a Site, found: Option<FileId>, capture: &'a Capture, at
 fn look_body<'a>(site: &'a Site, found: Option<FileId>, capture: &'a Capture, at: u32) -> Look<'a>
     requires found { IsFound (files_of site.now) found }
     requires fits { Fits (reply_in site.now found capture.now) (Thread.Body at) }
-    ensures { Sees (reply_in site.now found capture.now) (left_from (reply_in site.now found capture.now) (Thread.Body at)) result }
+    ensures sees { Sees (reply_in site.now found capture.now) (left_from (reply_in site.now found capture.now) (Thread.Body at)) result }
+    ensures kept { KeepsAll (reply_in site.now found capture.now) result.here }
 {
     if is_scripted(site, found) {
         return look_script(site, found, capture, at);
@@ -114,7 +121,8 @@ fn look_script<'a>(site: &'a Site, found: Option<FileId>, capture: &'a Capture, 
     requires found { IsFound (files_of site.now) found }
     requires script { is_scripted (found_file (files_of site.now) found) ≡ true }
     requires fits { IsBodyPlace (reply_in site.now found capture.now) at }
-    ensures { Sees (reply_in site.now found capture.now) (left_from (reply_in site.now found capture.now) (Thread.Body at)) result }
+    ensures sees { Sees (reply_in site.now found capture.now) (left_from (reply_in site.now found capture.now) (Thread.Body at)) result }
+    ensures kept { KeepsAll (reply_in site.now found capture.now) result.here }
 {
     let script = body_of(site, found);
     let from = at as usize;
@@ -131,7 +139,8 @@ fn look_run<'a>(site: &'a Site, found: Option<FileId>, capture: &'a Capture, at:
     requires script { is_scripted (found_file (files_of site.now) found) ≡ true }
     requires fits { IsBodyPlace (reply_in site.now found capture.now) at }
     requires long { at + LARGEST_SEGMENT < run_end (body (reply_in site.now found capture.now)) at }
-    ensures { Sees (reply_in site.now found capture.now) (left_from (reply_in site.now found capture.now) (Thread.Body at)) result }
+    ensures sees { Sees (reply_in site.now found capture.now) (left_from (reply_in site.now found capture.now) (Thread.Body at)) result }
+    ensures here { result.here ≡ Thread.Body at }
 {
     let script = body_of(site, found);
     let end = at + LARGEST_SEGMENT as u32;
@@ -147,7 +156,8 @@ fn look_piece<'a>(site: &'a Site, found: Option<FileId>, capture: &'a Capture, a
     requires found { IsFound (files_of site.now) found }
     requires script { is_scripted (found_file (files_of site.now) found) ≡ true }
     requires fits { IsBodyPlace (reply_in site.now found capture.now) at }
-    ensures { Sees (reply_in site.now found capture.now) (left_from (reply_in site.now found capture.now) (Thread.Body at)) result }
+    ensures sees { Sees (reply_in site.now found capture.now) (left_from (reply_in site.now found capture.now) (Thread.Body at)) result }
+    ensures kept { KeepsAll (reply_in site.now found capture.now) result.here }
 {
     let script = body_of(site, found);
     let Some(read) = next_piece(script, at as usize) else {
@@ -188,9 +198,12 @@ fn look_include<'a>(
 ) -> Look<'a>
     requires found { IsFound (files_of site.now) found }
     requires inner { IsInner (reply_in site.now found capture.now) next }
-    ensures { Sees (reply_in site.now found capture.now) (Plain (piece_bytes (file_named (files_of site.now) name.now)) ∷ body_from (reply_in site.now found capture.now) next) result }
+    requires directive { EndsInclude (reply_in site.now found capture.now) next name.now }
+    ensures sees { let reply = reply_in site.now found capture.now in
+        Sees reply (Plain (piece_bytes (file_named reply.files name.now)) ∷ body_from reply next) result }
+    ensures kept { KeepsAll (reply_in site.now found capture.now) result.here }
 {
-    match site.find(name) {
+    match place_in(site, name) {
         Some(file) => look_inside(site, found, capture, next, file, 0),
         None => look_nothing(next),
     }
@@ -199,6 +212,7 @@ fn look_include<'a>(
 /// At a piece that says nothing.
 fn look_nothing<'a>(next: u32) -> Look<'a>
     ensures nothing { IsSpan result.span [] }
+    ensures here { result.here ≡ Thread.Body next }
     ensures next { result.next ≡ Thread.Body next }
 {
     Look {
@@ -219,7 +233,9 @@ fn look_inside<'a>(
 ) -> Look<'a>
     requires found { IsFound (files_of site.now) found }
     requires fits { Fits (reply_in site.now found capture.now) (Thread.Inside next file at) }
-    ensures { Sees (reply_in site.now found capture.now) (left_from (reply_in site.now found capture.now) (Thread.Inside next file at)) result }
+    ensures sees { let reply = reply_in site.now found capture.now in
+        Sees reply (left_from reply (Thread.Inside next file at)) result }
+    ensures here { result.here ≡ Thread.Inside next file at }
 {
     Look {
         span: rest_of(bytes_at(site, file), at),
@@ -237,17 +253,19 @@ fn look_call<'a>(
     function: Function,
     argument: &'a [u8],
 ) -> Look<'a>
-    requires { IsInner (reply_in site.now found capture.now) next }
-    ensures { Sees (reply_in site.now found capture.now) (Made function argument.now ∷ body_from (reply_in site.now found capture.now) next) result }
+    requires inner { IsInner (reply_in site.now found capture.now) next }
+    requires directive { EndsCall (reply_in site.now found capture.now) next function argument.now }
+    ensures sees { let reply = reply_in site.now found capture.now in
+        Sees reply (Made function argument.now ∷ body_from reply next) result }
+    ensures kept { KeepsAll (reply_in site.now found capture.now) result.here }
 {
     match function {
         Function::Unknown => look_nothing(next),
         Function::FileStats | Function::TcpConnections | Function::NetStats | Function::Ticks => {
-            let made = Thread::Making { next, at: 0 };
             Look {
                 span: Span::Call { function, argument },
-                here: made,
-                next: made,
+                here: Thread::Body { at: next },
+                next: Thread::Making { next, at: 0 },
             }
         }
     }
@@ -262,7 +280,9 @@ fn look_making<'a>(
     at: u32,
 ) -> Look<'a>
     requires { Fits (reply_in site.now found capture.now) (Thread.Making next at) }
-    ensures { Sees (reply_in site.now found capture.now) (left_from (reply_in site.now found capture.now) (Thread.Making next at)) result }
+    ensures sees { let reply = reply_in site.now found capture.now in
+        Sees reply (left_from reply (Thread.Making next at)) result }
+    ensures here { result.here ≡ Thread.Making next at }
 {
     let end = text_len(capture) as u32;
     Look {
@@ -274,7 +294,8 @@ fn look_making<'a>(
 
 /// At the end.
 fn look_end<'a>() -> Look<'a>
-    ensures { result.span ≡ Span.End }
+    ensures span { result.span ≡ Span.End }
+    ensures here { result.here ≡ Thread.End }
 {
     Look {
         span: Span::End,

@@ -2,11 +2,11 @@
 
 ghost use Rattle.std.specs.Prelude.{◌≡◌, ◌==◌, ◌≤◌, ◌-◌, ◌∷◌, [], ℕ, true, length, take, MatchOption, if◌then◌else◌};
 ghost use Rattle.file_tree.specs.Site.{files_of};
-ghost use Rattle.web_pages.specs.Pages.{reach_end, page_text};
 ghost use Rattle.httpd.specs.Reply.{left_from, reply_in};
 ghost use Rattle.httpd.specs.Places.{Fits, IsFound};
+ghost use Rattle.httpd.specs.Kept.{KeepsOn};
 ghost use Rattle.httpd.specs.Looking.{IsPast};
-ghost use Rattle.httpd.specs.Saying.{IsDueReply, IsNotDue, want_left};
+ghost use Rattle.httpd.specs.Saying.{IsDueReply, IsNotDue, left_text, left_whole, want_left};
 
 use crate::looking::look;
 use crate::span::{Span, span_len, write_at};
@@ -27,8 +27,8 @@ pub(crate) fn fill_reply(
 )
     requires found { IsFound (files_of site.now) found }
     requires fits { Fits (reply_in site.now found capture.now) thread }
-    requires enough { length out.old ≤ length (page_text (files_of site.now) (left_from (reply_in site.now found capture.now) thread) []) }
-    ensures { out.new ≡ take (length out.old) (page_text (files_of site.now) (left_from (reply_in site.now found capture.now) thread) []) }
+    requires enough { length out.old ≤ length (left_text (reply_in site.now found capture.now) thread) }
+    ensures { out.new ≡ take (length out.old) (left_text (reply_in site.now found capture.now) thread) }
 {
     let mut place = thread;
     let mut from = 0;
@@ -51,9 +51,11 @@ pub(crate) fn acked_reply(
 ) -> Thread
     requires found { IsFound (files_of site.now) found }
     requires fits { Fits (reply_in site.now found capture.now) thread }
-    requires enough { count ≤ length (page_text (files_of site.now) (left_from (reply_in site.now found capture.now) thread) []) }
+    requires enough { count ≤ length (left_text (reply_in site.now found capture.now) thread) }
     ensures fits { Fits (reply_in site.now found capture.now) result }
-    ensures past { IsPast (files_of site.now) count (left_from (reply_in site.now found capture.now) thread) (left_from (reply_in site.now found capture.now) result) }
+    ensures kept { KeepsOn (reply_in site.now found capture.now) thread result }
+    ensures past { let reply = reply_in site.now found capture.now in
+        IsPast reply.files count (left_from reply thread) (left_from reply result) }
 {
     let mut place = thread;
     let mut left = count;
@@ -78,7 +80,8 @@ pub(crate) fn want_reply(
 ) -> Want
     requires found { IsFound (files_of site.now) found }
     requires fits { Fits (reply_in site.now found capture.now) thread }
-    ensures { result ≡ want_left (page_text (files_of site.now) (left_from (reply_in site.now found capture.now) thread) []) (reach_end (left_from (reply_in site.now found capture.now) thread) []) }
+    ensures { let reply = reply_in site.now found capture.now in
+        result ≡ want_left (left_text reply thread) (left_whole reply thread) }
 {
     let mut place = thread;
     let mut ready = 0;
@@ -135,7 +138,8 @@ pub(crate) fn due_call<'a>(
 ) -> Option<Due<'a>>
     requires found { IsFound (files_of site.now) found }
     requires fits { Fits (reply_in site.now found capture.now) thread }
-    ensures { MatchOption result (IsNotDue (files_of site.now) (left_from (reply_in site.now found capture.now) thread)) (IsDueReply (reply_in site.now found capture.now) thread) }
+    ensures { let reply = reply_in site.now found capture.now in
+        MatchOption result (IsNotDue reply thread) (IsDueReply reply thread) }
 {
     let mut place = thread;
     loop {

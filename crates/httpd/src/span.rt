@@ -1,6 +1,7 @@
 //! What is left of the piece of a reply in which a thread stands.
 
 ghost use Rattle.std.specs.Prelude.{◌≡◌, ◌+◌, ◌≤◌, ◌++◌, length, take, drop};
+ghost use Rattle.site_image.specs.declared.TheConstants.{LONGEST_IMAGE, LONGEST_KIND};
 ghost use Rattle.web_pages.specs.Pieces.{kind_line};
 ghost use Rattle.httpd.specs.Looking.{SpanFits, span_text};
 
@@ -10,6 +11,7 @@ use generators::{Capture, fill_at};
 use protosocket::SendOut;
 use protothread::{Run, Says};
 use script_lang::Function;
+use site_image::KIND_LINE_LEN;
 
 /// What is left of a piece.
 #[derive(Clone, Copy)]
@@ -44,7 +46,7 @@ pub(crate) enum Span<'a> {
 #[derive(Clone, Copy)]
 pub(crate) struct Look<'a> {
     pub span: Span<'a>,
-    /// The same place, as one inside the piece.
+    /// The same place, as one inside the piece, where it is a piece of text.
     pub here: Thread,
     /// Where the next piece begins. Behind a call it is the front of the text of its record.
     pub next: Thread,
@@ -54,11 +56,11 @@ pub(crate) struct Look<'a> {
 pub(crate) fn span_len(span: &Span) -> usize
     requires { SpanFits span.now }
     ensures length { result ≡ length (span_text span.now) }
-    ensures bound { result ≤ 16777216 }
+    ensures bound { result ≤ LONGEST_IMAGE }
 {
     match span {
         Span::Bytes { world, send } => send.left(world),
-        Span::Line { kind, at } => kind.len() + 18 - *at as usize,
+        Span::Line { kind, at } => kind.len() + KIND_LINE_LEN - *at as usize,
         Span::Made { at, end, .. } => (*end - *at) as usize,
         Span::Call { .. } => 0,
         Span::End => 0,
@@ -82,7 +84,7 @@ pub(crate) fn write_span(span: &Span, out: &mut [u8])
 
 /// Writes the line of a content type from place `at` on.
 fn write_line(kind: &[u8], at: u32, out: &mut [u8])
-    requires short { length kind.now ≤ 64 }
+    requires short { length kind.now ≤ LONGEST_KIND }
     requires enough { at + length out.old ≤ length (kind_line kind.now) }
     ensures { out.new ≡ take (length out.old) (drop at (kind_line kind.now)) }
 {

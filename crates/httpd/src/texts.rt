@@ -1,6 +1,7 @@
 //! The texts of a reply.
 
 ghost use Rattle.std.specs.Prelude.{◌≡◌, ◌≤◌, ◌<◌, length, option_map, slice_get, None, Some};
+ghost use Rattle.site_image.specs.declared.TheConstants.{LONGEST_IMAGE, LONGEST_KIND};
 ghost use Rattle.site_image.specs.Files.{kind_of};
 ghost use Rattle.file_tree.specs.Site.{files_of, IsLoaded};
 ghost use Rattle.web_pages.specs.Pieces.{piece_bytes, kind_line};
@@ -9,9 +10,13 @@ ghost use Rattle.httpd.specs.Places.{IsFound};
 
 use arrayvec::ArrayVec;
 use file_tree::{FileId, Site};
+use site_image::{KIND_LINE_LEN, LONGEST_KIND};
 
 /// The most bytes of the line of a content type.
-const LONGEST_LINE: usize = 82;
+const LONGEST_LINE: usize = LONGEST_KIND + KIND_LINE_LEN;
+
+/// The most bytes of the text of a record.
+pub(crate) const LONGEST_TEXT: usize = 4200;
 
 /// The head of a reply.
 pub(crate) fn head_of(site: &Site, found: Option<FileId>) -> &'static [u8]
@@ -36,7 +41,7 @@ pub(crate) fn see_loaded(site: &Site)
 fn kind_at(site: &Site, id: FileId) -> &[u8]
     requires { id.0 < length (files_of site.now) }
     ensures text { Some result.now ≡ option_map kind_of (slice_get (files_of site.now) id.0) }
-    ensures short { length result.now ≤ 64 }
+    ensures short { length result.now ≤ LONGEST_KIND }
 {
     see_loaded(site);
     site.kind(id)
@@ -46,7 +51,7 @@ fn kind_at(site: &Site, id: FileId) -> &[u8]
 pub(crate) fn bytes_at(site: &Site, id: FileId) -> &[u8]
     requires { id.0 < length (files_of site.now) }
     ensures text { result.now ≡ piece_bytes (slice_get (files_of site.now) id.0) }
-    ensures short { length result.now ≤ 16777216 }
+    ensures short { length result.now ≤ LONGEST_IMAGE }
 {
     see_loaded(site);
     site.bytes(id)
@@ -56,7 +61,7 @@ pub(crate) fn bytes_at(site: &Site, id: FileId) -> &[u8]
 pub(crate) fn kind_of(site: &Site, found: Option<FileId>) -> &[u8]
     requires { IsFound (files_of site.now) found }
     ensures text { result.now ≡ kind_text (found_file (files_of site.now) found) }
-    ensures short { length result.now ≤ 64 }
+    ensures short { length result.now ≤ LONGEST_KIND }
 {
     match found {
         Some(id) => kind_at(site, id),
@@ -66,7 +71,7 @@ pub(crate) fn kind_of(site: &Site, found: Option<FileId>) -> &[u8]
 
 /// The line of a content type, and the empty line that ends the header.
 pub(crate) fn line_of(kind: &[u8]) -> ArrayVec<u8, LONGEST_LINE>
-    requires { length kind.now ≤ 64 }
+    requires { length kind.now ≤ LONGEST_KIND }
     ensures { result.items ≡ kind_line kind.now }
 {
     let mut line: ArrayVec<u8, LONGEST_LINE> = ArrayVec::new();
@@ -82,7 +87,7 @@ pub(crate) fn line_of(kind: &[u8]) -> ArrayVec<u8, LONGEST_LINE>
 pub(crate) fn body_of(site: &Site, found: Option<FileId>) -> &[u8]
     requires { IsFound (files_of site.now) found }
     ensures text { result.now ≡ body_bytes (files_of site.now) (found_file (files_of site.now) found) }
-    ensures short { length result.now ≤ 16777216 }
+    ensures short { length result.now ≤ LONGEST_IMAGE }
 {
     match found {
         Some(id) => bytes_at(site, id),
@@ -93,7 +98,7 @@ pub(crate) fn body_of(site: &Site, found: Option<FileId>) -> &[u8]
 /// The body where no file has the name.
 fn missing_body(site: &Site) -> &[u8]
     ensures text { result.now ≡ body_bytes (files_of site.now) None }
-    ensures short { length result.now ≤ 16777216 }
+    ensures short { length result.now ≤ LONGEST_IMAGE }
 {
     let name: &[u8] = b"/404.html";
     match site.find(name) {

@@ -1,6 +1,6 @@
 //! The page of a target, as a node says it at which nothing has happened.
 
-ghost use Rattle.std.specs.Prelude.{◌≡◌, ◌++◌, ◌∷◌, [], List, ℕ, length, OnOk, OnErr};
+ghost use Rattle.std.specs.Prelude.{◌≡◌, ◌++◌, List, ℕ, codes, length, OnOk, OnErr};
 ghost use Rattle.script_lang.specs.Pieces.{LiesWithin};
 ghost use Rattle.site_image.specs.Files.{file_named};
 ghost use Rattle.generators.specs.Captures.{capture_of};
@@ -17,7 +17,7 @@ ghost use Rattle.uip_edge.specs.Writing.{Writes};
 ghost use Rattle.uip_edge.specs.Telling.{sink_told};
 
 use crate::hearing::{Heard, file_asked, hear_target};
-use crate::texts::{body_of, bytes_at, head_of, is_scripted, kind_of, line_of};
+use crate::texts::{LONGEST_TEXT, body_of, bytes_at, head_of, is_scripted, kind_of, line_of};
 use app_events::{Now, RowList};
 use arrayvec::ArrayVec;
 use file_tree::{FileId, Site};
@@ -25,9 +25,6 @@ use generators::{Capture, fill_at, take, text_len};
 use protosocket::{LineIn, Stops};
 use script_lang::{Function, Piece, next_piece};
 use uip_edge::{Failed, Sink};
-
-/// The most bytes of the text of a record.
-const LONGEST_TEXT: usize = 4200;
 
 /// Writes the page of the request `GET `, the target and a line feed, where each call is given the zero record of its kind: no
 /// hits, no ticks, counters at 0 and no connections.
@@ -55,7 +52,7 @@ fn asked(site: &Site, target: &[u8]) -> Option<Option<FileId>>
 
 /// The same where the target ends with the line.
 fn ended(site: &Site, mut line: LineIn) -> Option<Option<FileId>>
-    ensures { (request : List ℕ) → HearsTarget line request → IsAsked (files_of site.now) (wanted (request ++ 10 ∷ [])) result }
+    ensures { (request : List ℕ) → HearsTarget line request → IsAsked (files_of site.now) (wanted (request ++ codes "\n")) result }
 {
     match hear_target(&mut line, b"\n") {
         Heard::Named => Some(file_asked(site, &line)),
@@ -84,7 +81,8 @@ fn write_reply<K: Sink>(site: &Site, found: Option<FileId>, sink: &mut K) -> Res
 fn write_content<K: Sink>(site: &Site, found: Option<FileId>, sink: &mut K) -> Result<(), Failed>
     requires { IsFound (files_of site.now) found }
     ensures { Writes (sink_told K.Sink sink.old) (sink_told K.Sink sink.new) result
-        (kind_line (kind_text (found_file (files_of site.now) found)) ++ zero_body (files_of site.now) (found_file (files_of site.now) found)) }
+        (kind_line (kind_text (found_file (files_of site.now) found))
+        ++ zero_body (files_of site.now) (found_file (files_of site.now) found)) }
 {
     say(sink, line_of(kind_of(site, found)).as_slice())?;
     write_body(site, found, sink)

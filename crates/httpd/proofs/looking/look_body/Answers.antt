@@ -15,9 +15,9 @@ pub rest_of-requires-clause-within : goal.rest_of-requires-clause-within
 unfolding Fits
 rest_of-requires-clause-within c = subst (λ xs. c.args.at ≤ length xs) (sym c.body_of.ensures.text) c.requires.fits.within
 
-pub returns : goal.returns
+pub returns-clause-sees : goal.returns-clause-sees
 unfolding Fits left_from
-returns c =
+returns-clause-sees c =
     let r = reply_in c.args.site.now c.args.found c.args.capture.now in
     let plain = sym c.is_scripted.ensures ∙ c.if-is_scripted.false in
     subst (λ ps. Sees r ps (record { span = c.rest_of.result; here = Body c.args.at; next = End })) (sym (plain_from r c.args.at plain))

@@ -9,9 +9,9 @@ pub rest_of-requires-clause-within : goal.rest_of-requires-clause-within
 unfolding Fits
 rest_of-requires-clause-within c = subst (λ xs. c.args.at ≤ length xs) (sym c.head_of.ensures.text) c.requires.fits
 
-pub returns : goal.returns
+pub returns-clause-sees : goal.returns-clause-sees
 unfolding Fits
-returns c =
+returns-clause-sees c =
     let r = reply_in c.args.site.now c.args.found c.args.capture.now in
     head_seen r c.args.at c.rest_of.result c.requires.fits (subst (λ xs. length xs ≤ 60) c.head_of.ensures.text c.head_of.ensures.short)
     (span_along c.rest_of.result _ _ (ap (λ xs. drop c.args.at xs) c.head_of.ensures.text) c.rest_of.ensures)

@@ -13,9 +13,9 @@ pub rest_of-requires-clause-within : goal.rest_of-requires-clause-within
 unfolding Fits
 rest_of-requires-clause-within c = subst (λ xs. c.args.at ≤ length xs) (sym c.bytes_at.ensures.text) c.requires.fits.2
 
-pub returns : goal.returns
+pub returns-clause-sees : goal.returns-clause-sees
 unfolding Fits
-returns c =
+returns-clause-sees c =
     let r = reply_in c.args.site.now c.args.found c.args.capture.now in
     inside_seen r c.args.next c.args.file c.args.at c.rest_of.result c.requires.fits.0 c.requires.fits.1 c.requires.fits.2
     (subst (λ xs. length xs ≤ 16777216) c.bytes_at.ensures.text c.bytes_at.ensures.short)

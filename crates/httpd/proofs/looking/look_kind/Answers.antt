@@ -6,9 +6,9 @@ use Rattle.httpd.specs.declared.span.Span.TheVariants as span
 use Rattle.httpd.proofs.Threads.{kind_seen}
 use Rattle.httpd.proofs.looking.look_kind.Goals as goal
 
-pub returns : goal.returns
+pub returns-clause-sees : goal.returns-clause-sees
 unfolding Fits
-returns c =
+returns-clause-sees c =
     let r = reply_in c.args.site.now c.args.found c.args.capture.now in
     kind_seen r c.args.at (span.Line c.kind_of.result c.args.at) c.requires.fits (subst (λ xs. length xs ≤ 64) c.kind_of.ensures.text c.kind_of.ensures.short)
     (record {

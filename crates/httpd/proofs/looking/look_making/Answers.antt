@@ -5,9 +5,9 @@ use Rattle.httpd.specs.declared.span.Span.TheVariants as span
 use Rattle.httpd.proofs.Threads.{making_seen}
 use Rattle.httpd.proofs.looking.look_making.Goals as goal
 
-pub returns : goal.returns
+pub returns-clause-sees : goal.returns-clause-sees
 unfolding Fits
-returns c =
+returns-clause-sees c =
     let r = reply_in c.args.site.now c.args.found c.args.capture.now in
     let size = c.text_len-end.ensures.length in
     let bound = c.text_len-end.ensures.short in

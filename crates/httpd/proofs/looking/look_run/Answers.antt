@@ -9,8 +9,8 @@ pub part_of-requires-clause-within : goal.part_of-requires-clause-within
 part_of-requires-clause-within c =
     omega (arith, c.requires.long, run_short (body (reply_in c.args.site.now c.args.found c.args.capture.now)) c.args.at c.requires.fits.within, ap length c.body_of-script.ensures.text)
 
-pub returns : goal.returns
-returns c =
+pub returns-clause-sees : goal.returns-clause-sees
+returns-clause-sees c =
     let r = reply_in c.args.site.now c.args.found c.args.capture.now in
     long_seen r c.args.at 1460 c.part_of.result c.requires.script c.requires.fits
     (subst (λ xs. length xs ≤ 16777216) c.body_of-script.ensures.text c.body_of-script.ensures.short) (omega arith) c.requires.long

@@ -2,6 +2,7 @@ use Rattle.std.proofs.Common.{◌+◌, ◌≤◌, length, sym, ap, subst}
 use Rattle.file_tree.specs.Site.{files_of}
 use Rattle.httpd.specs.Web.{WebContent}
 use Rattle.httpd.specs.Reply.{left_from, reply_in}
+use Rattle.httpd.specs.Kept.{KeepsOn}
 use Rattle.httpd.specs.Looking.{IsPast}
 use Rattle.httpd.specs.Places.{Fits, IsFound}
 use Rattle.httpd.specs.HttpdStands.{HttpdStands}
@@ -34,6 +35,7 @@ returns-clause-part c = λ p s.
       | in-Reply w ↦ subst (λ a. HttpdStands a c.args.shared.now.site part) (sym w.self-is)
           (reply_acked c.args.self.now c.args.shared.now.site w.in-Reply.found p c.args.count w.acked_reply-self.result w.in-Reply.is
           (subst (λ site. Fits (reply_in site w.in-Reply.found c.args.self.now.capture) w.acked_reply-self.result) site_is w.acked_reply-self.ensures.fits)
+          (subst (λ site. KeepsOn (reply_in site w.in-Reply.found c.args.self.now.capture) c.args.self.now.thread w.acked_reply-self.result) site_is w.acked_reply-self.ensures.kept)
           (subst (λ site. IsPast (files_of site) c.args.count (left_from (reply_in site w.in-Reply.found c.args.self.now.capture) c.args.self.now.thread) (left_from (reply_in site w.in-Reply.found c.args.self.now.capture) w.acked_reply-self.result))
           site_is w.acked_reply-self.ensures.past)
           (can_say c.args.self.now c.args.shared.now.site c.args.count (stage.Reply w.in-Reply.found) w.in-Reply.is c.requires) s)

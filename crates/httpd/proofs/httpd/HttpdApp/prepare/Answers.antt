@@ -3,7 +3,7 @@ use Rattle.file_tree.specs.Site.{files_of}
 use Rattle.generators.specs.Captures.{capture_of}
 use Rattle.web_pages.specs.Pages.{hits_of}
 use Rattle.httpd.specs.Web.{WebContent}
-use Rattle.httpd.specs.Reply.{left_from, reply_in}
+use Rattle.httpd.specs.Reply.{reply_in}
 use Rattle.httpd.specs.Places.{Fits, IsFound}
 use Rattle.httpd.specs.Saying.{IsDueReply, IsNotDue}
 use Rattle.httpd.proofs.Standing.{reply_fits, reply_found}
@@ -31,4 +31,4 @@ returns-in-Some c = λ p s.
 pub returns-in_default-due_call : goal.returns-in_default-due_call
 returns-in_default-due_call c = λ p s.
     not_due c.args.self.now c.args.shared.now.site c.in-Reply.found p (record { numbers = c.args.shared.now.hits; now = c.args.now.now }) c.in-Reply.is
-    (subst (λ site. IsNotDue (files_of site) (left_from (reply_in site c.in-Reply.found c.args.self.now.capture) c.args.self.now.thread)) (ap (λ (w : WebContent). w.site) c.shared.view_is) c.in_default-due_call.ensures) s
+    (subst (λ site. IsNotDue (reply_in site c.in-Reply.found c.args.self.now.capture) c.args.self.now.thread) (ap (λ (w : WebContent). w.site) c.shared.view_is) c.in_default-due_call.ensures) s
