@@ -14,10 +14,12 @@ more_heard ns n [] [] = record { rest = []; joined = refl }
 more_heard ns n [] (y ∷ ys) = record { rest = counter_text (number_after ns [] (y ∷ ys) n) (y ∷ ys); joined = refl }
 more_heard ns n (x ∷ xs) ys = record { rest = []; joined = refl }
 
-can_send : (n : ℕ) (xs : List ℕ) (acked : ℕ) → CanSend (fixed_want (length (counter_text n xs)) acked) (length (drop acked (counter_text n xs)))
+can_send : (n : ℕ) (xs : List ℕ) (acked : ℕ)
+    → CanSend (fixed_want (length (counter_text n xs)) acked) (length (drop acked (counter_text n xs)))
 can_send n [] acked = tt
 can_send n (x ∷ xs) acked =
-    elim (nat_lt acked 2) as (λ b. nat_lt acked 2 ≡ b → CanSend (if b then Send (2 - acked) else Close) (length (drop acked (n ∷ 10 ∷ [])))) [
+    elim (nat_lt acked 2) as
+    (λ b. nat_lt acked 2 ≡ b → CanSend (if b then Send (2 - acked) else Close) (length (drop acked (n ∷ 10 ∷ [])))) [
       | true ↦ λ e. (let l : acked < 2 = ltb-true acked 2 e in (omega arith, omega (arith, length-drop acked (n ∷ 10 ∷ []))))
       | false ↦ λ e. tt
     ] refl
@@ -40,7 +42,8 @@ same_text n (x ∷ xs) (y ∷ ys) e = refl
 same_text n [] (y ∷ ys) e = cc
 same_text n (x ∷ xs) [] e = cc
 
-pub counter_same_left : (a : Counter) (p q : Part) → CounterStands a p → CounterStands a q → text_left counter_meaning p ≡ text_left counter_meaning q
+pub counter_same_left : (a : Counter) (p q : Part) → CounterStands a p → CounterStands a q
+    → text_left counter_meaning p ≡ text_left counter_meaning q
 counter_same_left a p q s t =
     let e : p.acked ≡ q.acked = sym s.at ∙ t.at in
     let n : p.own ≡ q.own = sym s.number ∙ t.number in

@@ -13,7 +13,7 @@ use Rattle.uip_node.specs.Edge.{reply_bytes}
 use Rattle.uip_node.specs.Events.{Event, Reply, tick}
 use Rattle.uip_node.specs.Node.{AbstractNode, step}
 use Rattle.line_medium.specs.Ways.{Came, Datagram, Overlong, Own}
-use Rattle.serve_loop.specs.DeedRuns.{Deed, Does, Happens, Station, after_deed, said, said_at, text_behind}
+use Rattle.serve_loop.specs.DeedRuns.{Deed, Does, Happens, Station, after_deed, said, said_by_deed, text_behind}
 use Rattle.serve_loop.specs.LineDeeds.{beat_on, deed_by, deeds_behind, line_deeds, tick_on}
 use Rattle.serve_loop.specs.Pace.{is_beat}
 use Rattle.ethernet_arp.specs.EtherWay.{closed_by, ether_text, ether_way, is_taken, is_whole, open_from}
@@ -216,7 +216,7 @@ module _ (k : Host) (mac6 : length k.mac ≡ 6) (addr4 : length k.addr ≡ 4) wh
   reply_says acts own None sound = inl refl
   reply_says acts own (Some reply) sound = text_says acts (reply_bytes own reply) sound
 
-  deed_says : (m : Meaning) (served : ℕ → Bool) (own : Addr) (s : Station Act) (d : Deed Act) → AllSound s.acts → IsDeedSound d → Says s.acts (said_at m served (ether_way k) own s d)
+  deed_says : (m : Meaning) (served : ℕ → Bool) (own : Addr) (s : Station Act) (d : Deed Act) → AllSound s.acts → IsDeedSound d → Says s.acts (said_by_deed m served (ether_way k) own s d)
   deed_says m served own s (Does (Asked pair)) sound h = inr (arp_reply k pair, arp_says s.acts pair.mac 2 pair.mac pair.addr h.1 h.1 h.0)
   deed_says m served own s (Does (Replied pair)) sound h = inl refl
   deed_says m served own s (Does Ticked) sound h = inl refl
@@ -230,7 +230,7 @@ module _ (k : Host) (mac6 : length k.mac ≡ 6) (addr4 : length k.addr ≡ 4) wh
     later_home : (d : Deed Act) (deeds : List (Deed Act)) (s : Station Act) (frame : List ℕ) → GoesHome m served deeds (after_deed m served s d) frame → GoesHome m served (d ∷ deeds) s frame
     later_home d deeds s frame h = record { done = d ∷ h.done; later = h.later; front = ap (λ l. d ∷ l) h.front; learning = h.learning; last = h.last; to = h.to }
 
-    this_or_later : (d : Deed Act) (deeds : List (Deed Act)) (s : Station Act) (f frame : List ℕ) (i : ℕ) → IsFrame s.acts (said_at m served (ether_way k) own s d) f
+    this_or_later : (d : Deed Act) (deeds : List (Deed Act)) (s : Station Act) (f frame : List ℕ) (i : ℕ) → IsFrame s.acts (said_by_deed m served (ether_way k) own s d) f
         → ((j : ℕ) (g : List ℕ) → slice_get (frames_from [] (said m served (ether_way k) own deeds (after_deed m served s d))) j ≡ Some g → is_datagram (word_at g 12) ≡ true → GoesHome m served deeds (after_deed m served s d) g)
         → slice_get (f ∷ frames_from [] (said m served (ether_way k) own deeds (after_deed m served s d))) i ≡ Some frame → is_datagram (word_at frame 12) ≡ true → GoesHome m served (d ∷ deeds) s frame
     this_or_later d deeds s f frame zero h more at e =

@@ -28,7 +28,7 @@ module _ {A S C : Type 0} (g : Ghosts A S) (w : Way C) (did did' told told' : Li
   front_told m served own deeds a b v = record {
     each = λ s p.
         let it = v.each s (starts s p) in
-        record { done = it.done; later = it.later; front = it.front; after = stops _ it.after; written = it.written };
+        record { done = it.done; last = it.last; later = it.later; split = it.split; after = stops _ it.after; broke = it.broke };
   }
 
   told_by : (end : ServeEnd) (m : Meaning) (served : ℕ → Bool) (own : Addr) (deeds : List (Deed C)) (a b : Option (List ℕ))

@@ -16,7 +16,8 @@ pub record Host : Type 0 where
 -- the six bytes at a place
 abbrev pub mac_at : List ℕ → ℕ → List ℕ
 mac_at bytes at =
-    slice_index bytes at ∷ slice_index bytes (at + 1) ∷ slice_index bytes (at + 2) ∷ slice_index bytes (at + 3) ∷ slice_index bytes (at + 4) ∷ slice_index bytes (at + 5) ∷ []
+    slice_index bytes at ∷ slice_index bytes (at + 1) ∷ slice_index bytes (at + 2)
+    ∷ slice_index bytes (at + 3) ∷ slice_index bytes (at + 4) ∷ slice_index bytes (at + 5) ∷ []
 
 abbrev pub broadcast : List ℕ
 broadcast = 255 ∷ 255 ∷ 255 ∷ 255 ∷ 255 ∷ 255 ∷ []

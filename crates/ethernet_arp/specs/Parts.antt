@@ -10,7 +10,8 @@ use Rattle.ethernet_arp.specs.declared.sizes.TheConstants.{LARGEST_FRAME, SMALLE
 -- what bytes bring behind a part
 abbrev pub brought_from : Host → List ℕ → List ℕ → List (Came Act)
 brought_from k part [] = []
-brought_from k part (b ∷ bytes) = closed_by k (part ++ b ∷ []) ++ brought_from k (if is_whole (part ++ b ∷ []) then [] else part ++ b ∷ []) bytes
+brought_from k part (b ∷ bytes) =
+    closed_by k (part ++ b ∷ []) ++ brought_from k (if is_whole (part ++ b ∷ []) then [] else part ++ b ∷ []) bytes
 
 -- a length came, and the frame waits for more
 abbrev pub IsWaiting : FramePart → Type 0

@@ -13,7 +13,8 @@ use Rattle.ethernet_arp.specs.Learning.{Act, Learning, last_learning}
 -- the frames of a text, each behind its length
 abbrev pub frames_from : List ℕ → List ℕ → List (List ℕ)
 frames_from part [] = []
-frames_from part (b ∷ bytes) = if is_whole (part ++ b ∷ []) then drop 2 (part ++ b ∷ []) ∷ frames_from [] bytes else frames_from (part ++ b ∷ []) bytes
+frames_from part (b ∷ bytes) =
+    if is_whole (part ++ b ∷ []) then drop 2 (part ++ b ∷ []) ∷ frames_from [] bytes else frames_from (part ++ b ∷ []) bytes
 
 -- the target of the datagram in a frame
 abbrev pub target_in : List ℕ → List ℕ
@@ -30,5 +31,6 @@ pub record GoesHome (m : Meaning) (served : ℕ → Bool) (deeds : List (Deed Ac
 
 -- every frame with a datagram in the text that is said for deeds
 pub record AllGoHome (m : Meaning) (served : ℕ → Bool) (k : Host) (own : Addr) (deeds : List (Deed Act)) (s : Station Act) : Type 0 where
-  pub each : (i : ℕ) (frame : List ℕ) → slice_get (frames_from [] (said m served (ether_way k) own deeds s)) i ≡ Some frame → is_datagram (word_at frame 12) ≡ true
+  pub each : (i : ℕ) (frame : List ℕ) → slice_get (frames_from [] (said m served (ether_way k) own deeds s)) i ≡ Some frame
+      → is_datagram (word_at frame 12) ≡ true
       → GoesHome m served deeds s frame

@@ -28,8 +28,9 @@ abbrev pub IsQuiet : List (Came Act) → Type 0
 IsQuiet cs = (cs ≡ []) ⊎ ((pair : Pair) × (cs ≡ Own (Replied pair) ∷ []))
 
 -- what an answer tells of a frame, what it brings, and the area before and after
-abbrev pub Answers : Host → List ℕ → Taken → List (Came Act) → List ℕ → List ℕ → Type 0
-Answers k frame taken.Nothing cs old new = IsQuiet cs × (new ≡ old)
-Answers k frame (taken.Reply n) cs old new = (pair : Pair) × (cs ≡ Own (Asked pair) ∷ []) × (n ≡ length (arp_reply k pair)) × (new ≡ written old 0 (arp_reply k pair))
-Answers k frame (taken.Datagram at n) cs old new =
+abbrev pub TellsTaken : Host → List ℕ → Taken → List (Came Act) → List ℕ → List ℕ → Type 0
+TellsTaken k frame taken.Nothing cs old new = IsQuiet cs × (new ≡ old)
+TellsTaken k frame (taken.Reply n) cs old new =
+    (pair : Pair) × (cs ≡ Own (Asked pair) ∷ []) × (n ≡ length (arp_reply k pair)) × (new ≡ written old 0 (arp_reply k pair))
+TellsTaken k frame (taken.Datagram at n) cs old new =
     (cs ≡ Datagram (drop at frame) ∷ []) × (at + n ≡ length frame) × (0 < n) × (new ≡ old)

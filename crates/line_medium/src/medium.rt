@@ -75,7 +75,7 @@ pub trait Medium {
         ensures did { (k : Self.Set) (acts : List Self.Act) → did self.old k acts
             → did self.new k (acts ++ (way k).at_tick) };
 
-    /// Writes the text of a datagram. A failed call has written a front of it.
+    /// Writes the text of a datagram. A failed call has written a front of it, and only where there is a text.
     fn send<K: Sink>(&mut self, datagram: &[u8], sink: &mut K) -> Result<(), Failed>
         ensures fed { (k : Self.Set) (before : List ℕ) → fed self.old k before → fed self.new k before }
         ensures did { (k : Self.Set) (acts : List Self.Act) → did self.old k acts → did self.new k acts }
@@ -83,5 +83,7 @@ pub trait Medium {
             (K.written sink.old) (K.written sink.new) ((way k).text acts datagram.now)) }
         ensures front { OnErr result ((k : Self.Set) (acts : List Self.Act) → did self.old k acts → AppendsPrefix
             (K.written sink.old) (K.written sink.new) ((way k).text acts datagram.now)) }
+        ensures some { OnErr result ((k : Self.Set) (acts : List Self.Act) → did self.old k acts
+            → 0 < length ((way k).text acts datagram.now)) }
         ensures cause { HasCause (K.faults sink.old) (K.faults sink.new) result };
 }

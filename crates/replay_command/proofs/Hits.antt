@@ -34,7 +34,7 @@ use Rattle.link_world.proofs.FitWorlds.{Inside, position_in, slot_inside}
 use Rattle.link_world.proofs.Runs.{all_closed}
 use Rattle.link_world.proofs.Tables.{get_set, index_none, index_of, set_past}
 use Rattle.link_world.proofs.Tables.Written.{here, there}
-use Rattle.replay_command.specs.Hits.{HitsAreCounted, becomes_hit, hits_over, is_at, one_hits}
+use Rattle.replay_command.specs.Hits.{HitsAreCounted, becomes_hit, hits_over, is_place, one_hits}
 
 -- ---- one connection
 
@@ -277,7 +277,7 @@ module _ (files : List File) where
   abbrev next : Bool → ℕ → ℕ
   next b n = if b then wrap (n + 1) else n
 
-  hit_there : (numbers : List ℕ) (place : ℕ) (o : Option ℕ) → place < length numbers → get_or (hit_at numbers o) place 0 ≡ next (is_at place o) (get_or numbers place 0)
+  hit_there : (numbers : List ℕ) (place : ℕ) (o : Option ℕ) → place < length numbers → get_or (hit_at numbers o) place 0 ≡ next (is_place place o) (get_or numbers place 0)
   hit_there numbers place None l = refl
   hit_there numbers place (Some found) l = at (eqb found place) refl
     where

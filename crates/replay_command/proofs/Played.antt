@@ -21,7 +21,7 @@ use Rattle.link_replay.specs.Playing.{PlaysSchedule, Reaches, Refuses, event_at}
 use Rattle.link_replay.specs.Reaching.{IsAt}
 use Rattle.replay_command.specs.Playing.{bad_schedule}
 use Rattle.web_pages.specs.Serving.{is_served, no_hits}
-use Rattle.replay_command.specs.Telling.{Answers, IsPlayDue, IsTextDue, TellsFault, told_of}
+use Rattle.replay_command.specs.Telling.{WritesDue, IsPlayDue, IsTextDue, TellsFault, told_of}
 use Rattle.replay_command.specs.declared.replay_end.ReplayEnd.{ReplayEnd}
 use Rattle.replay_command.specs.declared.replay_end.ReplayEnd.TheVariants as ends
 use Rattle.replay_command.specs.declared.telling.Telling.{Telling}
@@ -50,7 +50,7 @@ module _ (site : SiteContent) (loaded : IsLoaded site) (bytes : All IsByte site.
     pub played_due : (Now : World → Type 0)
         → ForPages (files_of site) hits (Reaches (web_meaning (files_of site)) is_served Now (outcome_from hits (files_of site) content))
         → ((m : Meaning) (served : ℕ → Bool) (w : World) → Now w → IsAt m served w → WritesEnd ends.Done ends.WriteFault old new (told_of telling w) result)
-        → Answers (IsPlayDue (files_of site) content telling) old new result
+        → WritesDue (IsPlayDue (files_of site) content telling) old new result
     played_due Now plays_for wrote =
         let reach = web_has (Reaches (web_meaning (files_of site)) is_served Now (outcome_from hits (files_of site) content)) plays_for in
         let due : IsPlayDue (files_of site) content telling (told_of telling reach.world) ends.Done = record {
@@ -64,7 +64,7 @@ module _ (site : SiteContent) (loaded : IsLoaded site) (bytes : All IsByte site.
     -- a line of it was refused, and is told
     pub refused_due : {X : Type 0} (Now : X → World → Type 0) (fault : ReadSchedule)
         → ForPages (files_of site) hits (PlaysSchedule (web_meaning (files_of site)) is_served hits content Now (Err fault))
-        → TellsFault fault old new result → Answers (IsPlayDue (files_of site) content telling) old new result
+        → TellsFault fault old new result → WritesDue (IsPlayDue (files_of site) content telling) old new result
     refused_due Now NoMemory plays_for short = inr short
     refused_due Now (Bad line why) plays_for (inr short) = inr short
     refused_due Now (Bad line why) plays_for (inl wrote) =
@@ -90,15 +90,15 @@ text_due files bytes content show reads text ends.WriteFault due = absurd due
 text_due files bytes content show reads text ends.NoMemory due = absurd due
 
 pub text_answers : (files : List File) (bytes : List ℕ) (content : SchedulePlan) (show : Bool) → read_text bytes ≡ Ok content
-    → (old new : SinkTold) (result : ReplayEnd) → Answers (IsPlayDue files content (Report show)) old new result
-    → Answers (IsTextDue files bytes show) old new result
+    → (old new : SinkTold) (result : ReplayEnd) → WritesDue (IsPlayDue files content (Report show)) old new result
+    → WritesDue (IsTextDue files bytes show) old new result
 text_answers files bytes content show reads old new result (inl told) = inl (told.0, told.1, text_due files bytes content show reads told.0 told.1 told.2, told.3)
 text_answers files bytes content show reads old new result (inr short) = inr short
 
 -- the text does not read, and its first bad line is told
 pub text_refused : (files : List File) (bytes : List ℕ) (show : Bool) (fault : ReadSchedule) → ReadsSchedule (Err fault) (read_text bytes)
     → (old new : SinkTold) (result : ReplayEnd) → TellsFault fault old new result
-    → Answers (IsTextDue files bytes show) old new result
+    → WritesDue (IsTextDue files bytes show) old new result
 text_refused files bytes show NoMemory reads old new result short = inr short
 text_refused files bytes show (Bad line why) reads old new result (inr short) = inr short
 text_refused files bytes show (Bad line why) reads old new result (inl wrote) =

@@ -13,7 +13,7 @@ use Rattle.link_schedule.specs.Reading.{nothing_yet, read_lines, read_text}
 use Rattle.link_schedule.specs.declared.why.Why.{Why}
 use Rattle.link_schedule.specs.declared.why.Why.TheVariants.{Long}
 use Rattle.replay_command.specs.Playing.{IsFirstBad, IsPlayed}
-use Rattle.replay_command.specs.Ending.{IsText}
+use Rattle.replay_command.specs.Ending.{IsReplayText}
 use Rattle.replay_command.specs.Telling.{IsTextDue}
 use Rattle.replay_command.specs.declared.replay_end.ReplayEnd.{ReplayEnd}
 use Rattle.replay_command.specs.declared.replay_end.ReplayEnd.TheVariants as ends
@@ -60,7 +60,7 @@ reads_alike bytes content e = ap read_text e ∙ text_front content
 
 -- what is due for the bytes that were read is due for the shelf's files
 pub is_text : (site schedule : List ℕ) (show : Bool) (held : Option Files) (files : List File) (bytes text : List ℕ) (end : ReplayEnd) → IsSiteRead site held (Ok files)
-    → HoldsFile held schedule (IsFrontOf bytes) → IsTextDue files bytes show text end → IsText site schedule show held text end
+    → HoldsFile held schedule (IsFrontOf bytes) → IsTextDue files bytes show text end → IsReplayText site schedule show held text end
 is_text site schedule show held files bytes text ends.Done read front due = record {
   files = files;
   world = due.world;

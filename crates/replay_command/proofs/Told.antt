@@ -7,8 +7,8 @@ use Rattle.site_image.specs.declared.site_error.SiteError.{SiteError}
 use Rattle.file_tree.specs.Opening.{IsSiteRead, LacksSite}
 use Rattle.uip_edge.specs.Shelving.{Files}
 use Rattle.site_commands.specs.Report.{bad_line}
-use Rattle.replay_command.specs.Ending.{EndsWith, IsLoadText, IsText, LacksEither, LoadEnds, ReplayEnds}
-use Rattle.replay_command.specs.Telling.{Answers, IsPlayDue, IsShort, IsTextDue, Tells}
+use Rattle.replay_command.specs.Ending.{EndsWith, IsLoadText, IsReplayText, LacksEither, LoadEnds, ReplayEnds}
+use Rattle.replay_command.specs.Telling.{WritesDue, IsPlayDue, IsShort, IsTextDue, WritesText}
 use Rattle.replay_command.specs.declared.replay_end.ReplayEnd.{ReplayEnd}
 use Rattle.replay_command.specs.declared.replay_end.ReplayEnd.TheVariants as ends
 use Rattle.replay_command.specs.declared.telling.Telling.TheVariants.{Summary}
@@ -51,7 +51,7 @@ module _ (Is : Option Files → List ℕ → ReplayEnd → Type 0) (Missing : Op
   short_ends result short = subst (EndsWith Is Missing old new) (sym short.0) (same_work old new held short.1 shelf)
 
 module _ (site schedule : List ℕ) (show : Bool) (old new : WorkTold) (held : new.shelf.held ≡ old.shelf.held) (shelf : new.shelf.faults ≡ old.shelf.faults) where
-  only_text : (text : List ℕ) (end : ReplayEnd) → IsText site schedule show old.shelf.held text end → IsToldEnd end
+  only_text : (text : List ℕ) (end : ReplayEnd) → IsReplayText site schedule show old.shelf.held text end → IsToldEnd end
   only_text text ends.Done is = tt
   only_text text (ends.BadSite error) is = tt
   only_text text (ends.BadSchedule line why) is = tt
@@ -61,21 +61,21 @@ module _ (site schedule : List ℕ) (show : Bool) (old new : WorkTold) (held : n
 
   -- the bytes that were read of the schedule's file
   pub schedule_ends : (files : List File) (bytes : List ℕ) (result : ReplayEnd) → IsSiteRead site old.shelf.held (Ok files) → HoldsFile old.shelf.held schedule (IsFrontOf bytes)
-      → Answers (IsTextDue files bytes show) old.sink new.sink result → ReplayEnds site schedule show old new result
+      → WritesDue (IsTextDue files bytes show) old.sink new.sink result → ReplayEnds site schedule show old new result
   schedule_ends files bytes result read front (inl told) =
-      written_ends (IsText site schedule show) (LacksEither site schedule) old new only_text held shelf told.0 told.1 result
+      written_ends (IsReplayText site schedule show) (LacksEither site schedule) old new only_text held shelf told.0 told.1 result
       (is_text site schedule show old.shelf.held files bytes told.0 told.1 read front told.2) told.3
   schedule_ends files bytes result read front (inr short) =
-      short_ends (IsText site schedule show) (LacksEither site schedule) old new only_text held shelf result short
+      short_ends (IsReplayText site schedule show) (LacksEither site schedule) old new only_text held shelf result short
 
   -- the line of a bad image
   pub image_ends : (error : SiteError) (bytes : List ℕ) (result : ReplayEnd) → IsSiteRead site old.shelf.held (Err error) → HoldsFile old.shelf.held schedule (IsFrontOf bytes)
-      → Tells (bad_line error) (ends.BadSite error) old.sink new.sink result → ReplayEnds site schedule show old new result
+      → WritesText (bad_line error) (ends.BadSite error) old.sink new.sink result → ReplayEnds site schedule show old new result
   image_ends error bytes result read front (inl wrote) =
-      written_ends (IsText site schedule show) (LacksEither site schedule) old new only_text held shelf (bad_line error) (ends.BadSite error) result
+      written_ends (IsReplayText site schedule show) (LacksEither site schedule) old new only_text held shelf (bad_line error) (ends.BadSite error) result
       (read, holds_file (IsFrontOf bytes) (λ content. ⊤) (λ content e. tt) old.shelf.held schedule front, refl) wrote
   image_ends error bytes result read front (inr short) =
-      short_ends (IsText site schedule show) (LacksEither site schedule) old new only_text held shelf result short
+      short_ends (IsReplayText site schedule show) (LacksEither site schedule) old new only_text held shelf result short
 
 module _ (site : List ℕ) (seed clients : ℕ) (old new : WorkTold) (held : new.shelf.held ≡ old.shelf.held) (shelf : new.shelf.faults ≡ old.shelf.faults) where
   only_load : (text : List ℕ) (end : ReplayEnd) → IsLoadText site seed clients old.shelf.held text end → IsToldEnd end
@@ -97,7 +97,7 @@ module _ (site : List ℕ) (seed clients : ℕ) (old new : WorkTold) (held : new
 
   -- the schedule that the number makes was played
   pub load_ends : (files : List File) (result : ReplayEnd) → IsSiteRead site old.shelf.held (Ok files)
-      → Answers (IsPlayDue files (workload_of seed clients) Summary) old.sink new.sink result → LoadEnds site seed clients old new result
+      → WritesDue (IsPlayDue files (workload_of seed clients) Summary) old.sink new.sink result → LoadEnds site seed clients old new result
   load_ends files result read (inl told) =
       written_ends (IsLoadText site seed clients) (LacksSite site) old new only_load held shelf told.0 told.1 result
       (load_text files told.0 told.1 read told.2) told.3
@@ -105,7 +105,7 @@ module _ (site : List ℕ) (seed clients : ℕ) (old new : WorkTold) (held : new
 
   -- the line of a bad image
   pub load_image_ends : (error : SiteError) (result : ReplayEnd) → IsSiteRead site old.shelf.held (Err error)
-      → Tells (bad_line error) (ends.BadSite error) old.sink new.sink result → LoadEnds site seed clients old new result
+      → WritesText (bad_line error) (ends.BadSite error) old.sink new.sink result → LoadEnds site seed clients old new result
   load_image_ends error result read (inl wrote) =
       written_ends (IsLoadText site seed clients) (LacksSite site) old new only_load held shelf (bad_line error) (ends.BadSite error) result (read, refl) wrote
   load_image_ends error result read (inr short) = short_ends (IsLoadText site seed clients) (LacksSite site) old new only_load held shelf result short

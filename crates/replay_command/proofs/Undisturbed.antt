@@ -2,14 +2,14 @@
 use Rattle.std.proofs.Common.{ℕ, List, Option, refl, inl, inr, arith}
 use Rattle.uip_edge.specs.Shelving.{Files}
 use Rattle.file_tree.specs.Opening.{LacksSite}
-use Rattle.replay_command.specs.Ending.{EndsWith, IsLoadText, IsText, LacksEither}
-use Rattle.replay_command.specs.Laws.{EndsAsDue, LoadIsTold, ReplayIsTold}
+use Rattle.replay_command.specs.Ending.{EndsWith, IsLoadText, IsReplayText, LacksEither}
+use Rattle.replay_command.specs.Laws.{WroteDue, LoadIsTold, ReplayIsTold}
 use Rattle.replay_command.specs.declared.replay_end.ReplayEnd.{ReplayEnd}
 use Rattle.uip_edge.specs.Told.{WorkTold, WorkUnfailed}
 use Rattle.replay_command.specs.declared.replay_end.ReplayEnd.TheVariants as ends
 
 module _ (Is : Option Files → List ℕ → ReplayEnd → Type 0) (Missing : Option Files → Type 0) where
-  pub as_due : (old new : WorkTold) (end : ReplayEnd) → EndsWith Is Missing old new end → WorkUnfailed old new → ¬ (Missing old.shelf.held) → EndsAsDue (Is old.shelf.held) old new end
+  pub as_due : (old new : WorkTold) (end : ReplayEnd) → EndsWith Is Missing old new end → WorkUnfailed old new → ¬ (Missing old.shelf.held) → WroteDue (Is old.shelf.held) old new end
   as_due old new ends.Done e calm there = inr (e.text, e.is, e.wrote.whole)
   as_due old new (ends.BadSite error) e calm there = inr (e.text, e.is, e.wrote.whole)
   as_due old new (ends.BadSchedule line why) e calm there = inr (e.text, e.is, e.wrote.whole)
@@ -19,7 +19,7 @@ module _ (Is : Option Files → List ℕ → ReplayEnd → Type 0) (Missing : Op
   as_due old new ends.NoMemory e calm there = inl refl
 
 pub replay_is_told : ReplayIsTold
-replay_is_told site schedule show = as_due (IsText site schedule show) (LacksEither site schedule)
+replay_is_told site schedule show = as_due (IsReplayText site schedule show) (LacksEither site schedule)
 
 pub load_is_told : LoadIsTold
 load_is_told site seed clients = as_due (IsLoadText site seed clients) (LacksSite site)

@@ -56,21 +56,23 @@ pub record IsReport (site schedule : List ℕ) (show : Bool) (held : Option File
   pub told : text ≡ report show world
   pub promises : KeepsPromises files world
 
-abbrev pub IsText : List ℕ → List ℕ → Bool → Option Files → List ℕ → ReplayEnd → Type 0
-IsText site schedule show held text ends.Done = IsReport site schedule show held text
-IsText site schedule show held text (ends.BadSite error) = IsSiteRead site held (Err error) × HoldsFile held schedule (λ bytes. ⊤) × (text ≡ bad_line error)
-IsText site schedule show held text (ends.BadSchedule line why) =
-    (files : List File) × IsSiteRead site held (Ok files) × HoldsFile held schedule (λ bytes. IsFirstBad files bytes line why) × (text ≡ bad_schedule line why)
-IsText site schedule show held text ends.ShelfFault = ⊥
-IsText site schedule show held text ends.WriteFault = ⊥
-IsText site schedule show held text ends.NoMemory = ⊥
+abbrev pub IsReplayText : List ℕ → List ℕ → Bool → Option Files → List ℕ → ReplayEnd → Type 0
+IsReplayText site schedule show held text ends.Done = IsReport site schedule show held text
+IsReplayText site schedule show held text (ends.BadSite error) =
+    IsSiteRead site held (Err error) × HoldsFile held schedule (λ bytes. ⊤) × (text ≡ bad_line error)
+IsReplayText site schedule show held text (ends.BadSchedule line why) =
+    (files : List File) × IsSiteRead site held (Ok files)
+    × HoldsFile held schedule (λ bytes. IsFirstBad files bytes line why) × (text ≡ bad_schedule line why)
+IsReplayText site schedule show held text ends.ShelfFault = ⊥
+IsReplayText site schedule show held text ends.WriteFault = ⊥
+IsReplayText site schedule show held text ends.NoMemory = ⊥
 
 -- the shelf tells its files, and lacks the site or the schedule
 abbrev pub LacksEither : List ℕ → List ℕ → Option Files → Type 0
 LacksEither site schedule held = LacksSite site held ⊎ IsMissing held schedule
 
 abbrev pub ReplayEnds : List ℕ → List ℕ → Bool → WorkTold → WorkTold → ReplayEnd → Type 0
-ReplayEnds site schedule show old new end = EndsWith (IsText site schedule show) (LacksEither site schedule) old new end
+ReplayEnds site schedule show old new end = EndsWith (IsReplayText site schedule show) (LacksEither site schedule) old new end
 
 -- The text that is due for these files and the schedule that a number makes, with the end that goes with it. For a schedule that is
 -- played to its end it is the summary of the world that is reached, of which the promises are kept.

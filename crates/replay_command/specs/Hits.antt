@@ -13,13 +13,13 @@ use Rattle.web_pages.specs.Requests.Wanted.{NotYet, Refused, Name}
 use Rattle.web_pages.specs.Serving.{is_served, no_hits}
 use Rattle.web_pages.specs.WebMeaning.{web_meaning}
 
-abbrev pub is_at : ℕ → Option ℕ → Bool
-is_at place None = false
-is_at place (Some found) = found == place
+abbrev pub is_place : ℕ → Option ℕ → Bool
+is_place place None = false
+is_place place (Some found) = found == place
 
 -- a request that was not decided became one for the file at the place
 abbrev pub becomes_hit : List File → ℕ → Wanted → Wanted → Bool
-becomes_hit files place NotYet (Name name) = is_at place (place_of files name)
+becomes_hit files place NotYet (Name name) = is_place place (place_of files name)
 becomes_hit files place NotYet NotYet = false
 becomes_hit files place NotYet Refused = false
 becomes_hit files place Refused after = false
@@ -29,7 +29,8 @@ becomes_hit files place (Name name) after = false
 abbrev pub one_hits : List File → ℕ → List Connection → List Connection → Bool
 one_hits files place [] after = false
 one_hits files place (c ∷ before) [] = false
-one_hits files place (c ∷ before) (d ∷ after) = becomes_hit files place (wanted c.part.heard) (wanted d.part.heard) || one_hits files place before after
+one_hits files place (c ∷ before) (d ∷ after) =
+    becomes_hit files place (wanted c.part.heard) (wanted d.part.heard) || one_hits files place before after
 
 -- how many events of a run did so
 abbrev pub hits_over : List File → ℕ → List Event → AbstractNode → ℕ

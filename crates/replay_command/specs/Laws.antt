@@ -18,27 +18,29 @@ use Rattle.link_replay.specs.Playing.{Refuses, event_at}
 use Rattle.link_schedule.specs.declared.why.Why.{Why}
 use Rattle.link_schedule.specs.declared.why.Why.TheVariants.{Full}
 use Rattle.workload.specs.Workload.{workload_of}
-use Rattle.replay_command.specs.Ending.{IsLoadText, IsText, LacksEither, LoadEnds, ReplayEnds}
+use Rattle.replay_command.specs.Ending.{IsLoadText, IsReplayText, LacksEither, LoadEnds, ReplayEnds}
 use Rattle.replay_command.specs.Playing.{IsPlayed, outcome}
 use Rattle.replay_command.specs.declared.replay_end.ReplayEnd.{ReplayEnd}
 use Rattle.uip_edge.specs.Told.{WorkTold, WorkUnfailed}
 use Rattle.replay_command.specs.declared.replay_end.ReplayEnd.TheVariants as ends
 
 -- the whole text that is due with the end was written, or memory was short
-abbrev pub EndsAsDue : (List ℕ → ReplayEnd → Type 0) → WorkTold → WorkTold → ReplayEnd → Type 0
-EndsAsDue Is old new end = (end ≡ ends.NoMemory) ⊎ ((text : List ℕ) × Is text end × Appends old.sink.written new.sink.written text)
+abbrev pub WroteDue : (List ℕ → ReplayEnd → Type 0) → WorkTold → WorkTold → ReplayEnd → Type 0
+WroteDue Is old new end = (end ≡ ends.NoMemory) ⊎ ((text : List ℕ) × Is text end × Appends old.sink.written new.sink.written text)
 
 -- Where no count rose and no file is missing, a replay ends as is due.
 abbrev pub ReplayIsTold : Type 0
 ReplayIsTold =
-    (site schedule : List ℕ) (show : Bool) (old new : WorkTold) (end : ReplayEnd) → ReplayEnds site schedule show old new end → WorkUnfailed old new
-    → ¬ (LacksEither site schedule old.shelf.held) → EndsAsDue (IsText site schedule show old.shelf.held) old new end
+    (site schedule : List ℕ) (show : Bool) (old new : WorkTold) (end : ReplayEnd)
+    → ReplayEnds site schedule show old new end → WorkUnfailed old new
+    → ¬ (LacksEither site schedule old.shelf.held) → WroteDue (IsReplayText site schedule show old.shelf.held) old new end
 
 -- Where no count rose and the site is not missing, a load ends as is due.
 abbrev pub LoadIsTold : Type 0
 LoadIsTold =
-    (site : List ℕ) (seed clients : ℕ) (old new : WorkTold) (end : ReplayEnd) → LoadEnds site seed clients old new end → WorkUnfailed old new
-    → ¬ (LacksSite site old.shelf.held) → EndsAsDue (IsLoadText site seed clients old.shelf.held) old new end
+    (site : List ℕ) (seed clients : ℕ) (old new : WorkTold) (end : ReplayEnd)
+    → LoadEnds site seed clients old new end → WorkUnfailed old new
+    → ¬ (LacksSite site old.shelf.held) → WroteDue (IsLoadText site seed clients old.shelf.held) old new end
 
 -- two rounds for each part of the request of the first client, two for each text of its page, and six more
 abbrev pub rounds_for : List File → Plan → ℕ

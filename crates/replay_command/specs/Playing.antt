@@ -31,18 +31,18 @@ abbrev pub IsFirstBad : List File → List ℕ → ℕ → Why → Type 0
 IsFirstBad files text line reason = (read_text text ≡ Err (record { line = line; why = reason })) ⊎ IsRefused files text line reason
 
 -- the word of a reason
-abbrev pub why_word : Why → List ℕ
-why_word why.Long = codes "long"
-why_word why.Form = codes "form"
-why_word why.Clients = codes "clients"
-why_word why.Ports = codes "ports"
-why_word why.NoClient = codes "client"
-why_word why.NoDatagram = codes "datagram"
-why_word why.NoByte = codes "byte"
-why_word why.AlreadyOpen = codes "opened"
-why_word why.NotOpen = codes "idle"
-why_word why.Full = codes "full"
+abbrev pub reason_word : Why → List ℕ
+reason_word why.Long = codes "long"
+reason_word why.Form = codes "form"
+reason_word why.Clients = codes "clients"
+reason_word why.Ports = codes "ports"
+reason_word why.NoClient = codes "client"
+reason_word why.NoDatagram = codes "datagram"
+reason_word why.NoByte = codes "byte"
+reason_word why.AlreadyOpen = codes "opened"
+reason_word why.NotOpen = codes "idle"
+reason_word why.Full = codes "full"
 
 -- the line of a bad schedule
 abbrev pub bad_schedule : ℕ → Why → List ℕ
-bad_schedule line reason = codes "bad schedule " ++ why_word reason ++ codes " " ++ decimal line ++ codes "\n"
+bad_schedule line reason = codes "bad schedule " ++ reason_word reason ++ codes " " ++ decimal line ++ codes "\n"

@@ -33,7 +33,8 @@ pub record TellsWorld (files : List File) (content : SchedulePlan) (telling : Te
 -- the text that is due with an end, for the files of a site and a schedule
 abbrev pub IsPlayDue : List File → SchedulePlan → Telling → List ℕ → ReplayEnd → Type 0
 IsPlayDue files content telling text ends.Done = TellsWorld files content telling text
-IsPlayDue files content telling text (ends.BadSchedule line why) = Refuses content.lines (outcome files content) line why × (text ≡ bad_schedule line why)
+IsPlayDue files content telling text (ends.BadSchedule line why) =
+    Refuses content.lines (outcome files content) line why × (text ≡ bad_schedule line why)
 IsPlayDue files content telling text _ = ⊥
 
 -- the schedule's text is played to its end by the server of these files, and this reports the world that is reached
@@ -54,15 +55,15 @@ abbrev pub IsShort : SinkTold → SinkTold → ReplayEnd → Type 0
 IsShort old new result = (result ≡ ends.NoMemory) × (new ≡ old)
 
 -- this text was written, which ends so, or memory was wanting
-abbrev pub Tells : List ℕ → ReplayEnd → SinkTold → SinkTold → ReplayEnd → Type 0
-Tells text end old new result = WritesEnd end ends.WriteFault old new text result ⊎ IsShort old new result
+abbrev pub WritesText : List ℕ → ReplayEnd → SinkTold → SinkTold → ReplayEnd → Type 0
+WritesText text end old new result = WritesEnd end ends.WriteFault old new text result ⊎ IsShort old new result
 
 -- a text that is due with an end was written, or memory was wanting
-abbrev pub Answers : (List ℕ → ReplayEnd → Type 0) → SinkTold → SinkTold → ReplayEnd → Type 0
-Answers Due old new result =
+abbrev pub WritesDue : (List ℕ → ReplayEnd → Type 0) → SinkTold → SinkTold → ReplayEnd → Type 0
+WritesDue Due old new result =
     ((text : List ℕ) × (end : ReplayEnd) × Due text end × WritesEnd end ends.WriteFault old new text result) ⊎ IsShort old new result
 
 -- the line of a bad schedule was written, or memory was wanting
 abbrev pub TellsFault : ReadSchedule → SinkTold → SinkTold → ReplayEnd → Type 0
-TellsFault (Bad line why) old new result = Tells (bad_schedule line why) (ends.BadSchedule line why) old new result
+TellsFault (Bad line why) old new result = WritesText (bad_schedule line why) (ends.BadSchedule line why) old new result
 TellsFault NoMemory old new result = IsShort old new result

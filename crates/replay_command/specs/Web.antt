@@ -71,7 +71,10 @@ texts_of files p = texts_for (first_mss (offered p.setup.mss)) (pieces_for files
 -- its request, two for each text of its page, and six.
 abbrev pub HonestPages : Type 0
 HonestPages =
-    (site : SiteContent) → IsLoaded site → (served : ℕ → Bool) (addr : Addr) (hits : List ℕ) (p : Planned) → IsAddr addr → All IsWord hits → IsPlan (p ∷ []) →
+    (site : SiteContent) → IsLoaded site → (served : ℕ → Bool) (addr : Addr) (hits : List ℕ) (p : Planned)
+    → IsAddr addr → All IsWord hits → IsPlan (p ∷ []) →
     served p.setup.server_port.0 ≡ true → wanted p.request ≢ NotYet → 2 * parts_of p + 2 * texts_of (files_of site) p + 7 ≤ 65535 →
-    (w : World) × (plays (web_meaning (files_of site)) served (Opens 1 ∷ replicate (2 * parts_of p + 2 * texts_of (files_of site) p + 6) Round) (opening_world addr hits (p ∷ [])) ≡ Ok w)
+    (w : World)
+    × (plays (web_meaning (files_of site)) served (Opens 1 ∷ replicate (2 * parts_of p + 2 * texts_of (files_of site) p + 6) Round)
+    (opening_world addr hits (p ∷ [])) ≡ Ok w)
     × IsServedWhole (pages_of (files_of site)) w

@@ -53,7 +53,8 @@ ending_of (Err bad) = Err bad
 
 -- a schedule's lines over a site of which no file was asked for before
 abbrev pub replayed : List File → List Planned → List Event → Result World BadLine
-replayed files plan lines = plays (web_meaning files) is_served lines (opening_world (record { 0 = 10 ∷ 0 ∷ 0 ∷ 1 ∷ [] }) (map (λ file. 0) files) plan)
+replayed files plan lines =
+    plays (web_meaning files) is_served lines (opening_world (record { 0 = 10 ∷ 0 ∷ 0 ∷ 1 ∷ [] }) (map (λ file. 0) files) plan)
 
 abbrev pub ends_with : List File → List Planned → List Event → Result Ending BadLine
 ends_with files plan lines = ending_of (replayed files plan lines)
@@ -118,7 +119,8 @@ eleven =
 -- the row of a connection in SYN-RECEIVED whose SYN-ACK is outstanding, by the digit of its slot and the last two of its port
 abbrev pub waiting_row : ℕ → List ℕ → List ℕ
 waiting_row slot port =
-    codes "<tr><td>" ++ (48 + slot) ∷ codes "</td><td>10.0.0.2:10" ++ port ++ codes "</td><td>SYN-RCVD</td><td>0</td><td>3</td><td>*</td></tr>\r\n"
+    codes "<tr><td>" ++ (48 + slot) ∷ codes "</td><td>10.0.0.2:10" ++ port
+    ++ codes "</td><td>SYN-RCVD</td><td>0</td><td>3</td><td>*</td></tr>\r\n"
 
 abbrev pub table_page : List ℕ
 table_page =
@@ -139,7 +141,8 @@ pub record AreWorkedReplays : Type 0 where
   pub refused : ends_with hello_site (client 1000 1025 1 (codes "POST / ") ∷ []) (Opens 1 ∷ replicate 14 Round)
       ≡ ended (clean Closed [] ∷ []) 14
   -- a client that closes before its request is decided is reset
-  pub undecided : ends_with hello_site (client 1000 1025 536 (codes "GET") ∷ []) (Opens 1 ∷ replicate 4 Round ++ Closes 1 ∷ replicate 2 Round)
+  pub undecided : ends_with hello_site (client 1000 1025 536 (codes "GET") ∷ [])
+      (Opens 1 ∷ replicate 4 Round ++ Closes 1 ∷ replicate 2 Round)
       ≡ ended (clean Reset [] ∷ []) 6
   -- a generated text that is lost is sent again with the same bytes, though the counters have moved on
   pub first_time : text_sent 6 sent_again ≡ at_first

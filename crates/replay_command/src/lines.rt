@@ -1,7 +1,7 @@
 //! The line that tells a bad schedule, and what is written.
 
 ghost use Rattle.std.specs.Prelude.{◌≡◌, ◌++◌, decimal, IfOk, OnOk};
-ghost use Rattle.replay_command.specs.Playing.{bad_schedule as line_of, why_word as word_of};
+ghost use Rattle.replay_command.specs.Playing.{bad_schedule as line_of, reason_word as word_of};
 ghost use Rattle.uip_edge.specs.Writing.{WritesEnd};
 ghost use Rattle.uip_edge.specs.Telling.{sink_told};
 ghost use Rattle.replay_command.specs.declared.replay_end.ReplayEnd.TheVariants as ends;

@@ -4,7 +4,7 @@ ghost use Rattle.std.specs.Prelude.{◌≡◌, ◌≤◌};
 ghost use Rattle.file_tree.specs.Site.{files_of};
 ghost use Rattle.workload.specs.Workload.{workload_of};
 ghost use Rattle.replay_command.specs.Ending.{LoadEnds};
-ghost use Rattle.replay_command.specs.Telling.{Answers, IsPlayDue};
+ghost use Rattle.replay_command.specs.Telling.{WritesDue, IsPlayDue};
 ghost use Rattle.uip_edge.specs.Telling.{work_told, sink_told};
 ghost use Rattle.replay_command.specs.declared.telling.Telling.TheVariants as tellings;
 
@@ -45,7 +45,8 @@ pub fn load<H: Shelf, K: Sink>(
 fn load_site<K: Sink>(alloc: Global, site: Site, seed: u64, clients: u8, out: &mut K) -> ReplayEnd
     requires some { 1 ≤ clients }
     requires few { clients ≤ 64 }
-    ensures { Answers (IsPlayDue (files_of site) (workload_of seed clients) tellings.Summary) (sink_told K.Sink out.old) (sink_told K.Sink out.new) result }
+    ensures { WritesDue (IsPlayDue (files_of site) (workload_of seed clients) tellings.Summary)
+        (sink_told K.Sink out.old) (sink_told K.Sink out.new) result }
 {
     match make(alloc, seed, clients) {
         Ok(schedule) => play_schedule(alloc, site, &schedule, Telling::Summary, out),

@@ -11,7 +11,7 @@ ghost use Rattle.link_world.specs.World.{World as PlainWorld};
 ghost use Rattle.link_replay.specs.Reaching.{IsAt};
 ghost use Rattle.link_replay.specs.Stands.{WorldStands};
 ghost use Rattle.replay_command.specs.Playing.{bad_schedule as line_of};
-ghost use Rattle.replay_command.specs.Telling.{Answers, IsPlayDue, IsTextDue, Tells, TellsFault, told_of};
+ghost use Rattle.replay_command.specs.Telling.{WritesDue, IsPlayDue, IsTextDue, WritesText, TellsFault, told_of};
 ghost use Rattle.uip_edge.specs.Telling.{sink_told};
 ghost use Rattle.replay_command.specs.declared.replay_end.ReplayEnd.TheVariants as ends;
 
@@ -35,7 +35,7 @@ pub(crate) fn play_text<K: Sink>(
     show: bool,
     out: &mut K,
 ) -> ReplayEnd
-    ensures { Answers (IsTextDue (files_of site) text.now show) (sink_told K.Sink out.old) (sink_told K.Sink out.new) result }
+    ensures { WritesDue (IsTextDue (files_of site) text.now show) (sink_told K.Sink out.old) (sink_told K.Sink out.new) result }
 {
     match Schedule::read(alloc, text) {
         Ok(schedule) => play_schedule(alloc, site, &schedule, Telling::Report { show }, out),
@@ -51,7 +51,8 @@ pub(crate) fn play_schedule<K: Sink>(
     telling: Telling,
     out: &mut K,
 ) -> ReplayEnd
-    ensures { Answers (IsPlayDue (files_of site) (content_at schedule.now) telling) (sink_told K.Sink out.old) (sink_told K.Sink out.new) result }
+    ensures { WritesDue (IsPlayDue (files_of site) (content_at schedule.now) telling)
+        (sink_told K.Sink out.old) (sink_told K.Sink out.new) result }
 {
     see_loaded(&site);
     let Ok(web) = Web::new(alloc, site) else {
@@ -104,7 +105,7 @@ fn refuse<K: Sink>(alloc: Global, fault: ReadSchedule, out: &mut K) -> ReplayEnd
 
 /// Writes the line that tells which line of a schedule is bad, and why.
 fn refuse_line<K: Sink>(alloc: Global, line: u32, why: Why, out: &mut K) -> ReplayEnd
-    ensures { Tells (line_of line why) (ends.BadSchedule line why) (sink_told K.Sink out.old) (sink_told K.Sink out.new) result }
+    ensures { WritesText (line_of line why) (ends.BadSchedule line why) (sink_told K.Sink out.old) (sink_told K.Sink out.new) result }
 {
     match bad_schedule(alloc, line, why) {
         Ok(text) => write_text(&text, ReplayEnd::BadSchedule { line, why }, out),

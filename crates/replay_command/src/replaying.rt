@@ -3,7 +3,7 @@ ghost use Rattle.file_tree.specs.Site.{files_of};
 ghost use Rattle.file_tree.specs.Opening.{IsSiteRead};
 ghost use Rattle.site_commands.specs.Report.{bad_line as line_of};
 ghost use Rattle.replay_command.specs.Ending.{ReplayEnds};
-ghost use Rattle.replay_command.specs.Telling.{Tells};
+ghost use Rattle.replay_command.specs.Telling.{WritesText};
 ghost use Rattle.uip_edge.specs.Telling.{work_told, sink_told};
 ghost use Rattle.replay_command.specs.declared.replay_end.ReplayEnd.TheVariants as ends;
 
@@ -85,7 +85,7 @@ fn refuse_site<H: Shelf, K: Sink>(
 
 /// Writes the line of a bad image.
 pub(crate) fn tell_site<K: Sink>(alloc: Global, error: SiteError, out: &mut K) -> ReplayEnd
-    ensures { Tells (line_of error) (ends.BadSite error) (sink_told K.Sink out.old) (sink_told K.Sink out.new) result }
+    ensures { WritesText (line_of error) (ends.BadSite error) (sink_told K.Sink out.old) (sink_told K.Sink out.new) result }
 {
     match bad_line(alloc, error) {
         Ok(text) => write_text(&text, ReplayEnd::BadSite(error), out),

@@ -4,7 +4,6 @@ use Rattle.std.specs.Io.KnownBytes.{Appends}
 use Rattle.uip_wire.specs.declared.addr.Addr.{Addr}
 use Rattle.app_events.specs.Part.{Meaning}
 use Rattle.app_events.specs.declared.app.App.{Ghosts}
-use Rattle.uip_edge.specs.Writing.{AppendsPrefix}
 use Rattle.uip_edge.proofs.Told.{appends_by, Appends-none}
 use Rattle.uip_node.specs.declared.node.Node.{Node}
 use Rattle.uip_node.specs.Events.{Event, Reply, tick}
@@ -12,6 +11,7 @@ use Rattle.uip_node.specs.Events.Event.{Periodic}
 use Rattle.uip_node.specs.Node.{AbstractNode, step}
 use Rattle.uip_node.specs.Spoken.{IsSent}
 use Rattle.uip_node.specs.StandsFor.{Stands, Steps}
+use Rattle.serve_loop.specs.Breaking.{BreaksOff}
 use Rattle.serve_loop.specs.DeedRuns.{FrontSaid, Deed, Does, Happens, Station, AllSaid, after_deeds, after_deed, said, text_behind}
 use Rattle.line_medium.specs.Ways.{Way, all_said}
 use Rattle.serve_loop.specs.Turns.{IsHere, IsNode}
@@ -61,7 +61,7 @@ module _ {A S : Type 0} (g : Ghosts A S) where
     pub call_broke : (m : Meaning) (own : Addr) (old new : Node A S) (result : Option ℕ) (event : Event) (a b : Option (List ℕ)) → g.kept new.shared ≡ g.kept old.shared
         → ((n : AbstractNode) → At m own old n → Steps g new result (step (g.meaning (g.kept old.shared)) g.served n event))
         → ((acts : List C) → did acts → did' acts)
-        → ((acts : List C) (own : Addr) (reply : Option Reply) → did acts → IsSent own reply result new.packet → AppendsPrefix a b (text_behind w acts own reply))
+        → ((acts : List C) (own : Addr) (reply : Option Reply) → did acts → IsSent own reply result new.packet → BreaksOff [] (text_behind w acts own reply) a b)
         → FrontSaid m g.served w own (Happens event ∷ []) (Here did m own old) (Here did' m own new) a b
     call_broke m own old new result event a b same steps on wrote =
         broke_one m g.served w own (Happens event) (Here did m own old) (Here did' m own new) a b

@@ -1,15 +1,40 @@
 -- A run over deeds, put together from its parts.
-use Rattle.std.proofs.Common.{◌≡◌, ℕ, Bool, List, [], ◌∷◌, ◌++◌, Option, None, Some, refl, sym, ap, ◌∙◌, append-nil, append_assoc, subst}
+use Rattle.std.proofs.Common.{◌≡◌, ◌<◌, ℕ, Bool, List, [], ◌∷◌, ◌++◌, Option, None, Some, length, refl, sym, ap, ◌∙◌, append-nil, append_assoc, subst}
 use Rattle.std.specs.Io.KnownBytes.{Appends}
 use Rattle.uip_wire.specs.declared.addr.Addr.{Addr}
 use Rattle.app_events.specs.Part.{Meaning}
 use Rattle.uip_edge.specs.Writing.{AppendsPrefix}
-use Rattle.uip_edge.proofs.Told.{Appends-then, appends_by, prefix_by, prefix_then, Appends-none}
+use Rattle.uip_edge.proofs.Told.{Appends-then, appends_by, Appends-none}
 use Rattle.uip_node.specs.Events.{Event, Reply}
 use Rattle.uip_node.specs.Node.{AbstractNode, NodeStep, Ran, joined, run, step}
+use Rattle.serve_loop.specs.Breaking.{BreaksOff}
 use Rattle.serve_loop.specs.Running.{text_for, text_of}
-use Rattle.serve_loop.specs.DeedRuns.{FrontSaid, Deed, Station, StopsIn, AllSaid, after_deeds, after_deed, said, said_at}
+use Rattle.serve_loop.specs.DeedRuns.{FrontSaid, Deed, Station, StopsIn, AllSaid, after_deeds, after_deed, said, said_by_deed}
 use Rattle.line_medium.specs.Ways.{Way}
+
+-- other words for what stands before a text and for the text
+pub breaks_by : (us vs xs ys : List ℕ) (a b : Option (List ℕ)) → us ≡ vs → xs ≡ ys → BreaksOff vs ys a b → BreaksOff us xs a b
+breaks_by us vs xs ys a b e f h = record {
+  some = subst (λ (l : List ℕ). 0 < length l) (sym f) h.some;
+  front = h.front;
+  rest = h.rest;
+  cut = f ∙ h.cut;
+  written = appends_by a b _ _ (ap (λ l. l ++ h.front) e) h.written;
+}
+
+-- what was written is a front of all
+pub breaks_front : (us xs : List ℕ) (a b : Option (List ℕ)) → BreaksOff us xs a b → AppendsPrefix a b (us ++ xs)
+breaks_front us xs a b h = (us ++ h.front, h.rest, ap (λ l. us ++ l) h.cut ∙ sym (append_assoc us h.front h.rest), h.written)
+
+-- a text that broke off behind others
+breaks_then : (us vs text : List ℕ) (a b c : Option (List ℕ)) → Appends a b us → BreaksOff vs text b c → BreaksOff (us ++ vs) text a c
+breaks_then us vs text a b c first h = record {
+  some = h.some;
+  front = h.front;
+  rest = h.rest;
+  cut = h.cut;
+  written = appends_by a c _ _ (append_assoc us vs h.front) (Appends-then a b c us (vs ++ h.front) first h.written);
+}
 
 module _ {A : Type 0} (m : Meaning) (served : ℕ → Bool) (w : Way A) (own : Addr) where
   after-append : (xs ys : List (Deed A)) (s : Station A) → after_deeds m served (xs ++ ys) s ≡ after_deeds m served ys (after_deeds m served xs s)
@@ -21,8 +46,8 @@ module _ {A : Type 0} (m : Meaning) (served : ℕ → Bool) (w : Way A) (own : A
   said-append [] ys s = refl
   said-append (x ∷ xs) ys s =
       let next = after_deed m served s x in
-      ap (λ l. said_at m served w own s x ++ l) (said-append xs ys next)
-      ∙ sym (append_assoc (said_at m served w own s x) (said m served w own xs next) (said m served w own ys (after_deeds m served xs next)))
+      ap (λ l. said_by_deed m served w own s x ++ l) (said-append xs ys next)
+      ∙ sym (append_assoc (said_by_deed m served w own s x) (said m served w own xs next) (said m served w own ys (after_deeds m served xs next)))
 
   pub wrote_by : (xs ys : List (Deed A)) (P Q : Station A → Type 0) (a b : Option (List ℕ)) → xs ≡ ys → AllSaid m served w own ys P Q a b → AllSaid m served w own xs P Q a b
   wrote_by xs ys P Q a b e v = subst (λ (l : List (Deed A)). AllSaid m served w own l P Q a b) (sym e) v
@@ -35,20 +60,19 @@ module _ {A : Type 0} (m : Meaning) (served : ℕ → Bool) (w : Way A) (own : A
   wrote_none P Q a on = record { each = λ s p. (on s p, Appends-none a) }
 
   -- one deed
-  one_text : (x : Deed A) (s : Station A) → said m served w own (x ∷ []) s ≡ said_at m served w own s x
-  one_text x s = append-nil (said_at m served w own s x)
+  one_text : (x : Deed A) (s : Station A) → said m served w own (x ∷ []) s ≡ said_by_deed m served w own s x
+  one_text x s = append-nil (said_by_deed m served w own s x)
 
   pub wrote_one : (x : Deed A) (P Q : Station A → Type 0) (a b : Option (List ℕ))
-      → ((s : Station A) → P s → Q (after_deed m served s x) × Appends a b (said_at m served w own s x))
+      → ((s : Station A) → P s → Q (after_deed m served s x) × Appends a b (said_by_deed m served w own s x))
       → AllSaid m served w own (x ∷ []) P Q a b
   wrote_one x P Q a b f = record { each = λ s p. ((f s p).0, appends_by a b _ _ (one_text x s) (f s p).1) }
 
   pub broke_one : (x : Deed A) (P Q : Station A → Type 0) (a b : Option (List ℕ))
-      → ((s : Station A) → P s → Q (after_deed m served s x) × AppendsPrefix a b (said_at m served w own s x))
+      → ((s : Station A) → P s → Q (after_deed m served s x) × BreaksOff [] (said_by_deed m served w own s x) a b)
       → FrontSaid m served w own (x ∷ []) P Q a b
-  broke_one x P Q a b f = record {
-    each = λ s p. record { done = x ∷ []; later = []; front = refl; after = (f s p).0; written = prefix_by a b _ _ (one_text x s) (f s p).1 };
-  }
+  broke_one x P Q a b f =
+      record { each = λ s p. record { done = []; last = x; later = []; split = refl; after = (f s p).0; broke = (f s p).1 } }
 
   -- deeds, and then others
   pub wrote_then : (xs ys : List (Deed A)) (P Q R : Station A → Type 0) (a b c : Option (List ℕ)) → AllSaid m served w own xs P Q a b → AllSaid m served w own ys Q R b c
@@ -67,10 +91,15 @@ module _ {A : Type 0} (m : Meaning) (served : ℕ → Bool) (w : Way A) (own : A
       → StopsIn m served w own ys R b c (after_deeds m served xs s) → StopsIn m served w own (xs ++ ys) R a c s
   stops_then xs ys R a b c s first more = record {
     done = xs ++ more.done;
+    last = more.last;
     later = more.later;
-    front = ap (λ l. xs ++ l) more.front ∙ sym (append_assoc xs more.done more.later);
-    after = subst (λ (k : Station A). R k) (sym (after-append xs more.done s)) more.after;
-    written = prefix_by a c _ _ (said-append xs more.done s) (prefix_then a b c _ _ first more.written);
+    split = ap (λ l. xs ++ l) more.split ∙ sym (append_assoc xs more.done (more.last ∷ more.later));
+    after = subst (λ (k : Station A). R k)
+        (sym (ap (λ (l : List (Deed A)). after_deeds m served l s) (append_assoc xs more.done (more.last ∷ [])) ∙ after-append xs (more.done ++ more.last ∷ []) s))
+        more.after;
+    broke = breaks_by _ _ _ _ a c (said-append xs more.done s)
+        (ap (λ (k : Station A). said_by_deed m served w own k more.last) (after-append xs more.done s))
+        (breaks_then (said m served w own xs s) _ _ a b c first more.broke);
   }
 
   pub broke_then : (xs ys : List (Deed A)) (P Q R : Station A → Type 0) (a b c : Option (List ℕ)) → AllSaid m served w own xs P Q a b → FrontSaid m served w own ys Q R b c
@@ -82,7 +111,8 @@ module _ {A : Type 0} (m : Meaning) (served : ℕ → Bool) (w : Way A) (own : A
   -- further deeds that are not reached
   stops_more : (xs ys : List (Deed A)) (Q : Station A → Type 0) (a b : Option (List ℕ)) (s : Station A) → StopsIn m served w own xs Q a b s → StopsIn m served w own (xs ++ ys) Q a b s
   stops_more xs ys Q a b s it =
-      record { done = it.done; later = it.later ++ ys; front = ap (λ l. l ++ ys) it.front ∙ append_assoc it.done it.later ys; after = it.after; written = it.written }
+      let split = ap (λ l. l ++ ys) it.split ∙ append_assoc it.done (it.last ∷ it.later) ys in
+      record { done = it.done; last = it.last; later = it.later ++ ys; split = split; after = it.after; broke = it.broke }
 
   pub broke_more : (xs ys : List (Deed A)) (P Q : Station A → Type 0) (a b : Option (List ℕ)) → FrontSaid m served w own xs P Q a b → FrontSaid m served w own (xs ++ ys) P Q a b
   broke_more xs ys P Q a b v = record { each = λ s p. stops_more xs ys Q a b s (v.each s p) }

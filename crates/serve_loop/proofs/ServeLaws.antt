@@ -75,7 +75,7 @@ module _ {A S : Type 0} (g : Ghosts A S) {C : Type 0} (w : Way C) where
   public_wrote did did' ends.WriteFault deeds before after a b v = record {
     each = λ s p.
         let it = v.each s (enters did before s p) in
-        record { done = it.done; later = it.later; front = it.front; after = leaves did' _ _ after _ it.after; written = it.written };
+        record { done = it.done; last = it.last; later = it.later; split = it.split; after = leaves did' _ _ after _ it.after; broke = it.broke };
   }
 
   -- what was written goes on with a turn

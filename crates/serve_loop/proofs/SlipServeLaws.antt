@@ -4,7 +4,7 @@ use Rattle.std.proofs.lemmas.List.{map-append}
 use Rattle.uip_wire.specs.declared.addr.Addr.{Addr}
 use Rattle.app_events.specs.Part.{Meaning}
 use Rattle.app_events.specs.declared.app.App.{Ghosts}
-use Rattle.uip_edge.proofs.Told.{appends_by, prefix_by}
+use Rattle.uip_edge.proofs.Told.{appends_by}
 use Rattle.uip_edge.specs.declared.item.Item.{Item}
 use Rattle.uip_edge.specs.declared.item.Item.TheVariants.{Byte, Quiet}
 use Rattle.uip_edge.specs.declared.serve_end.ServeEnd.{ServeEnd}
@@ -16,13 +16,14 @@ use Rattle.uip_node.specs.Node.{AbstractNode, joined, run, step}
 use Rattle.uip_node.specs.StandsFor.{Stands}
 use Rattle.serve_loop.specs.LineDeeds.{beat_on, deed_by, deeds_behind, line_deeds, tick_on}
 use Rattle.serve_loop.specs.Pace.{is_beat}
-use Rattle.serve_loop.specs.DeedRuns.{AllSaid, Deed, FrontSaid, Happens, Station, after_deeds, after_deed, said, text_behind}
+use Rattle.serve_loop.specs.DeedRuns.{AllSaid, Deed, FrontSaid, Happens, Station, after_deeds, after_deed, said, said_by_deed, text_behind}
 use Rattle.serve_loop.specs.DeedServing.{IsStationed, SaidBy, ServesOver}
 use Rattle.serve_loop.specs.LineEvents.{beat, completed, event_by, events_behind, line_events}
-use Rattle.serve_loop.specs.Running.{Broke, Wrote, text_of}
+use Rattle.serve_loop.specs.Running.{Broke, Wrote, text_for, text_of}
 use Rattle.serve_loop.specs.Serving.{Serves, WroteBy}
 use Rattle.serve_loop.specs.SlipWay.{NoAct, came_by, slip_way}
 use Rattle.uip_edge.specs.Told.{LineTold}
+use Rattle.serve_loop.proofs.RunLaws.{breaks_by}
 
 -- each deed is an event of the node
 abbrev all_happen : List Event → List (Deed NoAct)
@@ -53,14 +54,33 @@ deeds_are own pace before (Byte b ∷ items) =
 deeds_are own pace before (Quiet ∷ items) =
     ap (λ l. all_happen tick ++ l) (deeds_are own pace before items) ∙ sym (map-append Happens tick (events_behind own pace before items))
 
--- a front of such deeds is a front of the events
-front_of : (events : List Event) (xs ys : List (Deed NoAct)) → all_happen events ≡ xs ++ ys → (es fs : List Event) × (events ≡ es ++ fs) × (xs ≡ all_happen es)
-front_of events [] ys e = ([], events, refl, refl)
-front_of [] (x ∷ xs) ys e = absurd (cc e)
-front_of (event ∷ events) (x ∷ xs) ys e =
-    let more = front_of events xs ys cc in
-    let same : x ≡ Happens event = cc in
-    (event ∷ more.0, more.1, ap (λ l. event ∷ l) more.2, ap (λ l. l ∷ xs) same ∙ ap (λ l. Happens event ∷ l) more.3)
+-- the events before one of such deeds, its event, and those after it
+record SplitAt (events : List Event) (xs : List (Deed NoAct)) (x : Deed NoAct) : Type 0 where
+  done : List Event
+  last : Event
+  later : List Event
+  split : events ≡ done ++ last ∷ later
+  before : xs ≡ all_happen done
+  at : x ≡ Happens last
+
+-- one more before
+split_on : (event : Event) (events : List Event) (z : Deed NoAct) (xs : List (Deed NoAct)) (x : Deed NoAct) → z ≡ Happens event → SplitAt events xs x → SplitAt (event ∷ events) (z ∷ xs) x
+split_on event events z xs x same more = record {
+  done = event ∷ more.done;
+  last = more.last;
+  later = more.later;
+  split = ap (λ l. event ∷ l) more.split;
+  before = ap (λ l. l ∷ xs) same ∙ ap (λ l. Happens event ∷ l) more.before;
+  at = more.at;
+}
+
+split_at : (events : List Event) (xs : List (Deed NoAct)) (x : Deed NoAct) (ys : List (Deed NoAct)) → all_happen events ≡ xs ++ x ∷ ys → SplitAt events xs x
+split_at [] [] x ys e = absurd (cc e)
+split_at [] (z ∷ xs) x ys e = absurd (cc e)
+split_at (event ∷ events) [] x ys e = record { done = []; last = event; later = events; split = refl; before = refl; at = cc }
+split_at (event ∷ events) (z ∷ xs) x ys e =
+    let same : z ≡ Happens event = cc in
+    split_on event events z xs x same (split_at events xs x ys cc)
 
 after_is : (m : Meaning) (served : ℕ → Bool) (events : List Event) (s : Station NoAct) → (after_deeds m served (all_happen events) s).node ≡ (run m served events s.node).node
 after_is m served [] s = refl
@@ -76,6 +96,19 @@ module _ (m : Meaning) (served : ℕ → Bool) (own : Addr) where
   said_is (e ∷ events) s =
       ap (λ l. text_behind slip_way s.acts own (step m served s.node e).sent ++ l) (said_is events (after_deed m served s (Happens e)))
       ∙ text_joined s.acts (step m served s.node e).sent (run m served events (step m served s.node e).node).sent
+
+  text_is : (acts : List NoAct) (o : Option Reply) → text_behind slip_way acts own o ≡ text_for own o
+  text_is acts None = refl
+  text_is acts (Some reply) = refl
+
+  -- what is said at one of such deeds
+  said_last : (events : List Event) (event : Event) (xs : List (Deed NoAct)) (x : Deed NoAct) (s : Station NoAct) → xs ≡ all_happen events → x ≡ Happens event
+      → said_by_deed m served slip_way own (after_deeds m served xs s) x ≡ text_for own (step m served (run m served events s.node).node event).sent
+  said_last events event xs x s e f =
+      ap (λ (l : List (Deed NoAct)). said_by_deed m served slip_way own (after_deeds m served l s) x) e
+      ∙ ap (λ (d : Deed NoAct). said_by_deed m served slip_way own (after_deeds m served (all_happen events) s) d) f
+      ∙ text_is (after_deeds m served (all_happen events) s).acts (step m served (after_deeds m served (all_happen events) s).node event).sent
+      ∙ ap (λ (n : AbstractNode). text_for own (step m served n event).sent) (after_is m served events s)
 
 module _ {A S : Type 0} (g : Ghosts A S) (did did' : List NoAct → Type 0) (began : did []) where
   abbrev At : Node A S → AbstractNode → Type 0
@@ -106,13 +139,18 @@ module _ {A S : Type 0} (g : Ghosts A S) (did did' : List NoAct → Type 0) (beg
     each = λ n p.
         let s : Station NoAct = record { acts = []; node = n } in
         let it = w.each s (record { stands = p; acted = began }) in
-        let front = front_of (line_events own pace items) it.done it.later (sym (deeds_are own pace [] items) ∙ it.front) in
+        let here = split_at (line_events own pace items) it.done it.last it.later (sym (deeds_are own pace [] items) ∙ it.split) in
+        let upto = ap (λ l. l ++ it.last ∷ []) here.before ∙ ap (λ x. all_happen here.done ++ x ∷ []) here.at ∙ sym (map-append Happens here.done (here.last ∷ [])) in
         record {
-          done = front.0;
-          later = front.1;
-          front = front.2;
-          after = stands_on m front.0 _ after s front.3 it.after;
-          written = prefix_by a b _ _ (sym (ap (λ (l : List (Deed NoAct)). said m g.served slip_way own l s) front.3 ∙ said_is m g.served own front.0 s)) it.written;
+          done = here.done;
+          last = here.last;
+          later = here.later;
+          split = here.split;
+          after = stands_on m (here.done ++ here.last ∷ []) _ after s upto it.after;
+          broke = breaks_by _ _ _ _ a b
+              (sym (ap (λ (l : List (Deed NoAct)). said m g.served slip_way own l s) here.before ∙ said_is m g.served own here.done s))
+              (sym (said_last m g.served own here.done here.last it.done it.last s here.before here.at))
+              it.broke;
         };
   }
 

@@ -4,20 +4,20 @@ use Rattle.std.specs.Io.KnownBytes.{Appends}
 use Rattle.uip_wire.specs.declared.addr.Addr.{Addr}
 use Rattle.app_events.specs.Part.{Meaning}
 use Rattle.app_events.specs.declared.app.App.{Ghosts}
-use Rattle.uip_edge.specs.Writing.{AppendsPrefix}
-use Rattle.uip_edge.proofs.Told.{appends_by, Appends-none, prefix_by}
+use Rattle.uip_edge.proofs.Told.{appends_by, Appends-none}
 use Rattle.uip_node.specs.declared.node.Node.{Node}
 use Rattle.uip_node.specs.Edge.{event_of}
 use Rattle.uip_node.specs.Counted.{seen}
 use Rattle.uip_node.specs.Events.Event.{Overlong as OverlongFrame}
 use Rattle.uip_node.specs.Node.{AbstractNode, step}
 use Rattle.uip_node.specs.StandsFor.{Stands}
+use Rattle.serve_loop.specs.Breaking.{BreaksOff}
 use Rattle.serve_loop.specs.LineDeeds.{deed_by}
 use Rattle.serve_loop.specs.DeedRuns.{FrontSaid, Does, Happens, Station, AllSaid}
 use Rattle.serve_loop.specs.Turns.{IsHere}
 use Rattle.line_medium.specs.Ways.{Came, Datagram, Overlong, Own, Way, acts_among, all_brought}
 use Rattle.serve_loop.proofs.NodeLaws.{node_on}
-use Rattle.serve_loop.proofs.RunLaws.{broke_by, broke_from, broke_one, wrote_by, wrote_from, wrote_none, wrote_one}
+use Rattle.serve_loop.proofs.RunLaws.{breaks_by, broke_by, broke_from, broke_one, wrote_by, wrote_from, wrote_none, wrote_one}
 
 module _ {A S Set C : Type 0} (g : Ghosts A S)
     (way : Set → Way C) (fed : Set → List ℕ → Type 0) (did did' : Set → List C → Type 0) (bytes : List ℕ) (n : ℕ) (shown : List ℕ) (node : Node A S)
@@ -97,7 +97,7 @@ module _ {A S Set C : Type 0} (g : Ghosts A S)
         (wrote_one m g.served (way k) own (Does it.0) (Here did k m own) (Here did' k m own) a b
         (λ s p. (acted_on k m own before it.0 h it.1 s p, appends_by a b shown _ it.2 wrote)))
 
-    pub own_broke : 0 < n → n ≤ length bytes → AppendsPrefix a b shown
+    pub own_broke : 0 < n → n ≤ length bytes → BreaksOff [] shown a b
         → (k : Set) (before : List ℕ) → fed k before
         → (x : ℕ) × (0 < x) × (x ≤ length bytes) × ((m : Meaning) (own : Addr) → FrontSaid m g.served (way k) own (map (deed_by own) (all_brought (way k) before (take x bytes))) (Here did k m own) (Here did' k m own) a b)
     own_broke some within wrote k before h =
@@ -107,5 +107,5 @@ module _ {A S Set C : Type 0} (g : Ghosts A S)
           within,
           λ m own. broke_by m g.served (way k) own _ _ _ _ _ _ (ap (λ l. map (deed_by own) l) it.1)
               (broke_one m g.served (way k) own (Does it.0) (Here did k m own) (Here did' k m own) a b
-              (λ s p. (acted_on k m own before it.0 h it.1 s p, prefix_by a b shown _ it.2 wrote))),
+              (λ s p. (acted_on k m own before it.0 h it.1 s p, breaks_by [] [] _ _ a b refl it.2 wrote))),
         )

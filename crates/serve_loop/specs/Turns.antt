@@ -27,7 +27,8 @@ pub record IsNode {A S : Type 0} (g : Ghosts A S) (m : Meaning) (own : Addr) (no
   pub stands : Stands g node n n.past
 
 -- the node, and the medium that did these acts, stand at this station
-pub record IsHere {A S C : Type 0} (g : Ghosts A S) (did : List C → Type 0) (m : Meaning) (own : Addr) (node : Node A S) (s : Station C) : Type 0 where
+pub record IsHere {A S C : Type 0} (g : Ghosts A S) (did : List C → Type 0) (m : Meaning)
+    (own : Addr) (node : Node A S) (s : Station C) : Type 0 where
   pub stands : IsNode g m own node s.node
   pub acted : did s.acts
 
@@ -41,14 +42,18 @@ abbrev pub place : {M A S : Type 0} → M → Node A S → Option (List ℕ) →
 place medium node text = record { medium = medium; node = node; text = text }
 
 -- From wherever the medium, set so, and the node stood, they stand behind these deeds, and all that is said for them was written.
-abbrev pub Plays : {A S M : Type 0} (g : Ghosts A S) (h : MediumGhosts M) (k : h.Set) → (Addr → List (Deed h.Act)) → Place M A S → Place M A S → Type 0
+abbrev pub Plays : {A S M : Type 0} (g : Ghosts A S) (h : MediumGhosts M) (k : h.Set)
+    → (Addr → List (Deed h.Act)) → Place M A S → Place M A S → Type 0
 Plays g h k deeds old new = (m : Meaning) (own : Addr)
-    → AllSaid m g.served (h.way k) own (deeds own) (IsHere g (h.did old.medium k) m own old.node) (IsHere g (h.did new.medium k) m own new.node) old.text new.text
+    → AllSaid m g.served (h.way k) own (deeds own)
+    (IsHere g (h.did old.medium k) m own old.node) (IsHere g (h.did new.medium k) m own new.node) old.text new.text
 
 -- The writing broke off, behind a front of these deeds.
-abbrev pub Breaks : {A S M : Type 0} (g : Ghosts A S) (h : MediumGhosts M) (k : h.Set) → (Addr → List (Deed h.Act)) → Place M A S → Place M A S → Type 0
+abbrev pub Breaks : {A S M : Type 0} (g : Ghosts A S) (h : MediumGhosts M) (k : h.Set)
+    → (Addr → List (Deed h.Act)) → Place M A S → Place M A S → Type 0
 Breaks g h k deeds old new = (m : Meaning) (own : Addr)
-    → FrontSaid m g.served (h.way k) own (deeds own) (IsHere g (h.did old.medium k) m own old.node) (IsHere g (h.did new.medium k) m own new.node) old.text new.text
+    → FrontSaid m g.served (h.way k) own (deeds own)
+    (IsHere g (h.did old.medium k) m own old.node) (IsHere g (h.did new.medium k) m own new.node) old.text new.text
 
 -- a line at a pace has taken these bytes
 pub record HasTaken (pace : ℕ) (before : List ℕ) (fed : List ℕ → Type 0) (pacer : Pacer) : Type 0 where
@@ -66,7 +71,8 @@ abbrev pub TurnsBy : LineTold → LineTold → List Item → Turn → Type 0
 TurnsBy old new items (turns.Went n) = (length items ≡ n) × (new.link.faults ≡ old.link.faults) × (new.sink.faults ≡ old.sink.faults)
 TurnsBy old new items (turns.Stopped ends.End) =
     (items ≡ []) × TookAll old.link.coming [] × (new.link.faults ≡ old.link.faults) × (new.sink.faults ≡ old.sink.faults)
-TurnsBy old new items (turns.Stopped ends.LinkFault) = (items ≡ []) × Rose old.link.faults new.link.faults × (new.sink.faults ≡ old.sink.faults)
+TurnsBy old new items (turns.Stopped ends.LinkFault) =
+    (items ≡ []) × Rose old.link.faults new.link.faults × (new.sink.faults ≡ old.sink.faults)
 TurnsBy old new items (turns.Stopped ends.WriteFault) = (new.link.faults ≡ old.link.faults) × Rose old.sink.faults new.sink.faults
 TurnsBy old new items (turns.Stopped ends.Budget) = ⊥
 
@@ -76,7 +82,8 @@ TakesOn pace before bytes fed pacer (turns.Went n) = HasTaken pace (before ++ by
 TakesOn pace before bytes fed pacer (turns.Stopped end) = ⊤
 
 -- what a turn wrote for these deeds
-abbrev pub WritesOn : {C : Type 0} → Turn → Meaning → (ℕ → Bool) → Way C → Addr → List (Deed C) → (Station C → Type 0) → (Station C → Type 0) → Option (List ℕ) → Option (List ℕ) → Type 0
+abbrev pub WritesOn : {C : Type 0} → Turn → Meaning → (ℕ → Bool) → Way C → Addr → List (Deed C)
+    → (Station C → Type 0) → (Station C → Type 0) → Option (List ℕ) → Option (List ℕ) → Type 0
 WritesOn (turns.Went n) m served w own deeds Before After old new = AllSaid m served w own deeds Before After old new
 WritesOn (turns.Stopped ends.End) m served w own deeds Before After old new = AllSaid m served w own deeds Before After old new
 WritesOn (turns.Stopped ends.LinkFault) m served w own deeds Before After old new = AllSaid m served w own deeds Before After old new
@@ -84,10 +91,13 @@ WritesOn (turns.Stopped ends.WriteFault) m served w own deeds Before After old n
 WritesOn (turns.Stopped ends.Budget) m served w own deeds Before After old new = ⊥
 
 -- a turn, with the medium and the node before and after it
-pub record Turns {A S M : Type 0} (g : Ghosts A S) (h : MediumGhosts M) (k : h.Set) (pace : ℕ) (before : List ℕ) (medium medium' : M) (node node' : Node A S) (old new : LineTold) (pacer : Pacer) (room : ℕ) (turn : Turn) : Type 0 where
+pub record Turns {A S M : Type 0} (g : Ghosts A S) (h : MediumGhosts M) (k : h.Set) (pace : ℕ) (before : List ℕ) (medium medium' : M)
+    (node node' : Node A S) (old new : LineTold) (pacer : Pacer) (room : ℕ) (turn : Turn) : Type 0 where
   pub items : List Item
   pub consumed : Consumes old.link.coming new.link.coming items
   pub within : length items ≤ room
   pub cause : TurnsBy old new items turn
   pub on : TakesOn pace before (bytes_among items) (h.fed medium' k) pacer turn
-  pub wrote : (m : Meaning) (own : Addr) → WritesOn turn m g.served (h.way k) own (deeds_behind (h.way k) own pace before items) (IsHere g (h.did medium k) m own node) (IsHere g (h.did medium' k) m own node') old.sink.written new.sink.written
+  pub wrote : (m : Meaning) (own : Addr)
+      → WritesOn turn m g.served (h.way k) own (deeds_behind (h.way k) own pace before items)
+      (IsHere g (h.did medium k) m own node) (IsHere g (h.did medium' k) m own node') old.sink.written new.sink.written

@@ -1,8 +1,10 @@
 ghost use Rattle.std.specs.Prelude.{◌≡◌, ◌<◌, ◌≤◌, ◌++◌, [], List, ℕ, length, map, take, OnOk, OnErr, IfOk};
+ghost use Rattle.std.specs.Io.KnownBytes.{Appends};
 ghost use Rattle.uip_edge.specs.declared.item.Item.TheVariants.{Byte};
 ghost use Rattle.uip_edge.specs.Causes.{HasCause};
 ghost use Rattle.uip_node.specs.StandsFor.{IsWhole};
 ghost use Rattle.line_medium.specs.Ways.{all_brought};
+ghost use Rattle.serve_loop.specs.Breaking.{BreaksOff};
 ghost use Rattle.serve_loop.specs.LineDeeds.{deed_by, deeds_behind};
 ghost use Rattle.serve_loop.specs.Turns.{Breaks, TurnFits, HasTaken, Plays, Turns, place};
 ghost use Rattle.uip_edge.specs.Telling.{line_told};
@@ -154,8 +156,20 @@ fn take_run<A: App, M: Medium, K: Sink>(
             Ok(run.count)
         }
         Brought::Own(count) => {
-            sink.write_whole(medium.shown(count))?;
+            say(medium.shown(count), sink)?;
             Ok(run.count)
         }
     }
+}
+
+/// Writes a text, where there is one.
+fn say<K: Sink>(text: &[u8], sink: &mut K) -> Result<(), Failed>
+    ensures whole { OnOk result (Appends (K.written sink.old) (K.written sink.new) text.now) }
+    ensures front { OnErr result (BreaksOff [] text.now (K.written sink.old) (K.written sink.new)) }
+    ensures cause { HasCause (K.faults sink.old) (K.faults sink.new) result }
+{
+    if text.is_empty() {
+        return Ok(());
+    }
+    sink.write_whole(text)
 }

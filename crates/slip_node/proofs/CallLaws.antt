@@ -8,54 +8,54 @@ use Rattle.uip_node.specs.Events.{tick}
 use Rattle.uip_node.specs.Events.Event.{Periodic}
 use Rattle.serve_loop.specs.LineEvents.{beat, completed, event_by, events_behind, line_events}
 use Rattle.serve_loop.specs.Pace.{is_beat}
-use Rattle.slip_node.specs.Calls.{Bring, Call, Calls, HandsOn, Hears, byte_calls, calls_behind, events_of, tick_calls}
+use Rattle.slip_node.specs.Calls.{Bring, Call, Calls, HandsOn, Hears, byte_calls, calls_behind, events_of_calls, tick_calls}
 
 module _ (own : Addr) where
   -- what single bytes bring, and then other calls
   bytes_events : (before bytes : List ℕ) (calls : List Call)
-      → events_of before (map (λ b. Hears (b ∷ [])) bytes ++ calls) own ≡ events_behind own 0 before (map Byte bytes) ++ events_of (before ++ bytes) calls own
-  bytes_events before [] calls = ap (λ l. events_of l calls own) (sym (append-nil before))
+      → events_of_calls before (map (λ b. Hears (b ∷ [])) bytes ++ calls) own ≡ events_behind own 0 before (map Byte bytes) ++ events_of_calls (before ++ bytes) calls own
+  bytes_events before [] calls = ap (λ l. events_of_calls l calls own) (sym (append-nil before))
   bytes_events before (b ∷ bytes) calls =
       let behind = before ++ b ∷ [] in
       let this = map (event_by own) (completed before b) ++ beat 0 (length before + 1) in
       let rest = events_behind own 0 behind (map Byte bytes) in
-      ap (λ l. l ++ events_of behind (map (λ c. Hears (c ∷ [])) bytes ++ calls) own) (append-nil this)
+      ap (λ l. l ++ events_of_calls behind (map (λ c. Hears (c ∷ [])) bytes ++ calls) own) (append-nil this)
       ∙ ap (λ l. this ++ l) (bytes_events behind bytes calls)
-      ∙ ap (λ l. this ++ (rest ++ events_of l calls own)) (append_assoc before (b ∷ []) bytes)
-      ∙ sym (append_assoc this rest (events_of (before ++ b ∷ bytes) calls own))
+      ∙ ap (λ l. this ++ (rest ++ events_of_calls l calls own)) (append_assoc before (b ∷ []) bytes)
+      ∙ sym (append_assoc this rest (events_of_calls (before ++ b ∷ bytes) calls own))
 
   -- however the bytes are cut among the calls, they bring the same
-  pub cut_events : (before : List ℕ) (calls : List Call) → events_of before (flat_map byte_calls calls) own ≡ events_of before calls own
+  pub cut_events : (before : List ℕ) (calls : List Call) → events_of_calls before (flat_map byte_calls calls) own ≡ events_of_calls before calls own
   cut_events before [] = refl
   cut_events before (Hears bytes ∷ calls) =
       bytes_events before bytes (flat_map byte_calls calls) ∙ ap (λ l. events_behind own 0 before (map Byte bytes) ++ l) (cut_events (before ++ bytes) calls)
   cut_events before (Calls slot ∷ calls) = ap (λ l. Periodic slot ∷ l) (cut_events (before ++ []) calls)
   cut_events before (HandsOn ∷ calls) =
-      ap (λ l. events_of l (flat_map byte_calls calls) own) (sym (append-nil before)) ∙ cut_events (before ++ []) calls
+      ap (λ l. events_of_calls l (flat_map byte_calls calls) own) (sym (append-nil before)) ∙ cut_events (before ++ []) calls
 
-  slots_events : (before slots : List ℕ) (calls : List Call) → events_of before (map Calls slots ++ calls) own ≡ map Periodic slots ++ events_of before calls own
+  slots_events : (before slots : List ℕ) (calls : List Call) → events_of_calls before (map Calls slots ++ calls) own ≡ map Periodic slots ++ events_of_calls before calls own
   slots_events before [] calls = refl
   slots_events before (slot ∷ slots) calls =
-      ap (λ l. Periodic slot ∷ events_of l (map Calls slots ++ calls) own) (append-nil before) ∙ ap (λ l. Periodic slot ∷ l) (slots_events before slots calls)
+      ap (λ l. Periodic slot ∷ events_of_calls l (map Calls slots ++ calls) own) (append-nil before) ∙ ap (λ l. Periodic slot ∷ l) (slots_events before slots calls)
 
-  tick_events : (before : List ℕ) (calls : List Call) → events_of before (tick_calls ++ calls) own ≡ tick ++ events_of before calls own
+  tick_events : (before : List ℕ) (calls : List Call) → events_of_calls before (tick_calls ++ calls) own ≡ tick ++ events_of_calls before calls own
   tick_events before calls = slots_events before (0 ∷ 1 ∷ 2 ∷ 3 ∷ 4 ∷ 5 ∷ 6 ∷ 7 ∷ 8 ∷ 9 ∷ []) calls
 
   beat_events : (before : List ℕ) (v : Bool) (calls : List Call)
-      → events_of before ((if v then tick_calls else []) ++ calls) own ≡ (if v then tick else []) ++ events_of before calls own
+      → events_of_calls before ((if v then tick_calls else []) ++ calls) own ≡ (if v then tick else []) ++ events_of_calls before calls own
   beat_events before true calls = tick_events before calls
   beat_events before false calls = refl
 
   -- the calls for the items of a line bring its events
   pub item_events : (pace count : ℕ) (before : List ℕ) (items : List Item) → count ≡ length before
-      → events_of before (calls_behind pace count items) own ≡ events_behind own pace before items
+      → events_of_calls before (calls_behind pace count items) own ≡ events_behind own pace before items
   item_events pace count before [] same = refl
   item_events pace count before (Byte b ∷ items) same =
       let behind = before ++ b ∷ [] in
       let told = map (event_by own) (completed before b) in
       let later = calls_behind pace (count + 1) items in
       let size : count + 1 ≡ length behind = omega (arith, same, length-append before (b ∷ [])) in
-      ap (λ l. l ++ events_of behind ((if is_beat pace (count + 1) then tick_calls else []) ++ later) own) (append-nil (told ++ []) ∙ append-nil told)
+      ap (λ l. l ++ events_of_calls behind ((if is_beat pace (count + 1) then tick_calls else []) ++ later) own) (append-nil (told ++ []) ∙ append-nil told)
       ∙ ap (λ l. told ++ l) (beat_events behind (is_beat pace (count + 1)) later)
       ∙ ap (λ l. told ++ ((if is_beat pace (count + 1) then tick else []) ++ l)) (item_events pace (count + 1) behind items size)
       ∙ ap (λ n. told ++ (beat pace (n + 1) ++ events_behind own pace behind items)) same
@@ -63,5 +63,5 @@ module _ (own : Addr) where
   item_events pace count before (Quiet ∷ items) same =
       tick_events before (calls_behind pace count items) ∙ ap (λ l. tick ++ l) (item_events pace count before items same)
 
-  pub line_brought : (pace : ℕ) (items : List Item) (calls : List Call) → Bring pace items calls → events_of [] calls own ≡ line_events own pace items
-  line_brought pace items calls bring = sym (cut_events [] calls) ∙ ap (λ l. events_of [] l own) bring.cut ∙ item_events pace 0 [] items refl
+  pub line_brought : (pace : ℕ) (items : List Item) (calls : List Call) → Bring pace items calls → events_of_calls [] calls own ≡ line_events own pace items
+  line_brought pace items calls bring = sym (cut_events [] calls) ∙ ap (λ l. events_of_calls [] l own) bring.cut ∙ item_events pace 0 [] items refl

@@ -16,10 +16,10 @@ pub data Call : Type 0 where
   HandsOn : Call
 
 -- the bytes that come by a call
-abbrev pub bytes_by : Call → List ℕ
-bytes_by (Hears bytes) = bytes
-bytes_by (Calls slot) = []
-bytes_by HandsOn = []
+abbrev pub bytes_of_call : Call → List ℕ
+bytes_of_call (Hears bytes) = bytes
+bytes_of_call (Calls slot) = []
+bytes_of_call HandsOn = []
 
 -- what a call brings to the node at the address `own`, behind the bytes that were heard before: the frames that its bytes
 -- complete, or the periodic call of the slot; what is handed on brings nothing
@@ -29,9 +29,9 @@ events_by before (Calls slot) own = Periodic slot ∷ []
 events_by before HandsOn own = []
 
 -- what calls in turn bring, behind the bytes that were heard before
-abbrev pub events_of : List ℕ → List Call → Addr → List Event
-events_of before [] own = []
-events_of before (call ∷ calls) own = events_by before call own ++ events_of (before ++ bytes_by call) calls own
+abbrev pub events_of_calls : List ℕ → List Call → Addr → List Event
+events_of_calls before [] own = []
+events_of_calls before (call ∷ calls) own = events_by before call own ++ events_of_calls (before ++ bytes_of_call call) calls own
 
 -- the ten calls of a tick
 abbrev pub tick_calls : List Call

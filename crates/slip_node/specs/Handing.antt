@@ -3,10 +3,10 @@ use Rattle.std.specs.Prelude.{ℕ, List, [], ◌∷◌, ◌++◌, drop, Option, 
 use Rattle.uip_slip.specs.Text.{escaped}
 
 -- the bytes that are left, escaped, and the END behind them
-abbrev pub text_behind : List ℕ → List ℕ
-text_behind rest = escaped rest ++ 192 ∷ []
+abbrev pub rest_text : List ℕ → List ℕ
+rest_text rest = escaped rest ++ 192 ∷ []
 
 -- behind so many bytes of a datagram; nothing where all was handed out
 abbrev pub left_text : List ℕ → Option ℕ → List ℕ
 left_text datagram None = []
-left_text datagram (Some at) = text_behind (drop at datagram)
+left_text datagram (Some at) = rest_text (drop at datagram)

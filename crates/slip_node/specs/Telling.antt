@@ -30,4 +30,5 @@ pub record Replies {A S : Type 0} (g : Ghosts A S) (event : Addr → Event) (old
 -- the datagram that is sent at each of the events, or no bytes where none is
 abbrev pub datagrams_at : Meaning → (ℕ → Bool) → Addr → List Event → AbstractNode → List (List ℕ)
 datagrams_at m served own [] n = []
-datagrams_at m served own (e ∷ events) n = datagram_for own (step m served n e).sent ∷ datagrams_at m served own events (step m served n e).node
+datagrams_at m served own (e ∷ events) n =
+    datagram_for own (step m served n e).sent ∷ datagrams_at m served own events (step m served n e).node

@@ -64,5 +64,6 @@ end_by_cut (Some number) = ends.Bad number whys.Cut
 pub record IsSurely (n : ℕ) (old new : LineTold) (taken : List Item) (reading : Reading) (end : SlipEnd) : Type 0 where
   pub bad : (number : ℕ) (why : CaptureWhy) → fault_in reading ≡ Some (number, why) → end ≡ ends.Bad number why
   pub budget : fault_in reading ≡ None → length taken ≡ n → end ≡ ends.Budget
-  pub over : (all : List Item) → fault_in reading ≡ None → old.link.coming ≡ Some all → length all < n → Consumes old.link.coming new.link.coming taken
+  pub over : (all : List Item) → fault_in reading ≡ None → old.link.coming ≡ Some all
+      → length all < n → Consumes old.link.coming new.link.coming taken
       → end ≡ end_by_cut (cut_in reading)

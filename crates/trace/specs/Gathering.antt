@@ -103,7 +103,8 @@ OpenOn (turns.Stopped end) stage part want = ⊤
 
 -- the cause of an end that a turn tells which took these items
 abbrev pub StopsBy : LineTold → LineTold → List Item → Reading → SlipEnd → Type 0
-StopsBy old new items reading ends.End = (items ≡ []) × TookAll old.link.coming [] × IsCalm old new × (fault_in reading ≡ None) × (cut_in reading ≡ None)
+StopsBy old new items reading ends.End =
+    (items ≡ []) × TookAll old.link.coming [] × IsCalm old new × (fault_in reading ≡ None) × (cut_in reading ≡ None)
 StopsBy old new items reading ends.Budget = ⊥
 StopsBy old new items reading ends.LinkFault =
     (items ≡ []) × Rose old.link.faults new.link.faults × (new.sink.faults ≡ old.sink.faults) × (fault_in reading ≡ None)
@@ -126,7 +127,8 @@ ReadBy start before items old new stage number part (turns.Went n) =
 ReadBy start before items old new stage number part (turns.Stopped end) = EndsIn start before items old new end
 
 -- a turn, behind the items before it
-pub record ReadsTurn (start : Option (List ℕ)) (before : List Item) (old new : LineTold) (stage : Stage) (number : ℕ) (part : List ℕ) (room : ℕ) (turn : Turn) : Type 0 where
+pub record ReadsTurn (start : Option (List ℕ)) (before : List Item) (old new : LineTold)
+    (stage : Stage) (number : ℕ) (part : List ℕ) (room : ℕ) (turn : Turn) : Type 0 where
   pub items : List Item
   pub consumed : Consumes old.link.coming new.link.coming items
   pub within : length items ≤ room

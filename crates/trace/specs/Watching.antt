@@ -52,7 +52,8 @@ abbrev pub WatchBy : LineTold → LineTold → List Item → Turn → Type 0
 WatchBy old new items (turns.Went n) = (length items ≡ n) × (new.link.faults ≡ old.link.faults) × (new.sink.faults ≡ old.sink.faults)
 WatchBy old new items (turns.Stopped ends.End) =
     (items ≡ []) × TookAll old.link.coming [] × (new.link.faults ≡ old.link.faults) × (new.sink.faults ≡ old.sink.faults)
-WatchBy old new items (turns.Stopped ends.LinkFault) = (items ≡ []) × Rose old.link.faults new.link.faults × (new.sink.faults ≡ old.sink.faults)
+WatchBy old new items (turns.Stopped ends.LinkFault) =
+    (items ≡ []) × Rose old.link.faults new.link.faults × (new.sink.faults ≡ old.sink.faults)
 WatchBy old new items (turns.Stopped ends.WriteFault) = (new.link.faults ≡ old.link.faults) × Rose old.sink.faults new.sink.faults
 WatchBy old new items (turns.Stopped ends.Budget) = ⊥
 
@@ -70,7 +71,8 @@ TellsOn (turns.Stopped ends.WriteFault) old new text = AppendsPrefix old new tex
 TellsOn (turns.Stopped ends.Budget) old new text = ⊥
 
 -- a turn, behind the items before it
-pub record Watches (form : Form) (before : List Item) (old new : LineTold) (decoder : State) (frames silences : ℕ) (room : ℕ) (turn : Turn) : Type 0 where
+pub record Watches (form : Form) (before : List Item) (old new : LineTold) (decoder : State)
+    (frames silences : ℕ) (room : ℕ) (turn : Turn) : Type 0 where
   pub items : List Item
   pub consumed : Consumes old.link.coming new.link.coming items
   pub within : length items ≤ room

@@ -6,18 +6,18 @@ use Rattle.uip_edge.specs.declared.item.Item.TheVariants.{Byte, Quiet}
 use Rattle.uip_slip.specs.Frames.{Frame, Datagram, Overlong, frame_of, frames, open_part, unescaped}
 use Rattle.uip_slip.proofs.PartLaws.{frames-end, frames-plain, parts-byte}
 use Rattle.udp_resolver.specs.Fates.{silences}
-use Rattle.udp_resolver.specs.LineEvents.{Silence, by_byte, by_frame, events, events_behind}
+use Rattle.udp_resolver.specs.LineEvents.{Silence, by_byte, by_frame, events, came_behind}
 use Rattle.udp_resolver.proofs.EventLaws.{silences-append}
 use Rattle.uip_edge.specs.Coming.{bytes_among}
 
 pub events-append : (before : List ℕ) (xs ys : List Item)
-    → events_behind before (xs ++ ys) ≡ events_behind before xs ++ events_behind (before ++ bytes_among xs) ys
-events-append before [] ys = ap (λ l. events_behind l ys) (sym (append-nil before))
+    → came_behind before (xs ++ ys) ≡ came_behind before xs ++ came_behind (before ++ bytes_among xs) ys
+events-append before [] ys = ap (λ l. came_behind l ys) (sym (append-nil before))
 events-append before (Byte b ∷ xs) ys =
     let behind = before ++ b ∷ [] in
     ap (λ l. by_byte before b ++ l) (events-append behind xs ys)
-    ∙ ap (λ l. by_byte before b ++ (events_behind behind xs ++ events_behind l ys)) (append_assoc before (b ∷ []) (bytes_among xs))
-    ∙ sym (append_assoc (by_byte before b) (events_behind behind xs) (events_behind (before ++ b ∷ bytes_among xs) ys))
+    ∙ ap (λ l. by_byte before b ++ (came_behind behind xs ++ came_behind l ys)) (append_assoc before (b ∷ []) (bytes_among xs))
+    ∙ sym (append_assoc (by_byte before b) (came_behind behind xs) (came_behind (before ++ b ∷ bytes_among xs) ys))
 events-append before (Quiet ∷ xs) ys = ap (λ l. Silence ∷ l) (events-append before xs ys)
 
 pub events_byte : (items : List Item) (b : ℕ) → events (items ++ Byte b ∷ []) ≡ events items ++ by_byte (bytes_among items) b
@@ -46,7 +46,7 @@ calm_byte before b =
     [ true ↦ calm_frames (unescaped (open_part before)) | false ↦ refl ]
 
 -- bytes are no silences
-pub calm_bytes : (before bytes : List ℕ) → silences (events_behind before (map Byte bytes)) ≡ 0
+pub calm_bytes : (before bytes : List ℕ) → silences (came_behind before (map Byte bytes)) ≡ 0
 calm_bytes before [] = refl
 calm_bytes before (b ∷ bytes) =
-    omega (arith, silences-append (by_byte before b) (events_behind (before ++ b ∷ []) (map Byte bytes)), calm_byte before b, calm_bytes (before ++ b ∷ []) bytes)
+    omega (arith, silences-append (by_byte before b) (came_behind (before ++ b ∷ []) (map Byte bytes)), calm_byte before b, calm_bytes (before ++ b ∷ []) bytes)

@@ -11,8 +11,8 @@ use Rattle.uip_edge.specs.Writing.{AppendsPrefix}
 use Rattle.udp_resolver.specs.Fates.{Question, answer_among, questions}
 use Rattle.udp_resolver.specs.LineEvents.{events}
 use Rattle.udp_resolver.specs.Lines.{lines}
-use Rattle.udp_resolver.specs.Resolving.{Resolves}
-use Rattle.udp_resolver.specs.Standing.{Asks, Knows}
+use Rattle.udp_resolver.specs.Resolving.{Resolves, ResolvesBy, TellFailed, WroteAll}
+use Rattle.udp_resolver.specs.Standing.{Asks, Done, Knows}
 use Rattle.udp_resolver.specs.Steps.{lines_by}
 use Rattle.udp_resolver.specs.Streams.{Streams}
 use Rattle.udp_resolver.specs.declared.run.Run.{Run}
@@ -27,66 +27,45 @@ lines_known asking names items run answers same k =
     ∙ lines_told (events items) asking names
 
 module _ (asked : List Question) (n : ℕ) (run : Run) (old new : Streams) where
+  -- what the asking came to, with what the telling then did
+  resolves : (end result : ServeEnd) (a : Asks asked n run old.line new.line end) → ResolvesBy asked n old new a.taken result → Resolves asked n old new result
+  resolves end result a by = record { taken = a.taken; within = a.within; consumed = a.consumed; needed = a.needed; ends = by }
+
   -- all was told
+  whole : (end : ServeEnd) (taken : List Item) → Done asked n taken run old.line new.line end → new.tell.faults ≡ old.tell.faults
+      → ((taken : List Item) → Knows asked taken run → Appends old.tell.written new.tell.written (lines asked (events taken)))
+      → WroteAll asked n old new taken end
+  whole end taken d same told = record {
+    done = d.done;
+    link_same = d.calm.link;
+    out = record { whole = d.out; same = d.calm.sink };
+    told = record { whole = told taken d.knows; same = same };
+  }
+
   pub told_all : (end : ServeEnd) → (end ≡ ends.LinkFault → ⊥) → (end ≡ ends.WriteFault → ⊥) → Asks asked n run old.line new.line end
       → new.tell.faults ≡ old.tell.faults → ((taken : List Item) → Knows asked taken run → Appends old.tell.written new.tell.written (lines asked (events taken)))
       → Resolves asked n old new end
-  told_all ends.End l w a same told = record {
-    taken = a.taken;
-    within = a.within;
-    consumed = a.consumed;
-    needed = a.needed;
-    ends = record {
-      done = a.by.done;
-      link_same = a.by.calm.link;
-      out = record { whole = a.by.out; same = a.by.calm.sink };
-      told = record { whole = told a.taken a.by.knows; same = same };
-    };
-  }
-  told_all ends.Budget l w a same told = record {
-    taken = a.taken;
-    within = a.within;
-    consumed = a.consumed;
-    needed = a.needed;
-    ends = record {
-      done = a.by.done;
-      link_same = a.by.calm.link;
-      out = record { whole = a.by.out; same = a.by.calm.sink };
-      told = record { whole = told a.taken a.by.knows; same = same };
-    };
-  }
+  told_all ends.End l w a same told = resolves ends.End ends.End a (whole ends.End a.taken a.by same told)
+  told_all ends.Budget l w a same told = resolves ends.Budget ends.Budget a (whole ends.Budget a.taken a.by same told)
   told_all ends.LinkFault l w a same told = absurd (l refl)
   told_all ends.WriteFault l w a same told = absurd (w refl)
 
   -- the telling failed
+  part : (end : ServeEnd) (taken : List Item) → Done asked n taken run old.line new.line end → Rose old.tell.faults new.tell.faults
+      → ((taken : List Item) → Knows asked taken run → AppendsPrefix old.tell.written new.tell.written (lines asked (events taken)))
+      → TellFailed asked n old new taken
+  part end taken d rose told = record {
+    end = end;
+    done = d.done;
+    link_same = d.calm.link;
+    out = record { whole = d.out; same = d.calm.sink };
+    told = record { front = told taken d.knows; rose = rose };
+  }
+
   pub told_part : (end : ServeEnd) → (end ≡ ends.LinkFault → ⊥) → (end ≡ ends.WriteFault → ⊥) → Asks asked n run old.line new.line end
       → Rose old.tell.faults new.tell.faults → ((taken : List Item) → Knows asked taken run → AppendsPrefix old.tell.written new.tell.written (lines asked (events taken)))
       → Resolves asked n old new ends.WriteFault
-  told_part ends.End l w a rose told = record {
-    taken = a.taken;
-    within = a.within;
-    consumed = a.consumed;
-    needed = a.needed;
-    ends = inr (record {
-      end = ends.End;
-      done = a.by.done;
-      link_same = a.by.calm.link;
-      out = record { whole = a.by.out; same = a.by.calm.sink };
-      told = record { front = told a.taken a.by.knows; rose = rose };
-    });
-  }
-  told_part ends.Budget l w a rose told = record {
-    taken = a.taken;
-    within = a.within;
-    consumed = a.consumed;
-    needed = a.needed;
-    ends = inr (record {
-      end = ends.Budget;
-      done = a.by.done;
-      link_same = a.by.calm.link;
-      out = record { whole = a.by.out; same = a.by.calm.sink };
-      told = record { front = told a.taken a.by.knows; rose = rose };
-    });
-  }
+  told_part ends.End l w a rose told = resolves ends.End ends.WriteFault a (inr (part ends.End a.taken a.by rose told))
+  told_part ends.Budget l w a rose told = resolves ends.Budget ends.WriteFault a (inr (part ends.Budget a.taken a.by rose told))
   told_part ends.LinkFault l w a rose told = absurd (l refl)
   told_part ends.WriteFault l w a rose told = absurd (w refl)

@@ -14,7 +14,7 @@ use Rattle.uip_slip.specs.declared.fed.Fed.{Fed}
 use Rattle.uip_slip.specs.declared.fed.Fed.TheVariants as fed
 use Rattle.udp_resolver.specs.Asked.{last_ident, line_text, open_ones, queries, query_texts}
 use Rattle.udp_resolver.specs.Fates.{Question, all_settled, answer_among, fate_of, is_given_up, next_asking, questions, silences}
-use Rattle.udp_resolver.specs.LineEvents.{LineEvent, Came, Silence, by_byte, by_frame, events, events_behind}
+use Rattle.udp_resolver.specs.LineEvents.{LineEvent, Came, Silence, by_byte, by_frame, events, came_behind}
 use Rattle.udp_resolver.specs.Lines.{line_of, lines}
 use Rattle.udp_resolver.specs.Standing.{Adds, Knows}
 use Rattle.udp_resolver.specs.Steps.{IsClockAt, asked_next, heard_now, is_due, lines_by, unanswered}
@@ -115,7 +115,7 @@ next_none asked items due = ap (λ b. if b then open_ones asked (events items) e
 pub adds_bytes : (asked : List Question) (items : List Item) (bytes : List ℕ) → Adds asked items (map Byte bytes) []
 adds_bytes asked items bytes =
     ap (λ l. line_text asked l) (events-append [] items (map Byte bytes))
-    ∙ ap (λ l. query_texts 0 l) (queries_calm asked (events items) (events_behind (bytes_among items) (map Byte bytes)) (calm_bytes (bytes_among items) bytes))
+    ∙ ap (λ l. query_texts 0 l) (queries_calm asked (events items) (came_behind (bytes_among items) (map Byte bytes)) (calm_bytes (bytes_among items) bytes))
     ∙ sym (append-nil (line_text asked (events items)))
 
 pub adds_quiet : (asked : List Question) (items : List Item) (run : Run) → Knows asked items run
@@ -134,7 +134,7 @@ count_same xs ys e = omega (arith, silences-append xs ys, e)
 pub calm_over : (items : List Item) (bytes : List ℕ) → is_given_up (events items) ≡ false → is_given_up (events (items ++ map Byte bytes)) ≡ false
 calm_over items bytes e =
     ap (λ l. is_given_up l) (events-append [] items (map Byte bytes))
-    ∙ ap (λ n. leb 249 n) (count_same (events items) (events_behind (bytes_among items) (map Byte bytes)) (calm_bytes (bytes_among items) bytes)) ∙ e
+    ∙ ap (λ n. leb 249 n) (count_same (events items) (came_behind (bytes_among items) (map Byte bytes)) (calm_bytes (bytes_among items) bytes)) ∙ e
 
 -- whether a question is open, told of the answers
 pub open_then : (is_over : Bool) (any : Bool) → is_over ≡ false → any ≡ (not is_over && any)

@@ -1,5 +1,5 @@
 -- The loops over names and answers, one step at a time.
-use Rattle.std.proofs.Common.{◌≡◌, ℕ, ◌+◌, ◌<◌, Bool, List, [], ◌∷◌, ◌++◌, length, drop, get_or, refl, sym, ap, ◌∙◌, append_assoc, Option, Result, Ok, Err, OnErr}
+use Rattle.std.proofs.Common.{◌≡◌, ℕ, ◌+◌, ◌<◌, Bool, List, [], ◌∷◌, ◌++◌, length, drop, get_or, refl, sym, ap, ◌∙◌, append_assoc, arith, None, Option, Result, Ok, Err, OnErr}
 use Rattle.std.proofs.Math.ListN.{set}
 use Rattle.std.proofs.Math.Seq.{set-append_seam}
 use Rattle.std.proofs.lemmas.List.{drop_more}
@@ -25,6 +25,11 @@ query_texts-append ident (x ∷ xs) ys =
 pub last_ident-append : (ident : ℕ) (xs ys : List Question) → last_ident ident (xs ++ ys) ≡ last_ident (last_ident ident xs) ys
 last_ident-append ident [] ys = refl
 last_ident-append ident (x ∷ xs) ys = last_ident-append (next_ident ident) xs ys
+
+-- from the number that is reached behind a front
+pub query_texts-moves : (start now : ℕ) (front one : List Question) → now ≡ last_ident start front
+    → query_texts start (front ++ one) ≡ query_texts start front ++ query_texts now one
+query_texts-moves start now front one is = query_texts-append start front one ∙ ap (λ k. query_texts start front ++ query_texts k one) (sym is)
 
 -- the element at a place, and those behind it
 pub here : {X : Type 0} (xs : List X) (at : ℕ) (x : X) → at < length xs → x ≡ get_or xs at x → drop at xs ≡ x ∷ drop (at + 1) xs
@@ -73,6 +78,25 @@ pub lines_step : (names later : List (List ℕ)) (name : List ℕ) (olds rest : 
 lines_step names later name olds rest a is_over whole front n o e =
     e ∙ ap (λ l. front ++ lines_by l olds is_over) n ∙ ap (λ l. front ++ lines_by (name ∷ later) l is_over) o
     ∙ sym (append_assoc front (line_of name (fate_by a is_over)) (lines_by later rest is_over))
+
+-- the line of the name at a place goes over to the front
+pub line_moves : (names : List (List ℕ)) (answers : List (Option Answer)) (name : List ℕ) (at : ℕ) (is_over : Bool) (whole front : List ℕ)
+    → length answers ≡ length names → at < length names → name ≡ get_or names at name
+    → whole ≡ front ++ lines_by (drop at names) (drop at answers) is_over
+    → whole ≡ (front ++ line_of name (fate_by (get_or answers at None) is_over)) ++ lines_by (drop (at + 1) names) (drop (at + 1) answers) is_over
+line_moves names answers name at is_over whole front size within is e =
+    lines_step (drop at names) (drop (at + 1) names) name (drop at answers) (drop (at + 1) answers) (get_or answers at None) is_over whole front
+    (here names at name within is) (drop_more answers at None (omega (arith, size, within))) e
+
+-- and so does what is asked of it
+pub question_moves : (asking after : Asking) (names : List (List ℕ)) (answers : List (Option Answer)) (name : List ℕ) (at : ℕ) (whole front : List Question)
+    → length answers ≡ length names → at < length names → name ≡ get_or names at name → after ≡ next_asking asking
+    → whole ≡ front ++ unanswered (questions asking (drop at names)) (drop at answers)
+    → whole ≡ (front ++ unless_answered (record { asking = asking; text = name }) (get_or answers at None))
+    ++ unanswered (questions after (drop (at + 1) names)) (drop (at + 1) answers)
+question_moves asking after names answers name at whole front size within is next e =
+    unanswered_step asking after (drop at names) (drop (at + 1) names) name (drop at answers) (drop (at + 1) answers) (get_or answers at None) whole front
+    (here names at name within is) (drop_more answers at None (omega (arith, size, within))) next e
 
 -- nothing is left behind the last name
 pub heard_none : (datagram : List ℕ) (asking : Asking) (names : List (List ℕ)) (olds : List (Option Answer)) → names ≡ [] → heard_now datagram (questions asking names) olds ≡ []

@@ -18,11 +18,11 @@ by_frame Overlong = []
 abbrev pub by_byte : List ℕ → ℕ → List LineEvent
 by_byte before b = if b == 192 then flat_map by_frame (frame_of (unescaped (open_part before))) else []
 
-abbrev pub events_behind : List ℕ → List Item → List LineEvent
-events_behind before [] = []
-events_behind before (Byte b ∷ items) = by_byte before b ++ events_behind (before ++ b ∷ []) items
-events_behind before (Quiet ∷ items) = Silence ∷ events_behind before items
+abbrev pub came_behind : List ℕ → List Item → List LineEvent
+came_behind before [] = []
+came_behind before (Byte b ∷ items) = by_byte before b ++ came_behind (before ++ b ∷ []) items
+came_behind before (Quiet ∷ items) = Silence ∷ came_behind before items
 
 -- what all items of a line bring, in order
 abbrev pub events : List Item → List LineEvent
-events items = events_behind [] items
+events items = came_behind [] items

@@ -115,7 +115,8 @@ impl Run {
         ensures each { length self.new.answers.items ≡ length names.now }
         ensures clock { self.new.clock ≡ self.old.clock }
         ensures knows { (items : List Item) → is_given_up (events items) ≡ false
-            → Knows (questions asking names.now) items self.old → Knows (questions asking names.now) (items ++ map Byte bytes.now) self.new }
+            → Knows (questions asking names.now) items self.old
+            → Knows (questions asking names.now) (items ++ map Byte bytes.now) self.new }
     {
         for byte in bytes {
             self.take_byte(asking, names, *byte);

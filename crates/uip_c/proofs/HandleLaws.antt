@@ -11,12 +11,12 @@ use Rattle.uip_edge.specs.declared.item.Item.{Item}
 use Rattle.uip_node.specs.Node.{opening, run}
 use Rattle.uip_wire.specs.declared.addr.Addr.{Addr}
 use Rattle.serve_loop.specs.Running.{text_of}
-use Rattle.slip_node.specs.Calls.{Bring, Call, events_of}
+use Rattle.slip_node.specs.Calls.{Bring, Call, events_of_calls}
 use Rattle.slip_node.specs.DatagramCalls.{DatagramCall, event_by_call}
 use Rattle.slip_node.specs.Telling.{datagrams_at}
 use Rattle.uip_device.specs.declared.device.Device.{Device}
-use Rattle.uip_device.specs.Devices.{Answers, AnswersAll, AnswersAllDatagrams, AnswersDatagram, left_of}
-use Rattle.uip_device.specs.Output.{serial_output}
+use Rattle.uip_device.specs.Devices.{Answers, AnswersAll, AnswersAllDatagrams, AnswersDatagram, left_text_of}
+use Rattle.uip_device.specs.Output.{web_output}
 use Rattle.uip_device.proofs.AnswerLaws.{all_told, datagrams_told, line_served}
 use Rattle.uip_c.specs.Handles.{AllFine, AllFineDatagrams, GoesOn, IsOf, OpensAs}
 
@@ -31,14 +31,14 @@ device_answers (call ∷ calls) d a c (text ∷ texts) is more =
     (later.0, later.1, (on.1, subst (λ (x : Device). Answers call x on.1 text) same on.4, later.2))
 
 pub c_told : (files : List File) (own : Addr) (calls : List Call) (closed old new : Option Device) (texts : List (List ℕ)) → OpensAs files own closed old → AllFine calls old new texts
-    → IsOf (λ d. concat texts ++ left_of d ≡ text_of own (run (web_meaning files) is_served (events_of [] calls own) (opening own (no_hits files))).sent) new
+    → IsOf (λ d. concat texts ++ left_text_of d ≡ text_of own (run (web_meaning files) is_served (events_of_calls [] calls own) (opening own (no_hits files))).sent) new
 c_told files own calls closed old new texts opens all =
     let there = opens.1 in
     let it = device_answers calls there.0 old new texts there.1 all in
     (it.0, it.1, all_told files own calls there.0 it.0 texts there.2 it.2)
 
 pub c_served : (files : List File) (own : Addr) (pace : ℕ) (items : List Item) (calls : List Call) (closed old new : Option Device) (texts : List (List ℕ)) → OpensAs files own closed old
-    → Bring pace items calls → AllFine calls old new texts → IsOf (λ d. d.left ≡ NothingLeft) new → concat texts ≡ serial_output files own pace items
+    → Bring pace items calls → AllFine calls old new texts → IsOf (λ d. d.left ≡ NothingLeft) new → concat texts ≡ web_output files own pace items
 c_served files own pace items calls closed old new texts opens bring all handed =
     let there = opens.1 in
     let it = device_answers calls there.0 old new texts there.1 all in

@@ -7,7 +7,7 @@ use Rattle.uip_wire.specs.declared.addr.Addr.{Addr}
 use Rattle.slip_node.specs.Calls.{Call}
 use Rattle.slip_node.specs.DatagramCalls.{DatagramCall}
 use Rattle.uip_device.specs.declared.device.Device.{Device}
-use Rattle.uip_device.specs.Devices.{Answers, AnswersDatagram, IsFresh}
+use Rattle.uip_device.specs.Devices.{Answers, AnswersDatagram, IsFreshDevice}
 
 -- there is a device, and this holds of it
 abbrev pub IsOf : (Device → Type 0) → Option Device → Type 0
@@ -19,7 +19,7 @@ GoesOn P old new = (d : Device) × (d' : Device) × (old ≡ Some d) × (new ≡
 
 -- there was no device, and there is one with these files at this address, fresh
 abbrev pub OpensAs : List File → Addr → Option Device → Option Device → Type 0
-OpensAs files own old new = (old ≡ None) × IsOf (IsFresh files own) new
+OpensAs files own old new = (old ≡ None) × IsOf (IsFreshDevice files own) new
 
 -- calls in turn on a handle that nothing else touches were fine, and handed out these texts
 abbrev pub AllFine : List Call → Option Device → Option Device → List (List ℕ) → Type 0

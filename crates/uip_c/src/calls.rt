@@ -25,7 +25,9 @@ pub extern "C" fn uip_hear(
     out: &mut [u8],
 ) -> UipDone
     ensures known { (result.status ≡ FINE) ⊎ (result.status ≡ NO_DEVICE) ⊎ (result.status ≡ BAD_CALL) ⊎ (result.status ≡ TEXT_LEFT) }
-    ensures fine { result.status ≡ FINE → GoesOn (λ d d'. Answers (Hears (take result.taken bytes.now)) d d' (take result.wrote out.new)) device.old.held.device device.new.held.device }
+    ensures fine { result.status ≡ FINE
+        → GoesOn (λ d d'. Answers (Hears (take result.taken bytes.now)) d d' (take result.wrote out.new))
+        device.old.held.device device.new.held.device }
     ensures some { result.status ≡ FINE → 0 < result.taken }
     ensures within { (result.taken ≤ length bytes.now) × (result.wrote ≤ length out.new) }
     ensures left { result.status ≡ FINE → IsOf (λ d. result.left ≡ left_flag d.left) device.new.held.device }
@@ -67,7 +69,9 @@ pub extern "C" fn uip_call(
     out: &mut [u8],
 ) -> UipDone
     ensures known { (result.status ≡ FINE) ⊎ (result.status ≡ NO_DEVICE) ⊎ (result.status ≡ BAD_CALL) ⊎ (result.status ≡ TEXT_LEFT) }
-    ensures fine { result.status ≡ FINE → GoesOn (λ d d'. Answers (Calls slot) d d' (take result.wrote out.new)) device.old.held.device device.new.held.device }
+    ensures fine { result.status ≡ FINE
+        → GoesOn (λ d d'. Answers (Calls slot) d d' (take result.wrote out.new))
+        device.old.held.device device.new.held.device }
     ensures within { (result.taken ≡ 0) × (result.wrote ≤ length out.new) }
     ensures left { result.status ≡ FINE → IsOf (λ d. result.left ≡ left_flag d.left) device.new.held.device }
     ensures all { result.status ≡ FINE → LARGEST_TEXT ≤ length out.old → result.left ≡ 0 }
@@ -102,7 +106,9 @@ pub extern "C" fn uip_call(
 #[unsafe(no_mangle)]
 pub extern "C" fn uip_more(alloc: Global, device: &mut UipDevice, out: &mut [u8]) -> UipDone
     ensures known { (result.status ≡ FINE) ⊎ (result.status ≡ NO_DEVICE) ⊎ (result.status ≡ BAD_CALL) }
-    ensures fine { result.status ≡ FINE → GoesOn (λ d d'. Answers HandsOn d d' (take result.wrote out.new)) device.old.held.device device.new.held.device }
+    ensures fine { result.status ≡ FINE
+        → GoesOn (λ d d'. Answers HandsOn d d' (take result.wrote out.new))
+        device.old.held.device device.new.held.device }
     ensures some { result.status ≡ FINE → IsOf (λ d. is_some d.left ≡ true → 0 < result.wrote) device.old.held.device }
     ensures within { (result.taken ≡ 0) × (result.wrote ≤ length out.new) }
     ensures left { result.status ≡ FINE → IsOf (λ d. result.left ≡ left_flag d.left) device.new.held.device }

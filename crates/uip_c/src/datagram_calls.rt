@@ -21,11 +21,14 @@ pub extern "C" fn uip_hear_datagram(
     out: &mut [u8],
 ) -> UipDone
     ensures known { (result.status ≡ FINE) ⊎ (result.status ≡ NO_DEVICE) ⊎ (result.status ≡ BAD_CALL) ⊎ (result.status ≡ TEXT_LEFT) }
-    ensures fine { result.status ≡ FINE → GoesOn (λ d d'. AnswersDatagram (HearsDatagram datagram.now) d d' (take result.wrote out.new)) device.old.held.device device.new.held.device }
+    ensures fine { result.status ≡ FINE
+        → GoesOn (λ d d'. AnswersDatagram (HearsDatagram datagram.now) d d' (take result.wrote out.new))
+        device.old.held.device device.new.held.device }
     ensures whole { result.status ≡ FINE → result.taken ≡ length datagram.now }
     ensures within { result.wrote ≤ length out.new }
     ensures no_device { result.status ≡ NO_DEVICE → device.old.held.device ≡ None }
-    ensures bad_call { (result.status == BAD_CALL) ≡ ((length datagram.now == 0) || nat_lt LARGEST_DATAGRAM (length datagram.now) || nat_lt (length out.old) LARGEST_DATAGRAM) }
+    ensures bad_call { (result.status == BAD_CALL)
+        ≡ ((length datagram.now == 0) || nat_lt LARGEST_DATAGRAM (length datagram.now) || nat_lt (length out.old) LARGEST_DATAGRAM) }
     ensures text_left { result.status ≡ TEXT_LEFT → IsOf (λ d. is_some d.left ≡ true) device.old.held.device }
     ensures refused { (result.status ≡ FINE → ⊥) → (result.taken ≡ 0) × (result.wrote ≡ 0) × (out.new ≡ out.old)
         × (device.new.held.device ≡ device.old.held.device) }
@@ -59,7 +62,9 @@ pub extern "C" fn uip_call_datagram(
     out: &mut [u8],
 ) -> UipDone
     ensures known { (result.status ≡ FINE) ⊎ (result.status ≡ NO_DEVICE) ⊎ (result.status ≡ BAD_CALL) ⊎ (result.status ≡ TEXT_LEFT) }
-    ensures fine { result.status ≡ FINE → GoesOn (λ d d'. AnswersDatagram (CallsSlot slot) d d' (take result.wrote out.new)) device.old.held.device device.new.held.device }
+    ensures fine { result.status ≡ FINE
+        → GoesOn (λ d d'. AnswersDatagram (CallsSlot slot) d d' (take result.wrote out.new))
+        device.old.held.device device.new.held.device }
     ensures within { (result.taken ≡ 0) × (result.wrote ≤ length out.new) }
     ensures no_device { result.status ≡ NO_DEVICE → device.old.held.device ≡ None }
     ensures bad_call { (result.status == BAD_CALL) ≡ (nat_le 10 slot || nat_lt (length out.old) LARGEST_DATAGRAM) }

@@ -1,7 +1,7 @@
 ghost use Rattle.std.specs.Prelude.{◌≡◌, ◌==◌, option_map, IfSome};
 ghost use Rattle.std.specs.Option.{is_some};
 ghost use Rattle.std.specs.declared.option.Option.TheVariants.{None, Some};
-ghost use Rattle.uip_device.specs.Devices.{IsSound};
+ghost use Rattle.uip_device.specs.Devices.{IsSoundDevice};
 
 use crate::held::Held;
 use loose_box::BoxParts;
@@ -21,7 +21,7 @@ pub struct UipDevice {
 /// The handle's device, if it has one. It has none after.
 pub(crate) fn take_out(alloc: Global, device: &mut UipDevice) -> Option<Box<Device>>
     ensures taken { option_map (λ b. b.value) result ≡ device.old.held.device }
-    ensures sound { IfSome result (λ b. IsSound b.value) }
+    ensures sound { IfSome result (λ b. IsSoundDevice b.value) }
     ensures none { device.new.held.device ≡ None }
 {
     let old = replace(
@@ -40,7 +40,7 @@ pub(crate) fn take_out(alloc: Global, device: &mut UipDevice) -> Option<Box<Devi
 
 /// The handle has this device from now on. It had none.
 pub(crate) fn put_in(device: &mut UipDevice, opened: Box<Device>)
-    requires { IsSound opened.value }
+    requires { IsSoundDevice opened.value }
     ensures { device.new.held.device ≡ Some opened.value }
 {
     *device = UipDevice {

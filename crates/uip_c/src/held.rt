@@ -25,7 +25,7 @@ impl Model for Held {
 }
 
 impl Held {
-    ghost use Rattle.uip_device.specs.Devices.{IsSound};
+    ghost use Rattle.uip_device.specs.Devices.{IsSoundDevice};
 
     /// No device.
     pub fn none(alloc: Global) -> Held
@@ -39,7 +39,7 @@ impl Held {
 
     /// The device of a box that was taken apart.
     pub fn of(parts: BoxParts<Device, Global>) -> Held
-        requires { IsSound parts.value }
+        requires { IsSoundDevice parts.value }
         ensures { result.device ≡ Some parts.value }
     {
         let BoxParts { at, alloc } = parts;
@@ -52,7 +52,7 @@ impl Held {
     /// The parts of the box of the device that is there.
     pub fn into_parts(self) -> BoxParts<Device, Global>
         requires { is_some self.device ≡ true }
-        ensures { (self.device ≡ Some result.value) × IsSound result.value }
+        ensures { (self.device ≡ Some result.value) × IsSoundDevice result.value }
     {
         let Held { at, alloc } = self;
         BoxParts {

@@ -10,31 +10,37 @@ ghost use Rattle.uip_edge.specs.declared.item.Item.{Item};
 ghost use Rattle.uip_node.specs.Node.{opening, run};
 ghost use Rattle.uip_wire.specs.declared.addr.Addr.{Addr};
 ghost use Rattle.serve_loop.specs.Running.{text_of};
-ghost use Rattle.slip_node.specs.Calls.{Bring, Call, events_of};
+ghost use Rattle.slip_node.specs.Calls.{Bring, Call, events_of_calls};
 ghost use Rattle.slip_node.specs.DatagramCalls.{DatagramCall, event_by_call};
 ghost use Rattle.slip_node.specs.Telling.{datagrams_at};
 ghost use Rattle.uip_device.specs.declared.device.Device.{Device};
-ghost use Rattle.uip_device.specs.Devices.{left_of};
-ghost use Rattle.uip_device.specs.Output.{serial_output};
+ghost use Rattle.uip_device.specs.Devices.{left_text_of};
+ghost use Rattle.uip_device.specs.Output.{web_output};
 ghost use Rattle.uip_c.specs.Handles.{AllFine, AllFineDatagrams, IsOf, OpensAs};
 
 /// Whatever C calls in turn on a handle that was just opened: where each call was fine, what they hand out, with what is left, is
 /// the text of what the opening node sends over what the calls bring.
 pub fn calls_from_c_are_told()
-    ensures { (files : List File) (own : Addr) (calls : List Call) (closed old new : Option Device) (texts : List (List ℕ)) → OpensAs files own closed old → AllFine calls old new texts
-        → IsOf (λ d. concat texts ++ left_of d ≡ text_of own (run (web_meaning files) is_served (events_of [] calls own) (opening own (no_hits files))).sent) new }
+    ensures { (files : List File) (own : Addr) (calls : List Call) (closed old new : Option Device) (texts : List (List ℕ))
+        → OpensAs files own closed old → AllFine calls old new texts
+        → IsOf (λ d. concat texts ++ left_text_of d
+        ≡ text_of own (run (web_meaning files) is_served (events_of_calls [] calls own) (opening own (no_hits files))).sent) new }
 {}
 
 /// Where these calls bring the items of a line at a pace, in order, and nothing is left of a text, it is what the server of a
 /// serial line writes for them.
 pub fn line_from_c_is_served()
-    ensures { (files : List File) (own : Addr) (pace : ℕ) (items : List Item) (calls : List Call) (closed old new : Option Device) (texts : List (List ℕ)) → OpensAs files own closed old
-        → Bring pace items calls → AllFine calls old new texts → IsOf (λ d. d.left ≡ NothingLeft) new → concat texts ≡ serial_output files own pace items }
+    ensures { (files : List File) (own : Addr) (pace : ℕ) (items : List Item) (calls : List Call)
+        (closed old new : Option Device) (texts : List (List ℕ)) → OpensAs files own closed old
+        → Bring pace items calls → AllFine calls old new texts → IsOf (λ d. d.left ≡ NothingLeft) new
+        → concat texts ≡ web_output files own pace items }
 {}
 
 /// Over a link that carries datagrams each call hands out the datagram that the opening node sends at its event, or none.
 pub fn datagram_calls_from_c_are_told()
-    ensures { (files : List File) (own : Addr) (calls : List DatagramCall) (closed old new : Option Device) (datagrams : List (List ℕ)) → OpensAs files own closed old
+    ensures { (files : List File) (own : Addr) (calls : List DatagramCall) (closed old new : Option Device) (datagrams : List (List ℕ))
+        → OpensAs files own closed old
         → AllFineDatagrams calls old new datagrams
-        → datagrams ≡ datagrams_at (web_meaning files) is_served own (map (λ call. event_by_call call own) calls) (opening own (no_hits files)) }
+        → datagrams ≡ datagrams_at (web_meaning files) is_served own
+        (map (λ call. event_by_call call own) calls) (opening own (no_hits files)) }
 {}

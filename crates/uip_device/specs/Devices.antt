@@ -13,7 +13,7 @@ use Rattle.uip_node.specs.StandsFor.{IsWhole}
 use Rattle.uip_wire.specs.declared.addr.Addr.{Addr}
 use Rattle.uip_slip.specs.Decoding.{WasFed}
 use Rattle.serve_loop.specs.Turns.{IsNode}
-use Rattle.slip_node.specs.Calls.{Call, bytes_by, events_by}
+use Rattle.slip_node.specs.Calls.{Call, bytes_of_call, events_by}
 use Rattle.slip_node.specs.DatagramCalls.{DatagramCall, event_by_call}
 use Rattle.slip_node.specs.Handing.{left_text}
 use Rattle.slip_node.specs.Telling.{Replies, Tells}
@@ -22,13 +22,13 @@ use Rattle.uip_device.specs.declared.open_fault.OpenFault.{OpenFault}
 use Rattle.uip_device.specs.declared.open_fault.OpenFault.TheVariants.{BadSite, NoMemory}
 
 -- every connection of the device's node is sound, and what is left of a text is of the datagram in its packet
-pub record IsSound (d : Device) : Type 0 where
+pub record IsSoundDevice (d : Device) : Type 0 where
   pub whole : IsWhole ghosts d.node
   pub left : IfSome d.left (λ at. at ≤ length (datagram_in d.node.packet))
 
 -- the text that is left to be handed out
-abbrev pub left_of : Device → List ℕ
-left_of d = left_text (datagram_in d.node.packet) d.left
+abbrev pub left_text_of : Device → List ℕ
+left_text_of d = left_text (datagram_in d.node.packet) d.left
 
 -- the device was fed these bytes
 abbrev pub HasHeard : List ℕ → Device → Type 0
@@ -39,8 +39,8 @@ abbrev pub StandsFor : List File → Addr → Device → AbstractNode → Type 0
 StandsFor files own d n = IsNode ghosts (web_meaning files) own d.node n
 
 -- a device with these files at this address that heard nothing and of which nothing was asked
-pub record IsFresh (files : List File) (own : Addr) (d : Device) : Type 0 where
-  pub sound : IsSound d
+pub record IsFreshDevice (files : List File) (own : Addr) (d : Device) : Type 0 where
+  pub sound : IsSoundDevice d
   pub heard : HasHeard [] d
   pub none : d.left ≡ None
   pub stands : StandsFor files own d (opening own (no_hits files))
@@ -49,21 +49,22 @@ pub record IsFresh (files : List File) (own : Addr) (d : Device) : Type 0 where
 pub record IsOpened (image : List ℕ) (own : Addr) (d : Device) : Type 0 where
   pub read : read_image image ≡ Ok (files_of d.node.shared.site)
   pub spelled : IsImage image (files_of d.node.shared.site)
-  pub fresh : IsFresh (files_of d.node.shared.site) own d
+  pub fresh : IsFreshDevice (files_of d.node.shared.site) own d
 
 -- a device was opened, or the image has this first fault; want of memory is free
-abbrev pub Opens : List ℕ → Addr → Result Device OpenFault → Type 0
-Opens image own (Ok d) = IsOpened image own d
-Opens image own (Err (BadSite error)) = read_image image ≡ Err error
-Opens image own (Err NoMemory) = ⊤
+abbrev pub OpensDevice : List ℕ → Addr → Result Device OpenFault → Type 0
+OpensDevice image own (Ok d) = IsOpened image own d
+OpensDevice image own (Err (BadSite error)) = read_image image ≡ Err error
+OpensDevice image own (Err NoMemory) = ⊤
 
 -- A call over a serial line was answered by this text: whatever bytes the device had heard, it has heard these and those of
 -- the call; and its node sends, over what the call brings, a text that goes behind what was left before, and of the two together
 -- this one is handed out and the rest is left.
 pub record Answers (call : Call) (old new : Device) (text : List ℕ) : Type 0 where
-  pub heard : (before : List ℕ) → HasHeard before old → HasHeard (before ++ bytes_by call) new
+  pub heard : (before : List ℕ) → HasHeard before old → HasHeard (before ++ bytes_of_call call) new
   pub tells : (before : List ℕ) → HasHeard before old
-      → (sent : List ℕ) × Tells ghosts (events_by before call) old.node new.node sent × (left_of old ++ sent ≡ text ++ left_of new)
+      → (sent : List ℕ) × Tells ghosts (events_by before call) old.node new.node sent
+      × (left_text_of old ++ sent ≡ text ++ left_text_of new)
 
 -- calls in turn were answered by these texts
 abbrev pub AnswersAll : List Call → Device → Device → List (List ℕ) → Type 0
@@ -80,4 +81,5 @@ abbrev pub AnswersAllDatagrams : List DatagramCall → Device → Device → Lis
 AnswersAllDatagrams [] a c [] = a ≡ c
 AnswersAllDatagrams [] a c (datagram ∷ datagrams) = ⊥
 AnswersAllDatagrams (call ∷ calls) a c [] = ⊥
-AnswersAllDatagrams (call ∷ calls) a c (datagram ∷ datagrams) = (b : Device) × AnswersDatagram call a b datagram × AnswersAllDatagrams calls b c datagrams
+AnswersAllDatagrams (call ∷ calls) a c (datagram ∷ datagrams) =
+    (b : Device) × AnswersDatagram call a b datagram × AnswersAllDatagrams calls b c datagrams

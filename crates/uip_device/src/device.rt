@@ -24,11 +24,11 @@ impl Device {
     ghost use Rattle.uip_node.specs.Node.{AbstractNode};
     ghost use Rattle.slip_node.specs.Calls.{Calls, HandsOn, Hears};
     ghost use Rattle.slip_node.specs.DatagramCalls.{CallsSlot, HearsDatagram};
-    ghost use Rattle.uip_device.specs.Devices.{Answers, AnswersDatagram, IsSound, Opens, StandsFor};
+    ghost use Rattle.uip_device.specs.Devices.{Answers, AnswersDatagram, IsSoundDevice, OpensDevice, StandsFor};
 
     /// A device at an address with the site of an image, which is copied. After this no call of it takes memory.
     pub fn open(alloc: Global, image: &[u8], own: Addr) -> Result<Device, OpenFault>
-        ensures { Opens image.now own result }
+        ensures { OpensDevice image.now own result }
     {
         let site = match Site::read(alloc, image) {
             Ok(site) => site,
@@ -54,8 +54,8 @@ impl Device {
         requires some { 0 < length bytes.now }
         requires room { 0 < length out.old }
         requires none { self.old.left ≡ None }
-        requires sound { IsSound self.old }
-        ensures sound { IsSound self.new }
+        requires sound { IsSoundDevice self.old }
+        ensures sound { IsSoundDevice self.new }
         ensures long { length out.new ≡ length out.old }
         ensures wrote { result.wrote ≤ length out.new }
         ensures taken { (0 < result.taken) × (result.taken ≤ length bytes.now) }
@@ -73,8 +73,8 @@ impl Device {
         requires slot { slot < 10 }
         requires room { 0 < length out.old }
         requires none { self.old.left ≡ None }
-        requires sound { IsSound self.old }
-        ensures sound { IsSound self.new }
+        requires sound { IsSoundDevice self.old }
+        ensures sound { IsSoundDevice self.new }
         ensures long { length out.new ≡ length out.old }
         ensures wrote { result ≤ length out.new }
         ensures all { LARGEST_TEXT ≤ length out.old → self.new.left ≡ None }
@@ -87,8 +87,8 @@ impl Device {
 
     /// Hands on what is left of a text, as far as there is room, and says how many bytes these are.
     pub fn hand_on(&mut self, out: &mut [u8]) -> usize
-        requires sound { IsSound self.old }
-        ensures sound { IsSound self.new }
+        requires sound { IsSoundDevice self.old }
+        ensures sound { IsSoundDevice self.new }
         ensures long { length out.new ≡ length out.old }
         ensures wrote { result ≤ length out.new }
         ensures some { (self.old.left ≡ None → ⊥) → 2 ≤ length out.old → 0 < result }
@@ -110,8 +110,8 @@ impl Device {
         requires most { length datagram.now ≤ LARGEST_DATAGRAM }
         requires room { LARGEST_DATAGRAM ≤ length out.old }
         requires none { self.old.left ≡ None }
-        requires sound { IsSound self.old }
-        ensures sound { IsSound self.new }
+        requires sound { IsSoundDevice self.old }
+        ensures sound { IsSoundDevice self.new }
         ensures long { length out.new ≡ length out.old }
         ensures wrote { result ≤ length out.new }
         ensures none { self.new.left ≡ None }
@@ -125,8 +125,8 @@ impl Device {
         requires slot { slot < 10 }
         requires room { LARGEST_DATAGRAM ≤ length out.old }
         requires none { self.old.left ≡ None }
-        requires sound { IsSound self.old }
-        ensures sound { IsSound self.new }
+        requires sound { IsSoundDevice self.old }
+        ensures sound { IsSoundDevice self.new }
         ensures long { length out.new ≡ length out.old }
         ensures wrote { result ≤ length out.new }
         ensures none { self.new.left ≡ None }

@@ -9,8 +9,8 @@ use Rattle.site_commands.specs.Due.{Due}
 use Rattle.site_commands.specs.Ending.{Ends, LacksFile}
 use Rattle.site_commands.specs.declared.site_end.SiteEnd.{SiteEnd}
 use Rattle.site_commands.specs.declared.site_end.SiteEnd.TheVariants as sites
-use Rattle.replay_command.specs.Ending.{EndsWith, IsLoadText, IsText, LacksEither}
-use Rattle.replay_command.specs.Laws.{EndsAsDue}
+use Rattle.replay_command.specs.Ending.{EndsWith, IsLoadText, IsReplayText, LacksEither}
+use Rattle.replay_command.specs.Laws.{WroteDue}
 use Rattle.replay_command.specs.declared.replay_end.ReplayEnd.{ReplayEnd}
 use Rattle.replay_command.specs.declared.replay_end.ReplayEnd.TheVariants as replays
 use Rattle.replay_command.proofs.Undisturbed.{as_due}
@@ -115,7 +115,7 @@ by_task (Some (Checks site)) old new result run u there = image _ old new result
 by_task (Some (Packs files)) old new result run u there = image _ old new result run.0 u there
 by_task (Some (Upgrades site kinds)) old new result run u there = image _ old new result run.0 u there
 by_task (Some (Pages site target)) old new result run u there = image _ old new result run.0 u there
-by_task (Some (Replays site schedule show)) old new result run u there = replayed (IsText site schedule show) (LacksEither site schedule) old new result run.0 u there
+by_task (Some (Replays site schedule show)) old new result run u there = replayed (IsReplayText site schedule show) (LacksEither site schedule) old new result run.0 u there
 by_task (Some (Loads site seed clients)) old new result run u there = replayed (IsLoadText site seed clients) (LacksSite site) old new result run.0 u there
 by_task (Some (Dumps n)) old new result run u there = (let r = run.0 in line_done _ n (line_in old) (line_in new) result r.0 u.line r.1 r.2)
 by_task (Some (Captures n)) old new result run u there = (let r = run.0 in line_done _ n (line_in old) (line_in new) result r.0 u.line r.1 r.2)

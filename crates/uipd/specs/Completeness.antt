@@ -6,7 +6,7 @@ use Rattle.site_image.specs.Files.{File}
 use Rattle.site_image.specs.declared.site_error.SiteError.{SiteError}
 use Rattle.site_commands.specs.Due.{Due, check_due, page_due, pack_due, upgrade_due}
 use Rattle.site_commands.specs.Ending.{IsDue, LacksFile, end_of}
-use Rattle.replay_command.specs.Ending.{IsLoadText, IsText, LacksEither}
+use Rattle.replay_command.specs.Ending.{IsLoadText, IsReplayText, LacksEither}
 use Rattle.replay_command.specs.declared.replay_end.ReplayEnd.{ReplayEnd}
 use Rattle.trace.specs.CaptureText.{capture_file}
 use Rattle.trace.specs.Converting.{Converts}
@@ -50,15 +50,18 @@ pub record LineDone (text : List Item → List ℕ) (n : ℕ) (old new : LineTol
 -- the line was served with the files of the site, or the site is bad
 abbrev pub ServingDone : List ℕ → ServedLine → Outside → Outside → Status → Type 0
 ServingDone site line old new result =
-    ((files : List File) × IsSiteRead site old.shelf.held (Ok files) × LineDone (output_of files line) line.limits.items (line_in old) (line_in new) result)
+    ((files : List File) × IsSiteRead site old.shelf.held (Ok files)
+    × LineDone (output_of files line) line.limits.items (line_in old) (line_in new) result)
     ⊎ ((error : SiteError) × IsSiteRead site old.shelf.held (Err error) × (result ≡ status.BadSite error))
 
 -- the text that is due for the shelf's files was written, and the answer is the one that goes with it
 abbrev pub ImageDone : (Files → Option Due) → Outside → Outside → Status → Type 0
-ImageDone due old new result = (made : Due) × IsDue due old.shelf.held made × Appends old.sink.written new.sink.written made.text × (result ≡ status_of_site (end_of made.fault))
+ImageDone due old new result = (made : Due) × IsDue due old.shelf.held made
+    × Appends old.sink.written new.sink.written made.text × (result ≡ status_of_site (end_of made.fault))
 
 abbrev pub ReplayDone : (List ℕ → ReplayEnd → Type 0) → Outside → Outside → Status → Type 0
-ReplayDone Is old new result = (end : ReplayEnd) × (text : List ℕ) × Is text end × Appends old.sink.written new.sink.written text × (result ≡ status_of_replay end)
+ReplayDone Is old new result =
+    (end : ReplayEnd) × (text : List ℕ) × Is text end × Appends old.sink.written new.sink.written text × (result ≡ status_of_replay end)
 
 -- no fault of the line or the sink
 abbrev pub IsFaultless : SlipEnd → Type 0
@@ -69,7 +72,8 @@ IsFaultless slips.Budget = ⊤
 IsFaultless (slips.Bad number why) = ⊤
 
 abbrev pub CaptureDone : ℕ → Outside → Outside → Status → Type 0
-CaptureDone n old new result = (end : SlipEnd) × IsFaultless end × Converts n (line_in old) (line_in new) end × (result ≡ status_of_slip end)
+CaptureDone n old new result =
+    (end : SlipEnd) × IsFaultless end × Converts n (line_in old) (line_in new) end × (result ≡ status_of_slip end)
 
 -- or memory was short
 abbrev pub OrShort : Status → Type 0 → Type 0
@@ -83,8 +87,10 @@ Completes (Some (Checks site)) old new result = OrShort result (ImageDone (check
 Completes (Some (Packs files)) old new result = OrShort result (ImageDone (pack_due files) old new result)
 Completes (Some (Upgrades site kinds)) old new result = OrShort result (ImageDone (upgrade_due site kinds) old new result)
 Completes (Some (Pages site target)) old new result = OrShort result (ImageDone (page_due site target) old new result)
-Completes (Some (Replays site schedule show)) old new result = OrShort result (ReplayDone (IsText site schedule show old.shelf.held) old new result)
-Completes (Some (Loads site seed clients)) old new result = OrShort result (ReplayDone (IsLoadText site seed clients old.shelf.held) old new result)
+Completes (Some (Replays site schedule show)) old new result =
+    OrShort result (ReplayDone (IsReplayText site schedule show old.shelf.held) old new result)
+Completes (Some (Loads site seed clients)) old new result =
+    OrShort result (ReplayDone (IsLoadText site seed clients old.shelf.held) old new result)
 Completes (Some (Dumps n)) old new result = LineDone dump_text n (line_in old) (line_in new) result
 Completes (Some (Captures n)) old new result = LineDone capture_file n (line_in old) (line_in new) result
 Completes (Some (PlaysBack n)) old new result = CaptureDone n old new result

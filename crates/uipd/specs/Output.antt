@@ -6,12 +6,11 @@ use Rattle.web_pages.specs.Serving.{is_served, no_hits}
 use Rattle.web_pages.specs.WebMeaning.{web_meaning}
 use Rattle.telnet_shell.specs.DeskMeaning.{desk_meaning, is_served_at}
 use Rattle.uip_edge.specs.declared.item.Item.{Item}
-use Rattle.uip_node.specs.Node.{opening, run}
+use Rattle.uip_node.specs.Node.{opening}
 use Rattle.uip_wire.specs.declared.addr.Addr.{Addr}
 use Rattle.serve_loop.specs.DeedRuns.{said}
 use Rattle.serve_loop.specs.LineDeeds.{line_deeds}
-use Rattle.serve_loop.specs.LineEvents.{line_events}
-use Rattle.serve_loop.specs.Running.{text_of}
+use Rattle.serve_loop.specs.LineOutput.{serial_output}
 use Rattle.ethernet_arp.specs.EtherWay.{ether_way}
 use Rattle.ethernet_arp.specs.Frames.{Host}
 use Rattle.ethernet_arp.specs.declared.mac.Mac.{Mac}
@@ -31,16 +30,12 @@ abbrev pub ports_of : Application → ℕ → Bool
 ports_of Web = is_served
 ports_of Desk = is_served_at
 
--- what is written for the items of a serial line to the address `own` at a pace: the texts of what the node with an application
--- sends, from its opening on, over the events of the line
-abbrev pub serial_output : Meaning → (ℕ → Bool) → List ℕ → Addr → ℕ → List Item → List ℕ
-serial_output m ports numbers own pace items = text_of own (run m ports (line_events own pace items) (opening own numbers)).sent
-
--- and over Ethernet frames, at a hardware address: all that the node and its host say, from the node's opening on and with nothing
--- learnt, over the deeds of the line
+-- the host at the address of a node
 abbrev pub host_at : Addr → Mac → Host
 host_at own mac = record { addr = own.0; mac = mac.0 }
 
+-- what is written for the items of a line of Ethernet frames, at a hardware address: all that the node and its host say, from
+-- the node's opening on and with nothing learnt, over the deeds of the line
 abbrev pub ether_output : Meaning → (ℕ → Bool) → List ℕ → Addr → Mac → ℕ → List Item → List ℕ
 ether_output m ports numbers own mac pace items =
     let way = ether_way (host_at own mac) in

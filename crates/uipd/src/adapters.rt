@@ -52,7 +52,8 @@ impl<R: Read> Link for ReaderLink<R> {
     fn next(&mut self, buf: &mut [u8]) -> Result<Got, Failed>
         requires { 0 < length buf.old }
         ensures count { CountFits result (length buf.new) }
-        ensures items { Consumes (items_left self.old.tty (R.remaining self.old.inner)) (items_left self.new.tty (R.remaining self.new.inner)) (items_of result buf.new) }
+        ensures items { Consumes (items_left self.old.tty (R.remaining self.old.inner))
+            (items_left self.new.tty (R.remaining self.new.inner)) (items_of result buf.new) }
         ensures end { IsAtEnd result (items_left self.old.tty (R.remaining self.old.inner)) }
         ensures cause { HasCause self.old.faults self.new.faults result }
 

@@ -1,7 +1,7 @@
 // The desk through `run`: talks with the shell worked by hand, pages beside them, and its words.
 use crate::status::Status;
 use crate::tests::{
-    GET, PAGE, PING, PONG, Row, SYN as WEB_SYN, SYN_ACK, check, check_cuts, joined,
+    GET, PAGE, PING, PONG, Row, SYN as WEB_SYN, SYN_ACK, check, check_cuts, check_rows, joined,
 };
 use std::test::Fail;
 
@@ -84,6 +84,14 @@ const REFUSAL: [u8; 42] = [
     0xE9, 0x50, 0x14, 0x00, 0x00, 0x93, 0xCD, 0x00, 0x00, 0xC0,
 ];
 
+/// A row of the desk with a site without files.
+fn desk<'a>(input: &'a [u8], output: &'a [u8]) -> Row<'a> {
+    Row {
+        words: &DESK,
+        ..Row::new(input, output)
+    }
+}
+
 #[test]
 fn answers_as_a_server_and_as_a_shell(rt: HostRuntime) -> Result<(), Fail> {
     let alloc = rt.alloc();
@@ -93,29 +101,14 @@ fn answers_as_a_server_and_as_a_shell(rt: HostRuntime) -> Result<(), Fail> {
     }
     helps.push(0xC0)?;
     let rows = [
-        Row {
-            words: &DESK,
-            ..Row::new(&PING, &PONG)
-        },
-        Row {
-            words: &DESK,
-            ..Row::new(&TICKS, &TICKS_SAID)
-        },
-        Row {
-            words: &DESK,
-            ..Row::new(&QUIT, &QUIT_SAID)
-        },
-        Row {
-            words: &DESK,
-            ..Row::new(&helps, &HELPS_SAID)
-        },
+        desk(&PING, &PONG),
+        desk(&TICKS, &TICKS_SAID),
+        desk(&QUIT, &QUIT_SAID),
+        desk(&helps, &HELPS_SAID),
         // `serve` has no shell.
         Row::new(&SYN, &REFUSAL),
     ];
-    for row in &rows {
-        check_cuts(&rt, alloc, row)?;
-    }
-    Ok(())
+    check_rows(&rt, alloc, &rows)
 }
 
 #[test]

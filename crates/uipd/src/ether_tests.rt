@@ -1,6 +1,6 @@
 // Lines of Ethernet frames, over a link and a sink in memory, with the items cut in every way.
 use crate::status::Status;
-use crate::tests::{Row, check, check_cuts, joined};
+use crate::tests::{Row, check, check_cuts, check_rows, joined};
 use std::process::Abort;
 use std::test::Fail;
 
@@ -89,10 +89,7 @@ fn answers_frames(rt: HostRuntime) -> Result<(), Fail> {
         row(&REQUEST[..43], &[]),
         row(&RUNT, &[]),
     ];
-    for row in &rows {
-        check_cuts(&rt, alloc, row)?;
-    }
-    Ok(())
+    check_rows(&rt, alloc, &rows)
 }
 
 #[test]

@@ -67,7 +67,8 @@ fn read_on<R: Files>(
     buf: &mut [u8],
 ) -> Option<usize>
     ensures within { IfSome result (λ count. count ≤ length buf.new) }
-    ensures place { IfSome result (λ count. IsSomeAnd last.new (λ file. (file.name.items ≡ name.now) × (file.at ≡ min (at + count) (2 ^ 64 - 1)))) }
+    ensures place { IfSome result
+        (λ count. IsSomeAnd last.new (λ file. (file.name.items ≡ name.now) × (file.at ≡ min (at + count) (2 ^ 64 - 1)))) }
 {
     let mut open = match last.take() {
         Some(open) if open.at == at && open.name.as_slice() == name => open,

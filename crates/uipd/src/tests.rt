@@ -212,6 +212,14 @@ pub fn check_cuts(rt: &impl Abort, alloc: Global, row: &Row) -> Result<(), Fail>
     Ok(())
 }
 
+/// Does rows, each with its items cut in every way.
+pub fn check_rows(rt: &impl Abort, alloc: Global, rows: &[Row]) -> Result<(), Fail> {
+    for row in rows {
+        check_cuts(rt, alloc, row)?;
+    }
+    Ok(())
+}
+
 #[test]
 fn answers_each_datagram(rt: HostRuntime) -> Result<(), Fail> {
     let rows = [
@@ -226,10 +234,7 @@ fn answers_each_datagram(rt: HostRuntime) -> Result<(), Fail> {
         Row::new(&STRAY_SYN, &REFUSAL),
         Row::new(&RESET, &[]),
     ];
-    for row in &rows {
-        check_cuts(&rt, rt.alloc(), row)?;
-    }
-    Ok(())
+    check_rows(&rt, rt.alloc(), &rows)
 }
 
 #[test]
@@ -285,10 +290,7 @@ fn serves_a_connection(rt: HostRuntime) -> Result<(), Fail> {
             ..Row::new(&longer, &SYN_ACK)
         },
     ];
-    for row in &rows {
-        check_cuts(&rt, alloc, row)?;
-    }
-    Ok(())
+    check_rows(&rt, alloc, &rows)
 }
 
 #[test]
@@ -399,9 +401,7 @@ fn stops_as_asked(rt: HostRuntime) -> Result<(), Fail> {
             ..Row::new(&PING, &PONG[..10])
         },
     ];
-    for row in &rows {
-        check_cuts(&rt, rt.alloc(), row)?;
-    }
+    check_rows(&rt, rt.alloc(), &rows)?;
     let failing = Row {
         link_fails: &[3],
         status: Status::LinkFault,
@@ -454,8 +454,5 @@ fn tells_a_line(rt: HostRuntime) -> Result<(), Fail> {
             ..Row::new(&CAPTURE[..67], &[])
         },
     ];
-    for row in &rows {
-        check_cuts(&rt, alloc, row)?;
-    }
-    Ok(())
+    check_rows(&rt, alloc, &rows)
 }

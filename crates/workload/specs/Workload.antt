@@ -17,7 +17,8 @@ request_by odd = if odd then codes "GET / HTTP/1.0\r\n\r\n" else codes "GET /sta
 -- client k, at 10.0.1.k and port 1024 + k: an odd one tells no segment size, an even one tells 200
 abbrev pub client_of : ℕ → Plan
 client_of k = record {
-  side = record { addr = record { 0 = 10 ∷ 0 ∷ 1 ∷ k ∷ [] }; port = record { 0 = 1024 + k }; mss = if k % 2 == 1 then 0 else 200; seg = 16 };
+  side =
+      record { addr = record { 0 = 10 ∷ 0 ∷ 1 ∷ k ∷ [] }; port = record { 0 = 1024 + k }; mss = if k % 2 == 1 then 0 else 200; seg = 16 };
   request = request_by (k % 2 == 1);
 }
 

@@ -1,7 +1,7 @@
 use Rattle.std.proofs.Common.{◌++◌, ◌∙◌, ◌-◌, arith, drop, length, length-drop, length-take, refl, sym, ap, take}
 use Rattle.std.proofs.lemmas.List.{take-append-drop, take_rest}
 use Rattle.uip_edge.proofs.Told.{moved_on}
-use Rattle.slip_node.specs.Handing.{text_behind}
+use Rattle.slip_node.specs.Handing.{rest_text}
 use Rattle.slip_node.proofs.HandLaws.{front_put}
 use Rattle.slip_node.proofs.handing.write_on.Goals as goal
 
@@ -13,7 +13,7 @@ loop-out-init c =
     record {
       front = take at whole;
       pieces = sym (ap (λ l. take at whole ++ l) rest ∙ take-append-drop at whole);
-      made = ap (λ l. take c.args.len c.args.out.now ++ text_behind l) rest;
+      made = ap (λ l. take c.args.len c.args.out.now ++ rest_text l) rest;
       long = refl;
       fits = c.requires.room;
       grows = omega arith;

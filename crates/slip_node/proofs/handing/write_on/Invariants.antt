@@ -1,12 +1,12 @@
 use Rattle.std.proofs.Common.{◌≡◌, ◌++◌, ◌+◌, ◌*◌, ◌-◌, ◌≤◌, List, ℕ, length, take, drop}
-use Rattle.slip_node.specs.Handing.{text_behind}
+use Rattle.slip_node.specs.Handing.{rest_text}
 use Rattle.slip_node.proofs.handing.write_on.Given as goal
 
 abbrev pub invariant-loop-out : goal.invariant-loop-out
 invariant-loop-out l = record {
   front : List ℕ;
   pieces : l.datagram ≡ front ++ l.rest;
-  made : take l.end l.out ++ text_behind l.rest ≡ take l.len l.fn.out ++ text_behind (drop l.at l.datagram);
+  made : take l.end l.out ++ rest_text l.rest ≡ take l.len l.fn.out ++ rest_text (drop l.at l.datagram);
   long : length l.out ≡ length l.fn.out;
   fits : l.end ≤ length l.out;
   grows : l.len ≤ l.end;

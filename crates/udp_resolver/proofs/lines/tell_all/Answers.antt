@@ -1,27 +1,22 @@
-use Rattle.std.proofs.Common.{◌≡◌, ◌+◌, ◌++◌, ◌∙◌, None, sym, ap, arith, drop, get_or}
-use Rattle.std.proofs.lemmas.List.{drop_more}
+use Rattle.std.proofs.Common.{◌≡◌, ◌+◌, ◌++◌, ◌∙◌, None, sym, ap, drop, get_or}
 use Rattle.uip_edge.proofs.Told.{Appends-then, appends_by}
 use Rattle.uip_edge.specs.Telling.{sink_told}
 use Rattle.uip_edge.proofs.Writes.{writes_broken, writes_by}
 use Rattle.udp_resolver.specs.Fates.{fate_by}
 use Rattle.udp_resolver.specs.Lines.{line_of}
 use Rattle.udp_resolver.specs.Steps.{lines_by}
-use Rattle.udp_resolver.proofs.StepLaws.{here, lines_step}
+use Rattle.udp_resolver.proofs.StepLaws.{line_moves}
 use Rattle.udp_resolver.proofs.lines.tell_all.Goals as goal
 
 pub loop-at-preserved : goal.loop-at-preserved
 loop-at-preserved g c =
     let inv = c.loop-at.invariant in
-    let at = c.loop-at.at in
     let name = c.index-names-at.result in
-    let a = get_or c.args.answers.now at None in
-    let one = line_of name (fate_by a c.args.is_over) in
-    let named = here c.args.names.now at name c.loop-at-test.true c.index-names-at.is in
-    let known = drop_more c.args.answers.now at None (omega (arith, c.requires, c.loop-at-test.true)) in
+    let one = line_of name (fate_by (get_or c.args.answers.now c.loop-at.at None) c.args.is_over) in
     let text : c.deref.result.now ≡ one = c.deref.ensures.0 ∙ c.line_of.ensures ∙ ap (λ f. line_of name f) c.fate_by.ensures in
     record {
       front = inv.front ++ one;
-      whole = lines_step _ _ name _ _ a c.args.is_over _ inv.front named known inv.whole;
+      whole = line_moves _ _ name _ _ _ inv.front c.requires c.loop-at-test.true c.index-names-at.is inv.whole;
       wrote = Appends-then _ _ _ inv.front one inv.wrote (appends_by _ _ c.deref.result.now one (sym text) c.in_ok-write_whole.ensures.whole);
       calm = c.in_ok-write_whole.ensures.cause.same ∙ inv.calm;
     }
@@ -31,14 +26,11 @@ returns-in_err-write_whole g c =
     let inv = c.loop-at.invariant in
     let at = c.loop-at.at in
     let name = c.index-names-at.result in
-    let a = get_or c.args.answers.now at None in
-    let one = line_of name (fate_by a c.args.is_over) in
-    let named = here c.args.names.now at name c.loop-at-test.true c.index-names-at.is in
-    let known = drop_more c.args.answers.now at None (omega (arith, c.requires, c.loop-at-test.true)) in
+    let one = line_of name (fate_by (get_or c.args.answers.now at None) c.args.is_over) in
     let text : c.deref.result.now ≡ one = c.deref.ensures.0 ∙ c.line_of.ensures ∙ ap (λ f. line_of name f) c.fate_by.ensures in
     writes_broken c.from_residual.result c.from_residual.ensures.0 c.in_err-write_whole.field-0.0
     (sink_told g.T.Sink c.args.tell.now) (sink_told g.T.Sink c.loop-at.tell) (sink_told g.T.Sink c.write_whole.new.self)
     inv.front one (lines_by (drop (at + 1) c.args.names.now) (drop (at + 1) c.args.answers.now) c.args.is_over)
     (lines_by c.args.names.now c.args.answers.now c.args.is_over)
-    (sym (lines_step _ _ name _ _ a c.args.is_over _ inv.front named known inv.whole))
+    (sym (line_moves _ _ name at _ _ inv.front c.requires c.loop-at-test.true c.index-names-at.is inv.whole))
     inv.wrote inv.calm (writes_by _ _ _ c.deref.result.now one (sym text) c.in_err-write_whole.ensures)

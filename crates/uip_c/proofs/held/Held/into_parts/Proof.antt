@@ -29,7 +29,7 @@ use Rattle.std.proofs.alloc.Global.TheLaws as heap_laws
 use Rattle.std.specs.contracts.impls.GlobalAllocator.TheImpl.{ghosts}
 use Rattle.loose_box.proofs.Words.{two_words, words_typed, parts_in}
 use Rattle.uip_device.specs.declared.device.Device.{Device}
-use Rattle.uip_device.specs.Devices.{IsSound}
+use Rattle.uip_device.specs.Devices.{IsSoundDevice}
 use Rattle.uip_c.specs.Holding.{holds}
 use Rattle.uip_c.proofs.Taking.{some_of}
 use Rattle.uip_c.proofs.Words.{DeviceRow, HeapRow, HeldRow, held_out}
@@ -69,6 +69,6 @@ into_parts_spec 𝓤 𝓛 𝓜 𝓡 wired =
     sets ! (of_opd ! (get ! refl)) refl (tt, tt) $
     sets ! (agg ! (and_then ! (get ! refl) (and_then ! (get ! refl) (no_more !)))) refl typed $
     parts_in DeviceRow HeapRow heap_laws.the_row_laws ghosts ! b o h a x $
-    use0 𝓛 (raw (fact 𝓤 ((v.device ≡ Some x) × IsSound x))) (fact_i 𝓤 ((v.device ≡ Some x) × IsSound x) (emp 𝓤) (same, sound)) $ nothing ! $ nothing ! $ fjoin ! $
+    use0 𝓛 (raw (fact 𝓤 ((v.device ≡ Some x) × IsSoundDevice x))) (fact_i 𝓤 ((v.device ≡ Some x) × IsSoundDevice x) (emp 𝓤) (same, sound)) $ nothing ! $ nothing ! $ fjoin ! $
     returns ! (look_at ! 0 refl) $ free_all ! refl $ keep ! (4 ∷ 0 ∷ 2 ∷ 1 ∷ []) $
     by ! (leaves 𝓛 ended stays c z w (record { at = block_ptr b o; alloc = a; value = x }) _ (tt, tt))))))))
