@@ -22,6 +22,7 @@ impl Model for Summer {
 
 impl Summer {
     /// The sum of no bytes.
+    #[inline(always)]
     pub fn new() -> Summer
         ensures { result ≡ sum_of [] }
     {
@@ -32,6 +33,7 @@ impl Summer {
     }
 
     /// Takes the next piece.
+    #[inline(always)]
     pub fn add(&mut self, piece: &[u8])
         ensures { (bytes : List ℕ) → self.old ≡ sum_of bytes → self.new ≡ sum_of (bytes ++ piece.now) }
     {
@@ -40,6 +42,7 @@ impl Summer {
     }
 
     /// The checksum of all pieces so far, joined.
+    #[inline(always)]
     pub fn finish(&self) -> u16
         ensures { (bytes : List ℕ) → self.now ≡ sum_of bytes → result ≡ checksum_of bytes }
     {
@@ -49,6 +52,7 @@ impl Summer {
 
 /// The one's complement sum that a piece adds to an even or an odd number of bytes before it: after an odd number its first
 /// byte is a low one.
+#[inline(always)]
 fn sum_after(piece: &[u8], is_odd: bool) -> u16
     ensures { result ≡ folded (if is_odd then word_sum (0 ∷ piece.now) else word_sum piece.now) }
 {

@@ -5,6 +5,7 @@ ghost use Rattle.uip_wire.specs.Sums.{swapped_sum};
 use byteorder::{ByteOrder, LittleEndian};
 
 /// The checksum of RFC 791: the one's complement of the one's complement sum of the big-endian 16-bit words.
+#[inline(always)]
 pub fn checksum(bytes: &[u8]) -> u16
     ensures { result ≡ checksum_of bytes.now }
 {
@@ -18,6 +19,7 @@ pub fn one_byte_tells()
 
 /// The one's complement sum of the words. It is that of the words with their bytes exchanged, with its own exchanged, so no word has to be
 /// turned round (RFC 1071, section 2 (B)).
+#[inline(always)]
 pub(crate) fn ones_sum(bytes: &[u8]) -> u16
     ensures { result ≡ folded (word_sum bytes.now) }
 {
@@ -26,6 +28,7 @@ pub(crate) fn ones_sum(bytes: &[u8]) -> u16
 }
 
 /// The one's complement sum of two numbers.
+#[inline(always)]
 pub(crate) fn ones_add(one: u16, other: u16) -> u16
     ensures { result ≡ folded (one + other) }
 {
@@ -39,6 +42,7 @@ pub(crate) fn ones_add(one: u16, other: u16) -> u16
 
 /// The sum of the words with their bytes exchanged, whose carries are still to be added back: eight bytes are added as one number, since 2^16,
 /// 2^32 and 2^48 leave 1 when divided by 65535 (RFC 1071, section 2). A long piece goes by 32 bytes.
+#[inline(always)]
 fn wide_sum(bytes: &[u8]) -> u128
     ensures fits { result ≤ 2 ^ 61 * length bytes.now }
     ensures same { folded result ≡ folded (swapped_sum bytes.now) }
@@ -68,6 +72,7 @@ fn wide_sum(bytes: &[u8]) -> u128
 }
 
 /// The sum of the first four numbers of eight bytes each.
+#[inline(always)]
 fn block_sum(bytes: &[u8]) -> u128
     requires { 32 ≤ length bytes.now }
     ensures fits { result < 2 ^ 66 }
@@ -82,6 +87,7 @@ fn block_sum(bytes: &[u8]) -> u128
 const WORD64: u128 = 0x1_0000_0000_0000_0000;
 
 /// Adds the carries of a sum back to it.
+#[inline(always)]
 fn fold(sum: u128) -> u16
     requires { sum < 2 ^ 124 }
     ensures { result ≡ folded sum }
