@@ -24,6 +24,7 @@ use script_lang::{Function, Piece, next_piece, runs_past};
 use web_pages::LARGEST_SEGMENT;
 
 /// What the thread sees.
+#[inline(always)]
 pub(crate) fn look<'a>(
     site: &'a Site,
     found: Option<FileId>,
@@ -46,6 +47,7 @@ pub(crate) fn look<'a>(
 }
 
 /// What is left of the bytes from a place on.
+#[inline(always)]
 fn rest_of(world: &[u8], at: u32) -> Span<'_>
     requires within { at ≤ length world.now }
     requires short { length world.now ≤ LONGEST_IMAGE }
@@ -55,6 +57,7 @@ fn rest_of(world: &[u8], at: u32) -> Span<'_>
 }
 
 /// A part of the bytes.
+#[inline(always)]
 fn part_of(world: &[u8], at: u32, end: u32) -> Span<'_>
     requires ordered { at ≤ end }
     requires within { end ≤ length world.now }
@@ -69,6 +72,7 @@ fn part_of(world: &[u8], at: u32, end: u32) -> Span<'_>
 }
 
 /// In the head.
+#[inline(always)]
 fn look_head<'a>(site: &'a Site, found: Option<FileId>, capture: &'a Capture, at: u32) -> Look<'a>
     requires found { IsFound (files_of site.now) found }
     requires fits { Fits (reply_in site.now found capture.now) (Thread.Head at) }
@@ -83,6 +87,7 @@ fn look_head<'a>(site: &'a Site, found: Option<FileId>, capture: &'a Capture, at
 }
 
 /// In the line of the content type.
+#[inline(always)]
 fn look_kind<'a>(site: &'a Site, found: Option<FileId>, capture: &'a Capture, at: u32) -> Look<'a>
     requires found { IsFound (files_of site.now) found }
     requires fits { Fits (reply_in site.now found capture.now) (Thread.Kind at) }
@@ -100,6 +105,7 @@ fn look_kind<'a>(site: &'a Site, found: Option<FileId>, capture: &'a Capture, at
 }
 
 /// In the body.
+#[inline(always)]
 fn look_body<'a>(site: &'a Site, found: Option<FileId>, capture: &'a Capture, at: u32) -> Look<'a>
     requires found { IsFound (files_of site.now) found }
     requires fits { Fits (reply_in site.now found capture.now) (Thread.Body at) }
@@ -117,6 +123,7 @@ fn look_body<'a>(site: &'a Site, found: Option<FileId>, capture: &'a Capture, at
 }
 
 /// In a script.
+#[inline(always)]
 fn look_script<'a>(site: &'a Site, found: Option<FileId>, capture: &'a Capture, at: u32) -> Look<'a>
     requires found { IsFound (files_of site.now) found }
     requires script { is_scripted (found_file (files_of site.now) found) ≡ true }
@@ -134,6 +141,7 @@ fn look_script<'a>(site: &'a Site, found: Option<FileId>, capture: &'a Capture, 
 
 /// In a text run of a script that is longer than a segment: as much of it as a segment takes. So no look is dearer than that, however long
 /// a run is.
+#[inline(always)]
 fn look_run<'a>(site: &'a Site, found: Option<FileId>, capture: &'a Capture, at: u32) -> Look<'a>
     requires found { IsFound (files_of site.now) found }
     requires script { is_scripted (found_file (files_of site.now) found) ≡ true }
@@ -210,6 +218,7 @@ fn look_include<'a>(
 }
 
 /// At a piece that says nothing.
+#[inline(always)]
 fn look_nothing<'a>(next: u32) -> Look<'a>
     ensures nothing { IsSpan result.span [] }
     ensures here { result.here ≡ Thread.Body next }
@@ -223,6 +232,7 @@ fn look_nothing<'a>(next: u32) -> Look<'a>
 }
 
 /// In the bytes of an included file.
+#[inline(always)]
 fn look_inside<'a>(
     site: &'a Site,
     found: Option<FileId>,
@@ -272,6 +282,7 @@ fn look_call<'a>(
 }
 
 /// In the text of a record.
+#[inline(always)]
 fn look_making<'a>(
     site: &'a Site,
     found: Option<FileId>,
@@ -293,6 +304,7 @@ fn look_making<'a>(
 }
 
 /// At the end.
+#[inline(always)]
 fn look_end<'a>() -> Look<'a>
     ensures span { result.span ≡ Span.End }
     ensures here { result.here ≡ Thread.End }

@@ -230,3 +230,7 @@ fed_on before bytes n k s t told so_far step =
     let at = front_and_more before bytes n k in
     let both = step (before ++ take n bytes) so_far.0 in
     (subst (λ l. WasFed l t) at both.0, ap frames (sym at) ∙ both.1 ∙ ap (λ l. l ++ told) so_far.1)
+
+pub take_first : (bytes : List ℕ) → 0 < length bytes → take 1 bytes ≡ get_or bytes 0 0 ∷ []
+take_first [] h = absurd (omega arith)
+take_first (a ∷ rest) h = refl

@@ -32,11 +32,11 @@ told_at xs n long few =
     ∙ mask_l-mod (map is_mark xs) 64 (omega (arith, length-map xs is_mark))
 
 -- the lanes in front of the first mark
-pub counted : (xs : List ℕ) → length xs ≡ 32
-    → cond (eqb (mask_l (lanes_of xs 32) % 2 ^ 64) 0) 32 (count_trailing_zeros 64 (mask_l (lanes_of xs 32) % 2 ^ 64)) ≡ prefix_len (λ b. not (is_mark b)) xs
-counted xs long =
-    ap (λ m. cond (eqb m 0) 32 (count_trailing_zeros 64 m)) (told_at xs 32 long (omega arith))
-    ∙ first_set_mask_l is_mark xs 32 long (omega arith)
+pub counted : (n : ℕ) (xs : List ℕ) → length xs ≡ n → n ≤ 64
+    → cond (eqb (mask_l (lanes_of xs n) % 2 ^ 64) 0) n (count_trailing_zeros 64 (mask_l (lanes_of xs n) % 2 ^ 64)) ≡ prefix_len (λ b. not (is_mark b)) xs
+counted n xs long few =
+    ap (λ m. cond (eqb m 0) n (count_trailing_zeros 64 m)) (told_at xs n long few)
+    ∙ first_set_mask_l is_mark xs n long few
 
 -- the two ends of the test
 pub none_set : (m n t : ℕ) → m ≡ 0 → cond (eqb m 0) n t ≡ n
@@ -45,26 +45,33 @@ none_set m n t e = ap (λ k. cond (eqb k 0) n t) e
 pub one_set : (m n t : ℕ) → (eqb m 0 ≡ false) → cond (eqb m 0) n t ≡ t
 one_set m n t e = ap (λ b. cond b n t) e
 
--- a window of bytes in which r come before the first mark
-pub record Window (bytes : List ℕ) (at r : ℕ) : Type 0 where
-  pub le : r ≤ 32
+-- a window of n bytes in which r come before the first mark
+pub record Window (bytes : List ℕ) (at n r : ℕ) : Type 0 where
+  pub le : r ≤ n
   pub fails : (k : ℕ) → at ≤ k → k < at + r → is_mark (get_or bytes k 0) ≡ false
-  pub stops : r < 32 → is_mark (get_or bytes (at + r) 0) ≡ true
+  pub stops : r < n → is_mark (get_or bytes (at + r) 0) ≡ true
 
-pub window : (bytes : List ℕ) (at r : ℕ) → at + 32 ≤ length bytes → r ≡ prefix_len (λ b. not (is_mark b)) (slice_range bytes at (at + 32)) → Window bytes at r
-window bytes at r room e =
-    let counted : r ≡ prefix_len (λ b. not (is_mark b)) (take 32 (drop at bytes)) =
-    e ∙ ap (λ n. prefix_len (λ b. not (is_mark b)) (take n (drop at bytes))) (let width : at + 32 - at ≡ 32 = omega arith in width) in
+pub window : (bytes : List ℕ) (at n r : ℕ) → at + n ≤ length bytes → r ≡ prefix_len (λ b. not (is_mark b)) (slice_range bytes at (at + n)) → Window bytes at n r
+window bytes at n r room e =
+    let counted : r ≡ prefix_len (λ b. not (is_mark b)) (take n (drop at bytes)) =
+    e ∙ ap (λ n. prefix_len (λ b. not (is_mark b)) (take n (drop at bytes))) (let width : at + n - at ≡ n = omega arith in width) in
     record {
-      le = run_in_chunk_le is_mark bytes at 32 r 0 room counted;
-      fails = run_in_chunk_fails is_mark bytes at 32 r 0 room counted;
-      stops = run_in_chunk_stops is_mark bytes at 32 r 0 room counted;
+      le = run_in_chunk_le is_mark bytes at n r 0 room counted;
+      fails = run_in_chunk_fails is_mark bytes at n r 0 room counted;
+      stops = run_in_chunk_stops is_mark bytes at n r 0 room counted;
     }
 
+-- the same of the window at the front
+pub front_plain : (bytes : List ℕ) (n r : ℕ) → Window bytes 0 n r → (k : ℕ) → k < r → is_mark (get_or bytes k 0) ≡ false
+front_plain bytes n r w k h = w.fails k (omega arith) (omega (arith, h))
+
+pub front_stops : (bytes : List ℕ) (n r : ℕ) → Window bytes 0 n r → r < n → is_mark (get_or bytes r 0) ≡ true
+front_stops bytes n r w h = ap (λ k. is_mark (get_or bytes k 0)) (let same : r ≡ 0 + r = omega arith in same) ∙ w.stops h
+
 -- the bytes in front of a window and its own
-pub none_before : (bytes : List ℕ) (at r : ℕ) → Window bytes at r → ((k : ℕ) → k < at → is_mark (get_or bytes k 0) ≡ false)
+pub none_before : (bytes : List ℕ) (at n r : ℕ) → Window bytes at n r → ((k : ℕ) → k < at → is_mark (get_or bytes k 0) ≡ false)
     → (k : ℕ) → k < at + r → is_mark (get_or bytes k 0) ≡ false
-none_before bytes at r w before k h = elim (cases_lt k at) [ inl early ↦ before k early | inr late ↦ w.fails k late h ]
+none_before bytes at n r w before k h = elim (cases_lt k at) [ inl early ↦ before k early | inr late ↦ w.fails k late h ]
 
 pub all_plain : (bytes : List ℕ) (n : ℕ) → n ≤ length bytes → ((k : ℕ) → k < n → is_mark (get_or bytes k 0) ≡ false) → list_all is_plain (take n bytes) ≡ true
 all_plain bytes n h none = none_marked n bytes h (λ k less e. true≢false (sym e ∙ none k less))

@@ -1,3 +1,4 @@
+pub mod Ascii
 pub mod DecoderLaws
 pub mod PartLaws
 pub mod PlainLaws
@@ -5,3 +6,4 @@ mod Rows
 pub mod TextFrames
 pub mod TextLaws
 pub mod Lanes
+pub mod TextTable

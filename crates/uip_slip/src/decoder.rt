@@ -29,8 +29,11 @@ impl Model for Decoder {
     ghost invariant = { λ d. d.len ≤ LARGEST_DATAGRAM };
 }
 
-/// So many bytes go one by one behind a run that was shorter.
-const SHORT_RUN: usize = 8;
+/// A front that is shorter has marks close together: a run of fewer than eight bytes, an ESC and the byte behind it.
+const SHORT_FRONT: usize = 10;
+
+/// So many bytes go one by one behind a short front.
+const DENSE_BYTES: usize = 16;
 
 /// A byte in front of which there is no run to search for.
 fn is_mark(byte: u8) -> bool {
@@ -42,8 +45,8 @@ fn still_dense(dense: usize, count: usize, last: u8) -> usize {
     if dense > 0 {
         return dense - 1;
     }
-    if count < SHORT_RUN && last != END {
-        2 * SHORT_RUN
+    if count < SHORT_FRONT && last != END {
+        DENSE_BYTES
     } else {
         0
     }
@@ -84,6 +87,30 @@ impl Decoder {
     /// Takes a front of the bytes: up to an END that completes a frame, or all of them. It is as if each of them was fed, but a run without
     /// END and ESC is copied as a whole.
     pub fn feed_run(&mut self, bytes: &[u8]) -> FedRun
+        requires { 0 < length bytes.now }
+        ensures some { 0 < result.count }
+        ensures within { result.count ≤ length bytes.now }
+        ensures frames { (before : List ℕ) → WasFed before self.old → WasFed (before ++ take result.count bytes.now) self.new
+            × (frames (before ++ take result.count bytes.now) ≡ frames before ++ told_by result.fed self.new) }
+        ensures leaves { Leaves result.fed self.new }
+    {
+        if bytes[0] != END {
+            return self.feed_parts(bytes);
+        }
+        match self.feed(bytes[0]) {
+            Fed::More if bytes.len() > 1 => {
+                let parts = self.feed_parts(&bytes[1..]);
+                FedRun {
+                    count: 1 + parts.count,
+                    fed: parts.fed,
+                }
+            }
+            fed => FedRun { count: 1, fed },
+        }
+    }
+
+    /// The same, part by part.
+    fn feed_parts(&mut self, bytes: &[u8]) -> FedRun
         requires { 0 < length bytes.now }
         ensures some { 0 < result.count }
         ensures within { result.count ≤ length bytes.now }
@@ -144,10 +171,28 @@ impl Decoder {
                 fed: Fed::More,
             };
         }
-        let fed = self.feed(bytes[count]);
+        let mark = self.feed_mark(&bytes[count..]);
         FedRun {
-            count: count + 1,
-            fed,
+            count: count + mark.count,
+            fed: mark.fed,
+        }
+    }
+
+    /// Takes a byte, and the one behind it where the first completes nothing: an ESC goes with the byte that it escapes.
+    fn feed_mark(&mut self, bytes: &[u8]) -> FedRun
+        requires { 0 < length bytes.now }
+        ensures some { 0 < result.count }
+        ensures within { result.count ≤ length bytes.now }
+        ensures frames { (before : List ℕ) → WasFed before self.old → WasFed (before ++ take result.count bytes.now) self.new
+            × (frames (before ++ take result.count bytes.now) ≡ frames before ++ told_by result.fed self.new) }
+        ensures leaves { Leaves result.fed self.new }
+    {
+        match self.feed(bytes[0]) {
+            Fed::More if bytes.len() > 1 => FedRun {
+                count: 2,
+                fed: self.feed(bytes[1]),
+            },
+            fed => FedRun { count: 1, fed },
         }
     }
 

@@ -1,4 +1,4 @@
-ghost use Rattle.std.specs.Prelude.{◌≡◌, ◌≤◌, ◌+◌, length, take, not, true, ◌<◌, slice_index, slice_range};
+ghost use Rattle.std.specs.Prelude.{◌≡◌, ℕ, ◌≤◌, ◌+◌, ◌*◌, length, take, not, true, false, ◌<◌, slice_index, slice_range};
 ghost use Rattle.std.specs.List.{list_all, prefix_len};
 ghost use Rattle.uip_slip.specs.Frames.{is_mark, is_plain, meant as meant_of};
 
@@ -19,25 +19,76 @@ pub const ESC_ESC: u8 = 0xDD;
 /// So many bytes are looked at together.
 const LANES: usize = 32;
 
+/// So many bytes of a long piece are looked at together.
+const WIDE: usize = 64;
+
 /// The length of the front without END and ESC.
+#[inline(always)]
 pub fn plain_len(bytes: &[u8]) -> usize
     ensures within { result ≤ length bytes.now }
     ensures plain { list_all is_plain (take result bytes.now) ≡ true }
     ensures marked { result < length bytes.now → is_mark (slice_index bytes.now result) ≡ true }
 {
-    if bytes.len() < LANES {
-        return plain_of_few(bytes);
+    match bytes.len() {
+        0..8 => plain_of_few(bytes),
+        8..16 => plain_of_some::<8>(bytes),
+        16..32 => plain_of_some::<16>(bytes),
+        32..64 => plain_of_some::<32>(bytes),
+        _ => plain_of_many(bytes),
     }
-    let last = bytes.len() - LANES;
-    let mut at = 0;
+}
+
+/// The same of as many bytes as the lanes from both ends cover.
+#[inline(always)]
+fn plain_of_some<const N: usize>(bytes: &[u8]) -> usize
+    requires lanes { N ≤ 64 }
+    requires least { N ≤ length bytes.now }
+    requires most { length bytes.now ≤ 2 * N }
+    ensures within { result ≤ length bytes.now }
+    ensures plain { list_all is_plain (take result bytes.now) ≡ true }
+    ensures marked { result < length bytes.now → is_mark (slice_index bytes.now result) ≡ true }
+{
+    let front = plain_lanes::<N>(bytes, 0);
+    if front < N {
+        return front;
+    }
+    let last = bytes.len() - N;
+    last + plain_lanes::<N>(bytes, last)
+}
+
+/// The same of many bytes. The first lanes are looked at alone, since most runs of binary bytes are short.
+#[inline(always)]
+fn plain_of_many(bytes: &[u8]) -> usize
+    requires { WIDE ≤ length bytes.now }
+    ensures within { result ≤ length bytes.now }
+    ensures plain { list_all is_plain (take result bytes.now) ≡ true }
+    ensures marked { result < length bytes.now → is_mark (slice_index bytes.now result) ≡ true }
+{
+    let front = plain_lanes::<LANES>(bytes, 0);
+    if front < LANES {
+        return front;
+    }
+    plain_behind(bytes)
+}
+
+/// The same of many bytes, of which the first lanes have neither.
+fn plain_behind(bytes: &[u8]) -> usize
+    requires many { WIDE ≤ length bytes.now }
+    requires front { (k : ℕ) → k < LANES → is_mark (slice_index bytes.now k) ≡ false }
+    ensures within { result ≤ length bytes.now }
+    ensures plain { list_all is_plain (take result bytes.now) ≡ true }
+    ensures marked { result < length bytes.now → is_mark (slice_index bytes.now result) ≡ true }
+{
+    let last = bytes.len() - WIDE;
+    let mut at = LANES;
     while at < last {
-        let count = plain_lanes(bytes, at);
-        if count < LANES {
+        let count = plain_wide(bytes, at);
+        if count < WIDE {
             return at + count;
         }
-        at += LANES;
+        at += WIDE;
     }
-    last + plain_lanes(bytes, last)
+    last + plain_wide(bytes, last)
 }
 
 /// The same of a few bytes, one by one.
@@ -55,18 +106,43 @@ fn plain_of_few(bytes: &[u8]) -> usize
 }
 
 /// How many of the lanes from a place on stand before the first END or ESC.
-fn plain_lanes(bytes: &[u8], at: usize) -> usize
-    requires { at + LANES ≤ length bytes.now }
-    ensures count { result ≡ prefix_len (λ b. not (is_mark b)) (slice_range bytes.now at (at + LANES)) }
-    ensures bound { result ≤ LANES }
+#[inline(always)]
+fn plain_lanes<const N: usize>(bytes: &[u8], at: usize) -> usize
+    requires few { N ≤ 64 }
+    requires room { at + N ≤ length bytes.now }
+    ensures count { result ≡ prefix_len (λ b. not (is_mark b)) (slice_range bytes.now at (at + N)) }
+    ensures bound { result ≤ N }
 {
-    let lanes = u8x32::from_slice(&bytes[at..]);
-    let marks = lanes.simd_eq(u8x32::splat(END)) | lanes.simd_eq(u8x32::splat(ESC));
+    let lanes: Simd<u8, N> = Simd::from_slice(&bytes[at..]);
+    let marks = lanes.simd_eq(Simd::splat(END)) | lanes.simd_eq(Simd::splat(ESC));
     let mask = marks.to_bitmask();
     if mask == 0 {
-        return LANES;
+        return N;
     }
     mask.trailing_zeros() as usize
+}
+
+/// The same of the wide lanes.
+#[inline(always)]
+fn plain_wide(bytes: &[u8], at: usize) -> usize
+    requires { at + WIDE ≤ length bytes.now }
+    ensures count { result ≡ prefix_len (λ b. not (is_mark b)) (slice_range bytes.now at (at + WIDE)) }
+    ensures bound { result ≤ WIDE }
+{
+    if is_ascii(bytes, at) {
+        return WIDE;
+    }
+    plain_lanes::<WIDE>(bytes, at)
+}
+
+/// Whether each of the wide lanes from a place on is ASCII, which has neither END nor ESC.
+#[inline(always)]
+fn is_ascii(bytes: &[u8], at: usize) -> bool
+    requires { at + WIDE ≤ length bytes.now }
+    ensures { result ≡ true → WIDE ≡ prefix_len (λ b. not (is_mark b)) (slice_range bytes.now at (at + WIDE)) }
+{
+    let lanes = u8x64::from_slice(&bytes[at..]);
+    !lanes.simd_ge(u8x64::splat(128)).any()
 }
 
 /// The byte that stands behind an ESC.

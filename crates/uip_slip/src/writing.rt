@@ -1,13 +1,13 @@
 //! The text of a datagram, written into an area of the caller's. Short runs between marks go byte by byte, and a long one is searched for its
 //! end and copied as a whole, so that no line is much dearer than another.
 
-ghost use Rattle.std.specs.Prelude.{◌≡◌, ◌≤◌, ◌<◌, ◌+◌, ◌*◌, ◌++◌, [], ◌∷◌, length, take};
+ghost use Rattle.std.specs.Prelude.{◌≡◌, ◌≤◌, ◌<◌, ◌+◌, ◌*◌, ◌/◌, ◌%◌, ◌++◌, [], ◌∷◌, length, take};
 ghost use Rattle.uip_slip.specs.Text.{escaped, escaped_byte, slip_text};
 
-use crate::marks::{END, ESC, ESC_END, ESC_ESC, plain_len};
+use crate::marks::{END, plain_len};
 
 /// So many bytes go one by one where marks stand close together.
-const CHUNK: usize = 16;
+const CHUNK: usize = 32;
 
 /// A run that is shorter than this has marks close to it.
 const SHORT_RUN: usize = 8;
@@ -31,33 +31,47 @@ fn put(out: &mut [u8], len: usize, piece: &[u8]) -> usize
     end
 }
 
-/// Puts two bytes behind a text.
-fn put_pair(out: &mut [u8], len: usize, first: u8, second: u8) -> usize
-    requires { len + 2 ≤ length out.old }
-    ensures long { length out.new ≡ length out.old }
-    ensures end { result ≡ len + 2 }
-    ensures text { take result out.new ≡ take len out.old ++ first ∷ second ∷ [] }
+/// The text of an END of a datagram, as one number with the first byte lowest.
+const END_TEXT: u16 = 0xDCDB;
+
+/// The text of an ESC of a datagram.
+const ESC_TEXT: u16 = 0xDDDB;
+
+/// The text of each byte of a datagram: two bytes, or itself and a zero that is no part of it.
+static TEXTS: [u16; 256] = [
+    0, 1, 2, 3, 4, 5, 6, 7, 8, 9, 10, 11, 12, 13, 14, 15, 16, 17, 18, 19, 20, 21, 22, 23, 24, 25,
+    26, 27, 28, 29, 30, 31, 32, 33, 34, 35, 36, 37, 38, 39, 40, 41, 42, 43, 44, 45, 46, 47, 48, 49,
+    50, 51, 52, 53, 54, 55, 56, 57, 58, 59, 60, 61, 62, 63, 64, 65, 66, 67, 68, 69, 70, 71, 72, 73,
+    74, 75, 76, 77, 78, 79, 80, 81, 82, 83, 84, 85, 86, 87, 88, 89, 90, 91, 92, 93, 94, 95, 96, 97,
+    98, 99, 100, 101, 102, 103, 104, 105, 106, 107, 108, 109, 110, 111, 112, 113, 114, 115, 116,
+    117, 118, 119, 120, 121, 122, 123, 124, 125, 126, 127, 128, 129, 130, 131, 132, 133, 134, 135,
+    136, 137, 138, 139, 140, 141, 142, 143, 144, 145, 146, 147, 148, 149, 150, 151, 152, 153, 154,
+    155, 156, 157, 158, 159, 160, 161, 162, 163, 164, 165, 166, 167, 168, 169, 170, 171, 172, 173,
+    174, 175, 176, 177, 178, 179, 180, 181, 182, 183, 184, 185, 186, 187, 188, 189, 190, 191,
+    END_TEXT, 193, 194, 195, 196, 197, 198, 199, 200, 201, 202, 203, 204, 205, 206, 207, 208, 209,
+    210, 211, 212, 213, 214, 215, 216, 217, 218, ESC_TEXT, 220, 221, 222, 223, 224, 225, 226, 227,
+    228, 229, 230, 231, 232, 233, 234, 235, 236, 237, 238, 239, 240, 241, 242, 243, 244, 245, 246,
+    247, 248, 249, 250, 251, 252, 253, 254, 255,
+];
+
+/// The text of a byte of a datagram as one number, whose first byte is the lowest: below 256 it is one byte, and else two.
+fn text_of(byte: u8) -> u16
+    ensures one { result < 256 → escaped_byte byte ≡ result ∷ [] }
+    ensures two { 256 ≤ result → escaped_byte byte ≡ result % 256 ∷ result / 256 ∷ [] }
 {
-    out[len] = first;
-    out[len + 1] = second;
-    len + 2
+    TEXTS[byte as usize]
 }
 
-/// Puts a byte of a datagram, escaped where it has to be.
+/// Puts a byte of a datagram, escaped where it has to be. The byte behind its text may change too.
 fn put_byte(out: &mut [u8], len: usize, byte: u8) -> usize
     requires { len + 2 ≤ length out.old }
     ensures long { length out.new ≡ length out.old }
     ensures bound { result ≤ len + 2 }
     ensures text { take result out.new ≡ take len out.old ++ escaped_byte byte }
 {
-    if byte == END {
-        return put_pair(out, len, ESC, ESC_END);
-    }
-    if byte == ESC {
-        return put_pair(out, len, ESC, ESC_ESC);
-    }
-    out[len] = byte;
-    len + 1
+    let text = text_of(byte);
+    put(out, len, &text.to_le_bytes());
+    if text < 256 { len + 1 } else { len + 2 }
 }
 
 /// Puts bytes of a datagram one by one.

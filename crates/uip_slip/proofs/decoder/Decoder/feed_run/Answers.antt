@@ -1,23 +1,14 @@
-use Rattle.std.proofs.Common.{◌∙◌, ◌++◌, ◌-◌, ap, append-nil, arith, drop, length, length-drop, length-take, subst}
-use Rattle.uip_slip.proofs.DecoderLaws.{fed_on}
-use Rattle.uip_slip.specs.Decoding.{Leaves, told_by}
+use Rattle.std.proofs.Common.{◌≡◌, ◌∙◌, ◌++◌, ◌∷◌, [], ap, append-nil, get_or, subst, sym, take}
+use Rattle.uip_slip.proofs.DecoderLaws.{fed_on, take_first}
+use Rattle.uip_slip.specs.Decoding.{WasFed}
 use Rattle.uip_slip.specs.Frames.{frames}
 use Rattle.uip_slip.proofs.decoder.Decoder.feed_run.Goals as goal
 
-pub returns-in_default-clause-frames : goal.returns-in_default-clause-frames
-returns-in_default-clause-frames c = λ before f.
-    let so_far = c.loop-count.invariant.frames before f in
-    fed_on before c.args.bytes.now c.loop-count.count c.feed_part-front.result.count c.loop-count.self c.feed_part-front.new.self _ so_far c.feed_part-front.ensures.frames
-
-pub loop-count-preserved : goal.loop-count-preserved
-loop-count-preserved c =
-    let s = c.feed_part-front.new.self in
-    let front = c.feed_part-front.ensures in
-    record {
-      within = omega (arith, front.within, length-take (length c.args.bytes.now - c.loop-count.count) (drop c.loop-count.count c.args.bytes.now), length-drop c.loop-count.count c.args.bytes.now, c.loop-count.invariant.within);
-      leaves = λ _. subst (λ x. Leaves x s) c.in-More.is front.leaves;
-      frames = λ before f.
-          let so_far = c.loop-count.invariant.frames before f in
-          let both = fed_on before c.args.bytes.now c.loop-count.count c.feed_part-front.result.count c.loop-count.self s _ so_far front.frames in
-          (both.0, both.1 ∙ ap (λ x. frames before ++ told_by x s) c.in-More.is ∙ append-nil (frames before));
-    }
+pub returns-in-More-clause-frames : goal.returns-in-More-clause-frames
+returns-in-More-clause-frames c = λ before f.
+    let one = c.in-More.ensures.frames before f in
+    let whole : before ++ take 1 c.args.bytes.now ≡ before ++ get_or c.args.bytes.now 0 0 ∷ [] =
+    ap (λ l. before ++ l) (take_first c.args.bytes.now c.requires) in
+    fed_on before c.args.bytes.now 1 c.feed_parts-parts.result.count c.feed.new.self c.feed_parts-parts.new.self _
+    (subst (λ l. WasFed l c.feed.new.self) (sym whole) one.0, ap frames whole ∙ one.1 ∙ append-nil (frames before))
+    c.feed_parts-parts.ensures.frames

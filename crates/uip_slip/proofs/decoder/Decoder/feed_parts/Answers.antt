@@ -1,0 +1,23 @@
+use Rattle.std.proofs.Common.{◌∙◌, ◌++◌, ◌-◌, ap, append-nil, arith, drop, length, length-drop, length-take, subst}
+use Rattle.uip_slip.proofs.DecoderLaws.{fed_on}
+use Rattle.uip_slip.specs.Decoding.{Leaves, told_by}
+use Rattle.uip_slip.specs.Frames.{frames}
+use Rattle.uip_slip.proofs.decoder.Decoder.feed_parts.Goals as goal
+
+pub returns-in_default-clause-frames : goal.returns-in_default-clause-frames
+returns-in_default-clause-frames c = λ before f.
+    let so_far = c.loop-count.invariant.frames before f in
+    fed_on before c.args.bytes.now c.loop-count.count c.feed_part-front.result.count c.loop-count.self c.feed_part-front.new.self _ so_far c.feed_part-front.ensures.frames
+
+pub loop-count-preserved : goal.loop-count-preserved
+loop-count-preserved c =
+    let s = c.feed_part-front.new.self in
+    let front = c.feed_part-front.ensures in
+    record {
+      within = omega (arith, front.within, length-take (length c.args.bytes.now - c.loop-count.count) (drop c.loop-count.count c.args.bytes.now), length-drop c.loop-count.count c.args.bytes.now, c.loop-count.invariant.within);
+      leaves = λ _. subst (λ x. Leaves x s) c.in-More.is front.leaves;
+      frames = λ before f.
+          let so_far = c.loop-count.invariant.frames before f in
+          let both = fed_on before c.args.bytes.now c.loop-count.count c.feed_part-front.result.count c.loop-count.self s _ so_far front.frames in
+          (both.0, both.1 ∙ ap (λ x. frames before ++ told_by x s) c.in-More.is ∙ append-nil (frames before));
+    }
