@@ -6,7 +6,7 @@ use Rattle.uip_wire.specs.declared.addr.Addr.{Addr}
 use Rattle.tcp_segment.specs.Segments.{PlainSegment, has_rst, has_ack}
 use Rattle.app_events.specs.Part.{Moment, Meaning}
 use Rattle.app_events.specs.Laws.{IsPrefixOf}
-use Rattle.app_events.specs.Pages.{Pages, IsPaged, IsMoment, IsWord, IsByte, IsAddr}
+use Rattle.app_events.specs.Pages.{Pages, IsPaged, IsMoment, IsByte, IsAddr}
 use Rattle.link_client.specs.Client.{AbstractClient, has_closed}
 use Rattle.app_events.specs.declared.state.State.{State}
 use Rattle.app_events.specs.declared.state.State.TheVariants.{SynRcvd, Established, CloseWait, FinWait1, Closing, LastAck}
@@ -34,7 +34,7 @@ use Rattle.link_world.specs.World.Content.{OfSegment}
 use Rattle.link_world.specs.declared.who.Who.{Who}
 use Rattle.link_world.specs.declared.who.Who.TheVariants.{FromClient, FromNode, Pinger}
 use Rattle.link_world.specs.Acts.{does, runs}
-use Rattle.link_world.specs.History.{Planned, IsPlan, era, serving, opening_world, page_of, is_whole}
+use Rattle.link_world.specs.History.{Start, started, era, serving, page_of, is_whole}
 use Rattle.link_world.specs.Schedule.{plays}
 use Rattle.link_world.specs.Steady.{IsSteady}
 use Rattle.link_world.specs.declared.act.Act.{Act}
@@ -72,29 +72,19 @@ HasBytes pages = (heard : List ℕ) (captures : List Moment) → All IsMoment ca
 -- the schedule damages nothing.
 pub record IsReached (m : Meaning) (pages : Pages) (w : World) : Type 0 where
   pub served : ℕ → Bool
-  pub addr : Addr
-  pub is_addr : IsAddr addr
-  pub numbers : List ℕ
-  pub in_range : All IsWord numbers
-  pub plan : List Planned
-  pub is_plan : IsPlan plan
+  pub start : Start
   pub schedule : List Act
   pub are_acts : All IsAct schedule
   pub bytes : HasBytes pages ⊎ All IsPlainAct schedule
-  pub accepted : runs m served schedule (opening_world addr numbers plan) ≡ Ok w
+  pub accepted : runs m served schedule (started start) ≡ Ok w
 
 -- The world that acts reach that damage nothing, whatever the application says.
 pub record IsReachedPlainly (m : Meaning) (w : World) : Type 0 where
   pub served : ℕ → Bool
-  pub addr : Addr
-  pub is_addr : IsAddr addr
-  pub numbers : List ℕ
-  pub in_range : All IsWord numbers
-  pub plan : List Planned
-  pub is_plan : IsPlan plan
+  pub start : Start
   pub schedule : List Act
   pub plain : All IsPlainAct schedule
-  pub accepted : runs m served schedule (opening_world addr numbers plan) ≡ Ok w
+  pub accepted : runs m served schedule (started start) ≡ Ok w
 
 -- what each act of a line is
 abbrev pub OfLine : (Act → Type 0) → Event → Type 0
@@ -116,16 +106,11 @@ OfLine P Event.Lose = Unit {0}
 -- The world that the lines of a schedule reach, each of them accepted.
 pub record IsSchedulePlayed (m : Meaning) (pages : Pages) (w : World) : Type 0 where
   pub served : ℕ → Bool
-  pub addr : Addr
-  pub is_addr : IsAddr addr
-  pub numbers : List ℕ
-  pub in_range : All IsWord numbers
-  pub plan : List Planned
-  pub is_plan : IsPlan plan
+  pub start : Start
   pub lines : List Event
   pub are_acts : All (OfLine IsAct) lines
   pub bytes : HasBytes pages ⊎ All (OfLine IsPlainAct) lines
-  pub accepted : plays m served lines (opening_world addr numbers plan) ≡ Ok w
+  pub accepted : plays m served lines (started start) ≡ Ok w
 
 -- What lines reach, acts reach, apart from the mark, of which no law speaks.
 abbrev pub LinesAreActs : Type 0
