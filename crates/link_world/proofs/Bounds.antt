@@ -10,7 +10,7 @@ use Rattle.tcp_machine.specs.Connection.{Connection, closed, is_live}
 use Rattle.tcp_machine.specs.Ask.{Outcome, asked}
 use Rattle.tcp_machine.specs.OnSegment.{on_segment}
 use Rattle.tcp_machine.specs.OnTick.{on_tick}
-use Rattle.link_client.specs.Client.{ClientStep, client_takes, client_opens, client_again, client_closes, client_aborts, tells_window}
+use Rattle.link_client.specs.Client.{ClientStep}
 use Rattle.link_world.specs.World.{World, Side, Sent, marked}
 use Rattle.link_world.specs.World.Content.{OfSegment}
 use Rattle.link_world.specs.Bytes.{client_bytes, node_bytes, bytes_by}

@@ -1,5 +1,5 @@
 -- A fact about a step of a client by its cases: each walk is made once, for every law.
-use Rattle.std.proofs.Common.{◌≡◌, ℕ, ◌+◌, ◌-◌, min, Bool, true, false, not, ◌&&◌, length, refl, ap, eqb, ltb}
+use Rattle.std.proofs.Common.{◌≡◌, ◌+◌, ◌-◌, min, Bool, true, false, not, ◌&&◌, length, refl, ap, eqb, ltb}
 use Rattle.uip_wire.specs.Numbers.{wrap}
 use Rattle.tcp_segment.specs.Segments.{PlainSegment, has_syn, has_rst, has_ack}
 use Rattle.tcp_machine.specs.Segments.{has_place}

@@ -23,7 +23,7 @@ use Rattle.link_world.specs.Headline.{IsReached, IsInStep, OneSegment}
 use Rattle.link_world.proofs.Steadiness.{steady_of, IsShort, short_said}
 use Rattle.link_world.proofs.Basics.{and_true, eqb-eq, same_place, wrap_wrap, get_push, nothing_placed, not-true}
 use Rattle.link_world.proofs.Basics.AtEnd.{older, newest}
-use Rattle.link_world.proofs.Good.{seg, segment_in, from, to, StateGood, ToGood, ClientSaid, NodeSaid, OpenedGood, HasOpened, Good, is_unasked, unopened}
+use Rattle.link_world.proofs.Good.{seg, segment_in, from, to, ToGood, ClientSaid, NodeSaid, OpenedGood, HasOpened, Good, is_unasked, unopened}
 use Rattle.link_world.proofs.Good.NodeSaid.{node_reset, node_syn, node_ack, node_text, node_fin}
 use Rattle.link_world.proofs.Good.ClientSaid.{said_reset, said_syn, said_data}
 use Rattle.link_world.proofs.Views.{era_now, first_live, first_dead}

@@ -6,7 +6,7 @@ use Rattle.std.proofs.lemmas.List.Sums.{count_by-le-length}
 use Rattle.std.proofs.lemmas.Grind.{common_steps}
 use Rattle.uip_wire.specs.Numbers.{wrap}
 use Rattle.tcp_segment.specs.Segments.{PlainSegment, has_fin, has_rst}
-use Rattle.rexmit_timer.specs.Ages.{ages, tries_at, beat_at}
+use Rattle.rexmit_timer.specs.Ages.{ages, tries_at}
 use Rattle.rexmit_timer.specs.declared.timer.Beat.{Beat}
 use Rattle.app_events.specs.Part.{Part, Meaning}
 use Rattle.link_world.specs.Steady.{IsSteady}
@@ -19,10 +19,9 @@ use Rattle.app_events.specs.declared.state.State.TheVariants.{Closed, SynRcvd, E
 use Rattle.app_events.specs.declared.want.Want.{Want}
 use Rattle.app_events.specs.declared.want.Want.TheVariants.{Nothing, Send, Close, Abort}
 use Rattle.tcp_machine.specs.Connection.{Sockets, Connection, is_live, is_resting, tries_of, count_of, row_of, rows_from}
-use Rattle.tcp_machine.specs.Ask.{Outcome, closes, after_own_fin, peer_has_closed, idles, does_as_wanted, ask, asked_for, asked}
+use Rattle.tcp_machine.specs.Ask.{Outcome, closes, after_own_fin, peer_has_closed, idles, does_as_wanted, ask, asked}
 use Rattle.tcp_machine.specs.OnSegment.{accepted, told_end, is_out_of_order, is_acked, rests, has_text, hears, takes, with_part, in_state, with_window, peer_closes, goes_on, in_established, fin_acked, fin_waits, in_fin_wait_2, by_state, on_segment}
 use Rattle.tcp_machine.specs.OnTick.{by_beat, grows_older, on_tick, polls}
-use Rattle.tcp_machine.specs.declared.step.Step.{Step}
 use Rattle.uip_node.specs.Events.{Event, Past}
 use Rattle.uip_node.specs.Events.Answer.{Silent}
 use Rattle.uip_node.specs.Counters.{counters, raised, times}

@@ -1,21 +1,17 @@
 -- Acts only add datagrams, a client that has spoken is never idle again, and every client stays as planned.
-use Rattle.std.proofs.Common.{◌≡◌, ℕ, zero, suc, ◌+◌, ◌≤◌, ◌&&◌, Bool, true, false, not, List, [], ◌∷◌, length, map, set, Option, Some, None, slice_get, refl, sym, ap, ◌∙◌, arith, eqb, ltb}
+use Rattle.std.proofs.Common.{◌≡◌, ℕ, zero, suc, ◌≤◌, Bool, false, List, [], ◌∷◌, length, map, set, Option, Some, None, slice_get, refl, sym, ap, ◌∙◌, arith}
 use Rattle.std.proofs.lemmas.Option.{slice_get-map}
 use Rattle.std.specs.Prelude.{option_map}
-use Rattle.uip_wire.specs.Numbers.{wrap}
 use Rattle.app_events.specs.Part.{Meaning}
-use Rattle.tcp_segment.specs.Segments.{PlainSegment, has_ack, has_fin, has_rst, has_syn}
+use Rattle.tcp_segment.specs.Segments.{PlainSegment}
 use Rattle.tcp_machine.specs.Connection.{Connection, same_sockets}
-use Rattle.tcp_machine.specs.Segments.{has_place}
 use Rattle.uip_node.specs.Counters.{ticks_of}
 use Rattle.uip_node.specs.Events.{Event, Reply, tick}
 use Rattle.uip_node.specs.Edge.{event_of}
 use Rattle.uip_node.specs.Events.Event.{Arrived, EchoAsked}
 use Rattle.uip_node.specs.Events.Reply.{Echo, Tcp}
 use Rattle.uip_node.specs.Node.{NodeStep, step}
-use Rattle.link_client.specs.Client.{AbstractClient, ClientStep, after_fin, again_by, aborts_by, client_takes, closes_by, fin_out, fin_sent, has_outstanding, hears_ack, is_receiving, is_reset_by, keeps, may_finish, next_own, opened_by, opens_by, own_first, sends_next, takes_by, takes_in_order, takes_text, tells_window, client_opens, client_again, client_closes, client_aborts}
-use Rattle.link_client.specs.declared.client_state.ClientState.{ClientState}
-use Rattle.link_client.specs.declared.client_state.ClientState.TheVariants as Is
+use Rattle.link_client.specs.Client.{AbstractClient, ClientStep, client_takes, keeps, tells_window, client_opens, client_again, client_closes, client_aborts}
 use Rattle.link_world.specs.Acts.{client_acts, client_handed, damages_at, does, handed, handles_all, hands_over, is_idle, state_at}
 use Rattle.link_world.specs.Bytes.{changed, hears_datagram, ping_from, sent_bytes}
 use Rattle.link_world.specs.World.{Content, Sent, Side, World, buries, buries_in, client_sockets, client_stepped, delivers, epoch_of, gives_client, gives_node, hands_to, marked, node_handles, node_stepped, numbered, posts, posts_of_client, posts_reply, with_client, with_side}

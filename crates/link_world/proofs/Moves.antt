@@ -1,5 +1,5 @@
 -- How far a step brings a connection: what is acknowledged moves to the end of what was outstanding, or stays.
-use Rattle.std.proofs.Common.{◌≡◌, ℕ, ◌+◌, ◌≤◌, Bool, true, false, not, ◌&&◌, ◌⊎◌, inl, inr, List, refl, ap, ◌∙◌, sym, subst, arith, eqb, ltb}
+use Rattle.std.proofs.Common.{◌≡◌, ℕ, ◌+◌, ◌≤◌, Bool, true, false, not, ◌&&◌, ◌⊎◌, inl, inr, List, refl, ap, ◌∙◌, sym, subst, arith, ltb}
 use Rattle.tcp_segment.specs.Segments.{PlainSegment, has_fin, has_rst}
 use Rattle.rexmit_timer.specs.declared.timer.Beat.{Beat}
 use Rattle.app_events.specs.Part.{Meaning}
@@ -10,7 +10,6 @@ use Rattle.tcp_machine.specs.Connection.{Connection}
 use Rattle.tcp_machine.specs.Ask.{Outcome, ask, asked, closes, prepared}
 use Rattle.tcp_machine.specs.OnSegment.{is_out_of_order, is_acked, rests, has_text, with_part, in_established, peer_closes, goes_on, fin_acked, fin_waits, in_fin_wait_2, by_state, on_segment}
 use Rattle.tcp_machine.specs.OnTick.{by_beat, grows_older, on_tick, polls}
-use Rattle.tcp_machine.specs.declared.step.Step.{Step}
 use Rattle.link_world.proofs.Basics.{choose, ltb-zero}
 use Rattle.link_world.proofs.Cases.{asked_by, is_ask, no_ask_again, on_tick_by, wanted_unmoved}
 

@@ -7,8 +7,6 @@ use Rattle.tcp_segment.specs.Segments.{PlainSegment, has_syn, has_fin, has_rst, 
 use Rattle.app_events.specs.Part.{Meaning}
 use Rattle.app_events.specs.Pages.{Pages, IsPaged, IsMoment, IsNow, IsWord}
 use Rattle.app_events.specs.declared.now.Now.{Now}
-use Rattle.app_events.specs.declared.state.State.{State}
-use Rattle.app_events.specs.declared.state.State.TheVariants.{Closed, SynRcvd, Established, CloseWait, FinWait1, FinWait2, Closing, TimeWait, LastAck}
 use Rattle.tcp_machine.specs.Connection.{Sockets, Connection, closed, is_live}
 use Rattle.tcp_machine.specs.Segments.{is_plain_syn, is_again, syn_ack}
 use Rattle.tcp_machine.specs.Ask.{Outcome, asked}
@@ -21,7 +19,7 @@ use Rattle.link_world.specs.Headline.{IsReached}
 use Rattle.link_world.proofs.Steadiness.{steady_of}
 use Rattle.link_world.proofs.Basics.{same_place, get_push, zero_or_more}
 use Rattle.link_world.proofs.Basics.AtEnd.{older, newest}
-use Rattle.link_world.proofs.Good.{seg, no_segment, is_early, from, to, StateGood, ClientSaid, OpenedGood, Good, Steady, unopened}
+use Rattle.link_world.proofs.Good.{seg, no_segment, is_early, from, to, ClientSaid, OpenedGood, Good, Steady, unopened}
 use Rattle.link_world.proofs.Good.ClientSaid.{said_reset, said_syn, said_data}
 use Rattle.link_world.proofs.Fits.{FitConn}
 use Rattle.link_world.proofs.Sides.{clean_before}

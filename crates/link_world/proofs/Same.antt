@@ -16,7 +16,7 @@ use Rattle.tcp_machine.specs.Segments.{segment_of, is_again, has_place, is_plain
 use Rattle.tcp_machine.specs.Ask.{Outcome, asked}
 use Rattle.tcp_machine.specs.OnSegment.{first_mss, accepted, on_segment}
 use Rattle.tcp_machine.specs.OnTick.{on_tick}
-use Rattle.link_client.specs.Client.{ClientStep, client_takes}
+use Rattle.link_client.specs.Client.{ClientStep}
 use Rattle.link_world.specs.World.{World, Side, Sent, Content, client_sockets, with_client, marked, is_clean}
 use Rattle.link_world.specs.World.Content.{OfSegment, OfPing, OfEcho}
 use Rattle.link_world.specs.Acts.{does}

@@ -5,8 +5,7 @@ use Rattle.std.proofs.lemmas.Grind.{common_steps}
 use Rattle.std.proofs.lemmas.List.Elements.{All-take, All-drop}
 use Rattle.uip_wire.specs.Numbers.{wrap}
 use Rattle.uip_wire.specs.declared.sizes.TheConstants.{OWN_MSS}
-use Rattle.tcp_segment.specs.Segments.{PlainSegment, has_fin, has_rst, has_ack, has_syn}
-use Rattle.rexmit_timer.specs.Ages.{beat_at}
+use Rattle.tcp_segment.specs.Segments.{PlainSegment, has_fin, has_rst, has_ack}
 use Rattle.rexmit_timer.specs.declared.timer.Beat.{Beat}
 use Rattle.app_events.specs.Part.{Meaning}
 use Rattle.app_events.specs.Pages.{Pages, IsPaged, IsByte, IsAddr}
@@ -16,10 +15,10 @@ use Rattle.app_events.specs.declared.state.State.TheVariants.{Closed, SynRcvd, E
 use Rattle.app_events.specs.declared.want.Want.{Want}
 use Rattle.app_events.specs.declared.want.Want.TheVariants.{Nothing, Send, Close, Abort}
 use Rattle.tcp_machine.specs.Connection.{Sockets, Connection, closed}
-use Rattle.tcp_machine.specs.Segments.{has_place, bare_ack, syn_ack, text_segment, fin_of, reset_of, reset_to_none, segment_of}
+use Rattle.tcp_machine.specs.Segments.{bare_ack, syn_ack, text_segment, fin_of, reset_of, reset_to_none, segment_of}
 use Rattle.tcp_machine.specs.Ask.{Outcome, peer_has_closed, idles, does_as_wanted, prepared, asked_for, asked}
 use Rattle.tcp_machine.specs.OnSegment.{first_mss, accepted, is_out_of_order, is_acked, rests, has_text, with_part, peer_closes, goes_on, in_established, fin_acked, fin_waits, in_fin_wait_2, by_state, on_segment}
-use Rattle.tcp_machine.specs.OnTick.{limit_of, by_beat, waits_for_ack, rests_on, rest_time, ticks_established, tick_by, on_tick}
+use Rattle.tcp_machine.specs.OnTick.{by_beat, on_tick}
 use Rattle.tcp_machine.specs.declared.step.Step.{Step}
 use Rattle.link_client.specs.Client.{AbstractClient, ClientStep, aborts_by, ack_of, again_by, client_aborts, client_again, client_closes, client_opens, client_takes, closes_by, fin_out, fin_sent, has_outstanding as client_waits, hears_ack, is_receiving, is_reset_by, keeps, may_finish, next_own, offered, opened_by, opens_by, own_first, own_request, sends_next, syn_of, takes_by, takes_in_order, takes_text}
 use Rattle.link_client.specs.Client as client
