@@ -11,10 +11,12 @@ use Rattle.telnet_shell.specs.DeskMeaning.{desk_meaning}
 -- Whatever acts lose, repeat or reorder, what is marked as sent again was sent before, with the same number, flags and text. This
 -- holds of the shell's clients too, and of those that are not clean.
 abbrev pub DeskRepeatsSameBytes : Type 0
-DeskRepeatsSameBytes = (site : SiteContent) → IsLoaded site → (w : World) → IsReachedPlainly (desk_meaning (files_of site)) w → RepeatsSameBytes w
+DeskRepeatsSameBytes = (site : SiteContent) → IsLoaded site → (w : World) → IsReachedPlainly (desk_meaning (files_of site)) w
+    → RepeatsSameBytes w
 
 -- At every node, whatever happened to it.
 abbrev pub DeskSendsAgain : Type 0
 DeskSendsAgain =
-    (site : SiteContent) (served : ℕ → Bool) (n : AbstractNode) (slot : ℕ) (c : Connection) → slice_get n.connections slot ≡ Some c → IsExpired c →
+    (site : SiteContent) (served : ℕ → Bool) (n : AbstractNode) (slot : ℕ) (c : Connection) → slice_get n.connections slot ≡ Some c
+    → IsExpired c →
     SendsAgain (desk_meaning (files_of site)) c (step (desk_meaning (files_of site)) served n (Periodic slot)).sent

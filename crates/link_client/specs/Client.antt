@@ -110,7 +110,14 @@ own_request c = record {
 }
 
 abbrev pub own_fin : AbstractClient → PlainSegment
-own_fin c = record { seq = wrap (own_first c + 1 + c.acked + c.out); ack = c.expected; flags = FIN + ACK; window = c.window; mss = None; text = [] }
+own_fin c = record {
+  seq = wrap (own_first c + 1 + c.acked + c.out);
+  ack = c.expected;
+  flags = FIN + ACK;
+  window = c.window;
+  mss = None;
+  text = [];
+}
 
 abbrev pub own_reset : AbstractClient → PlainSegment
 own_reset c = record { seq = next_own c; ack = c.expected; flags = RST + ACK; window = c.window; mss = None; text = [] }

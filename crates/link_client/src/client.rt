@@ -52,7 +52,8 @@ impl Client {
         ensures client { (request : List ℕ) → IsClient self.old request → IsClient self.new request }
         ensures setup { self.new.setup ≡ self.old.setup }
         ensures room { length area.new ≡ length area.old }
-        ensures step { (request received : List ℕ) → Did (client_opens (standing self.old request received)) (standing self.new request received) (Some result) area.new }
+        ensures step { (request received : List ℕ) → Did (client_opens (standing self.old request received))
+            (standing self.new request received) (Some result) area.new }
     {
         self.state = ClientState::Opening;
         self.send_syn(area)
@@ -68,7 +69,9 @@ impl Client {
         ensures room { length area.new ≡ length area.old }
         ensures inside { result.fresh_at + result.fresh_len ≤ length datagram.now }
         ensures none { result.fresh_len ≡ 0 → result.fresh_at ≡ 0 }
-        ensures step { (received : List ℕ) → Did (client_hands (standing self.old request.now received) (client_hears self.old.setup datagram.now)) (standing self.new request.now (received ++ slice_range datagram.now result.fresh_at (result.fresh_at + result.fresh_len))) result.sent area.new }
+        ensures step { (received : List ℕ) → Did (client_hands (standing self.old request.now received)
+            (client_hears self.old.setup datagram.now)) (standing self.new request.now
+            (received ++ slice_range datagram.now result.fresh_at (result.fresh_at + result.fresh_len))) result.sent area.new }
     {
         let Some(segment) = hear(&self.setup, datagram) else {
             return Took {
@@ -90,7 +93,8 @@ impl Client {
         ensures setup { self.new.setup ≡ self.old.setup }
         ensures room { length area.new ≡ length area.old }
         ensures answers { is_some result ≡ has_spoken self.old.state }
-        ensures step { (received : List ℕ) → Did (client_again (standing self.old request.now received)) (standing self.new request.now received) result area.new }
+        ensures step { (received : List ℕ) → Did (client_again (standing self.old request.now received))
+            (standing self.new request.now received) result area.new }
     {
         match self.state {
             ClientState::Idle | ClientState::Reset => None,
@@ -108,8 +112,10 @@ impl Client {
         ensures client { IsClient self.new request.now }
         ensures setup { self.new.setup ≡ self.old.setup }
         ensures room { length area.new ≡ length area.old }
-        ensures answers { is_some result ≡ (is_opened self.old.state && has_more_to_send (standing (record self.old { state = ClientState.Closing }) request.now [])) }
-        ensures step { (received : List ℕ) → Did (client_closes (standing self.old request.now received)) (standing self.new request.now received) result area.new }
+        ensures answers { is_some result ≡ (is_opened self.old.state
+            && has_more_to_send (standing (record self.old { state = ClientState.Closing }) request.now [])) }
+        ensures step { (received : List ℕ) → Did (client_closes (standing self.old request.now received))
+            (standing self.new request.now received) result area.new }
     {
         match self.state {
             ClientState::Opened => {
@@ -133,7 +139,8 @@ impl Client {
         ensures setup { self.new.setup ≡ self.old.setup }
         ensures room { length area.new ≡ length area.old }
         ensures answers { is_some result ≡ can_abort self.old.state }
-        ensures step { (request received : List ℕ) → Did (client_aborts (standing self.old request received)) (standing self.new request received) result area.new }
+        ensures step { (request received : List ℕ) → Did (client_aborts (standing self.old request received))
+            (standing self.new request received) result area.new }
     {
         match self.state {
             ClientState::Opening | ClientState::Opened | ClientState::Closing => {
@@ -149,7 +156,8 @@ impl Client {
     pub fn set_window(&mut self, window: u16)
         ensures client { (request : List ℕ) → IsClient self.old request → IsClient self.new request }
         ensures setup { self.new.setup ≡ self.old.setup }
-        ensures step { (request received : List ℕ) → (tells_window window (standing self.old request received)).client ≡ standing self.new request received }
+        ensures step { (request received : List ℕ) → (tells_window window (standing self.old request received)).client
+            ≡ standing self.new request received }
     {
         self.window = window;
     }

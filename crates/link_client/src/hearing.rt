@@ -12,7 +12,8 @@ use uip_wire::Addr;
 
 /// Whether a segment from this address is of the client's connection.
 fn is_of(setup: &Setup, source: Addr, segment: &Segment) -> bool
-    ensures { result ≡ (bytes_eq source.0 setup.now.server.0 && ((segment.now.from.0 == setup.now.server_port.0) && (segment.now.to.0 == setup.now.port.0))) }
+    ensures { result ≡ (bytes_eq source.0 setup.now.server.0
+        && ((segment.now.from.0 == setup.now.server_port.0) && (segment.now.to.0 == setup.now.port.0))) }
 {
     source == setup.server && segment.from.0 == setup.server_port.0 && segment.to.0 == setup.port.0
 }

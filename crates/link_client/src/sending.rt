@@ -41,7 +41,15 @@ impl Client {
         requires room { LARGEST_DATAGRAM ≤ length area.old }
         requires fits { length text.now ≤ OWN_MSS }
         requires no_text { IsSome heading.mss → length text.now ≡ 0 }
-        ensures sent { Sends self.now.setup (Some (record { seq = heading.seq.0; ack = heading.ack.0; flags = heading.flags; window = self.now.window; mss = heading.mss; text = text.now })) (Some result) area.new }
+        ensures sent { Sends self.now.setup
+            (Some (record {
+              seq = heading.seq.0;
+              ack = heading.ack.0;
+              flags = heading.flags;
+              window = self.now.window;
+              mss = heading.mss;
+              text = text.now;
+            })) (Some result) area.new }
     {
         put_text(area, text);
         let out = Out {
@@ -63,7 +71,9 @@ impl Client {
     /// Writes a segment without text that acknowledges what it took.
     fn send_bare(&self, seq: Seq, flags: u8, area: &mut [u8]) -> usize
         requires room { LARGEST_DATAGRAM ≤ length area.old }
-        ensures sent { Sends self.now.setup (Some (record { seq = seq.0; ack = self.now.rcv.0; flags = flags; window = self.now.window; mss = None; text = [] })) (Some result) area.new }
+        ensures sent { Sends self.now.setup
+            (Some (record { seq = seq.0; ack = self.now.rcv.0; flags = flags; window = self.now.window; mss = None; text = [] }))
+            (Some result) area.new }
     {
         let heading = Heading {
             seq,

@@ -48,7 +48,8 @@ pub(crate) fn took(segment: &Segment, heard: Heard) -> Took
     ensures sent { result.sent ≡ heard.sent }
     ensures inside { result.fresh_at + result.fresh_len ≤ segment.now.text_at + segment.now.text_len }
     ensures none { result.fresh_len ≡ 0 → result.fresh_at ≡ 0 }
-    ensures fresh { (received bytes : List ℕ) → received ++ slice_range bytes result.fresh_at (result.fresh_at + result.fresh_len) ≡ received_with heard.took_text received (plain_of segment.now bytes).text }
+    ensures fresh { (received bytes : List ℕ) → received ++ slice_range bytes result.fresh_at (result.fresh_at + result.fresh_len)
+        ≡ received_with heard.took_text received (plain_of segment.now bytes).text }
 {
     if heard.took_text && segment.text_len > 0 {
         return Took {
@@ -139,7 +140,8 @@ impl Client {
         ensures client { IsClient self.new request.now }
         ensures setup { self.new.setup ≡ self.old.setup }
         ensures answers { is_some result ≡ (has_more_to_send (standing self.old request.now []) || owed) }
-        ensures step { (received : List ℕ) → Did (sends_next owed (standing self.old request.now received)) (standing self.new request.now received) result area.new }
+        ensures step { (received : List ℕ) → Did (sends_next owed (standing self.old request.now received))
+            (standing self.new request.now received) result area.new }
     {
         if self.has_text_to_send(request.len()) {
             let left = request.len() - self.acked as usize;
@@ -162,7 +164,8 @@ impl Client {
         ensures setup { self.new.setup ≡ self.old.setup }
         ensures state { self.new.state ≡ self.old.state }
         ensures client { (request : List ℕ) → IsClient self.old request → IsClient self.new request }
-        ensures heard { (request received text : List ℕ) → hears_ack (standing self.old request received) (plain segment.now text) ≡ standing self.new request received }
+        ensures heard { (request received text : List ℕ)
+            → hears_ack (standing self.old request received) (plain segment.now text) ≡ standing self.new request received }
     {
         if segment.has_ack() && self.waits_for_ack() && segment.ack.0 == self.next_own().0 {
             self.acked += u32::from(self.out);
@@ -176,7 +179,8 @@ impl Client {
         requires short { length piece.now ≤ LARGEST_DATAGRAM }
         ensures setup { self.new.setup ≡ self.old.setup }
         ensures client { (request : List ℕ) → IsClient self.old request → IsClient self.new request }
-        ensures taken { (request received : List ℕ) → takes_text (standing self.old request received) (plain segment.now piece.now) ≡ standing self.new request (received_with true received piece.now) }
+        ensures taken { (request received : List ℕ) → takes_text (standing self.old request received) (plain segment.now piece.now)
+            ≡ standing self.new request (received_with true received piece.now) }
     {
         let count = piece.len() as u32;
         if segment.has_fin() {
@@ -208,7 +212,8 @@ impl Client {
         requires room { LARGEST_DATAGRAM ≤ length area.old }
         ensures client { IsClient self.new request.now }
         ensures setup { self.new.setup ≡ self.old.setup }
-        ensures step { (received : List ℕ) → Did (takes_in_order (standing self.old request.now received) (plain segment.now piece.now)) (standing self.new request.now (received_with result.took_text received piece.now)) result.sent area.new }
+        ensures step { (received : List ℕ) → Did (takes_in_order (standing self.old request.now received) (plain segment.now piece.now))
+            (standing self.new request.now (received_with result.took_text received piece.now)) result.sent area.new }
     {
         if segment.has_syn() {
             return without_text(self.send_next(request, true, area));
@@ -230,7 +235,8 @@ impl Client {
         requires room { LARGEST_DATAGRAM ≤ length area.old }
         ensures client { IsClient self.new request.now }
         ensures setup { self.new.setup ≡ self.old.setup }
-        ensures step { (received text : List ℕ) → Did (takes_by ClientState.Opening (standing self.old request.now received) (plain segment.now text)) (standing self.new request.now received) result area.new }
+        ensures step { (received text : List ℕ) → Did (takes_by ClientState.Opening (standing self.old request.now received)
+            (plain segment.now text)) (standing self.new request.now received) result area.new }
     {
         if segment.has_syn() && segment.has_ack() && segment.ack.0 == self.setup.iss.add(1).0 {
             self.state = ClientState::Opened;
@@ -254,7 +260,9 @@ impl Client {
         requires room { LARGEST_DATAGRAM ≤ length area.old }
         ensures client { IsClient self.new request.now }
         ensures setup { self.new.setup ≡ self.old.setup }
-        ensures step { (received : List ℕ) → Did (takes_by self.old.state (standing self.old request.now received) (plain segment.now piece.now)) (standing self.new request.now (received_with result.took_text received piece.now)) result.sent area.new }
+        ensures step { (received : List ℕ) → Did (takes_by self.old.state (standing self.old request.now received)
+            (plain segment.now piece.now)) (standing self.new request.now
+            (received_with result.took_text received piece.now)) result.sent area.new }
     {
         match self.state {
             ClientState::Idle | ClientState::Reset => without_text(None),
@@ -269,7 +277,8 @@ impl Client {
 
     /// A RST counts where it answers the SYN, and afterwards at the expected number.
     fn is_reset_by(&self, segment: &Segment) -> bool
-        ensures { (request received text : List ℕ) → is_reset_by self.now.state (standing self.now request received) (plain segment.now text) ≡ result }
+        ensures { (request received text : List ℕ) → is_reset_by self.now.state (standing self.now request received)
+            (plain segment.now text) ≡ result }
     {
         match self.state {
             ClientState::Opening => {
@@ -284,7 +293,9 @@ impl Client {
     fn take_reset(&mut self, segment: &Segment)
         ensures setup { self.new.setup ≡ self.old.setup }
         ensures client { (request : List ℕ) → IsClient self.old request → IsClient self.new request }
-        ensures reset { (request received text : List ℕ) → (if is_reset_by self.old.state (standing self.old request received) (plain segment.now text) then record (standing self.old request received) { state = ClientState.Reset } else standing self.old request received) ≡ standing self.new request received }
+        ensures reset { (request received text : List ℕ) → (if is_reset_by self.old.state (standing self.old request received)
+            (plain segment.now text) then record (standing self.old request received) { state = ClientState.Reset }
+            else standing self.old request received) ≡ standing self.new request received }
     {
         if self.is_reset_by(segment) {
             self.state = ClientState::Reset;
@@ -305,7 +316,8 @@ impl Client {
         requires room { LARGEST_DATAGRAM ≤ length area.old }
         ensures client { IsClient self.new request.now }
         ensures setup { self.new.setup ≡ self.old.setup }
-        ensures step { (received : List ℕ) → Did (client_takes (standing self.old request.now received) (plain segment.now piece.now)) (standing self.new request.now (received_with result.took_text received piece.now)) result.sent area.new }
+        ensures step { (received : List ℕ) → Did (client_takes (standing self.old request.now received) (plain segment.now piece.now))
+            (standing self.new request.now (received_with result.took_text received piece.now)) result.sent area.new }
     {
         if segment.has_rst() {
             self.take_reset(segment);

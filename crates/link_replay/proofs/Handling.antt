@@ -2,19 +2,20 @@
 use Rattle.std.proofs.Common.{◌≡◌, ℕ, zero, suc, ◌<◌, get_or, drop, ◌+◌, ◌++◌, ◌∷◌, [], Bool, false, List, length, refl, sym, ap, ◌∙◌, subst, arith, Option, Some, None, length-append, if◌then◌else◌}
 use Rattle.app_events.specs.Part.{Meaning}
 use Rattle.app_events.specs.declared.app.App.{Ghosts}
+use Rattle.uip_wire.specs.declared.addr.Addr.{Addr}
 use Rattle.tcp_segment.specs.Segments.{PlainSegment}
 use Rattle.tcp_machine.specs.Connection.{Sockets}
 use Rattle.uip_node.specs.Events.{Event, Reply, tick}
 use Rattle.uip_node.specs.Events.Event.{Arrived, Periodic}
 use Rattle.uip_node.specs.Events.Reply.{Echo, Tcp}
 use Rattle.uip_node.specs.Node.{AbstractNode, NodeStep, step, connection_in}
-use Rattle.uip_node.specs.StandsFor.{Stands}
+use Rattle.uip_node.specs.StandsFor.{IsWhole, Stands}
 use Rattle.link_client.specs.Client.{AbstractClient, ClientStep, client_takes}
 use Rattle.link_world.specs.Acts.{client_acts, client_handed, handed}
 use Rattle.link_world.specs.Bytes.{hears_datagram}
 use Rattle.link_world.specs.World.{World, Side, with_client, with_side, posts_of_client, posts_reply, node_stepped, node_handles, buries}
 use Rattle.link_replay.specs.Noting.{owner, pair_at}
-use Rattle.link_replay.specs.Stands.{WorldStands, LinkStands, IsLink}
+use Rattle.link_replay.specs.Stands.{WorldStands, LinkStands, IsKept, IsLink}
 use Rattle.link_replay.specs.Telling.{AreTo, IsTo}
 use Rattle.link_replay.specs.declared.socket_pair.SocketPair.{SocketPair}
 use Rattle.link_replay.specs.declared.link.Link.{Link}
@@ -98,6 +99,10 @@ acts_mark w number act (Some side) = posted_mark (with_side w number (with_clien
     posted_mark w number (Some s) = refl
 
 module _ {A S : Type 0} (g : Ghosts A S) where
+  -- what a world keeps, with another link
+  pub still_kept : (world : CodeWorld A S) (before : Link) → IsWhole g world.node → (addr : Addr) × IsLink addr before → ((addr : Addr) → IsLink addr before → IsLink addr world.link) → IsKept g world
+  still_kept world before node link keeps = record { node = node; link = (link.0, keeps link.0 link.1) }
+
   -- the node and the mark stay
   pub linked : (world : CodeWorld A S) (link : Link) (w v : World) → WorldStands g world w → v.node ≡ w.node → v.mark ≡ w.mark → LinkStands link v → IsLink w.node.addr link
       → WorldStands g (record world { link = link }) v

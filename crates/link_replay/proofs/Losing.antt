@@ -141,24 +141,27 @@ step_leaves m served n (Periodic slot) =
     happened_leaves m n (Periodic slot) slot (asked m (moment n (Periodic slot) slot) (on_tick m (connection_in slot n) n.numbers))
     (asked_keeps m (moment n (Periodic slot) slot) (connection_in slot n) (on_tick m (connection_in slot n) n.numbers) (on_tick_keeps m (connection_in slot n) n.numbers))
 
-abbrev has_sockets : {A : Type 0} → SocketPair → Conn A → Bool
-has_sockets p c = bytes_eq c.peer.0 p.peer.0 && ((c.peer_port.0 == p.peer_port.0) && (c.own_port.0 == p.own_port.0))
-
 abbrev pair_of : {A : Type 0} → Conn A → SocketPair
 pair_of c = record { peer = c.peer; peer_port = c.peer_port; own_port = c.own_port }
 
--- a connection of the code is at the sockets that the one over plain data serves
-at_serves : {A S : Type 0} (g : Ghosts A S) (k : g.Kept) (c : Conn A) (a : Connection) (p : SocketPair) → ConnStands g k c a → is_at p.peer p.peer_port p.own_port c ≡ serves (sockets_at p) a
-at_serves g k c a p h =
-    both_ways (is_live a.state)
+-- what is told of a connection that is live and of its sockets is the same in the code and over plain data
+agrees : {A S X : Type 0} (g : Ghosts A S) (k : g.Kept) (c : Conn A) (a : Connection) (F : Bool → SocketPair → X) → ((p q : SocketPair) → F false p ≡ F false q) → ConnStands g k c a
+    → F (is_live c.state) (pair_of c) ≡ F (is_live a.state) (pair_at a.sockets)
+agrees g k c a F none h =
+    let state : is_live c.state ≡ is_live a.state = ap is_live h.numbers.state in
+    ap (λ b. F b (pair_of c)) state
+    ∙ both_ways (is_live a.state)
     (λ e. (let l = h.numbers.like e in
-    let state = h.numbers.state in
     let peer = l.peer in
     let peer_port = l.peer_port in
     let own_port = l.own_port in
-    cc))
-    (λ e. (let f : is_live c.state ≡ false = ap is_live h.numbers.state ∙ e in
-    ap (λ (b : Bool). b && has_sockets p c) f ∙ sym (ap (λ (b : Bool). b && same_sockets a.sockets (sockets_at p)) e)))
+    let same : pair_of c ≡ pair_at a.sockets = cc in
+    ap (F (is_live a.state)) same))
+    (λ e. ap (λ b. F b (pair_of c)) e ∙ none (pair_of c) (pair_at a.sockets) ∙ sym (ap (λ b. F b (pair_at a.sockets)) e))
+
+-- a connection of the code is at the sockets that the one over plain data serves
+at_serves : {A S : Type 0} (g : Ghosts A S) (k : g.Kept) (c : Conn A) (a : Connection) (p : SocketPair) → ConnStands g k c a → is_at p.peer p.peer_port p.own_port c ≡ serves (sockets_at p) a
+at_serves g k c a p h = agrees g k c a (λ b q. b && (bytes_eq q.peer.0 p.peer.0 && ((q.peer_port.0 == p.peer_port.0) && (q.own_port.0 == p.own_port.0)))) (λ x y. refl) h
 
 lost_by : {A S : Type 0} (g : Ghosts A S) (k : g.Kept) (c : Conn A) (a : Connection) (pair : Option SocketPair) → ConnStands g k c a → lost_at pair c ≡ left_by pair a
 lost_by g k c a None h = refl
@@ -186,16 +189,7 @@ lost_is_gone g k cs pairs m served n event e h =
     ∙ step_leaves m served n event
 
 owner_agrees : {A S : Type 0} (g : Ghosts A S) (k : g.Kept) (c : Conn A) (a : Connection) → ConnStands g k c a → owner_in c ≡ owner a
-owner_agrees g k c a h =
-    both_ways (is_live a.state)
-    (λ e. (let l = h.numbers.like e in
-    let state = h.numbers.state in
-    let peer = l.peer in
-    let peer_port = l.peer_port in
-    let own_port = l.own_port in
-    cc))
-    (λ e. (let f : is_live c.state ≡ false = ap is_live h.numbers.state ∙ e in
-    ap (λ (b : Bool). if b then Some (pair_of c) else None) f ∙ sym (owner_dead a e)))
+owner_agrees g k c a h = agrees g k c a (λ b q. if b then Some q else None) (λ x y. refl) h
 
 owners_agree : {A S : Type 0} (g : Ghosts A S) (k : g.Kept) (cs : List (Conn A)) (abstracts : List Connection) → length abstracts ≡ length cs →
     AllStand g k cs abstracts → map owner_in cs ≡ map owner abstracts

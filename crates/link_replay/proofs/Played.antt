@@ -49,12 +49,7 @@ module _ (m : Meaning) (served : ℕ → Bool) where
     pages = pages;
     lawful = lawful;
     bytes = bytes;
-    addr = server;
-    is_addr = server_is_addr;
-    numbers = numbers;
-    in_range = in_range;
-    plan = plan_from 1 plans;
-    is_plan = plan;
+    start = record { addr = server; is_addr = server_is_addr; numbers = numbers; in_range = in_range; plan = plan_from 1 plans; is_plan = plan };
     schedule = [];
     are_acts = all_nil IsAct;
     accepted = refl;

@@ -6,7 +6,7 @@ use Rattle.app_events.specs.Part.{Meaning}
 use Rattle.link_world.specs.World.{World}
 use Rattle.link_world.specs.Acts.{acts, runs, and_then}
 use Rattle.link_world.specs.Schedule.{with_mark}
-use Rattle.link_world.specs.History.{opening_world}
+use Rattle.link_world.specs.History.{started}
 use Rattle.link_world.specs.declared.act.Act.{Act}
 use Rattle.link_world.specs.declared.step_fault.StepFault.{StepFault}
 use Rattle.link_world.specs.Headline.{IsAct, IsReached}
@@ -29,15 +29,10 @@ module _ (m : Meaning) (served : ℕ → Bool) where
     pages = h.pages;
     lawful = h.lawful;
     bytes = h.bytes;
-    addr = h.addr;
-    is_addr = h.is_addr;
-    numbers = h.numbers;
-    in_range = h.in_range;
-    plan = h.plan;
-    is_plan = h.is_plan;
+    start = h.start;
     schedule = h.schedule ++ more;
     are_acts = All-append IsAct h.schedule more h.are_acts a;
-    accepted = runs_joined m served h.schedule more (opening_world h.addr h.numbers h.plan)
+    accepted = runs_joined m served h.schedule more (started h.start)
         ∙ ap (λ (r : Result World StepFault). and_then (runs m served more) r) h.accepted
         ∙ runs_mark m served 0 more w
         ∙ ap (λ (r : Result World StepFault). with_mark 0 r) e;
@@ -49,12 +44,7 @@ module _ (m : Meaning) (served : ℕ → Bool) where
     pages = h.pages;
     lawful = h.lawful;
     bytes = h.bytes;
-    addr = h.addr;
-    is_addr = h.is_addr;
-    numbers = h.numbers;
-    in_range = h.in_range;
-    plan = h.plan;
-    is_plan = h.is_plan;
+    start = h.start;
     schedule = h.schedule;
     are_acts = h.are_acts;
     accepted = h.accepted;
@@ -64,12 +54,7 @@ module _ (m : Meaning) (served : ℕ → Bool) where
   pub reached_at : (w : World) → (h : IsAt m served w) → IsReached m h.pages (record w { mark = 0 })
   reached_at w h = record {
     served = served;
-    addr = h.addr;
-    is_addr = h.is_addr;
-    numbers = h.numbers;
-    in_range = h.in_range;
-    plan = h.plan;
-    is_plan = h.is_plan;
+    start = h.start;
     schedule = h.schedule;
     are_acts = h.are_acts;
     bytes = inl h.bytes;

@@ -47,4 +47,5 @@ pub record IsFresh (number : ℕ) (plan : Plan) (side : CodeSide) : Type 0 where
 -- the clients of the code in order, numbered from 1
 pub record AreFresh (plans : List Plan) (sides : List CodeSide) : Type 0 where
   pub same_length : length sides ≡ length plans
-  pub each : (i : ℕ) (plan : Plan) (side : CodeSide) → slice_get plans i ≡ Some plan → slice_get sides i ≡ Some side → IsFresh (suc i) plan side
+  pub each : (i : ℕ) (plan : Plan) (side : CodeSide) → slice_get plans i ≡ Some plan → slice_get sides i ≡ Some side
+      → IsFresh (suc i) plan side

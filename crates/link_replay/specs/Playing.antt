@@ -45,12 +45,14 @@ pub record Refuses (lines : List Line) (meant : Result World BadLine) (number : 
 
 -- lines in turn: the world of the code stands for the one that is reached, or one of them is refused; where memory was wanting
 -- nothing is said
-abbrev pub LinesEnd : {X : Type 0} → Meaning → (ℕ → Bool) → (X → World → Type 0) → List Line → Result X ReadSchedule → Result World BadLine → Type 0
+abbrev pub LinesEnd : {X : Type 0} → Meaning → (ℕ → Bool) → (X → World → Type 0) → List Line → Result X ReadSchedule
+    → Result World BadLine → Type 0
 LinesEnd m served Now lines (Ok x) meant = Reaches m served (Now x) meant
 LinesEnd m served Now lines (Err (Bad number why)) meant = Refuses lines meant number why
 LinesEnd m served Now lines (Err NoRoom) meant = ⊤
 
 -- a schedule, from the opening world of its clients on
-abbrev pub PlaysSchedule : {X : Type 0} → Meaning → (ℕ → Bool) → List ℕ → SchedulePlan → (X → World → Type 0) → Result X ReadSchedule → Type 0
+abbrev pub PlaysSchedule : {X : Type 0} → Meaning → (ℕ → Bool) → List ℕ → SchedulePlan → (X → World → Type 0) → Result X ReadSchedule
+    → Type 0
 PlaysSchedule m served numbers content Now result =
     LinesEnd m served Now content.lines result (plays m served (map event_at content.lines) (opening_for numbers content.clients))

@@ -1,13 +1,12 @@
 -- The worlds that a replay goes through, and what an act of the code does.
 use Rattle.std.specs.List.{All}
 use Rattle.std.specs.Prelude.{◌≡◌, ◌<◌, ◌≤◌, ℕ, Bool, List, ◌∷◌, ◌++◌, length, Some, Result, Ok, Err, ⊤}
-use Rattle.uip_wire.specs.declared.addr.Addr.{Addr}
 use Rattle.app_events.specs.Part.{Meaning}
-use Rattle.app_events.specs.Pages.{Pages, IsPaged, IsWord, IsAddr}
+use Rattle.app_events.specs.Pages.{Pages, IsPaged}
 use Rattle.link_world.specs.World.{World, Sent, numbered}
 use Rattle.link_world.specs.Bytes.{sent_bytes}
 use Rattle.link_world.specs.Acts.{acts, does, runs}
-use Rattle.link_world.specs.History.{Planned, IsPlan, opening_world}
+use Rattle.link_world.specs.History.{Start, started}
 use Rattle.link_world.specs.declared.act.Act.{Act}
 use Rattle.link_world.specs.declared.step_fault.StepFault.{StepFault}
 use Rattle.link_world.specs.declared.step_fault.StepFault.TheVariants.{NoDatagram, NoByte, AlreadyOpen, NotOpen, Full, NoMemory}
@@ -18,15 +17,10 @@ pub record IsAt (m : Meaning) (served : ℕ → Bool) (w : World) : Type 0 where
   pub pages : Pages
   pub lawful : IsPaged m pages
   pub bytes : HasBytes pages
-  pub addr : Addr
-  pub is_addr : IsAddr addr
-  pub numbers : List ℕ
-  pub in_range : All IsWord numbers
-  pub plan : List Planned
-  pub is_plan : IsPlan plan
+  pub start : Start
   pub schedule : List Act
   pub are_acts : All IsAct schedule
-  pub accepted : runs m served schedule (opening_world addr numbers plan) ≡ Ok (record w { mark = 0 })
+  pub accepted : runs m served schedule (started start) ≡ Ok (record w { mark = 0 })
 
 -- a refusal that an act is given by name, which want of memory is not
 abbrev pub IsNamed : StepFault → Type 0

@@ -24,7 +24,8 @@ who_word Pinger = codes "p"
 -- the letters of the flags that are set (RFC 793, section 3.1)
 abbrev pub flag_letters : ℕ → List ℕ
 flag_letters flags =
-    word_if (has_syn flags) (codes "S") ++ word_if (has_ack flags) (codes "A") ++ word_if (has_psh flags) (codes "P") ++ word_if (has_fin flags) (codes "F")
+    word_if (has_syn flags) (codes "S") ++ word_if (has_ack flags) (codes "A") ++ word_if (has_psh flags) (codes "P")
+    ++ word_if (has_fin flags) (codes "F")
     ++ word_if (has_rst flags) (codes "R")
 
 abbrev pub segment_kind : PlainSegment → Kind
@@ -44,7 +45,8 @@ kind_words EchoReply = codes "reply 0 0"
 
 abbrev pub datagram_line : ℕ → ℕ → Who → Kind → Bool → List ℕ
 datagram_line number tick who kind again =
-    decimal number ++ codes " " ++ decimal tick ++ codes " " ++ who_word who ++ codes " " ++ kind_words kind ++ word_if again (codes " again") ++ codes "\n"
+    decimal number ++ codes " " ++ decimal tick ++ codes " " ++ who_word who ++ codes " " ++ kind_words kind
+    ++ word_if again (codes " again") ++ codes "\n"
 
 -- number, ticks at sending, who, what, and whether it was sent again
 abbrev pub line_of_datagram : ℕ → Sent → List ℕ
@@ -66,7 +68,8 @@ clean_words show (Some number) = codes "stale" ++ word_if show (codes " " ++ dec
 
 abbrev pub client_line : Bool → ℕ → ClientState → ℕ → Option ℕ → List ℕ
 client_line show number state len first_stale =
-    codes "client " ++ decimal number ++ codes " " ++ state_word state ++ codes " " ++ decimal len ++ codes " " ++ clean_words show first_stale ++ codes "\n"
+    codes "client " ++ decimal number ++ codes " " ++ state_word state ++ codes " " ++ decimal len ++ codes " "
+    ++ clean_words show first_stale ++ codes "\n"
 
 -- number, state, how many bytes of its page it received, and whether it is clean
 abbrev pub line_of_client : Bool → ℕ → Side → List ℕ

@@ -25,8 +25,9 @@ tally_of w = record {
 
 abbrev pub tally_line : Tally → List ℕ
 tally_line t =
-    codes "closed " ++ decimal t.closed ++ codes " open " ++ decimal t.opened ++ codes " reset " ++ decimal t.reset ++ codes " other " ++ decimal t.other
-    ++ codes " stale " ++ decimal t.stale ++ codes " bytes " ++ decimal t.bytes ++ codes " datagrams " ++ decimal t.datagrams ++ codes " again " ++ decimal t.again ++ codes "\n"
+    codes "closed " ++ decimal t.closed ++ codes " open " ++ decimal t.opened ++ codes " reset " ++ decimal t.reset
+    ++ codes " other " ++ decimal t.other ++ codes " stale " ++ decimal t.stale ++ codes " bytes " ++ decimal t.bytes
+    ++ codes " datagrams " ++ decimal t.datagrams ++ codes " again " ++ decimal t.again ++ codes "\n"
 
 abbrev pub summary_of : World → List ℕ
 summary_of w = tally_line (tally_of w)

@@ -48,7 +48,10 @@ quiet event = record { event = event; answer = Silent }
 
 -- two ticks, an echo, and an overlong frame
 abbrev pub node : AbstractNode
-node = record (opening (host 1) []) { past = map quiet tick ++ (record { event = EchoAsked []; answer = EchoReplied } ∷ quiet Overlong ∷ map quiet tick) }
+node = record (opening (host 1) []) {
+  past = map quiet tick ++ (record { event = EchoAsked []; answer = EchoReplied } ∷ quiet Overlong
+      ∷ map quiet tick);
+}
 
 abbrev pub is_told : ℕ → ℕ → ℕ → List ℕ → Content
 is_told seq ack flags text = OfSegment 1 (record { seq = seq; ack = ack; flags = flags; window = 1460; mss = None; text = text })

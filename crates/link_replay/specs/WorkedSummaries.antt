@@ -37,11 +37,13 @@ sent again = record { who = Pinger; tick = 0; epoch = 0; again = again; content 
 abbrev pub world : World
 world = record {
   node = opening (host 1) [];
-  sides = client Closed (codes "page") None ∷ client Closed (codes "page one") None ∷ client Opened (codes "p") (Some 2) ∷ client Reset [] None ∷ client Closing [] None ∷ [];
+  sides = client Closed (codes "page") None ∷ client Closed (codes "page one") None ∷ client Opened (codes "p") (Some 2)
+      ∷ client Reset [] None ∷ client Closing [] None ∷ [];
   sent = sent false ∷ sent true ∷ sent false ∷ [];
   mark = 0;
 }
 
 pub record AreWorkedSummaries : Type 0 where
   pub of_five : summary_of world ≡ codes "closed 2 open 1 reset 1 other 1 stale 1 bytes 13 datagrams 3 again 1\n"
-  pub of_none : summary_of (record world { sides = []; sent = [] }) ≡ codes "closed 0 open 0 reset 0 other 0 stale 0 bytes 0 datagrams 0 again 0\n"
+  pub of_none : summary_of (record world { sides = []; sent = [] })
+      ≡ codes "closed 0 open 0 reset 0 other 0 stale 0 bytes 0 datagrams 0 again 0\n"

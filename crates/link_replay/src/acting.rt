@@ -23,8 +23,10 @@ impl Link {
         requires area { length self.old.area.items ≡ LARGEST_DATAGRAM }
         requires inside { (len : ℕ) → sent ≡ Some len → len ≤ length self.old.area.items }
         ensures kept { (addr : Address) → IsLink addr self.old → IsLink addr self.new }
-        ensures posted { OnOk result ((w : PlainWorld) (side : PlainSide) (s : Option PlainSegment) → LinkStands self.old w → numbered w.sides number ≡ Some side
-            → Sends side.client.setup s sent self.old.area.items → tick ≡ ticks_of w.node.past → LinkStands self.new (posts_of_client w number s)) }
+        ensures posted { OnOk result ((w : PlainWorld) (side : PlainSide) (s : Option PlainSegment) → LinkStands self.old w
+            → numbered w.sides number ≡ Some side
+            → Sends side.client.setup s sent self.old.area.items → tick ≡ ticks_of w.node.past
+            → LinkStands self.new (posts_of_client w number s)) }
     {
         let Some(len) = sent else {
             return Ok(());
@@ -55,7 +57,8 @@ impl Link {
     /// A client tells a window from now on.
     pub(crate) fn tell_window(&mut self, number: u8, window: u16)
         ensures kept { (addr : Address) → IsLink addr self.old → IsLink addr self.new }
-        ensures told { (w : PlainWorld) → LinkStands self.old w → LinkStands self.new (client_acts w number (tells_window window) (numbered w.sides number)) }
+        ensures told { (w : PlainWorld) → LinkStands self.old w
+            → LinkStands self.new (client_acts w number (tells_window window) (numbered w.sides number)) }
     {
         let place = usize::from(number);
         if place == 0 || place > self.sides.len() {

@@ -27,7 +27,8 @@ pub(crate) fn write_clients<K: Sink>(show: bool, sides: &[Side], sink: &mut K) -
 
 /// Writes the line of a client with its number, and where all is shown the bytes that it received.
 fn write_client<K: Sink>(show: bool, number: usize, side: &Side, sink: &mut K) -> Result<(), Failed>
-    ensures wrote { (s : PlainSide) → SideStands side.now s → Wrote (K.written sink.old) (K.written sink.new) result (lines_of_client show number s) }
+    ensures wrote { (s : PlainSide) → SideStands side.now s
+        → Wrote (K.written sink.old) (K.written sink.new) result (lines_of_client show number s) }
     ensures cause { HasCause (K.faults sink.old) (K.faults sink.new) result }
 {
     write_word(client_line(show, number, side).bytes(), sink)?;

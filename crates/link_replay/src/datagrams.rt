@@ -26,7 +26,8 @@ pub(crate) fn write_shown<K: Sink>(
     link: &Link,
     sink: &mut K,
 ) -> Result<(), Failed>
-    ensures wrote { (m : Meaning) (served : ℕ → Bool) (w : PlainWorld) → addr ≡ w.node.addr → LinkStands link.now w → IsLink w.node.addr link.now → IsAt m served w
+    ensures wrote { (m : Meaning) (served : ℕ → Bool) (w : PlainWorld) → addr ≡ w.node.addr → LinkStands link.now w
+        → IsLink w.node.addr link.now → IsAt m served w
         → Wrote (K.written sink.old) (K.written sink.new) result (word_if show (numbered_texts line_of_datagram 1 w.sent)) }
     ensures cause { HasCause (K.faults sink.old) (K.faults sink.new) result }
 {
@@ -38,7 +39,8 @@ pub(crate) fn write_shown<K: Sink>(
 
 /// Writes the line of each datagram.
 fn write_datagrams<K: Sink>(addr: Addr, link: &Link, sink: &mut K) -> Result<(), Failed>
-    ensures wrote { (m : Meaning) (served : ℕ → Bool) (w : PlainWorld) → addr ≡ w.node.addr → LinkStands link.now w → IsLink w.node.addr link.now → IsAt m served w
+    ensures wrote { (m : Meaning) (served : ℕ → Bool) (w : PlainWorld) → addr ≡ w.node.addr → LinkStands link.now w
+        → IsLink w.node.addr link.now → IsAt m served w
         → Wrote (K.written sink.old) (K.written sink.new) result (numbered_texts line_of_datagram 1 w.sent) }
     ensures cause { HasCause (K.faults sink.old) (K.faults sink.new) result }
 {
@@ -56,7 +58,8 @@ fn write_datagram<K: Sink>(
     sent: &Sent,
     sink: &mut K,
 ) -> Result<(), Failed>
-    ensures wrote { (w : PlainWorld) (e : PlainSent) → addr ≡ w.node.addr → LinkStands link.now w → IsLink w.node.addr link.now → SentStands w sent.now e
+    ensures wrote { (w : PlainWorld) (e : PlainSent) → addr ≡ w.node.addr → LinkStands link.now w → IsLink w.node.addr link.now
+        → SentStands w sent.now e
         → IsRead w e.who e.content (sent_bytes w e) → IsSentBy w.sides e.who e.content
         → Wrote (K.written sink.old) (K.written sink.new) result (line_of_datagram number e) }
     ensures cause { HasCause (K.faults sink.old) (K.faults sink.new) result }

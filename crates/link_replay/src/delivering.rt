@@ -37,7 +37,8 @@ impl<A: App> World<A> {
         ensures mark { self.new.mark ≡ self.old.mark }
         ensures heard { OnOk result ((w : PlainWorld) → WorldStands A.App self.old w
             → AreTo to (step (A.meaning (A.kept self.old.node.shared)) A.served w.node (event_of w.node.addr bytes.now)).sent
-            → WorldStands A.App self.new (node_handles (A.meaning (A.kept self.old.node.shared)) A.served w (event_of w.node.addr bytes.now))) }
+            → WorldStands A.App self.new (node_handles (A.meaning (A.kept self.old.node.shared)) A.served w
+            (event_of w.node.addr bytes.now))) }
     {
         let before = Before::of(&self.node);
         let sent = self.node.input(bytes);
@@ -143,7 +144,8 @@ impl<A: App> World<A> {
         ensures kept { IsKept A.App self.new }
         ensures same { A.kept self.new.node.shared ≡ A.kept self.old.node.shared }
         ensures mark { self.new.mark ≡ self.old.mark }
-        ensures given { OnOk result ((w : PlainWorld) → IsAt (A.meaning (A.kept self.old.node.shared)) A.served w → WorldStands A.App self.old w
+        ensures given { OnOk result ((w : PlainWorld) → IsAt (A.meaning (A.kept self.old.node.shared)) A.served w
+            → WorldStands A.App self.old w
             → WorldStands A.App self.new (hands_to (A.meaning (A.kept self.old.node.shared)) A.served w number (numbered w.sent number))) }
     {
         let place = number as usize;
@@ -168,9 +170,11 @@ impl<A: App> World<A> {
         ensures kept { IsKept A.App self.new }
         ensures same { A.kept self.new.node.shared ≡ A.kept self.old.node.shared }
         ensures mark { self.new.mark ≡ self.old.mark }
-        ensures damaged { OnOk result ((w : PlainWorld) → IsAt (A.meaning (A.kept self.old.node.shared)) A.served w → fault_of w (Act.Damage number at mask) ≡ None
+        ensures damaged { OnOk result ((w : PlainWorld) → IsAt (A.meaning (A.kept self.old.node.shared)) A.served w
+            → fault_of w (Act.Damage number at mask) ≡ None
             → WorldStands A.App self.old w
-            → WorldStands A.App self.new (damages_at (A.meaning (A.kept self.old.node.shared)) A.served w at mask (numbered w.sent number))) }
+            → WorldStands A.App self.new (damages_at (A.meaning (A.kept self.old.node.shared)) A.served w at mask
+            (numbered w.sent number))) }
     {
         let place = number as usize;
         if place == 0 || place > self.link.sent.len() {
@@ -194,7 +198,8 @@ impl<A: App> World<A> {
         ensures same { A.kept self.new.node.shared ≡ A.kept self.old.node.shared }
         ensures mark { self.new.mark ≡ self.old.mark }
         ensures window { (number size : ℕ) → act.now ≡ Act.Window number size → result ≡ Ok tt }
-        ensures done { OnOk result ((w : PlainWorld) → IsAt (A.meaning (A.kept self.old.node.shared)) A.served w → fault_of w act.now ≡ None → WorldStands A.App self.old w
+        ensures done { OnOk result ((w : PlainWorld) → IsAt (A.meaning (A.kept self.old.node.shared)) A.served w
+            → fault_of w act.now ≡ None → WorldStands A.App self.old w
             → WorldStands A.App self.new (does (A.meaning (A.kept self.old.node.shared)) A.served w act.now)) }
     {
         match *act {

@@ -26,7 +26,8 @@ use uip_wire::Addr;
 /// What a datagram is at the node of this address. A segment is read as its receiver reads it; what no receiver can read is told as
 /// an echo reply.
 pub(crate) fn kind_of(addr: Addr, link: &Link, sent: &Sent) -> Kind
-    ensures { (w : PlainWorld) (e : PlainSent) → addr ≡ w.node.addr → LinkStands link.now w → IsLink w.node.addr link.now → SentStands w sent.now e
+    ensures { (w : PlainWorld) (e : PlainSent) → addr ≡ w.node.addr → LinkStands link.now w → IsLink w.node.addr link.now
+        → SentStands w sent.now e
         → IsRead w e.who e.content (sent_bytes w e) → IsSentBy w.sides e.who e.content → result ≡ kind_meant e.content }
 {
     match sent.who {
@@ -41,7 +42,8 @@ pub(crate) fn kind_of(addr: Addr, link: &Link, sent: &Sent) -> Kind
 
 /// The address of the client with a number, counted from 1.
 fn address_of(sides: &[Side], number: u8) -> Option<Addr>
-    ensures { (ss : List PlainSide) → Matched SideStands sides.now ss → result ≡ option_map (λ s. s.client.setup.addr) (numbered ss number) }
+    ensures { (ss : List PlainSide) → Matched SideStands sides.now ss
+        → result ≡ option_map (λ s. s.client.setup.addr) (numbered ss number) }
 {
     let place = usize::from(number);
     if place == 0 || place > sides.len() {
@@ -67,7 +69,8 @@ fn read_at(own: Addr, bytes: &[u8]) -> Kind
 fn read_segment(bytes: &[u8], head: &IpHead) -> Kind
     requires head { IsHeadOf head.now bytes.now }
     requires most { head.now.total ≤ length bytes.now }
-    ensures { (sockets : Sockets) (s : PlainSegment) → by_segment head.now bytes.now (segment_or_fate head.now bytes.now) ≡ Arrived sockets s
+    ensures { (sockets : Sockets) (s : PlainSegment)
+        → by_segment head.now bytes.now (segment_or_fate head.now bytes.now) ≡ Arrived sockets s
         → result ≡ segment_kind s }
 {
     match check_segment(bytes, head) {

@@ -61,7 +61,8 @@ impl Link {
     ) -> Result<(), NoMemory>
         requires most { length bytes.items ≤ LARGEST_DATAGRAM }
         ensures kept { (addr : Address) → IsLink addr self.old → IsLink addr self.new }
-        ensures posted { OnOk result ((w : PlainWorld) (content : Content) → LinkStands self.old w → tick ≡ ticks_of w.node.past → bytes.items ≡ bytes_by w who content
+        ensures posted { OnOk result ((w : PlainWorld) (content : Content) → LinkStands self.old w → tick ≡ ticks_of w.node.past
+            → bytes.items ≡ bytes_by w who content
             → LinkStands self.new (posts w who again content)) }
     {
         if self.sent.len() >= MOST_DATAGRAMS {

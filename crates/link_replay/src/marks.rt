@@ -13,7 +13,8 @@ use crate::socket_pair::SocketPair;
 impl Side {
     /// A datagram of an epoch is delivered from or to the client: where it is stale, the first such number is kept.
     fn see(&mut self, number: u32, epoch: u32)
-        ensures stands { (s : PlainSide) (e : PlainSent) → SideStands self.old s → epoch ≡ e.epoch → SideStands self.new (marked s number e) }
+        ensures stands { (s : PlainSide) (e : PlainSent) → SideStands self.old s → epoch ≡ e.epoch
+            → SideStands self.new (marked s number e) }
         ensures kept { self.new ≡ record self.old { first_stale = self.new.first_stale } }
     {
         if self.first_stale.is_none() && epoch != self.epoch {

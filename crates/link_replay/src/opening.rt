@@ -101,7 +101,8 @@ impl<A: App> World<A> {
         ensures kept { IfOk result (λ world. IsKept A.App world) }
         ensures stands { IfOk result (λ world. WorldStands A.App world (opening_for (A.numbers shared) (map plan_at clients.now))) }
         ensures shared { IfOk result (λ world. world.node.shared ≡ shared) }
-        ensures planned { IfOk result (λ world. (k : ℕ) (p : Planned) → slice_get (plan_from 1 (map plan_at clients.now)) k ≡ Some p → IsPlanned p) }
+        ensures planned { IfOk result (λ world. (k : ℕ) (p : Planned) → slice_get (plan_from 1 (map plan_at clients.now)) k ≡ Some p
+            → IsPlanned p) }
     {
         let sides = sides_for(alloc, clients)?;
         let Ok(area) = vec![in alloc; 0u8; LARGEST_DATAGRAM] else {

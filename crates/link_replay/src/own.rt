@@ -66,7 +66,8 @@ impl Side {
         ensures client { IsClient self.new.client self.new.request.items }
         ensures setup { self.new.client.setup ≡ self.old.client.setup }
         ensures room { length area.new ≡ length area.old }
-        ensures step { IfOk result (λ sent. (s : PlainSide) → SideStands self.old s → Stepped (client_hands s.client (client_hears s.client.setup datagram.now)) s self.new sent area.new) }
+        ensures step { IfOk result (λ sent. (s : PlainSide) → SideStands self.old s
+            → Stepped (client_hands s.client (client_hears s.client.setup datagram.now)) s self.new sent area.new) }
     {
         let took = self.client.take(self.request.as_slice(), datagram, area);
         let fresh = &datagram[took.fresh_at..took.fresh_at + took.fresh_len];

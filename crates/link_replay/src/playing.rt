@@ -62,7 +62,8 @@ fn play_lines<A: App>(world: &mut World<A>, lines: &[Line]) -> Result<(), ReadSc
     requires ranges { (clients : ℕ) × (list_all (λ line. event_in_range clients line.event) lines.now ≡ true) }
     ensures kept { IsKept A.App world.new }
     ensures played { (w : PlainWorld) → IsAt (A.meaning (A.kept world.old.node.shared)) A.served w → WorldStands A.App world.old w
-        → LinesEnd (A.meaning (A.kept world.old.node.shared)) A.served (λ done. WorldStands A.App world.new) lines.now result (played (A.meaning (A.kept world.old.node.shared)) A.served (map event_at lines.now) w) }
+        → LinesEnd (A.meaning (A.kept world.old.node.shared)) A.served (λ done. WorldStands A.App world.new) lines.now result
+        (played (A.meaning (A.kept world.old.node.shared)) A.served (map event_at lines.now) w) }
 {
     for line in lines.iter() {
         event_fits(&line.event);

@@ -17,7 +17,8 @@ impl<A: App> World<A> {
     pub fn side(&self, number: u8) -> &Side
         requires least { 1 ≤ number }
         requires most { number ≤ length self.now.link.sides.items }
-        ensures { (w : PlainWorld) (s : PlainSide) → WorldStands A.App self.now w → numbered w.sides number ≡ Some s → SideStands result.now s }
+        ensures { (w : PlainWorld) (s : PlainSide) → WorldStands A.App self.now w → numbered w.sides number ≡ Some s
+            → SideStands result.now s }
     {
         &self.link.sides[usize::from(number) - 1]
     }
@@ -36,7 +37,8 @@ impl<A: App> World<A> {
     pub fn received(&self, number: u8) -> &[u8]
         requires least { 1 ≤ number }
         requires most { number ≤ length self.now.link.sides.items }
-        ensures { (w : PlainWorld) (s : PlainSide) → WorldStands A.App self.now w → numbered w.sides number ≡ Some s → result.now ≡ s.client.received }
+        ensures { (w : PlainWorld) (s : PlainSide) → WorldStands A.App self.now w → numbered w.sides number ≡ Some s
+            → result.now ≡ s.client.received }
     {
         self.side(number).received.as_slice()
     }
@@ -57,7 +59,8 @@ impl<A: App> World<A> {
     pub fn first_stale(&self, number: u8) -> Option<u32>
         requires least { 1 ≤ number }
         requires most { number ≤ length self.now.link.sides.items }
-        ensures { (w : PlainWorld) (s : PlainSide) → WorldStands A.App self.now w → numbered w.sides number ≡ Some s → result ≡ s.first_stale }
+        ensures { (w : PlainWorld) (s : PlainSide) → WorldStands A.App self.now w → numbered w.sides number ≡ Some s
+            → result ≡ s.first_stale }
     {
         self.side(number).first_stale
     }

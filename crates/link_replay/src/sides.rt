@@ -36,7 +36,8 @@ fn bury_one(side: &mut Side, gone: SocketPair) -> Result<(), NoMemory>
 /// Each client whose connection was lost is one epoch on. NoMemory where a client's count of epochs has no higher number.
 pub(crate) fn bury(sides: &mut [Side], gone: SocketPair) -> Result<(), NoMemory>
     ensures kept { Matched OnlyEpoch sides.old sides.new }
-    ensures stands { OnOk result ((ss : List PlainSide) (g : Connection) → pair_at g.sockets ≡ gone → Matched SideStands sides.old ss → Matched SideStands sides.new (buries (Some g) ss)) }
+    ensures stands { OnOk result ((ss : List PlainSide) (g : Connection) → pair_at g.sockets ≡ gone → Matched SideStands sides.old ss
+        → Matched SideStands sides.new (buries (Some g) ss)) }
     ensures last { OnErr result (Any (IsAtLast gone) sides.old) }
 {
     for side in sides.iter_mut() {

@@ -30,7 +30,8 @@ impl Link {
     fn bury(&mut self, gone: Option<SocketPair>) -> Result<(), NoMemory>
         ensures kept { (addr : Address) → IsLink addr self.old → IsLink addr self.new }
         ensures few { length self.new.sides.items ≡ length self.old.sides.items }
-        ensures buried { OnOk result ((w : PlainWorld) (node : AbstractNode) (g : Option Connection) → gone ≡ gone_pair g → node.addr ≡ w.node.addr → LinkStands self.old w
+        ensures buried { OnOk result ((w : PlainWorld) (node : AbstractNode) (g : Option Connection) → gone ≡ gone_pair g
+            → node.addr ≡ w.node.addr → LinkStands self.old w
             → LinkStands self.new (record w { node = node; sides = buries g w.sides })) }
     {
         if let Some(pair) = gone {
@@ -50,7 +51,8 @@ impl Link {
         requires few { length self.old.sides.items ≤ 64 }
         requires most { length datagram.now ≤ LARGEST_DATAGRAM }
         ensures kept { (addr : Address) → IsLink addr self.old → IsLink addr self.new }
-        ensures posted { OnOk result ((w : PlainWorld) (reply : Reply) → IsTo to reply → tick ≡ ticks_of w.node.past → again ≡ is_sent_again (Some reply)
+        ensures posted { OnOk result ((w : PlainWorld) (reply : Reply) → IsTo to reply → tick ≡ ticks_of w.node.past
+            → again ≡ is_sent_again (Some reply)
             → datagram.now ≡ reply_bytes w.node.addr reply → LinkStands self.old w → LinkStands self.new (posts_reply w (Some reply))) }
     {
         let number = match to {
@@ -81,9 +83,11 @@ pub(crate) fn tell<A: App>(
     requires whole { IsWhole A.App node.now }
     requires few { length link.old.sides.items ≤ 64 }
     ensures kept { (addr : Address) → IsLink addr link.old → IsLink addr link.new }
-    ensures told { OnOk result ((m : Meaning) (served : ℕ → Bool) (w : PlainWorld) (event : NodeEvent) → IsBefore before.now w.node → AreTo to (step m served w.node event).sent
+    ensures told { OnOk result ((m : Meaning) (served : ℕ → Bool) (w : PlainWorld) (event : NodeEvent) → IsBefore before.now w.node
+        → AreTo to (step m served w.node event).sent
         → Stands A.App node.now (step m served w.node event).node (step m served w.node event).node.past
-        → IsSent node.now.addr (step m served w.node event).sent sent node.now.packet → LinkStands link.old w → LinkStands link.new (node_stepped w (step m served w.node event))) }
+        → IsSent node.now.addr (step m served w.node event).sent sent node.now.packet → LinkStands link.old w
+        → LinkStands link.new (node_stepped w (step m served w.node event))) }
 {
     let again = before.again(node);
     link.bury(before.gone(node))?;

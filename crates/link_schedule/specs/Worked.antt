@@ -30,19 +30,23 @@ front_page = plan 1025 (codes "GET / HTTP/1.0\r\n\r\n")
 
 -- a client line for each port of two digits from 10 on, so many
 abbrev pub client_lines : ℕ → List ℕ
-client_lines count = flat_map (λ p. codes "client 10.0.0.2 " ++ (48 + p / 10) ∷ (48 + p % 10) ∷ [] ++ codes " 0 536 get /\n") (range_with_len 10 count)
+client_lines count = flat_map (λ p. codes "client 10.0.0.2 " ++ (48 + p / 10) ∷ (48 + p % 10) ∷ [] ++ codes " 0 536 get /\n")
+    (range_with_len 10 count)
 
 pub record AreWorkedSchedules : Type 0 where
   -- one client, and what happens
-  pub page : read_text (codes "client 10.0.0.2 1025 0 536 get /\nopen 1\nround\n") ≡ schedule (front_page ∷ []) (line_said 2 (Opens 1) ∷ line_said 3 Round ∷ [])
+  pub page : read_text (codes "client 10.0.0.2 1025 0 536 get /\nopen 1\nround\n")
+      ≡ schedule (front_page ∷ []) (line_said 2 (Opens 1) ∷ line_said 3 Round ∷ [])
   -- the last line may have no end; empty lines and remarks are counted and passed over
-  pub no_end : read_text (codes "# one page\n\nclient 10.0.0.2 1025 0 536 get /\nopen 1") ≡ schedule (front_page ∷ []) (line_said 4 (Opens 1) ∷ [])
+  pub no_end : read_text (codes "# one page\n\nclient 10.0.0.2 1025 0 536 get /\nopen 1")
+      ≡ schedule (front_page ∷ []) (line_said 4 (Opens 1) ∷ [])
   pub nothing : read_text [] ≡ schedule [] []
   -- a request as bytes in digits
   pub raw : read_text (codes "client 10.0.0.2 1025 0 536 raw 474554") ≡ schedule (plan 1025 (codes "GET") ∷ []) []
   pub raw_odd : read_text (codes "client 10.0.0.2 1025 0 536 raw 47455") ≡ bad Form 1
   -- numbers
-  pub ticks : read_text (codes "tick\ntick 300\ndamage 4 45 1") ≡ schedule [] (line_said 1 (Tick 1) ∷ line_said 2 (Tick 300) ∷ line_said 3 (Damage 4 45 1) ∷ [])
+  pub ticks : read_text (codes "tick\ntick 300\ndamage 4 45 1")
+      ≡ schedule [] (line_said 1 (Tick 1) ∷ line_said 2 (Tick 300) ∷ line_said 3 (Damage 4 45 1) ∷ [])
   pub no_ticks : read_text (codes "tick 0") ≡ bad Form 1
   pub leading_zero : read_text (codes "give 01") ≡ bad Form 1
   pub space_behind : read_text (codes "round ") ≡ bad Form 1

@@ -353,6 +353,26 @@ module _ (m : Meaning) (G : ℕ → Side → Connection → List Sent → Type 0
   abbrev pub Own : (AbstractClient → ClientStep) → Type 0
   Own act = (w : World) (k : ℕ) (side : Side) (c : Connection) → ((o : ℕ) → All IsMoment (era side.past c o).captures) → G k side c w.sent → Takes w k side c (act side.client)
 
+  -- what the steps of a client do
+  pub record OnClients : Type 0 where
+    pub took : (w : World) (k j : ℕ) (side : Side) (c : Connection) (number : ℕ) (e : Sent) → ((o : ℕ) → All IsMoment (era side.past c o).captures) → slice_get w.sent j ≡ Some e → e.who ≡ to k → G k side c w.sent → Takes w k (marked side number e) c (client_takes side.client (seg e))
+    pub opens : Own client_opens
+    pub again : Own client_again
+    pub closes : Own client_closes
+    pub aborts : Own client_aborts
+    pub windows : (x : ℕ) → Own (tells_window x)
+
+  -- where it is the same whatever the client does
+  pub any_step : ((w : World) (k : ℕ) (side : Side) (c : Connection) (t : ClientStep) → G k side c w.sent → Takes w k side c t) → OnClients
+  any_step takes = record {
+    took = λ w k j side c number e fit sent who g. takes w k (marked side number e) c (client_takes side.client (seg e)) (mark k side c w.sent number e g);
+    opens = λ w k side c fit g. takes w k side c (client_opens side.client) g;
+    again = λ w k side c fit g. takes w k side c (client_again side.client) g;
+    closes = λ w k side c fit g. takes w k side c (client_closes side.client) g;
+    aborts = λ w k side c fit g. takes w k side c (client_aborts side.client) g;
+    windows = λ x w k side c fit g. takes w k side c (tells_window x side.client) g;
+  }
+
   -- the acts
   module _ (steady : IsSteady m) (served : ℕ → Bool)
       (segment : (w : World) (old : Connection) (numbers : List ℕ) (now : Connection → Now) (k j : ℕ) (side : Side) (e : Sent) → is_live old.state ≡ true → FitConn old → All IsWord numbers → ((c : Connection) → FitConn c → IsNow (now c)) →
@@ -361,8 +381,7 @@ module _ (m : Meaning) (G : ℕ → Side → Connection → List Sent → Type 0
       G k side old w.sent → Steps w (asked m now (on_tick m old numbers)) k side)
       (birth : (w : World) (first : ℕ) (sockets : Sockets) (k j : ℕ) (side : Side) (e : Sent) → slice_get w.sent j ≡ Some e → e.who ≡ from k → (is_clean side ≡ true → e.epoch ≡ length side.past) →
       is_plain_syn (seg e) ≡ true → FitConn (accepted first sockets (seg e)) → G k side closed w.sent → (tick id : ℕ) → G k side (accepted first sockets (seg e)) (w.sent ++ entry (to k) side tick id (speech false (syn_ack (accepted first sockets (seg e)))) ∷ []))
-      (took : (w : World) (k j : ℕ) (side : Side) (c : Connection) (number : ℕ) (e : Sent) → ((o : ℕ) → All IsMoment (era side.past c o).captures) → slice_get w.sent j ≡ Some e → e.who ≡ to k → G k side c w.sent → Takes w k (marked side number e) c (client_takes side.client (seg e)))
-      (own_open : Own client_opens) (own_again : Own client_again) (own_close : Own client_closes) (own_abort : Own client_aborts) (own_window : (x : ℕ) → Own (tells_window x)) where
+      (clients : OnClients) where
     -- a connection in a slot took a step
     happened_reacts : (n : AbstractNode) (event : Event) (slot : ℕ) (old : Connection) (o : Outcome) → o.connection.sockets ≡ old.sockets →
         Reaction (happened m n event slot old o) old.sockets (record { table = set n.connections slot o.connection; gone = gone_by old o.connection; said = said_by o })
@@ -455,7 +474,7 @@ module _ (m : Meaning) (G : ℕ → Side → Connection → List Sent → Type 0
     to_client w n k j e s None g fw at sent who q = g
     to_client w n k j e s (Some side) g fw at sent who q =
         subst (λ x. Framed (client_stepped w (suc n) (marked side k e) (client_takes side.client x))) q
-        (client_framed w n side (marked side k e) (client_takes side.client (seg e)) g at refl (takes_setup side.client (seg e)) (took w n j side (serving (client_sockets side) w.node.connections) k e (eras_fit w n side fw at) sent who (g.each n side at)))
+        (client_framed w n side (marked side k e) (client_takes side.client (seg e)) g at refl (takes_setup side.client (seg e)) (clients.took w n j side (serving (client_sockets side) w.node.connections) k e (eras_fit w n side fw at) sent who (g.each n side at)))
 
     echo_framed : (w : World) (datagram : List ℕ) → Framed w → Framed (node_handles m served w (EchoAsked datagram))
     echo_framed w datagram g = node_framed w closed.sockets (step m served w.node (EchoAsked datagram)) (record { table = w.node.connections; gone = None; said = None }) g record { table = refl; gone = refl; sends = sends_echo datagram refl refl } (effect_none w closed.sockets None g (λ x y. absurd (cc)))
@@ -526,11 +545,11 @@ module _ (m : Meaning) (G : ℕ → Side → Connection → List Sent → Type 0
     }
 
     pub does_framed : (w : World) (act : Act) → Harmless m served w act → Framed w → FitWorld w → Framed (does m served w act)
-    does_framed w (Act.Opens n) pl g fw = act_framed w n client_opens own_open (λ c. opens_setup c.state c) g fw
-    does_framed w (Act.Again n) pl g fw = act_framed w n client_again own_again (λ c. again_setup c.state c) g fw
-    does_framed w (Act.Closes n) pl g fw = act_framed w n client_closes own_close (λ c. closes_setup c.state c) g fw
-    does_framed w (Act.Aborts n) pl g fw = act_framed w n client_aborts own_abort (λ c. aborts_setup c.state c) g fw
-    does_framed w (Act.Window n x) pl g fw = act_framed w n (tells_window x) (own_window x) (λ c. refl) g fw
+    does_framed w (Act.Opens n) pl g fw = act_framed w n client_opens clients.opens opens_setup g fw
+    does_framed w (Act.Again n) pl g fw = act_framed w n client_again clients.again again_setup g fw
+    does_framed w (Act.Closes n) pl g fw = act_framed w n client_closes clients.closes closes_setup g fw
+    does_framed w (Act.Aborts n) pl g fw = act_framed w n client_aborts clients.aborts aborts_setup g fw
+    does_framed w (Act.Window n x) pl g fw = act_framed w n (tells_window x) (clients.windows x) (λ c. refl) g fw
     does_framed w (Act.Ping source) pl g fw = posts_aside w Pinger false _ g (λ k z. absurd (cc)) (λ k z. absurd (cc))
     does_framed w (Act.Give k) pl g fw = number_framed w k g fw
     does_framed w (Act.Damage k at mask) pl g fw = loss_framed w (does m served w (Act.Damage k at mask)) pl g

@@ -3,28 +3,27 @@
 use Rattle.std.proofs.Common.{◌≡◌, ℕ, ◌+◌, ◌-◌, ◌<◌, ◌≤◌, min, Bool, true, false, not, ◌&&◌, ◌||◌, ◌⊎◌, inl, inr, List, length, length-append, drop, refl, sym, ap, ◌∙◌, arith, Some, eqb, ltb, length-take}
 use Rattle.uip_wire.specs.Numbers.{wrap}
 use Rattle.tcp_segment.specs.Segments.{PlainSegment, has_syn, has_fin, has_rst, has_ack}
-use Rattle.rexmit_timer.specs.Ages.{beat_at}
 use Rattle.rexmit_timer.specs.declared.timer.Beat.{Beat}
 use Rattle.app_events.specs.Part.{Part, After, Meaning}
 use Rattle.app_events.specs.Pages.{Pages, IsPaged}
 use Rattle.app_events.specs.declared.now.Now.{Now}
 use Rattle.app_events.specs.declared.state.State.{State}
 use Rattle.app_events.specs.declared.state.State.TheVariants.{Closed, SynRcvd, Established, CloseWait, FinWait1, FinWait2, Closing, TimeWait, LastAck}
-use Rattle.app_events.specs.declared.want.Want.{Want}
-use Rattle.app_events.specs.declared.want.Want.TheVariants.{Nothing, Send, Close, Abort}
 use Rattle.tcp_machine.specs.Connection.{Connection, rcv_nxt}
 use Rattle.tcp_machine.specs.Segments.{has_place, segment_of}
-use Rattle.tcp_machine.specs.Ask.{Outcome, peer_has_closed, idles, does_as_wanted, asked_for, asked}
+use Rattle.tcp_machine.specs.Ask.{Outcome, ask, asked, prepared}
 use Rattle.tcp_machine.specs.OnSegment.{is_out_of_order, is_acked, has_text, hears, connects, in_established, peer_closes, goes_on, fin_acked, fin_waits, in_fin_wait_2, by_state, on_segment}
-use Rattle.tcp_machine.specs.OnTick.{limit_of, by_beat, rests_on, rest_time, ticks_established, tick_by, on_tick}
+use Rattle.tcp_machine.specs.OnTick.{by_beat, on_tick}
 use Rattle.tcp_machine.specs.declared.step.Step.{Step}
-use Rattle.link_client.specs.Client.{AbstractClient, ClientStep, sends_next, has_outstanding, is_receiving, may_finish, fin_sent, fin_out, fin_heard, own_request, ack_of, syn_of, own_fin, own_reset, keeps, steps_with, hears_ack, takes_in_order, takes_text, takes_by, client_takes, is_reset_by, opened_by, opens_by, again_by, closes_by, aborts_by, one_if, next_own, own_first, tells_window}
+use Rattle.link_client.specs.Client.{AbstractClient, ClientStep, ack_of, client_aborts, client_again, client_closes, client_opens, client_takes, fin_heard, fin_out, fin_sent, has_outstanding, hears_ack, is_receiving, keeps, may_finish, next_own, one_if, opened_by, own_fin, own_first, own_request, own_reset, sends_next, steps_with, syn_of, takes_in_order, takes_text, tells_window}
 use Rattle.link_client.specs.declared.client_state.ClientState.{ClientState}
 use Rattle.link_client.specs.declared.client_state.ClientState.TheVariants as Is
 use Rattle.link_client.specs.declared.fin_at.FinAt.{FinAt}
 use Rattle.link_world.proofs.Basics.{choose, and_true, and_false, only_some, eqb-eq, not-false, not-true, ltb-zero, same_place}
 use Rattle.link_world.proofs.Good.{Steady, is_early}
+use Rattle.link_world.proofs.ClientCases.{of_aborts, of_again, of_closes, of_opens, of_order, of_sends, of_takes}
 use Rattle.link_world.proofs.Steps.{hears_is}
+use Rattle.link_world.proofs.Cases.{asked_by, on_tick_by, wanted_unmoved}
 
 -- how many bytes of its request the client has sent
 abbrev pub asked_bytes : AbstractClient → ℕ
@@ -102,37 +101,33 @@ finishing_late Is.Closed r e = absurd (cc)
 finishing_late Is.Ended r e = absurd (cc)
 finishing_late Is.Reset r e = absurd (cc)
 
+quiet_asks : (c d : AbstractClient) → used d ≡ used c → asked_bytes d ≡ asked_bytes c → d.acked ≡ c.acked → own_first d ≡ own_first c → Asks c (keeps d)
+quiet_asks c d u b a f = record { more = omega (arith, u); further = omega (arith, b); acked = a; first = f; early = λ y. u; ends = λ st x p. absurd (cc) }
+
+says_asks : (c d : AbstractClient) (s : PlainSegment) → used d ≡ used c → asked_bytes d ≡ asked_bytes c → d.acked ≡ c.acked → own_first d ≡ own_first c → (Steady d → EndsIn d s) → Asks c (steps_with d s)
+says_asks c d s u b a f e = record { more = omega (arith, u); further = omega (arith, b); acked = a; first = f; early = λ y. u; ends = λ st x p. only_some (λ (y : PlainSegment). EndsIn d y) s x p (e st) }
+
 asks_next : (owed : Bool) (c : AbstractClient) → Asks c (sends_next owed c)
-unfolding sends_next
 asks_next owed c =
-    choose (λ x. Asks c x) (not (has_outstanding c) && (is_receiving c.state && ltb c.acked (length c.request))) _ _
-    (λ e. (let both = and_true (not (has_outstanding c)) (is_receiving c.state && ltb c.acked (length c.request)) e in
-    let none = nothing_waits c both.0 in
     let d : AbstractClient = record c { out = min c.setup.seg (length c.request - c.acked) } in
-    record {
+    let e : AbstractClient = record c { fin = FinAt.Out } in
+    of_sends (λ x. Asks c x) c owed (quiet_asks c c refl refl refl refl) (says_asks c c (ack_of c) refl refl refl refl (λ st nr ns z. absurd (cc)))
+    (λ o r. (let none = nothing_waits c o in record {
       more = omega (arith, none);
       further = omega (arith, none);
       acked = refl;
       first = refl;
-      early = λ y. absurd (receiving_late c.state (and_true (is_receiving c.state) (ltb c.acked (length c.request)) both.1).0 y);
+      early = λ y. absurd (receiving_late c.state r y);
       ends = λ st x p. only_some (λ (y : PlainSegment). EndsIn d y) (own_request d) x p (request_ends d st);
     }))
-    (λ e. choose (λ x. Asks c x) (not (has_outstanding c) && (may_finish c.state && not (fin_sent c.fin))) _ _
-    (λ f. (let both = and_true (not (has_outstanding c)) (may_finish c.state && not (fin_sent c.fin)) f in
-    let more = and_true (may_finish c.state) (not (fin_sent c.fin)) both.1 in
-    let unsent : fin_sent c.fin ≡ false = not-true (fin_sent c.fin) more.1 in
-    let d : AbstractClient = record c { fin = FinAt.Out } in
-    record {
-      more = omega (arith, ap one_if unsent);
+    (λ o m n. record {
+      more = omega (arith, ap one_if n);
       further = omega arith;
       acked = refl;
       first = refl;
-      early = λ y. absurd (finishing_late c.state more.0 y);
-      ends = λ st x p. only_some (λ (y : PlainSegment). EndsIn d y) (own_fin c) x p (fin_ends d refl st);
-    }))
-    (λ f. choose (λ x. Asks c x) owed _ _
-    (λ g. record { more = omega arith; further = omega arith; acked = refl; first = refl; early = λ y. refl; ends = λ st x p. only_some (λ (y : PlainSegment). EndsIn c y) (ack_of c) x p (λ nr ns z. absurd (cc)) })
-    (λ g. record { more = omega arith; further = omega arith; acked = refl; first = refl; early = λ y. refl; ends = λ st x p. absurd (cc) })))
+      early = λ y. absurd (finishing_late c.state m y);
+      ends = λ st x p. only_some (λ (y : PlainSegment). EndsIn e y) (own_fin c) x p (fin_ends e refl st);
+    })
 
 -- from a client that has used the same
 as_asked : (c d : AbstractClient) (s : PlainSegment) (t : ClientStep) → used d ≡ used c → asked_bytes d ≡ asked_bytes c → own_first d ≡ own_first c →
@@ -169,98 +164,43 @@ has_heard c s =
     (λ e. record { used_is = refl; asked_is = refl; first = refl; acked = inl refl })
 
 in_order_asks : (c : AbstractClient) (s : PlainSegment) → has_rst s.flags ≡ false → AsksOn c s (takes_in_order (hears_ack c s) s)
-unfolding takes_in_order
 in_order_asks c s nr =
     let d : AbstractClient = hears_ack c s in
     let h = has_heard c s in
     let acked = elim h.acked as (λ _. (d.acked ≡ c.acked) ⊎ ((has_rst s.flags ≡ false) × (has_ack s.flags ≡ true) × (s.ack ≡ next_own c) × (d.acked ≡ c.acked + c.out))) [ inl e ↦ inl e | inr e ↦ inr (nr, e.0, e.1, e.2) ] in
     let same : used d ≡ used c = h.used_is in
-    choose (λ x. AsksOn c s x) (has_syn s.flags) _ _ (λ e. as_asked c d s (sends_next true d) same h.asked_is h.first acked (asks_next true d))
-    (λ e. choose (λ x. AsksOn c s x) (not (has_place s)) _ _ (λ f. as_asked c d s (sends_next false d) same h.asked_is h.first acked (asks_next false d))
-    (λ f. choose (λ x. AsksOn c s x) (eqb s.seq d.expected && is_receiving d.state) _ _
+    of_order (λ x. AsksOn c s x) d s (as_asked c d s (sends_next true d) same h.asked_is h.first acked (asks_next true d)) (as_asked c d s (sends_next false d) same h.asked_is h.first acked (asks_next false d))
     (λ g. as_asked c (takes_text d s) s (sends_next true (takes_text d s)) same h.asked_is h.first acked (asks_next true (takes_text d s)))
-    (λ g. as_asked c d s (sends_next true d) same h.asked_is h.first acked (asks_next true d))))
-
-takes_asks : (st : ClientState) (c : AbstractClient) (s : PlainSegment) → has_rst s.flags ≡ false → AsksOn c s (takes_by st c s)
-unfolding takes_by
-takes_asks Is.Idle c s nr = keeps_asked c c s refl refl refl refl
-takes_asks Is.Reset c s nr = keeps_asked c c s refl refl refl refl
-takes_asks Is.Opening c s nr =
-    choose (λ x. AsksOn c s x) (has_syn s.flags && (has_ack s.flags && eqb s.ack (wrap (own_first c + 1)))) _ _
-    (λ e. as_asked c (opened_by c s) s (sends_next true (opened_by c s)) refl refl refl (inl refl) (asks_next true (opened_by c s)))
-    (λ e. keeps_asked c c s refl refl refl refl)
-takes_asks Is.Opened c s nr = in_order_asks c s nr
-takes_asks Is.Closing c s nr = in_order_asks c s nr
-takes_asks Is.Closed c s nr = in_order_asks c s nr
-takes_asks Is.Ended c s nr = in_order_asks c s nr
 
 pub client_asks : (c : AbstractClient) (s : PlainSegment) → AsksOn c s (client_takes c s)
-unfolding client_takes
 client_asks c s =
-    choose (λ x. AsksOn c s x) (has_rst s.flags) _ _
-    (λ r. choose (λ x. AsksOn c s (keeps x)) (is_reset_by c.state c s) _ _
-    (λ b. keeps_asked c (record c { state = Is.Reset }) s refl refl refl refl)
-    (λ b. keeps_asked c c s refl refl refl refl))
-    (λ r. takes_asks c.state c s r)
+    of_takes (λ x. AsksOn c s x) c s (keeps_asked c c s refl refl refl refl) (λ b. keeps_asked c (record c { state = Is.Reset }) s refl refl refl refl)
+    (λ e r f. as_asked c (opened_by c s) s (sends_next true (opened_by c s)) refl refl refl (inl refl) (asks_next true (opened_by c s)))
+    (λ r. in_order_asks c s r)
 
 -- its own acts
-quiet_asks : (c d : AbstractClient) → used d ≡ used c → asked_bytes d ≡ asked_bytes c → d.acked ≡ c.acked → own_first d ≡ own_first c → Asks c (keeps d)
-quiet_asks c d u b a f = record { more = omega (arith, u); further = omega (arith, b); acked = a; first = f; early = λ y. u; ends = λ st x p. absurd (cc) }
-
-says_asks : (c d : AbstractClient) (s : PlainSegment) → used d ≡ used c → asked_bytes d ≡ asked_bytes c → d.acked ≡ c.acked → own_first d ≡ own_first c → (Steady d → EndsIn d s) → Asks c (steps_with d s)
-says_asks c d s u b a f e = record { more = omega (arith, u); further = omega (arith, b); acked = a; first = f; early = λ y. u; ends = λ st x p. only_some (λ (y : PlainSegment). EndsIn d y) s x p (e st) }
-
-pub opens_asks : (st : ClientState) (c : AbstractClient) → Asks c (opens_by st c)
-unfolding opens_by
-opens_asks Is.Idle c = says_asks c (record c { state = Is.Opening }) (syn_of (record c { state = Is.Opening })) refl refl refl refl (λ st nr ns. absurd (cc))
-opens_asks Is.Opening c = quiet_asks c c refl refl refl refl
-opens_asks Is.Opened c = quiet_asks c c refl refl refl refl
-opens_asks Is.Closing c = quiet_asks c c refl refl refl refl
-opens_asks Is.Closed c = quiet_asks c c refl refl refl refl
-opens_asks Is.Ended c = quiet_asks c c refl refl refl refl
-opens_asks Is.Reset c = quiet_asks c c refl refl refl refl
+pub opens_asks : (c : AbstractClient) → Asks c (client_opens c)
+opens_asks c =
+    let d : AbstractClient = record c { state = Is.Opening } in
+    of_opens (λ x. Asks c x) c (quiet_asks c c refl refl refl refl) (λ e. says_asks c d (syn_of d) refl refl refl refl (λ st nr ns. absurd (cc)))
 
 out_is_sent : (f : FinAt) → fin_out f ≡ true → fin_sent f ≡ true
 out_is_sent FinAt.NotSent e = absurd (cc)
 out_is_sent FinAt.Out e = refl
 out_is_sent FinAt.Acked e = refl
 
-data_asks : (c : AbstractClient) → Asks c (again_by Is.Opened c)
-unfolding again_by
-data_asks c =
-    choose (λ x. Asks c x) (ltb 0 c.out) _ _ (λ e. says_asks c c (own_request c) refl refl refl refl (request_ends c))
-    (λ e. choose (λ x. Asks c x) (fin_out c.fin) _ _ (λ f. says_asks c c (own_fin c) refl refl refl refl (fin_ends c (out_is_sent c.fin f)))
-    (λ f. says_asks c c (ack_of c) refl refl refl refl (λ st nr ns z. absurd (cc))))
+pub again_asks : (c : AbstractClient) → Asks c (client_again c)
+again_asks c =
+    of_again (λ x. Asks c x) c (quiet_asks c c refl refl refl refl) (says_asks c c (syn_of c) refl refl refl refl (λ st nr ns. absurd (cc))) (says_asks c c (own_request c) refl refl refl refl (request_ends c))
+    (λ f. says_asks c c (own_fin c) refl refl refl refl (fin_ends c (out_is_sent c.fin f))) (says_asks c c (ack_of c) refl refl refl refl (λ st nr ns z. absurd (cc)))
 
-pub again_asks : (st : ClientState) (c : AbstractClient) → Asks c (again_by st c)
-unfolding again_by
-again_asks Is.Idle c = quiet_asks c c refl refl refl refl
-again_asks Is.Reset c = quiet_asks c c refl refl refl refl
-again_asks Is.Opening c = says_asks c c (syn_of c) refl refl refl refl (λ st nr ns. absurd (cc))
-again_asks Is.Opened c = data_asks c
-again_asks Is.Closing c = data_asks c
-again_asks Is.Closed c = data_asks c
-again_asks Is.Ended c = data_asks c
+pub closes_asks : (c : AbstractClient) → Asks c (client_closes c)
+closes_asks c =
+    of_closes (λ x. Asks c x) c (quiet_asks c c refl refl refl refl)
+    (λ e. (let g = asks_next false (record c { state = Is.Closing }) in record { more = g.more; further = g.further; acked = g.acked; first = g.first; early = g.early; ends = g.ends }))
 
-pub closes_asks : (st : ClientState) (c : AbstractClient) → Asks c (closes_by st c)
-unfolding closes_by
-closes_asks Is.Opened c = (let g = asks_next false (record c { state = Is.Closing }) in record { more = g.more; further = g.further; acked = g.acked; first = g.first; early = g.early; ends = g.ends })
-closes_asks Is.Idle c = quiet_asks c c refl refl refl refl
-closes_asks Is.Opening c = quiet_asks c c refl refl refl refl
-closes_asks Is.Closing c = quiet_asks c c refl refl refl refl
-closes_asks Is.Closed c = quiet_asks c c refl refl refl refl
-closes_asks Is.Ended c = quiet_asks c c refl refl refl refl
-closes_asks Is.Reset c = quiet_asks c c refl refl refl refl
-
-pub aborts_asks : (st : ClientState) (c : AbstractClient) → Asks c (aborts_by st c)
-unfolding aborts_by
-aborts_asks Is.Opening c = says_asks c (record c { state = Is.Reset }) (own_reset c) refl refl refl refl (λ st nr. absurd (cc))
-aborts_asks Is.Opened c = says_asks c (record c { state = Is.Reset }) (own_reset c) refl refl refl refl (λ st nr. absurd (cc))
-aborts_asks Is.Closing c = says_asks c (record c { state = Is.Reset }) (own_reset c) refl refl refl refl (λ st nr. absurd (cc))
-aborts_asks Is.Idle c = quiet_asks c c refl refl refl refl
-aborts_asks Is.Closed c = quiet_asks c c refl refl refl refl
-aborts_asks Is.Ended c = quiet_asks c c refl refl refl refl
-aborts_asks Is.Reset c = quiet_asks c c refl refl refl refl
+pub aborts_asks : (c : AbstractClient) → Asks c (client_aborts c)
+aborts_asks c = of_aborts (λ x. Asks c x) c (quiet_asks c c refl refl refl refl) (λ e. says_asks c (record c { state = Is.Reset }) (own_reset c) refl refl refl refl (λ st nr. absurd (cc)))
 
 pub window_asks : (x : ℕ) (c : AbstractClient) → Asks c (tells_window x c)
 window_asks x c = quiet_asks c (record c { window = x }) refl refl refl refl
@@ -316,46 +256,29 @@ module _ (m : Meaning) (pages : Pages) (lawful : IsPaged m pages) where
   hears_at_most : (numbers : List ℕ) (p : Part) (text : List ℕ) → length (hears m numbers p text).part.heard ≤ length p.heard + length text
   hears_at_most numbers p text = omega (arith, ap (λ (y : List ℕ). length y) (hears_is m pages lawful numbers p text).heard, length-append p.heard text)
 
-  wanted_stays : (w : Want) (fresh : Bool) (c : Connection) (numbers : List ℕ) → Stays c (does_as_wanted w fresh c numbers).connection
-  unfolding idles
-  wanted_stays Abort fresh c numbers = record { peer = refl; taken = refl; heard = refl }
-  wanted_stays Close fresh c numbers = record { peer = refl; taken = refl; heard = refl }
-  wanted_stays (Send n) fresh c numbers = record { peer = refl; taken = refl; heard = refl }
-  wanted_stays Nothing fresh c numbers =
-      choose (λ (o : Outcome). Stays c o.connection) (peer_has_closed c.state) _ _ (λ e. record { peer = refl; taken = refl; heard = refl })
-      (λ e. choose (λ (o : Outcome). Stays c o.connection) fresh _ _ (λ f. record { peer = refl; taken = refl; heard = refl }) (λ f. record { peer = refl; taken = refl; heard = refl }))
-
-  asked_for_stays : (now : Connection → Now) (o : Outcome) (s : Step) → Stays o.connection (asked_for m now o s).connection
-  asked_for_stays now o (Step.Ask fresh) =
-      let part : Part = m.prepare o.numbers o.connection.part (now o.connection) in
-      let g = wanted_stays (m.want o.numbers part) fresh (record o.connection { part = part }) o.numbers in
-      record { peer = g.peer; taken = g.taken; heard = g.heard ∙ lawful.prepare_heard o.numbers o.connection.part (now o.connection) }
-  asked_for_stays now o Step.Drop = record { peer = refl; taken = refl; heard = refl }
-  asked_for_stays now o Step.Ack = record { peer = refl; taken = refl; heard = refl }
-  asked_for_stays now o (Step.SynAck again) = record { peer = refl; taken = refl; heard = refl }
-  asked_for_stays now o (Step.Text again) = record { peer = refl; taken = refl; heard = refl }
-  asked_for_stays now o (Step.Fin again) = record { peer = refl; taken = refl; heard = refl }
-  asked_for_stays now o Step.Reset = record { peer = refl; taken = refl; heard = refl }
-
   pub asked_takes : (now : Connection → Now) (c : Connection) (s : PlainSegment) (o : Outcome) → Takes c o.connection s → Takes c (asked m now o).connection s
   asked_takes now c s o t =
-      let d : Connection = (asked m now o).connection in
-      let g = asked_for_stays now o o.step in
+      asked_by m (λ x. Takes c x.connection s) now o
+      (λ a fresh. (let b : Connection = prepared m (now o.connection) o.connection o.numbers in
+      let d : Connection = (ask m (now o.connection) fresh o.connection o.numbers).connection in
+      let u = wanted_unmoved m (m.want o.numbers b.part) fresh b o.numbers in
+      let heard : d.part.heard ≡ o.connection.part.heard = ap (λ (p : Part). p.heard) u.part ∙ lawful.prepare_heard o.numbers o.connection.part (now o.connection) in
       let r = t.row in
       let h = r.heard in
       record {
         row = record {
-          peer = g.peer ∙ r.peer;
+          peer = u.peer_first ∙ r.peer;
           count = r.count;
-          more = g.taken ∙ r.more;
+          more = u.taken ∙ r.more;
           most = r.most;
           handed = r.handed;
-          heard = omega (arith, as_long o.connection.part d.part g.heard, h);
+          heard = omega (arith, as_long o.connection.part d.part heard, h);
           handed_text = r.handed_text;
           handed_taken = r.handed_taken;
         };
         place = t.place;
-      }
+      }))
+      t
 
   established_row : (acked : Bool) (b c : Connection) (numbers : List ℕ) (s : PlainSegment) → Stays b c → Row b (in_established m acked c numbers s).connection s
   unfolding in_established peer_closes goes_on
@@ -434,27 +357,16 @@ module _ (m : Meaning) (pages : Pages) (lawful : IsPaged m pages) where
   beat_stays Beat.Again c numbers = record { peer = refl; taken = refl; heard = refl }
   beat_stays Beat.GiveUp c numbers = record { peer = refl; taken = refl; heard = refl }
 
-  rest_stays : (c : Connection) (numbers : List ℕ) → Stays c (rests_on c numbers).connection
-  unfolding rests_on
-  rest_stays c numbers = choose (λ (o : Outcome). Stays c o.connection) (eqb (c.age + 1) rest_time) _ _ (λ e. record { peer = refl; taken = refl; heard = refl }) (λ e. record { peer = refl; taken = refl; heard = refl })
-
-  ticks_stay : (c : Connection) (numbers : List ℕ) → Stays c (ticks_established m c numbers).connection
-  unfolding ticks_established
-  ticks_stay c numbers = choose (λ (o : Outcome). Stays c o.connection) (ltb 0 c.len) _ _ (λ e. beat_stays (beat_at (limit_of c.state) (c.age + 1)) c numbers) (λ e. (let g = lawful.polled_like numbers c.part in record { peer = refl; taken = refl; heard = g.heard }))
-
-  tick_by_stays : (st : State) (c : Connection) (numbers : List ℕ) → Stays c (tick_by m st c numbers).connection
-  tick_by_stays Closed c numbers = record { peer = refl; taken = refl; heard = refl }
-  tick_by_stays SynRcvd c numbers = beat_stays (beat_at (limit_of c.state) (c.age + 1)) c numbers
-  tick_by_stays Established c numbers = ticks_stay c numbers
-  tick_by_stays CloseWait c numbers = beat_stays (beat_at (limit_of c.state) (c.age + 1)) c numbers
-  tick_by_stays FinWait1 c numbers = beat_stays (beat_at (limit_of c.state) (c.age + 1)) c numbers
-  tick_by_stays FinWait2 c numbers = rest_stays c numbers
-  tick_by_stays Closing c numbers = beat_stays (beat_at (limit_of c.state) (c.age + 1)) c numbers
-  tick_by_stays TimeWait c numbers = rest_stays c numbers
-  tick_by_stays LastAck c numbers = beat_stays (beat_at (limit_of c.state) (c.age + 1)) c numbers
-
   pub tick_takes : (c : Connection) (numbers : List ℕ) (s : PlainSegment) → Takes c (on_tick m c numbers).connection s
-  tick_takes c numbers s = (let g = tick_by_stays c.state c numbers in takes_none c _ s g)
+  tick_takes c numbers s =
+      takes_none c (on_tick m c numbers).connection s
+      (on_tick_by m (λ o. Stays c o.connection) c numbers record {
+        none = record { peer = refl; taken = refl; heard = refl };
+        beats = λ r b. beat_stays b c numbers;
+        rested = λ e. record { peer = refl; taken = refl; heard = refl };
+        ends = record { peer = refl; taken = refl; heard = refl };
+        polled = λ e l. record { peer = refl; taken = refl; heard = (lawful.polled_like numbers c.part).heard };
+      })
 
   -- what a connection says acknowledges all that it took
   pub says_taken : (d : Connection) (step : Step) (x : PlainSegment) → segment_of m d step ≡ Some x → has_rst x.flags ≡ false → x.ack ≡ rcv_nxt d

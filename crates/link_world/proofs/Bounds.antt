@@ -10,7 +10,7 @@ use Rattle.tcp_machine.specs.Connection.{Connection, closed, is_live}
 use Rattle.tcp_machine.specs.Ask.{Outcome, asked}
 use Rattle.tcp_machine.specs.OnSegment.{on_segment}
 use Rattle.tcp_machine.specs.OnTick.{on_tick}
-use Rattle.link_client.specs.Client.{ClientStep, client_takes, client_opens, client_again, client_closes, client_aborts, tells_window}
+use Rattle.link_client.specs.Client.{ClientStep}
 use Rattle.link_world.specs.World.{World, Side, Sent, marked}
 use Rattle.link_world.specs.World.Content.{OfSegment}
 use Rattle.link_world.specs.Bytes.{client_bytes, node_bytes, bytes_by}
@@ -22,12 +22,12 @@ use Rattle.link_world.specs.declared.act.Act.{Act}
 use Rattle.link_world.specs.declared.step_fault.StepFault.{StepFault}
 use Rattle.link_world.specs.declared.who.Who.{Who}
 use Rattle.link_world.specs.declared.who.Who.TheVariants.{FromClient, FromNode, Pinger}
-use Rattle.link_world.specs.History.{Planned, fresh_side, opening_world, planned_of}
+use Rattle.link_world.specs.History.{Planned, fresh_side, opening_world, planned_of, started}
 use Rattle.link_world.specs.Reading.{IsSentBy}
 use Rattle.link_world.specs.Times.{IsLater, AcknowledgedLater, MarkIsLow, NoneIsEmpty, SidesAsPlanned}
 use Rattle.link_world.proofs.Steadiness.{steady_of}
 use Rattle.link_world.proofs.Good.{seg, from, to}
-use Rattle.link_world.proofs.Any.{Framed, Steps, Takes, older, does_framed}
+use Rattle.link_world.proofs.Any.{Framed, Steps, Takes, any_step, older, does_framed}
 use Rattle.link_world.proofs.Growing.{Grows, does_grows, grows_not, grows_on}
 use Rattle.link_world.proofs.Parts.{clean_parts}
 use Rattle.link_world.proofs.Prefix.{all_good}
@@ -86,7 +86,7 @@ module _ (m : Meaning) (served : ℕ → Bool) where
       line_onward place w v event (plays_from m served (place + 1) more) (runs m served (acts_of w event) w) refl (λ u q. lines_onward more (place + 1) u v q) e
 
 pub mark_is_low : MarkIsLow
-mark_is_low m pages w r = (lines_onward m r.served r.lines 0 (opening_world r.addr r.numbers r.plan) w r.accepted).low (omega arith)
+mark_is_low m pages w r = (lines_onward m r.served r.lines 0 (started r.start) w r.accepted).low (omega arith)
 
 -- ---- the plan
 
@@ -165,12 +165,7 @@ module _ (m : Meaning) (n : ℕ) (it : Sent) where
       (λ w old numbers now k j side e lv f n is sent who fresh g. there_steps w (asked m now (on_segment m old numbers (seg e))) k side g)
       (λ w old numbers now k side lv f n is g. there_steps w (asked m now (on_tick m old numbers)) k side g)
       (λ w first sockets k j side e sent who fresh plain fit g tick id. get_older w.sent _ it n g)
-      (λ w k j side c number e fit sent who g. there_takes w k (marked side number e) c (client_takes side.client (seg e)) g)
-      (λ w k side c fit g. there_takes w k side c (client_opens side.client) g)
-      (λ w k side c fit g. there_takes w k side c (client_again side.client) g)
-      (λ w k side c fit g. there_takes w k side c (client_closes side.client) g)
-      (λ w k side c fit g. there_takes w k side c (client_aborts side.client) g)
-      (λ x w k side c fit g. there_takes w k side c (tells_window x side.client) g)
+      (any_step m There there_other there_reset there_evict there_mark there_takes)
       u act harm g fits)
       v w l
 

@@ -14,6 +14,7 @@ use Rattle.link_client.specs.declared.fin_at.FinAt.{FinAt}
 use Rattle.link_world.specs.World.{Sent, Era, becomes_opened}
 use Rattle.link_world.specs.History.{era}
 use Rattle.link_world.proofs.Basics.{IsPart, part_joins, part_none, choose, and_true, same_place, eqb-eq, append_nothing, cut_part, only_some, not-false, nothing_placed}
+use Rattle.link_world.proofs.Counts.{reset_becomes, same_becomes}
 use Rattle.link_world.proofs.Later.{node_later}
 use Rattle.link_world.proofs.Good.{is_some, seg, NodeSaid, IsText, IsFin, ClientSaid, IsData, Steady, NotOpened, HasOpened, OpenedGood, ToGood, TookGood, is_unasked, is_early}
 use Rattle.link_world.proofs.Good.ClientSaid.{said_reset, said_syn, said_data}
@@ -86,9 +87,9 @@ not_opening past Is.Ended x o h = refl
 not_opening past Is.Reset x o h = refl
 
 module _ (m : Meaning) (pages : Pages) (lawful : IsPaged m pages) (past : List Era) (conn : Connection) (fit : (o : ℕ) → All IsMoment (era past conn o).captures) where
-  -- its own counts do not matter to what it received
-  recounts : (c : AbstractClient) (o : ℕ) (a u : ℕ) (f : FinAt) → HasOpened pages c past conn o → HasOpened pages (recounted c a u f) past conn o
-  recounts c o a u f h = record {
+  -- its own counts and its window do not matter to what it received
+  recounts : (c : AbstractClient) (o : ℕ) (a u : ℕ) (f : FinAt) (w : ℕ) → HasOpened pages c past conn o → HasOpened pages (record c { acked = a; out = u; fin = f; window = w }) past conn o
+  recounts c o a u f w h = record {
     time = h.time;
     then_live = h.then_live;
     live_then = h.live_then;
@@ -112,7 +113,7 @@ module _ (m : Meaning) (pages : Pages) (lawful : IsPaged m pages) (past : List E
         request = ap (λ (x : AbstractClient). x.request) e ∙ r;
         setup = ap (λ (x : AbstractClient). own_first x) e ∙ f;
         steady = subst Steady (sym e) record { short = steady.short; low = steady.low; out_fits = g.fits };
-        opened_good = subst (λ x. HasOpened pages x past conn o) (sym e) (recounts c o g.acked g.out g.fin h);
+        opened_good = subst (λ x. HasOpened pages x past conn o) (sym e) (recounts c o g.acked g.out g.fin c.window h);
         said = λ s p. said_data (g.said (Some o) s refl p);
       }
 
@@ -248,7 +249,7 @@ module _ (m : Meaning) (pages : Pages) (lawful : IsPaged m pages) (past : List E
       let c : AbstractClient = recounted client g.acked g.out g.fin in
       subst (λ x. TookGood pages client past conn (Some o) (Some o) (takes_in_order x s)) (sym g.is)
       (in_order_good client c P o s h.asked refl refl record { short = steady.short; low = steady.low; out_fits = g.fits }
-      (recounts client o g.acked g.out g.fin h) nr
+      (recounts client o g.acked g.out g.fin client.window h) nr
       (node_later m pages lawful client c P P (era past conn o).first (era past conn o).first (era past conn o).captures (era past conn o).captures [] s refl (λ x. x) refl (sym (append_nothing (era past conn o).captures)) said))
 
   -- a step that sends what is told, or nothing
@@ -273,24 +274,6 @@ module _ (m : Meaning) (pages : Pages) (lawful : IsPaged m pages) (past : List E
     opened_good = h;
     said = λ x p. only_some (λ y. ClientSaid d opened (length past) y) s x p said;
   }
-
-  same_becomes : (st : ClientState) → becomes_opened st st ≡ false
-  same_becomes Is.Idle = refl
-  same_becomes Is.Opening = refl
-  same_becomes Is.Opened = refl
-  same_becomes Is.Closing = refl
-  same_becomes Is.Closed = refl
-  same_becomes Is.Ended = refl
-  same_becomes Is.Reset = refl
-
-  reset_becomes : (st : ClientState) → becomes_opened st Is.Reset ≡ false
-  reset_becomes Is.Idle = refl
-  reset_becomes Is.Opening = refl
-  reset_becomes Is.Opened = refl
-  reset_becomes Is.Closing = refl
-  reset_becomes Is.Closed = refl
-  reset_becomes Is.Ended = refl
-  reset_becomes Is.Reset = refl
 
   stays : (client : AbstractClient) (opened : Option ℕ) → Steady client → OpenedGood pages client past conn opened → TookGood pages client past conn opened opened (keeps client)
   stays client opened steady h = stands client client opened (same_becomes client.state) refl refl steady h
@@ -472,15 +455,7 @@ module _ (m : Meaning) (pages : Pages) (lawful : IsPaged m pages) (past : List E
 
   window_opened : (client : AbstractClient) (w : ℕ) (opened : Option ℕ) → OpenedGood pages client past conn opened → OpenedGood pages (record client { window = w }) past conn opened
   window_opened client w None h = record { early = h.early; nothing = h.nothing }
-  window_opened client w (Some o) h = record {
-    time = h.time;
-    then_live = h.then_live;
-    live_then = h.live_then;
-    asked = h.asked;
-    part = h.part;
-    expected = h.expected;
-    all = λ x. record { whole = (h.all x).whole; end = (h.all x).end };
-  }
+  window_opened client w (Some o) h = recounts client o client.acked client.out client.fin w h
 
   pub window_good : (client : AbstractClient) (w : ℕ) (opened : Option ℕ) → Steady client → OpenedGood pages client past conn opened → Took_it client opened (keeps (record client { window = w }))
   window_good client w opened steady h =

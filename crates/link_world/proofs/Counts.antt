@@ -1,12 +1,13 @@
 -- How far a client has come: what its step does to what it took and to the number that it expects. No premise on the server.
-use Rattle.std.proofs.Common.{◌≡◌, ℕ, ◌+◌, Bool, true, false, not, ◌&&◌, ◌++◌, length, refl, sym, ap, ◌∙◌, Some, eqb, ltb, if◌then◌else◌}
+use Rattle.std.proofs.Common.{◌≡◌, ℕ, ◌+◌, Bool, true, false, not, ◌&&◌, ◌++◌, length, refl, sym, ap, ◌∙◌, Some, eqb, if◌then◌else◌}
 use Rattle.uip_wire.specs.Numbers.{wrap}
 use Rattle.tcp_segment.specs.Segments.{PlainSegment, has_syn, has_fin, has_rst, has_ack}
 use Rattle.tcp_machine.specs.Segments.{has_place}
-use Rattle.link_client.specs.Client.{AbstractClient, ClientStep, has_closed, sends_next, has_outstanding, is_receiving, may_finish, fin_sent, fin_out, own_request, ack_of, syn_of, own_fin, own_reset, keeps, steps_with, hears_ack, takes_in_order, takes_text, takes_by, client_takes, is_reset_by, opened_by, opens_by, again_by, closes_by, aborts_by, after_fin, one_if, next_own, own_first}
+use Rattle.link_client.specs.Client.{AbstractClient, ClientStep, ack_of, after_fin, client_aborts, client_again, client_closes, client_opens, client_takes, has_closed, has_outstanding, hears_ack, is_receiving, is_reset_by, keeps, next_own, one_if, opened_by, own_fin, own_first, own_request, own_reset, sends_next, steps_with, syn_of, takes_by, takes_in_order, takes_text}
 use Rattle.link_client.specs.declared.client_state.ClientState.{ClientState}
 use Rattle.link_client.specs.declared.client_state.ClientState.TheVariants as Is
 use Rattle.link_world.specs.World.{becomes_opened}
+use Rattle.link_world.proofs.ClientCases.{of_aborts, of_again, of_closes, of_opens, of_sends}
 use Rattle.link_world.proofs.Basics.{choose, and_true, only_some, eqb-eq, not-false}
 
 -- how many numbers after the server's SYN it took: the text, and the FIN
@@ -23,15 +24,11 @@ record Sends (c : AbstractClient) (t : ClientStep) : Type 0 where
   acks : Acks t
 
 sends_counts : (owed : Bool) (c : AbstractClient) → Sends c (sends_next owed c)
-unfolding sends_next
 sends_counts owed c =
-    choose (λ x. Sends c x) (not (has_outstanding c) && (is_receiving c.state && ltb c.acked (length c.request))) _ _
-    (λ e. record { received = refl; expected = refl; state = refl; acks = λ x p n a. only_some (λ (y : PlainSegment). y.ack ≡ c.expected) _ x p refl })
-    (λ e. choose (λ x. Sends c x) (not (has_outstanding c) && (may_finish c.state && not (fin_sent c.fin))) _ _
-    (λ f. record { received = refl; expected = refl; state = refl; acks = λ x p n a. only_some (λ (y : PlainSegment). y.ack ≡ c.expected) (own_fin c) x p refl })
-    (λ f. choose (λ x. Sends c x) owed _ _
-    (λ g. record { received = refl; expected = refl; state = refl; acks = λ x p n a. only_some (λ (y : PlainSegment). y.ack ≡ c.expected) (ack_of c) x p refl })
-    (λ g. record { received = refl; expected = refl; state = refl; acks = λ x p n a. absurd (cc) })))
+    of_sends (λ x. Sends c x) c owed record { received = refl; expected = refl; state = refl; acks = λ x p n a. absurd (cc) }
+    record { received = refl; expected = refl; state = refl; acks = λ x p n a. only_some (λ (y : PlainSegment). y.ack ≡ c.expected) (ack_of c) x p refl }
+    (λ o r. record { received = refl; expected = refl; state = refl; acks = λ x p n a. only_some (λ (y : PlainSegment). y.ack ≡ c.expected) _ x p refl })
+    (λ o m n. record { received = refl; expected = refl; state = refl; acks = λ x p n a. only_some (λ (y : PlainSegment). y.ack ≡ c.expected) (own_fin c) x p refl })
 
 pub same_becomes : (st : ClientState) → becomes_opened st st ≡ false
 same_becomes Is.Idle = refl
@@ -42,7 +39,7 @@ same_becomes Is.Closed = refl
 same_becomes Is.Ended = refl
 same_becomes Is.Reset = refl
 
-reset_becomes : (st : ClientState) → becomes_opened st Is.Reset ≡ false
+pub reset_becomes : (st : ClientState) → becomes_opened st Is.Reset ≡ false
 reset_becomes Is.Idle = refl
 reset_becomes Is.Opening = refl
 reset_becomes Is.Opened = refl
@@ -163,51 +160,22 @@ syn_idles client d r e k b = record { received = r; expected = e; done = k; same
 reset_idles : (client : AbstractClient) → false ≡ has_closed client.state → Idles client (steps_with (record client { state = Is.Reset }) (own_reset client))
 reset_idles client k = record { received = refl; expected = refl; done = k; same = reset_becomes client.state; acks = λ x p n a. absurd (only_some (λ (y : PlainSegment). has_rst y.flags ≡ false → ⊥) (own_reset client) x p (λ z. absurd (cc)) n) }
 
-pub opens_idles : (st : ClientState) (client : AbstractClient) → client.state ≡ st → Idles client (opens_by st client)
-unfolding opens_by
-opens_idles Is.Idle client e = syn_idles client (record client { state = Is.Opening }) refl refl (ap has_closed (sym e)) (ap (λ x. becomes_opened x Is.Opening) e)
-opens_idles Is.Opening client e = stays_quiet client
-opens_idles Is.Opened client e = stays_quiet client
-opens_idles Is.Closing client e = stays_quiet client
-opens_idles Is.Closed client e = stays_quiet client
-opens_idles Is.Ended client e = stays_quiet client
-opens_idles Is.Reset client e = stays_quiet client
+pub opens_idles : (client : AbstractClient) → Idles client (client_opens client)
+opens_idles client =
+    of_opens (λ x. Idles client x) client (stays_quiet client)
+    (λ e. syn_idles client (record client { state = Is.Opening }) refl refl (ap has_closed (sym e)) (ap (λ x. becomes_opened x Is.Opening) e))
 
-data_idles : (client : AbstractClient) → Idles client (again_by Is.Opened client)
-unfolding again_by
-data_idles client =
-    choose (λ x. Idles client x) (ltb 0 client.out) _ _ (λ e. idles_with client (own_request client) refl)
-    (λ e. choose (λ x. Idles client x) (fin_out client.fin) _ _ (λ f. idles_with client (own_fin client) refl) (λ f. idles_with client (ack_of client) refl))
+pub again_idles : (client : AbstractClient) → Idles client (client_again client)
+again_idles client =
+    of_again (λ x. Idles client x) client (stays_quiet client) (syn_idles client client refl refl refl (same_becomes client.state)) (idles_with client (own_request client) refl) (λ f. idles_with client (own_fin client) refl)
+    (idles_with client (ack_of client) refl)
 
-pub again_idles : (st : ClientState) (client : AbstractClient) → Idles client (again_by st client)
-unfolding again_by
-again_idles Is.Idle client = stays_quiet client
-again_idles Is.Reset client = stays_quiet client
-again_idles Is.Opening client = syn_idles client client refl refl refl (same_becomes client.state)
-again_idles Is.Opened client = data_idles client
-again_idles Is.Closing client = data_idles client
-again_idles Is.Closed client = data_idles client
-again_idles Is.Ended client = data_idles client
-
-pub closes_idles : (st : ClientState) (client : AbstractClient) → client.state ≡ st → Idles client (closes_by st client)
-unfolding closes_by
-closes_idles Is.Opened client e =
-    let c : AbstractClient = record client { state = Is.Closing } in
+pub closes_idles : (client : AbstractClient) → Idles client (client_closes client)
+closes_idles client =
+    of_closes (λ x. Idles client x) client (stays_quiet client)
+    (λ e. (let c : AbstractClient = record client { state = Is.Closing } in
     let g = sends_counts false c in
-    record { received = g.received; expected = g.expected; done = ap has_closed g.state ∙ ap has_closed (sym e); same = ap (λ x. becomes_opened client.state x) g.state ∙ ap (λ x. becomes_opened x Is.Closing) e; acks = g.acks }
-closes_idles Is.Idle client e = stays_quiet client
-closes_idles Is.Opening client e = stays_quiet client
-closes_idles Is.Closing client e = stays_quiet client
-closes_idles Is.Closed client e = stays_quiet client
-closes_idles Is.Ended client e = stays_quiet client
-closes_idles Is.Reset client e = stays_quiet client
+    record { received = g.received; expected = g.expected; done = ap has_closed g.state ∙ ap has_closed (sym e); same = ap (λ x. becomes_opened client.state x) g.state ∙ ap (λ x. becomes_opened x Is.Closing) e; acks = g.acks }))
 
-pub aborts_idles : (st : ClientState) (client : AbstractClient) → client.state ≡ st → Idles client (aborts_by st client)
-unfolding aborts_by
-aborts_idles Is.Opening client e = reset_idles client (ap has_closed (sym e))
-aborts_idles Is.Opened client e = reset_idles client (ap has_closed (sym e))
-aborts_idles Is.Closing client e = reset_idles client (ap has_closed (sym e))
-aborts_idles Is.Idle client e = stays_quiet client
-aborts_idles Is.Closed client e = stays_quiet client
-aborts_idles Is.Ended client e = stays_quiet client
-aborts_idles Is.Reset client e = stays_quiet client
+pub aborts_idles : (client : AbstractClient) → Idles client (client_aborts client)
+aborts_idles client = of_aborts (λ x. Idles client x) client (stays_quiet client) (λ e. reset_idles client (sym e))

@@ -11,7 +11,7 @@ use Rattle.tcp_machine.specs.Segments.{is_plain_syn, syn_ack}
 use Rattle.tcp_machine.specs.Ask.{Outcome, asked}
 use Rattle.tcp_machine.specs.OnSegment.{accepted, on_segment}
 use Rattle.tcp_machine.specs.OnTick.{on_tick}
-use Rattle.link_client.specs.Client.{ClientStep, one_if, client_takes, client_opens, client_again, client_closes, client_aborts, tells_window}
+use Rattle.link_client.specs.Client.{ClientStep, one_if}
 use Rattle.link_world.specs.World.{World, Side, Sent, Era, client_sockets, is_clean, marked}
 use Rattle.link_world.specs.History.{Planned, IsPlan, era_of, fresh_side, serving, opening_world}
 use Rattle.link_world.specs.Headline.{IsReached, server_side}
@@ -23,7 +23,7 @@ use Rattle.link_world.proofs.Rounds.{one_longer}
 use Rattle.link_world.proofs.Runs.{reached, reached_on}
 use Rattle.link_world.proofs.Views.{length_push}
 use Rattle.link_world.proofs.Moves.{asked_moves, segment_moves, tick_moves}
-use Rattle.link_world.proofs.Any.{Framed, Steps, Takes, older, speech, entry, does_framed}
+use Rattle.link_world.proofs.Any.{Framed, Steps, Takes, any_step, older, speech, entry, does_framed}
 use Rattle.link_world.proofs.TextNumbers.{Num, accepted_num, closed_num, segment_num, tick_num}
 use Rattle.link_world.proofs.Prefix
 use Rattle.link_world.proofs.Prefix.{none_serves}
@@ -105,12 +105,7 @@ module _ (m : Meaning) where
   all_few : (pages : Pages) → IsPaged m pages → (w : World) → IsReached m pages w → Framed m Few few_other few_reset few_evict few_mark w
   all_few pages lawful w r = reached m pages lawful (λ v. Framed m Few few_other few_reset few_evict few_mark v)
       (λ served v act harm g fits. does_framed m Few few_other few_reset few_evict few_mark (steady_of m pages lawful) served few_segment few_tick few_birth
-      (λ w k j side c number e fit sent who g. few_takes w k (marked side number e) c (client_takes side.client (seg e)) g)
-      (λ w k side c fit g. few_takes w k side c (client_opens side.client) g)
-      (λ w k side c fit g. few_takes w k side c (client_again side.client) g)
-      (λ w k side c fit g. few_takes w k side c (client_closes side.client) g)
-      (λ w k side c fit g. few_takes w k side c (client_aborts side.client) g)
-      (λ x w k side c fit g. few_takes w k side c (tells_window x side.client) g)
+      (any_step m Few few_other few_reset few_evict few_mark few_takes)
       v act harm g fits)
       (few_opening pages lawful) w r
 
@@ -168,12 +163,7 @@ module _ (m : Meaning) where
     goes_on_same : (pages : Pages) → IsPaged m pages → (v w : World) → IsLater m pages v w → Framed m Same same_other same_reset same_evict same_mark v → Framed m Same same_other same_reset same_evict same_mark w
     goes_on_same pages lawful v w l = reached_on m pages lawful (λ u. Framed m Same same_other same_reset same_evict same_mark u)
         (λ served u act harm g fits. does_framed m Same same_other same_reset same_evict same_mark (steady_of m pages lawful) served same_segment same_tick same_birth
-        (λ w k j side c number e fit sent who g. same_takes w k (marked side number e) c (client_takes side.client (seg e)) g)
-        (λ w k side c fit g. same_takes w k side c (client_opens side.client) g)
-        (λ w k side c fit g. same_takes w k side c (client_again side.client) g)
-        (λ w k side c fit g. same_takes w k side c (client_closes side.client) g)
-        (λ w k side c fit g. same_takes w k side c (client_aborts side.client) g)
-        (λ x w k side c fit g. same_takes w k side c (tells_window x side.client) g)
+        (any_step m Same same_other same_reset same_evict same_mark same_takes)
         u act harm g fits)
         v w l
 
@@ -205,12 +195,7 @@ module _ (m : Meaning) where
       (λ w old numbers now k j side e lv f n is sent who fresh g. num_steps w (asked m now (on_segment m old numbers (seg e))) k side (segment_num m pages lawful now old numbers (seg e) g))
       (λ w old numbers now k side lv f n is g. num_steps w (asked m now (on_tick m old numbers)) k side (tick_num m pages lawful now old numbers g))
       (λ w first sockets k j side e sent who fresh plain fit g tick id. accepted_num first sockets (seg e))
-      (λ w k j side c number e fit sent who g. num_takes w k (marked side number e) c (client_takes side.client (seg e)) g)
-      (λ w k side c fit g. num_takes w k side c (client_opens side.client) g)
-      (λ w k side c fit g. num_takes w k side c (client_again side.client) g)
-      (λ w k side c fit g. num_takes w k side c (client_closes side.client) g)
-      (λ w k side c fit g. num_takes w k side c (client_aborts side.client) g)
-      (λ x w k side c fit g. num_takes w k side c (tells_window x side.client) g)
+      (any_step m Numbered num_other num_reset num_evict num_mark num_takes)
       v act harm g fits)
       (λ addr numbers plan is. let b = Prefix.opening_framed m pages lawful addr numbers plan is in
       record {

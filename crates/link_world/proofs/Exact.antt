@@ -23,7 +23,7 @@ use Rattle.link_world.specs.Headline.{IsReached, IsInStep, OneSegment}
 use Rattle.link_world.proofs.Steadiness.{steady_of, IsShort, short_said}
 use Rattle.link_world.proofs.Basics.{and_true, eqb-eq, same_place, wrap_wrap, get_push, nothing_placed, not-true}
 use Rattle.link_world.proofs.Basics.AtEnd.{older, newest}
-use Rattle.link_world.proofs.Good.{seg, segment_in, from, to, StateGood, ToGood, ClientSaid, NodeSaid, OpenedGood, HasOpened, Good, is_unasked}
+use Rattle.link_world.proofs.Good.{seg, segment_in, from, to, ToGood, ClientSaid, NodeSaid, OpenedGood, HasOpened, Good, is_unasked, unopened}
 use Rattle.link_world.proofs.Good.NodeSaid.{node_reset, node_syn, node_ack, node_text, node_fin}
 use Rattle.link_world.proofs.Good.ClientSaid.{said_reset, said_syn, said_data}
 use Rattle.link_world.proofs.Views.{era_now, first_live, first_dead}
@@ -347,17 +347,6 @@ module _ (m : Meaning) (pages : Pages) (lawful : IsPaged m pages) where
       }
 
   -- a client that opens
-  syn_only : (c : Connection) (st : State) (client : AbstractClient) → is_live st ≡ true → StateGood pages None client c st → (c.acked ≡ 0) × (c.len ≡ 1)
-  syn_only c Closed client l g = absurd (cc)
-  syn_only c SynRcvd client l g = (g.acked, g.len)
-  syn_only c Established client l g = absurd (let z : false ≡ true = g.text.opened_is in cc)
-  syn_only c CloseWait client l g = absurd (let z : false ≡ true = g.opened_is in cc)
-  syn_only c FinWait1 client l g = absurd (let z : false ≡ true = g.opened_is in cc)
-  syn_only c FinWait2 client l g = absurd (let z : false ≡ true = g.opened_is in cc)
-  syn_only c Closing client l g = absurd (let z : false ≡ true = g.opened_is in cc)
-  syn_only c TimeWait client l g = absurd (let z : false ≡ true = g.opened_is in cc)
-  syn_only c LastAck client l g = absurd (let z : false ≡ true = g.opened_is in cc)
-
   syn_seq : (client : AbstractClient) (P : Type 0) (first : ℕ) (captures : List Moment) (s : PlainSegment) → has_rst s.flags ≡ false → has_syn s.flags ≡ true → NodeSaid pages client P first captures s → s.seq ≡ wrap first
   syn_seq client P first captures s nr sy (node_reset r) = absurd (cc)
   syn_seq client P first captures s nr sy (node_syn r n) = n.seq
@@ -377,9 +366,9 @@ module _ (m : Meaning) (pages : Pages) (lawful : IsPaged m pages) where
       let empty : length d.received ≡ 0 = ap (λ (x : List ℕ). length x) (r ∙ g.opened_good.nothing) in
       let unclosed : one_if (has_closed d.state) ≡ 0 = ap one_if n in
       let z : count d ≡ 0 = omega (arith, empty, unclosed) in
-      let y = syn_only c c.state client l (g.connection l).state in
-      let y0 = y.0 in
-      let y1 = y.1 in
+      let y = (unopened pages client c c.state l (g.connection l).state).1 in
+      let y0 = y.acked in
+      let y1 = y.len in
       let q : s.seq ≡ wrap (era past c (length past)).first = syn_seq client P (era past c (length past)).first (era past c (length past)).captures s nr sy said in
       record {
         expected = e ∙ ap (λ x. wrap (x + 1)) q ∙ wrap_wrap (era past c (length past)).first 1 ∙ ap wrap (omega (arith, z));
@@ -464,12 +453,14 @@ module _ (m : Meaning) (pages : Pages) (lawful : IsPaged m pages) where
 
   all_exact : (w : World) → IsReached m pages w → Framed m G other reset evict mark w
   all_exact w r = reached m pages lawful (λ v. Framed m G other reset evict mark v)
-      (λ served v act harm g fits. does_framed m G other reset evict mark (steady_of m pages lawful) served segment tick birth took
-      (λ w k side c fit g. own_by w k side c (client_opens side.client) g (opens_idles side.client.state side.client refl) (Prefix.own_open m pages lawful w k side c fit g.good))
-      (λ w k side c fit g. own_by w k side c (client_again side.client) g (again_idles side.client.state side.client) (Prefix.own_again m pages lawful w k side c fit g.good))
-      (λ w k side c fit g. own_by w k side c (client_closes side.client) g (closes_idles side.client.state side.client refl) (Prefix.own_close m pages lawful w k side c fit g.good))
-      (λ w k side c fit g. own_by w k side c (client_aborts side.client) g (aborts_idles side.client.state side.client refl) (Prefix.own_abort m pages lawful w k side c fit g.good))
-      (λ x w k side c fit g. own_by w k side c (tells_window x side.client) g (idles_quiet side.client (record side.client { window = x }) refl refl refl (same_becomes side.client.state)) (Prefix.own_window m pages lawful x w k side c fit g.good))
+      (λ served v act harm g fits. does_framed m G other reset evict mark (steady_of m pages lawful) served segment tick birth record {
+        took = took;
+        opens = λ w k side c fit g. own_by w k side c (client_opens side.client) g (opens_idles side.client) (Prefix.own_open m pages lawful w k side c fit g.good);
+        again = λ w k side c fit g. own_by w k side c (client_again side.client) g (again_idles side.client) (Prefix.own_again m pages lawful w k side c fit g.good);
+        closes = λ w k side c fit g. own_by w k side c (client_closes side.client) g (closes_idles side.client) (Prefix.own_close m pages lawful w k side c fit g.good);
+        aborts = λ w k side c fit g. own_by w k side c (client_aborts side.client) g (aborts_idles side.client) (Prefix.own_abort m pages lawful w k side c fit g.good);
+        windows = λ x w k side c fit g. own_by w k side c (tells_window x side.client) g (idles_quiet side.client (record side.client { window = x }) refl refl refl (same_becomes side.client.state)) (Prefix.own_window m pages lawful x w k side c fit g.good);
+      }
       v act harm g fits)
       opening_exact w r
 

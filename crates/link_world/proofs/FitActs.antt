@@ -72,10 +72,10 @@ module _ (m : Meaning) (steady : IsSteady m) (served : ℕ → Bool) where
   slots_fit (slot ∷ slots) w f = slots_fit slots (node_handles m served w (Periodic slot)) (periodic_fits m steady served w slot f)
 
   pub does_fit : (w : World) (act : Act) → Harmless m served w act → FitWorld w → FitWorld (does m served w act)
-  does_fit w (Act.Opens n) pl f = numbered_fit w n client_opens (λ c. opens_setup c.state c) f
-  does_fit w (Act.Again n) pl f = numbered_fit w n client_again (λ c. again_setup c.state c) f
-  does_fit w (Act.Closes n) pl f = numbered_fit w n client_closes (λ c. closes_setup c.state c) f
-  does_fit w (Act.Aborts n) pl f = numbered_fit w n client_aborts (λ c. aborts_setup c.state c) f
+  does_fit w (Act.Opens n) pl f = numbered_fit w n client_opens opens_setup f
+  does_fit w (Act.Again n) pl f = numbered_fit w n client_again again_setup f
+  does_fit w (Act.Closes n) pl f = numbered_fit w n client_closes closes_setup f
+  does_fit w (Act.Aborts n) pl f = numbered_fit w n client_aborts aborts_setup f
   does_fit w (Act.Window n x) pl f = numbered_fit w n (tells_window x) (λ c. refl) f
   does_fit w (Act.Ping source) pl f = record { node = f.node; sides = f.sides }
   does_fit w (Act.Give k) pl f = gives_fit w k (numbered w.sent k) f

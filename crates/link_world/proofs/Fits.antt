@@ -6,7 +6,7 @@ use Rattle.std.proofs.lemmas.List.Sums.{count_by-le-length}
 use Rattle.std.proofs.lemmas.Grind.{common_steps}
 use Rattle.uip_wire.specs.Numbers.{wrap}
 use Rattle.tcp_segment.specs.Segments.{PlainSegment, has_fin, has_rst}
-use Rattle.rexmit_timer.specs.Ages.{ages, tries_at, beat_at}
+use Rattle.rexmit_timer.specs.Ages.{ages, tries_at}
 use Rattle.rexmit_timer.specs.declared.timer.Beat.{Beat}
 use Rattle.app_events.specs.Part.{Part, Meaning}
 use Rattle.link_world.specs.Steady.{IsSteady}
@@ -19,14 +19,14 @@ use Rattle.app_events.specs.declared.state.State.TheVariants.{Closed, SynRcvd, E
 use Rattle.app_events.specs.declared.want.Want.{Want}
 use Rattle.app_events.specs.declared.want.Want.TheVariants.{Nothing, Send, Close, Abort}
 use Rattle.tcp_machine.specs.Connection.{Sockets, Connection, is_live, is_resting, tries_of, count_of, row_of, rows_from}
-use Rattle.tcp_machine.specs.Ask.{Outcome, closes, after_own_fin, peer_has_closed, idles, does_as_wanted, ask, asked_for, asked}
+use Rattle.tcp_machine.specs.Ask.{Outcome, closes, after_own_fin, peer_has_closed, idles, does_as_wanted, ask, asked}
 use Rattle.tcp_machine.specs.OnSegment.{accepted, told_end, is_out_of_order, is_acked, rests, has_text, hears, takes, with_part, in_state, with_window, peer_closes, goes_on, in_established, fin_acked, fin_waits, in_fin_wait_2, by_state, on_segment}
-use Rattle.tcp_machine.specs.OnTick.{limit_of, by_beat, waits_for_ack, rests_on, rest_time, ticks_established, tick_by, on_tick}
-use Rattle.tcp_machine.specs.declared.step.Step.{Step}
+use Rattle.tcp_machine.specs.OnTick.{by_beat, grows_older, on_tick, polls}
 use Rattle.uip_node.specs.Events.{Event, Past}
 use Rattle.uip_node.specs.Events.Answer.{Silent}
 use Rattle.uip_node.specs.Counters.{counters, raised, times}
 use Rattle.uip_node.specs.Node.{AbstractNode, moment}
+use Rattle.link_world.proofs.Cases.{asked_by, by_own_fin, on_tick_by}
 use Rattle.link_world.proofs.Basics.{choose, wrap_low}
 use Rattle.link_world.proofs.Tables.{get_set}
 use Rattle.link_world.proofs.Tables.Written.{here, there}
@@ -131,15 +131,7 @@ module _ (m : Meaning) (steady : IsSteady m) where
   told_numbers how LastAck p numbers h = h
 
   fin_rest : (st : State) → is_resting (after_own_fin st) ≡ true → ⊥
-  fin_rest Established h = cc
-  fin_rest CloseWait h = cc
-  fin_rest Closed h = cc
-  fin_rest SynRcvd h = cc
-  fin_rest FinWait1 h = cc
-  fin_rest FinWait2 h = cc
-  fin_rest Closing h = cc
-  fin_rest TimeWait h = cc
-  fin_rest LastAck h = cc
+  fin_rest st h = by_own_fin (λ x. is_resting x ≡ true → ⊥) (λ q. (let z : false ≡ true = q in cc)) (λ q. (let z : false ≡ true = q in cc)) st h
 
   closes_fit : (c : Connection) → FitConn c → FitConn (closes c)
   closes_fit c f = fit_like c (closes c) refl refl (λ r. absurd (cc)) f
@@ -166,17 +158,8 @@ module _ (m : Meaning) (steady : IsSteady m) where
       wanted_fits (m.want numbers (m.prepare numbers c.part now)) fresh (with_part (m.prepare numbers c.part now) c) numbers
       record { rest = f.rest; captures = prepared_captures numbers c.part now n is f.captures; addr = f.addr; port = f.port } n
 
-  asked_for_fits : (at : Connection → Now) → ((c : Connection) → FitConn c → IsNow (at c)) → (o : Outcome) (s : Step) → FitOut o → FitOut (asked_for m at o s)
-  asked_for_fits at is o (Step.Ask fresh) f = ask_fits (at o.connection) fresh o.connection o.numbers (is o.connection f.conn) f.conn f.numbers
-  asked_for_fits at is o Step.Drop f = f
-  asked_for_fits at is o Step.Ack f = f
-  asked_for_fits at is o (Step.SynAck again) f = f
-  asked_for_fits at is o (Step.Text again) f = f
-  asked_for_fits at is o (Step.Fin again) f = f
-  asked_for_fits at is o Step.Reset f = f
-
   pub asked_fits : (at : Connection → Now) → ((c : Connection) → FitConn c → IsNow (at c)) → (o : Outcome) → FitOut o → FitOut (asked m at o)
-  asked_fits at is o f = asked_for_fits at is o o.step f
+  asked_fits at is o f = asked_by m FitOut at o (λ a fresh. ask_fits (at o.connection) fresh o.connection o.numbers (is o.connection f.conn) f.conn f.numbers) f
 
   -- a segment
   pub accepted_fits : (first : ℕ) (sockets : Sockets) (s : PlainSegment) → IsAddr sockets.peer → sockets.peer_port.0 < 65536 → FitConn (accepted first sockets s)
@@ -254,34 +237,14 @@ module _ (m : Meaning) (steady : IsSteady m) where
   by_beat_fits Beat.Again c numbers r f n = record { conn = fit_like c _ refl refl (λ x. absurd (cc)) f; numbers = n }
   by_beat_fits Beat.GiveUp c numbers r f n = record { conn = closes_fit c f; numbers = told_numbers _ c.state c.part numbers n }
 
-  waits_fit : (c : Connection) (numbers : List ℕ) → is_resting c.state ≡ false → FitConn c → All IsWord numbers → FitOut (waits_for_ack m c numbers)
-  waits_fit c numbers r f n = by_beat_fits (beat_at (limit_of c.state) (c.age + 1)) c numbers r f n
-
   not_last : (age : ℕ) → age < 120 → eqb (age + 1) 120 ≡ false → age + 1 < 120
   not_last age h e = grind (arith, common_steps)
 
-  rests_fit : (c : Connection) (numbers : List ℕ) → FitConn c → All IsWord numbers → FitOut (rests_on c numbers)
-  unfolding rests_on
-  rests_fit c numbers f n =
-      choose (λ (o : Outcome). FitOut o) (eqb (c.age + 1) rest_time) _ _ (λ e. record { conn = closes_fit c f; numbers = n })
-      (λ e. record { conn = fit_like c _ refl refl (λ r. not_last c.age (f.rest r) e) f; numbers = n })
-
-  established_ticks : (c : Connection) (numbers : List ℕ) → is_resting c.state ≡ false → FitConn c → All IsWord numbers → FitOut (ticks_established m c numbers)
-  unfolding ticks_established
-  established_ticks c numbers r f n =
-      choose (λ (o : Outcome). FitOut o) (ltb 0 c.len) _ _ (λ e. waits_fit c numbers r f n)
-      (λ e. record { conn = fit_like c _ refl (steady.polled_captures numbers c.part) f.rest f; numbers = steady.polled_numbers numbers c.part n })
-
-  tick_by_fits : (st : State) (c : Connection) (numbers : List ℕ) → c.state ≡ st → FitConn c → All IsWord numbers → FitOut (tick_by m st c numbers)
-  tick_by_fits Closed c numbers e f n = record { conn = f; numbers = n }
-  tick_by_fits SynRcvd c numbers e f n = waits_fit c numbers (ap is_resting e) f n
-  tick_by_fits Established c numbers e f n = established_ticks c numbers (ap is_resting e) f n
-  tick_by_fits CloseWait c numbers e f n = waits_fit c numbers (ap is_resting e) f n
-  tick_by_fits FinWait1 c numbers e f n = waits_fit c numbers (ap is_resting e) f n
-  tick_by_fits FinWait2 c numbers e f n = rests_fit c numbers f n
-  tick_by_fits Closing c numbers e f n = waits_fit c numbers (ap is_resting e) f n
-  tick_by_fits TimeWait c numbers e f n = rests_fit c numbers f n
-  tick_by_fits LastAck c numbers e f n = waits_fit c numbers (ap is_resting e) f n
-
   pub on_tick_fits : (c : Connection) (numbers : List ℕ) → FitConn c → All IsWord numbers → FitOut (on_tick m c numbers)
-  on_tick_fits c numbers f n = tick_by_fits c.state c numbers refl f n
+  on_tick_fits c numbers f n = on_tick_by m FitOut c numbers record {
+    none = record { conn = f; numbers = n };
+    beats = λ r b. by_beat_fits b c numbers r f n;
+    rested = λ e. record { conn = fit_like c (grows_older c) refl refl (λ r. not_last c.age (f.rest r) e) f; numbers = n };
+    ends = record { conn = closes_fit c f; numbers = n };
+    polled = λ e l. record { conn = fit_like c (polls m c numbers).connection refl (steady.polled_captures numbers c.part) f.rest f; numbers = steady.polled_numbers numbers c.part n };
+  }

@@ -1,5 +1,5 @@
 -- What holds of one client and of the connection that serves it, as long as the client is clean.
-use Rattle.std.proofs.Common.{◌≡◌, ℕ, suc, ◌+◌, ◌<◌, ◌≤◌, Bool, true, false, List, [], ◌++◌, length, Option, Some, None, slice_get, if◌then◌else◌}
+use Rattle.std.proofs.Common.{◌≡◌, ℕ, suc, ◌+◌, ◌<◌, ◌≤◌, Bool, true, false, List, [], ◌++◌, length, Option, Some, None, slice_get, refl, if◌then◌else◌}
 use Rattle.uip_wire.specs.Numbers.{wrap}
 use Rattle.tcp_segment.specs.Segments.{PlainSegment, has_syn, has_fin, has_rst, has_ack}
 use Rattle.app_events.specs.Part.{Moment, Meaning}
@@ -98,6 +98,18 @@ StateGood pages opened client c LastAck = AtFin pages opened client c
 pub record ConnGood (pages : Pages) (opened : Option ℕ) (client : AbstractClient) (c : Connection) : Type 0 where
   pub peer_first : c.peer_first ≡ own_first client
   pub state : StateGood pages opened client c c.state
+
+-- before its client opened, a connection that lives is in SYN-RECEIVED
+pub unopened : (pages : Pages) (client : AbstractClient) (c : Connection) (st : State) → is_live st ≡ true → StateGood pages None client c st → (st ≡ SynRcvd) × AtSyn c
+unopened pages client c Closed l g = absurd (cc)
+unopened pages client c SynRcvd l g = (refl, g)
+unopened pages client c Established l g = absurd (let z : false ≡ true = g.text.opened_is in cc)
+unopened pages client c CloseWait l g = absurd (let z : false ≡ true = g.opened_is in cc)
+unopened pages client c FinWait1 l g = absurd (let z : false ≡ true = g.opened_is in cc)
+unopened pages client c FinWait2 l g = absurd (let z : false ≡ true = g.opened_is in cc)
+unopened pages client c Closing l g = absurd (let z : false ≡ true = g.opened_is in cc)
+unopened pages client c TimeWait l g = absurd (let z : false ≡ true = g.opened_is in cc)
+unopened pages client c LastAck l g = absurd (let z : false ≡ true = g.opened_is in cc)
 
 -- What a client has said.
 pub record IsSyn (client : AbstractClient) (opened : Option ℕ) (at_epoch : ℕ) (s : PlainSegment) : Type 0 where

@@ -1,21 +1,17 @@
 -- Acts only add datagrams, a client that has spoken is never idle again, and every client stays as planned.
-use Rattle.std.proofs.Common.{◌≡◌, ℕ, zero, suc, ◌+◌, ◌≤◌, ◌&&◌, Bool, true, false, not, List, [], ◌∷◌, length, map, set, Option, Some, None, slice_get, refl, sym, ap, ◌∙◌, arith, eqb, ltb}
+use Rattle.std.proofs.Common.{◌≡◌, ℕ, zero, suc, ◌≤◌, Bool, false, List, [], ◌∷◌, length, map, set, Option, Some, None, slice_get, refl, sym, ap, ◌∙◌, arith}
 use Rattle.std.proofs.lemmas.Option.{slice_get-map}
 use Rattle.std.specs.Prelude.{option_map}
-use Rattle.uip_wire.specs.Numbers.{wrap}
 use Rattle.app_events.specs.Part.{Meaning}
-use Rattle.tcp_segment.specs.Segments.{PlainSegment, has_ack, has_fin, has_rst, has_syn}
+use Rattle.tcp_segment.specs.Segments.{PlainSegment}
 use Rattle.tcp_machine.specs.Connection.{Connection, same_sockets}
-use Rattle.tcp_machine.specs.Segments.{has_place}
 use Rattle.uip_node.specs.Counters.{ticks_of}
 use Rattle.uip_node.specs.Events.{Event, Reply, tick}
 use Rattle.uip_node.specs.Edge.{event_of}
 use Rattle.uip_node.specs.Events.Event.{Arrived, EchoAsked}
 use Rattle.uip_node.specs.Events.Reply.{Echo, Tcp}
 use Rattle.uip_node.specs.Node.{NodeStep, step}
-use Rattle.link_client.specs.Client.{AbstractClient, ClientStep, after_fin, again_by, aborts_by, client_takes, closes_by, fin_out, fin_sent, has_outstanding, hears_ack, is_receiving, is_reset_by, keeps, may_finish, next_own, opened_by, opens_by, own_first, sends_next, takes_by, takes_in_order, takes_text, tells_window, client_opens, client_again, client_closes, client_aborts}
-use Rattle.link_client.specs.declared.client_state.ClientState.{ClientState}
-use Rattle.link_client.specs.declared.client_state.ClientState.TheVariants as Is
+use Rattle.link_client.specs.Client.{AbstractClient, ClientStep, client_takes, keeps, tells_window, client_opens, client_again, client_closes, client_aborts}
 use Rattle.link_world.specs.Acts.{client_acts, client_handed, damages_at, does, handed, handles_all, hands_over, is_idle, state_at}
 use Rattle.link_world.specs.Bytes.{changed, hears_datagram, ping_from, sent_bytes}
 use Rattle.link_world.specs.World.{Content, Sent, Side, World, buries, buries_in, client_sockets, client_stepped, delivers, epoch_of, gives_client, gives_node, hands_to, marked, node_handles, node_stepped, numbered, posts, posts_of_client, posts_reply, with_client, with_side}
@@ -26,7 +22,7 @@ use Rattle.link_world.specs.declared.who.Who.{Who}
 use Rattle.link_world.specs.declared.who.Who.TheVariants.{FromClient, FromNode, Pinger}
 use Rattle.link_world.proofs.Basics.{choose}
 use Rattle.link_world.proofs.Rounds.{one_longer}
-use Rattle.link_world.proofs.Setups.{SamePlan, again_plan, aborts_plan, closes_plan, opens_plan, planned_by, takes_plan}
+use Rattle.link_world.proofs.Setups.{Keeps, again_keeps, aborts_keeps, closes_keeps, opens_keeps, planned_by, takes_keeps}
 
 -- the client in a place is not idle
 abbrev pub Spoken : List Side → ℕ → Type 0
@@ -42,113 +38,6 @@ grows_not w = record { sent = omega arith; spoken = λ k s. s; planned = refl }
 
 pub grows_on : (w v u : World) → Grows w v → Grows v u → Grows w u
 grows_on w v u g h = record { sent = omega (arith, g.sent, h.sent); spoken = λ k s. h.spoken k (g.spoken k s); planned = h.planned ∙ g.planned }
-
--- ---- a client
-
--- it is idle after a step only where it was before
-abbrev pub Stays : AbstractClient → ClientStep → Type 0
-Stays c x = is_idle c.state ≡ false → is_idle x.client.state ≡ false
-
--- so a step of a client does
-record Keeps (c : AbstractClient) (x : ClientStep) : Type 0 where
-  stays : Stays c x
-  planned : SamePlan c x
-
-sends_stays : (owed : Bool) (c : AbstractClient) → Stays c (sends_next owed c)
-unfolding sends_next
-sends_stays owed c =
-    choose (λ x. Stays c x) (not (has_outstanding c) && (is_receiving c.state && ltb c.acked (length c.request))) _ _ (λ e h. h) (λ e.
-    choose (λ x. Stays c x) (not (has_outstanding c) && (may_finish c.state && not (fin_sent c.fin))) _ _ (λ f h. h) (λ f.
-    choose (λ x. Stays c x) owed _ _ (λ g h. h) (λ g h. h)))
-
-ack_stays : (c : AbstractClient) (s : PlainSegment) → (hears_ack c s).state ≡ c.state
-ack_stays c s = choose (λ (x : AbstractClient). x.state ≡ c.state) (has_ack s.flags && (has_outstanding c && eqb s.ack (next_own c))) _ _ (λ e. refl) (λ e. refl)
-
-fin_stays : (st : ClientState) → is_idle st ≡ false → is_idle (after_fin st) ≡ false
-fin_stays Is.Idle h = h
-fin_stays Is.Opening h = refl
-fin_stays Is.Opened h = refl
-fin_stays Is.Closing h = refl
-fin_stays Is.Closed h = refl
-fin_stays Is.Ended h = refl
-fin_stays Is.Reset h = refl
-
-text_stays : (c : AbstractClient) (s : PlainSegment) → is_idle c.state ≡ false → is_idle (takes_text c s).state ≡ false
-text_stays c s h = choose (λ x. is_idle x ≡ false) (has_fin s.flags) (after_fin c.state) c.state (λ e. fin_stays c.state h) (λ e. h)
-
-order_stays : (c : AbstractClient) (s : PlainSegment) → Stays c (takes_in_order c s)
-unfolding takes_in_order
-order_stays c s =
-    choose (λ x. Stays c x) (has_syn s.flags) _ _ (λ e. sends_stays true c) (λ e.
-    choose (λ x. Stays c x) (not (has_place s)) _ _ (λ f. sends_stays false c) (λ f.
-    choose (λ x. Stays c x) (eqb s.seq c.expected && is_receiving c.state) _ _ (λ g h. sends_stays true (takes_text c s) (text_stays c s h)) (λ g. sends_stays true c)))
-
-heard_stays : (c : AbstractClient) (s : PlainSegment) → Stays c (takes_in_order (hears_ack c s) s)
-heard_stays c s h = order_stays (hears_ack c s) s (ap is_idle (ack_stays c s) ∙ h)
-
-by_stays : (st : ClientState) (c : AbstractClient) (s : PlainSegment) → Stays c (takes_by st c s)
-unfolding takes_by
-by_stays Is.Idle c s = λ h. h
-by_stays Is.Reset c s = λ h. h
-by_stays Is.Opening c s =
-    choose (λ x. Stays c x) (has_syn s.flags && (has_ack s.flags && eqb s.ack (wrap (own_first c + 1)))) _ _ (λ e h. sends_stays true (opened_by c s) refl) (λ e h. h)
-by_stays Is.Opened c s = heard_stays c s
-by_stays Is.Closing c s = heard_stays c s
-by_stays Is.Closed c s = heard_stays c s
-by_stays Is.Ended c s = heard_stays c s
-
-takes_stays : (c : AbstractClient) (s : PlainSegment) → Stays c (client_takes c s)
-unfolding client_takes
-takes_stays c s =
-    choose (λ x. Stays c x) (has_rst s.flags) _ _
-    (λ e. choose (λ x. Stays c (keeps x)) (is_reset_by c.state c s) _ _ (λ f h. refl) (λ f h. h))
-    (λ e. by_stays c.state c s)
-
-opens_stays : (st : ClientState) (c : AbstractClient) → Stays c (opens_by st c)
-unfolding opens_by
-opens_stays Is.Idle c = λ h. refl
-opens_stays Is.Opening c = λ h. h
-opens_stays Is.Opened c = λ h. h
-opens_stays Is.Closing c = λ h. h
-opens_stays Is.Closed c = λ h. h
-opens_stays Is.Ended c = λ h. h
-opens_stays Is.Reset c = λ h. h
-
-repeats_stays : (c : AbstractClient) → Stays c (again_by Is.Opened c)
-unfolding again_by
-repeats_stays c =
-    choose (λ x. Stays c x) (ltb 0 c.out) _ _ (λ e h. h) (λ e.
-    choose (λ x. Stays c x) (fin_out c.fin) _ _ (λ f h. h) (λ f h. h))
-
-again_stays : (st : ClientState) (c : AbstractClient) → Stays c (again_by st c)
-unfolding again_by
-again_stays Is.Idle c = λ h. h
-again_stays Is.Reset c = λ h. h
-again_stays Is.Opening c = λ h. h
-again_stays Is.Opened c = repeats_stays c
-again_stays Is.Closing c = repeats_stays c
-again_stays Is.Closed c = repeats_stays c
-again_stays Is.Ended c = repeats_stays c
-
-closes_stays : (st : ClientState) (c : AbstractClient) → Stays c (closes_by st c)
-unfolding closes_by
-closes_stays Is.Opened c = λ h. sends_stays false (record c { state = Is.Closing }) refl
-closes_stays Is.Idle c = λ h. h
-closes_stays Is.Opening c = λ h. h
-closes_stays Is.Closing c = λ h. h
-closes_stays Is.Closed c = λ h. h
-closes_stays Is.Ended c = λ h. h
-closes_stays Is.Reset c = λ h. h
-
-aborts_stays : (st : ClientState) (c : AbstractClient) → Stays c (aborts_by st c)
-unfolding aborts_by
-aborts_stays Is.Opening c = λ h. refl
-aborts_stays Is.Opened c = λ h. refl
-aborts_stays Is.Closing c = λ h. refl
-aborts_stays Is.Idle c = λ h. h
-aborts_stays Is.Closed c = λ h. h
-aborts_stays Is.Ended c = λ h. h
-aborts_stays Is.Reset c = λ h. h
 
 -- ---- the world
 
@@ -228,7 +117,7 @@ module _ (m : Meaning) (served : ℕ → Bool) where
 
   to_client_grows : (w : World) (n k : ℕ) (e : Sent) (s : PlainSegment) (side : Option Side) → slice_get w.sides n ≡ side → Grows w (gives_client w (suc n) k e s side)
   to_client_grows w n k e s None at = grows_not w
-  to_client_grows w n k e s (Some side) at = client_grows w n side (marked side k e) (client_takes side.client s) at refl record { stays = takes_stays side.client s; planned = takes_plan side.client s }
+  to_client_grows w n k e s (Some side) at = client_grows w n side (marked side k e) (client_takes side.client s) at refl (takes_keeps side.client s)
 
   delivers_grows : (w : World) (k : ℕ) (e : Sent) (who : Who) (content : Content) → Grows w (delivers m served w k e who content)
   delivers_grows w k e (FromClient zero) (OfSegment id s) = grows_not w
@@ -257,7 +146,7 @@ module _ (m : Meaning) (served : ℕ → Bool) where
 
   heard_grows : (w : World) (n : ℕ) (side : Side) (s : Option PlainSegment) → slice_get w.sides n ≡ Some side → Grows w (client_handed w (suc n) side s)
   heard_grows w n side None at = grows_not w
-  heard_grows w n side (Some s) at = client_grows w n side side (client_takes side.client s) at refl record { stays = takes_stays side.client s; planned = takes_plan side.client s }
+  heard_grows w n side (Some s) at = client_grows w n side side (client_takes side.client s) at refl (takes_keeps side.client s)
 
   handed_grows : (w : World) (n : ℕ) (bytes : List ℕ) (side : Option Side) → slice_get w.sides n ≡ side → Grows w (handed w (suc n) bytes side)
   handed_grows w n bytes None at = grows_not w
@@ -274,10 +163,10 @@ module _ (m : Meaning) (served : ℕ → Bool) where
   damages_grows w at mask (Some e) = over_grows w (changed (sent_bytes w e) at mask) e.who
 
   pub does_grows : (w : World) (act : Act) → Grows w (does m served w act)
-  does_grows w (Act.Opens n) = acts_grows w n client_opens (λ c. record { stays = opens_stays c.state c; planned = opens_plan c.state c })
-  does_grows w (Act.Again n) = acts_grows w n client_again (λ c. record { stays = again_stays c.state c; planned = again_plan c.state c })
-  does_grows w (Act.Closes n) = acts_grows w n client_closes (λ c. record { stays = closes_stays c.state c; planned = closes_plan c.state c })
-  does_grows w (Act.Aborts n) = acts_grows w n client_aborts (λ c. record { stays = aborts_stays c.state c; planned = aborts_plan c.state c })
+  does_grows w (Act.Opens n) = acts_grows w n client_opens opens_keeps
+  does_grows w (Act.Again n) = acts_grows w n client_again again_keeps
+  does_grows w (Act.Closes n) = acts_grows w n client_closes closes_keeps
+  does_grows w (Act.Aborts n) = acts_grows w n client_aborts aborts_keeps
   does_grows w (Act.Window n x) = acts_grows w n (tells_window x) (λ c. record { stays = λ h. h; planned = refl })
   does_grows w (Act.Ping source) = posts_grows w Pinger false (OfPing (ping_from source w.node.addr))
   does_grows w (Act.Give k) = hands_grows w k (numbered w.sent k)

@@ -66,12 +66,7 @@ module _ (m : Meaning) (pages : Pages) (lawful : IsPaged m pages) (served : ℕ 
       let there : slice_get w.sides 0 ≡ Some side = ap (λ (l : List Side). slice_get l 0) e.sides in
       let played : IsSchedulePlayed m pages w = record {
         served = served;
-        addr = addr;
-        is_addr = a;
-        numbers = numbers;
-        in_range = words;
-        plan = p ∷ [];
-        is_plan = plan;
+        start = record { addr = addr; is_addr = a; numbers = numbers; in_range = words; plan = p ∷ []; is_plan = plan };
         lines = lines_of n;
         are_acts = all_cons (OfLine IsAct) (Opens 1) (replicate n Round) tt (all_same (OfLine IsAct) Round n (λ k. tt));
         bytes = inr (all_cons (OfLine IsPlainAct) (Opens 1) (replicate n Round) tt (all_same (OfLine IsPlainAct) Round n (λ k. tt)));

@@ -2,6 +2,8 @@ pub mod Sample
 pub mod Rows
 pub mod Hearing
 pub mod Basics
+pub mod Cases
+pub mod ClientCases
 pub mod Good
 pub mod Later
 pub mod Steps
@@ -43,7 +45,6 @@ pub mod HonestRun
 pub mod Honest
 pub mod Senders
 pub mod Reading
-pub mod OneMore
 pub mod Growing
 pub mod Accepting
 pub mod DamageThere

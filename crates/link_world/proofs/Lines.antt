@@ -242,7 +242,7 @@ pub lines_are_acts : LinesAreActs
 lines_are_acts m pages w r =
     elim r.bytes [
       | inl page ↦ (let s = lines_acted m r.served IsAct IsAct 0 r.lines _ w r.are_acts r.are_acts r.accepted in
-          record { served = r.served; addr = r.addr; is_addr = r.is_addr; numbers = r.numbers; in_range = r.in_range; plan = r.plan; is_plan = r.is_plan; schedule = s.schedule; are_acts = s.all; bytes = inl page; accepted = s.runs_to })
+          record { served = r.served; start = r.start; schedule = s.schedule; are_acts = s.all; bytes = inl page; accepted = s.runs_to })
       | inr plain ↦ (let s = lines_acted m r.served IsAct IsPlainAct 0 r.lines _ w r.are_acts plain r.accepted in
-          record { served = r.served; addr = r.addr; is_addr = r.is_addr; numbers = r.numbers; in_range = r.in_range; plan = r.plan; is_plan = r.is_plan; schedule = s.schedule; are_acts = s.all; bytes = inr s.other; accepted = s.runs_to })
+          record { served = r.served; start = r.start; schedule = s.schedule; are_acts = s.all; bytes = inr s.other; accepted = s.runs_to })
     ]

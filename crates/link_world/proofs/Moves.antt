@@ -1,34 +1,22 @@
 -- How far a step brings a connection: what is acknowledged moves to the end of what was outstanding, or stays.
-use Rattle.std.proofs.Common.{◌≡◌, ℕ, ◌+◌, ◌≤◌, Bool, true, false, not, ◌&&◌, ◌⊎◌, inl, inr, List, refl, ap, ◌∙◌, sym, subst, arith, eqb, ltb}
+use Rattle.std.proofs.Common.{◌≡◌, ℕ, ◌+◌, ◌≤◌, Bool, true, false, not, ◌&&◌, ◌⊎◌, inl, inr, List, refl, ap, ◌∙◌, sym, subst, arith, ltb}
 use Rattle.tcp_segment.specs.Segments.{PlainSegment, has_fin, has_rst}
-use Rattle.rexmit_timer.specs.Ages.{beat_at}
 use Rattle.rexmit_timer.specs.declared.timer.Beat.{Beat}
 use Rattle.app_events.specs.Part.{Meaning}
 use Rattle.app_events.specs.declared.now.Now.{Now}
 use Rattle.app_events.specs.declared.state.State.{State}
 use Rattle.app_events.specs.declared.state.State.TheVariants.{Closed, SynRcvd, Established, CloseWait, FinWait1, FinWait2, Closing, TimeWait, LastAck}
-use Rattle.app_events.specs.declared.want.Want.{Want}
-use Rattle.app_events.specs.declared.want.Want.TheVariants.{Nothing, Send, Close, Abort}
 use Rattle.tcp_machine.specs.Connection.{Connection}
-use Rattle.tcp_machine.specs.Ask.{Outcome, peer_has_closed, idles, does_as_wanted, prepared, asked_for, asked}
+use Rattle.tcp_machine.specs.Ask.{Outcome, ask, asked, closes, prepared}
 use Rattle.tcp_machine.specs.OnSegment.{is_out_of_order, is_acked, rests, has_text, with_part, in_established, peer_closes, goes_on, fin_acked, fin_waits, in_fin_wait_2, by_state, on_segment}
-use Rattle.tcp_machine.specs.OnTick.{limit_of, by_beat, waits_for_ack, rests_on, rest_time, ticks_established, tick_by, on_tick}
-use Rattle.tcp_machine.specs.declared.step.Step.{Step}
+use Rattle.tcp_machine.specs.OnTick.{by_beat, grows_older, on_tick, polls}
 use Rattle.link_world.proofs.Basics.{choose, ltb-zero}
+use Rattle.link_world.proofs.Cases.{asked_by, is_ask, no_ask_again, on_tick_by, wanted_unmoved}
 
 pub record Moves (acked : Bool) (c d : Connection) : Type 0 where
   pub first : d.first ≡ c.first
   pub place : (d.acked ≡ c.acked) ⊎ ((acked ≡ true) × (d.acked ≡ c.acked + c.len))
   pub top : c.acked + c.len ≤ d.acked + d.len
-
-abbrev is_ask : Step → Bool
-is_ask (Step.Ask fresh) = true
-is_ask Step.Drop = false
-is_ask Step.Ack = false
-is_ask (Step.SynAck again) = false
-is_ask (Step.Text again) = false
-is_ask (Step.Fin again) = false
-is_ask Step.Reset = false
 
 pub record OutMoves (acked : Bool) (c : Connection) (o : Outcome) : Type 0 where
   pub moves : Moves acked c o.connection
@@ -47,38 +35,15 @@ like acked c b d m f a l = record {
   top = omega (arith, m.top, a, l);
 }
 
--- with nothing outstanding, what is asked for adds to it
-record Adds (c d : Connection) : Type 0 where
-  first : d.first ≡ c.first
-  acked : d.acked ≡ c.acked
-
 module _ (m : Meaning) where
-  wanted_adds : (w : Want) (fresh : Bool) (c : Connection) (numbers : List ℕ) → Adds c (does_as_wanted w fresh c numbers).connection
-  unfolding idles
-  wanted_adds Abort fresh c numbers = record { first = refl; acked = refl }
-  wanted_adds Close fresh c numbers = record { first = refl; acked = refl }
-  wanted_adds (Send n) fresh c numbers = record { first = refl; acked = refl }
-  wanted_adds Nothing fresh c numbers =
-      choose (λ (o : Outcome). Adds c o.connection) (peer_has_closed c.state) _ _ (λ e. record { first = refl; acked = refl })
-      (λ e. choose (λ (o : Outcome). Adds c o.connection) fresh _ _ (λ f. record { first = refl; acked = refl }) (λ f. record { first = refl; acked = refl }))
-
-  asked_for_moves : (acked : Bool) (c : Connection) (at : Connection → Now) (o : Outcome) (s : Step) → Moves acked c o.connection → (is_ask s ≡ true → o.connection.len ≡ 0) → Moves acked c (asked_for m at o s).connection
-  asked_for_moves acked c at o (Step.Ask fresh) h z =
-      let now : Now = at o.connection in
-      let b : Connection = prepared m now o.connection o.numbers in
-      let d : Connection = (does_as_wanted (m.want o.numbers (m.prepare o.numbers o.connection.part now)) fresh b o.numbers).connection in
-      let a : Adds b d = wanted_adds (m.want o.numbers (m.prepare o.numbers o.connection.part now)) fresh b o.numbers in
-      let none : o.connection.len ≡ 0 = z refl in
-      like acked c o.connection d h a.first a.acked (omega (arith, none))
-  asked_for_moves acked c at o Step.Drop h z = h
-  asked_for_moves acked c at o Step.Ack h z = h
-  asked_for_moves acked c at o (Step.SynAck again) h z = h
-  asked_for_moves acked c at o (Step.Text again) h z = h
-  asked_for_moves acked c at o (Step.Fin again) h z = h
-  asked_for_moves acked c at o Step.Reset h z = h
-
   pub asked_moves : (acked : Bool) (c : Connection) (at : Connection → Now) (o : Outcome) → OutMoves acked c o → Moves acked c (asked m at o).connection
-  asked_moves acked c at o h = asked_for_moves acked c at o o.step h.moves h.idle
+  asked_moves acked c at o h =
+      asked_by m (λ x. Moves acked c x.connection) at o
+      (λ a fresh. (let b : Connection = prepared m (at o.connection) o.connection o.numbers in
+      let u = wanted_unmoved m (m.want o.numbers b.part) fresh b o.numbers in
+      let none : o.connection.len ≡ 0 = h.idle a in
+      like acked c o.connection (ask m (at o.connection) fresh o.connection o.numbers).connection h.moves u.first u.acked (omega (arith, none))))
+      h.moves
 
   established_moves : (acked flag : Bool) (c b : Connection) (numbers : List ℕ) (s : PlainSegment) → Moves acked c b → OutMoves acked c (in_established m flag b numbers s)
   unfolding in_established peer_closes goes_on
@@ -126,40 +91,16 @@ module _ (m : Meaning) where
       (λ e. choose (λ x. OutMoves acked c x) (is_out_of_order c s) _ _ (λ f. record { moves = stays acked c c refl refl (omega arith); idle = λ z. absurd (cc) })
       (λ f. subst (λ b. OutMoves b c (by_state m c.state (is_acked c s) c numbers s)) (sym (ap (λ b. not b && is_acked c s) e)) (by_state_moves c.state (is_acked c s) c numbers s)))
 
-  outstanding_quiet : (st : State) → is_ask (Rattle.tcp_machine.specs.OnTick.outstanding true st) ≡ false
-  outstanding_quiet Closed = refl
-  outstanding_quiet SynRcvd = refl
-  outstanding_quiet Established = refl
-  outstanding_quiet CloseWait = refl
-  outstanding_quiet FinWait1 = refl
-  outstanding_quiet FinWait2 = refl
-  outstanding_quiet Closing = refl
-  outstanding_quiet TimeWait = refl
-  outstanding_quiet LastAck = refl
-
   by_beat_moves : (b : Beat) (c : Connection) (numbers : List ℕ) → OutMoves false c (by_beat m b c numbers)
   by_beat_moves Beat.Wait c numbers = record { moves = stays false c _ refl refl (omega arith); idle = λ z. absurd (cc) }
-  by_beat_moves Beat.Again c numbers = record { moves = stays false c _ refl refl (omega arith); idle = λ z. absurd (let q = outstanding_quiet c.state in cc) }
+  by_beat_moves Beat.Again c numbers = record { moves = stays false c _ refl refl (omega arith); idle = λ z. absurd (let q = no_ask_again m c.state in cc) }
   by_beat_moves Beat.GiveUp c numbers = record { moves = stays false c _ refl refl (omega arith); idle = λ z. absurd (cc) }
 
-  waits_moves : (c : Connection) (numbers : List ℕ) → OutMoves false c (waits_for_ack m c numbers)
-  waits_moves c numbers = by_beat_moves (beat_at (limit_of c.state) (c.age + 1)) c numbers
-
-  rests_moves : (c : Connection) (numbers : List ℕ) → OutMoves false c (rests_on c numbers)
-  unfolding rests_on
-  rests_moves c numbers = choose (λ x. OutMoves false c x) (eqb (c.age + 1) rest_time) _ _ (λ e. record { moves = stays false c _ refl refl (omega arith); idle = λ z. absurd (cc) }) (λ e. record { moves = stays false c _ refl refl (omega arith); idle = λ z. absurd (cc) })
-
-  tick_by_moves : (st : State) (c : Connection) (numbers : List ℕ) → OutMoves false c (tick_by m st c numbers)
-  unfolding ticks_established
-  tick_by_moves Closed c numbers = record { moves = stays false c c refl refl (omega arith); idle = λ z. absurd (cc) }
-  tick_by_moves SynRcvd c numbers = waits_moves c numbers
-  tick_by_moves Established c numbers = choose (λ x. OutMoves false c x) (ltb 0 c.len) _ _ (λ e. waits_moves c numbers) (λ e. record { moves = stays false c _ refl refl (omega arith); idle = λ z. ltb-zero c.len e })
-  tick_by_moves CloseWait c numbers = waits_moves c numbers
-  tick_by_moves FinWait1 c numbers = waits_moves c numbers
-  tick_by_moves FinWait2 c numbers = rests_moves c numbers
-  tick_by_moves Closing c numbers = waits_moves c numbers
-  tick_by_moves TimeWait c numbers = rests_moves c numbers
-  tick_by_moves LastAck c numbers = waits_moves c numbers
-
   pub tick_moves : (c : Connection) (numbers : List ℕ) → OutMoves false c (on_tick m c numbers)
-  tick_moves c numbers = tick_by_moves c.state c numbers
+  tick_moves c numbers = on_tick_by m (λ o. OutMoves false c o) c numbers record {
+    none = record { moves = stays false c c refl refl (omega arith); idle = λ z. absurd (cc) };
+    beats = λ r b. by_beat_moves b c numbers;
+    rested = λ e. record { moves = stays false c (grows_older c) refl refl (omega arith); idle = λ z. absurd (cc) };
+    ends = record { moves = stays false c (closes c) refl refl (omega arith); idle = λ z. absurd (cc) };
+    polled = λ e l. record { moves = stays false c (polls m c numbers).connection refl refl (omega arith); idle = λ z. l };
+  }

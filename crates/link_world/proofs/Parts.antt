@@ -16,7 +16,7 @@ use Rattle.link_world.specs.Headline.{server_side}
 use Rattle.link_world.specs.Parts.{IsSlice, SaysPage, AsksRequest, HasTaken, HasOneEpoch, CleanParts}
 use Rattle.link_world.proofs.Basics.{IsPart}
 use Rattle.link_client.specs.declared.client_state.ClientState.TheVariants as Is
-use Rattle.link_world.proofs.Good.{is_unasked, seg, segment_in, StateGood, NodeSaid, ClientSaid, OpenedGood, Good}
+use Rattle.link_world.proofs.Good.{is_unasked, seg, segment_in, StateGood, NodeSaid, ClientSaid, OpenedGood, Good, unopened}
 use Rattle.link_world.proofs.Good.NodeSaid.{node_reset, node_syn, node_ack, node_text, node_fin}
 use Rattle.link_world.proofs.Good.ClientSaid.{said_reset, said_syn, said_data}
 use Rattle.link_world.proofs.Prefix.{all_good}
@@ -60,22 +60,11 @@ has_opened side epoch s nr a (said_reset r) = absurd (cc)
 has_opened side epoch s nr a (said_syn y) = absurd (let z : has_ack s.flags ≡ false = y.no_ack in cc)
 has_opened side epoch s nr a (said_data d) = d.opened_is
 
-not_past : (pages : Pages) (client : AbstractClient) (c : Connection) (st : State) → c.state ≡ st → is_live st ≡ true → StateGood pages None client c st → c.state ≡ SynRcvd
-not_past pages client c Closed e l g = absurd (cc)
-not_past pages client c SynRcvd e l g = e
-not_past pages client c Established e l g = absurd (let z : false ≡ true = g.text.opened_is in cc)
-not_past pages client c CloseWait e l g = absurd (let z : false ≡ true = g.opened_is in cc)
-not_past pages client c FinWait1 e l g = absurd (let z : false ≡ true = g.opened_is in cc)
-not_past pages client c FinWait2 e l g = absurd (let z : false ≡ true = g.opened_is in cc)
-not_past pages client c Closing e l g = absurd (let z : false ≡ true = g.opened_is in cc)
-not_past pages client c TimeWait e l g = absurd (let z : false ≡ true = g.opened_is in cc)
-not_past pages client c LastAck e l g = absurd (let z : false ≡ true = g.opened_is in cc)
-
 one_epoch : (pages : Pages) (side : Side) (c : Connection) (o : Option ℕ) → side.opened ≡ o → OpenedGood pages side.client side.past c o → (is_live c.state ≡ true → StateGood pages o side.client c c.state) → HasOneEpoch side c
 one_epoch pages side c None q h s = record {
   unopened = λ early. q;
   nothing = λ e. h.nothing;
-  waits = λ e l. not_past pages side.client c c.state refl l (s l);
+  waits = λ e l. (unopened pages side.client c c.state l (s l)).0;
   opened_in = λ n e l. absurd (let z : None ≡ Some n = sym q ∙ e in cc);
 }
 one_epoch pages side c (Some o) q h s = record {

@@ -1,43 +1,26 @@
 -- A step keeps the sockets of a connection, whatever its client did.
-use Rattle.std.proofs.Common.{◌≡◌, ℕ, ◌+◌, Bool, true, false, not, ◌&&◌, List, refl, ◌∙◌, eqb, ltb}
+use Rattle.std.proofs.Common.{◌≡◌, ℕ, Bool, true, false, not, ◌&&◌, List, refl, ◌∙◌, ltb}
 use Rattle.tcp_segment.specs.Segments.{PlainSegment, has_fin, has_rst}
-use Rattle.rexmit_timer.specs.Ages.{beat_at}
 use Rattle.rexmit_timer.specs.declared.timer.Beat.{Beat}
 use Rattle.app_events.specs.Part.{Meaning}
 use Rattle.app_events.specs.declared.now.Now.{Now}
 use Rattle.app_events.specs.declared.state.State.{State}
 use Rattle.app_events.specs.declared.state.State.TheVariants.{Closed, SynRcvd, Established, CloseWait, FinWait1, FinWait2, Closing, TimeWait, LastAck}
-use Rattle.app_events.specs.declared.want.Want.{Want}
-use Rattle.app_events.specs.declared.want.Want.TheVariants.{Nothing, Send, Close, Abort}
 use Rattle.tcp_machine.specs.Connection.{Connection, is_live}
-use Rattle.tcp_machine.specs.Ask.{Outcome, leaves, peer_has_closed, idles, does_as_wanted, prepared, asked_for, asked}
+use Rattle.tcp_machine.specs.Ask.{Outcome, leaves, prepared, asked}
 use Rattle.tcp_machine.specs.OnSegment.{is_out_of_order, is_acked, has_text, peer_closes, goes_on, in_established, fin_acked, fin_waits, in_fin_wait_2, by_state, on_segment, with_part, rests}
-use Rattle.tcp_machine.specs.OnTick.{limit_of, by_beat, waits_for_ack, rests_on, rest_time, ticks_established, tick_by, on_tick}
+use Rattle.tcp_machine.specs.OnTick.{by_beat, tick_by, on_tick}
 use Rattle.tcp_machine.specs.declared.step.Step.{Step}
 use Rattle.link_world.proofs.Basics.{choose}
+use Rattle.link_world.proofs.Cases.{asked_by, on_tick_by, wanted_unmoved}
 
 abbrev pub Keeps : Connection → Outcome → Type 0
 Keeps c o = o.connection.sockets ≡ c.sockets
 
 module _ (m : Meaning) where
-  wanted_keeps : (w : Want) (fresh : Bool) (c : Connection) (numbers : List ℕ) → Keeps c (does_as_wanted w fresh c numbers)
-  unfolding idles
-  wanted_keeps Abort fresh c numbers = refl
-  wanted_keeps Close fresh c numbers = refl
-  wanted_keeps (Send k) fresh c numbers = refl
-  wanted_keeps Nothing fresh c numbers = choose (λ o. Keeps c o) (peer_has_closed c.state) _ _ (λ e. refl) (λ e. choose (λ o. Keeps c o) fresh _ _ (λ f. refl) (λ f. refl))
-
-  asked_for_keeps : (at : Connection → Now) (c : Connection) (o : Outcome) (s : Step) → Keeps c o → Keeps c (asked_for m at o s)
-  asked_for_keeps at c o (Step.Ask fresh) h = wanted_keeps (m.want o.numbers (m.prepare o.numbers o.connection.part (at o.connection))) fresh (prepared m (at o.connection) o.connection o.numbers) o.numbers ∙ h
-  asked_for_keeps at c o Step.Drop h = h
-  asked_for_keeps at c o Step.Ack h = h
-  asked_for_keeps at c o (Step.SynAck again) h = h
-  asked_for_keeps at c o (Step.Text again) h = h
-  asked_for_keeps at c o (Step.Fin again) h = h
-  asked_for_keeps at c o Step.Reset h = h
-
   pub asked_keeps : (at : Connection → Now) (c : Connection) (o : Outcome) → Keeps c o → Keeps c (asked m at o)
-  asked_keeps at c o h = asked_for_keeps at c o o.step h
+  asked_keeps at c o h =
+      asked_by m (λ x. Keeps c x) at o (λ a fresh. (let b : Connection = prepared m (at o.connection) o.connection o.numbers in (wanted_unmoved m (m.want o.numbers b.part) fresh b o.numbers).sockets ∙ h)) h
 
   established_keeps : (acked : Bool) (c : Connection) (numbers : List ℕ) (s : PlainSegment) → Keeps c (in_established m acked c numbers s)
   unfolding in_established peer_closes goes_on
@@ -75,27 +58,8 @@ module _ (m : Meaning) where
   by_beat_keeps Beat.Again c numbers = refl
   by_beat_keeps Beat.GiveUp c numbers = refl
 
-  waits_keeps : (c : Connection) (numbers : List ℕ) → Keeps c (waits_for_ack m c numbers)
-  waits_keeps c numbers = by_beat_keeps (beat_at (limit_of c.state) (c.age + 1)) c numbers
-
-  rests_keeps : (c : Connection) (numbers : List ℕ) → Keeps c (rests_on c numbers)
-  unfolding rests_on
-  rests_keeps c numbers = choose (λ o. Keeps c o) (eqb (c.age + 1) rest_time) _ _ (λ e. refl) (λ e. refl)
-
-  tick_by_keeps : (st : State) (c : Connection) (numbers : List ℕ) → Keeps c (tick_by m st c numbers)
-  unfolding ticks_established
-  tick_by_keeps Closed c numbers = refl
-  tick_by_keeps SynRcvd c numbers = waits_keeps c numbers
-  tick_by_keeps Established c numbers = choose (λ o. Keeps c o) (ltb 0 c.len) _ _ (λ e. waits_keeps c numbers) (λ e. refl)
-  tick_by_keeps CloseWait c numbers = waits_keeps c numbers
-  tick_by_keeps FinWait1 c numbers = waits_keeps c numbers
-  tick_by_keeps FinWait2 c numbers = rests_keeps c numbers
-  tick_by_keeps Closing c numbers = waits_keeps c numbers
-  tick_by_keeps TimeWait c numbers = rests_keeps c numbers
-  tick_by_keeps LastAck c numbers = waits_keeps c numbers
-
   pub on_tick_keeps : (c : Connection) (numbers : List ℕ) → Keeps c (on_tick m c numbers)
-  on_tick_keeps c numbers = tick_by_keeps c.state c numbers
+  on_tick_keeps c numbers = on_tick_by m (λ o. Keeps c o) c numbers record { none = refl; beats = λ r b. by_beat_keeps b c numbers; rested = λ e. refl; ends = refl; polled = λ e z. refl }
 
   tick_closed : (st : State) (c : Connection) (numbers : List ℕ) → is_live st ≡ false → tick_by m st c numbers ≡ leaves c numbers Step.Drop
   tick_closed Closed c numbers h = refl

@@ -192,7 +192,8 @@ module _ (m : Meaning) (pages : Pages) (lawful : IsPaged m pages) where
 
   pub all_good : (w : World) → IsReached m pages w → Framed m G other reset evict mark w
   all_good w r = reached m pages lawful (λ v. Framed m G other reset evict mark v)
-      (λ served v act harm g fits. does_framed m G other reset evict mark (steady_of m pages lawful) served segment tick birth took own_open own_again own_close own_abort own_window v act harm g fits)
+      (λ served v act harm g fits. does_framed m G other reset evict mark (steady_of m pages lawful) served segment tick birth
+      record { took = took; opens = own_open; again = own_again; closes = own_close; aborts = own_abort; windows = own_window } v act harm g fits)
       opening_framed w r
 
   not_early : (st : ClientState) → is_early st ≡ true → has_closed st ≡ true → ⊥

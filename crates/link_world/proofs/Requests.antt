@@ -7,8 +7,6 @@ use Rattle.tcp_segment.specs.Segments.{PlainSegment, has_syn, has_fin, has_rst, 
 use Rattle.app_events.specs.Part.{Meaning}
 use Rattle.app_events.specs.Pages.{Pages, IsPaged, IsMoment, IsNow, IsWord}
 use Rattle.app_events.specs.declared.now.Now.{Now}
-use Rattle.app_events.specs.declared.state.State.{State}
-use Rattle.app_events.specs.declared.state.State.TheVariants.{Closed, SynRcvd, Established, CloseWait, FinWait1, FinWait2, Closing, TimeWait, LastAck}
 use Rattle.tcp_machine.specs.Connection.{Sockets, Connection, closed, is_live}
 use Rattle.tcp_machine.specs.Segments.{is_plain_syn, is_again, syn_ack}
 use Rattle.tcp_machine.specs.Ask.{Outcome, asked}
@@ -21,7 +19,7 @@ use Rattle.link_world.specs.Headline.{IsReached}
 use Rattle.link_world.proofs.Steadiness.{steady_of}
 use Rattle.link_world.proofs.Basics.{same_place, get_push, zero_or_more}
 use Rattle.link_world.proofs.Basics.AtEnd.{older, newest}
-use Rattle.link_world.proofs.Good.{seg, no_segment, is_early, from, to, StateGood, ClientSaid, OpenedGood, Good, Steady}
+use Rattle.link_world.proofs.Good.{seg, no_segment, is_early, from, to, ClientSaid, OpenedGood, Good, Steady, unopened}
 use Rattle.link_world.proofs.Good.ClientSaid.{said_reset, said_syn, said_data}
 use Rattle.link_world.proofs.Fits.{FitConn}
 use Rattle.link_world.proofs.Sides.{clean_before}
@@ -258,17 +256,6 @@ module _ (m : Meaning) (pages : Pages) (lawful : IsPaged m pages) where
   acks_go_on : (k : ℕ) (client d : AbstractClient) (epoch : ℕ) (c : Connection) (sent : List Sent) → own_first d ≡ own_first client → Acks k client epoch c sent → Acks k d epoch c sent
   acks_go_on k client d epoch c sent f g l j e x w q r a = (let t = g l j e x w q r a in record { at = t.at; low = t.low; is = t.is ∙ ap (λ n. wrap (n + 1 + t.at)) (sym f) })
 
-  nothing_taken : (c : Connection) (st : State) (client : AbstractClient) → is_live st ≡ true → StateGood pages None client c st → (c.taken ≡ 0) × (c.part.heard ≡ [])
-  nothing_taken c Closed client l g = absurd (cc)
-  nothing_taken c SynRcvd client l g = (g.taken, g.heard)
-  nothing_taken c Established client l g = absurd (let z : false ≡ true = g.text.opened_is in cc)
-  nothing_taken c CloseWait client l g = absurd (let z : false ≡ true = g.opened_is in cc)
-  nothing_taken c FinWait1 client l g = absurd (let z : false ≡ true = g.opened_is in cc)
-  nothing_taken c FinWait2 client l g = absurd (let z : false ≡ true = g.opened_is in cc)
-  nothing_taken c Closing client l g = absurd (let z : false ≡ true = g.opened_is in cc)
-  nothing_taken c TimeWait client l g = absurd (let z : false ≡ true = g.opened_is in cc)
-  nothing_taken c LastAck client l g = absurd (let z : false ≡ true = g.opened_is in cc)
-
   never_asked : (client d : AbstractClient) (epoch : ℕ) (s : PlainSegment) → ClientSaid client None epoch s → EndsIn d s
   never_asked client d epoch s (said_reset r) nr ns = absurd (let z : true ≡ false = sym r ∙ nr in cc)
   never_asked client d epoch s (said_syn y) nr ns = absurd (let z : true ≡ false = sym y.syn ∙ ns in cc)
@@ -287,10 +274,10 @@ module _ (m : Meaning) (pages : Pages) (lawful : IsPaged m pages) where
   after_step k client past c sent later (Some o) s t true g a h low r = λ l. goes_on k client t.client c sent a.more a.further a.first (low l (r l)) (r l)
   after_step k client past c sent later (Some o) s t false g a h low r = λ l. goes_on k client t.client c sent a.more a.further a.first (low l (r l)) (r l)
   after_step k client past c sent later None s t false g a h low r = a.early h.opened_good.early ∙ r
-  after_step k client past c sent later None s t true g a h low r = λ l. (let none = nothing_taken c c.state client l (g.connection l).state in
+  after_step k client past c sent later None s t true g a h low r = λ l. (let none = (unopened pages client c c.state l (g.connection l).state).1 in
       let zero = acked_low client s t a r in
-      let silent : length c.part.heard ≡ 0 = ap (λ (x : List ℕ). length x) none.1 in
-      let start : c.taken ≡ 0 = none.0 in
+      let silent : length c.part.heard ≡ 0 = ap (λ (x : List ℕ). length x) none.heard in
+      let start = none.taken in
       record { low = omega (arith, zero); within = record { high = omega (arith, start); heard = omega (arith, silent); asked = omega (arith, silent) }; ends = λ j e x w. never_asked client t.client e.epoch (seg e) (g.of_client j e x w).said })
 
   abbrev GoodTakes : World → ℕ → Side → Connection → ClientStep → Type 0
@@ -360,11 +347,13 @@ module _ (m : Meaning) (pages : Pages) (lawful : IsPaged m pages) where
 
   pub all_requested : (w : World) → IsReached m pages w → Framed m G other reset evict mark w
   all_requested w r = reached m pages lawful (λ v. Framed m G other reset evict mark v)
-      (λ served v act harm g fits. does_framed m G other reset evict mark (steady_of m pages lawful) served segment tick birth took
-      (λ w k side c fit g. own_by w k side c (client_opens side.client) g (opens_asks side.client.state side.client) (Prefix.own_open m pages lawful w k side c fit g.good))
-      (λ w k side c fit g. own_by w k side c (client_again side.client) g (again_asks side.client.state side.client) (Prefix.own_again m pages lawful w k side c fit g.good))
-      (λ w k side c fit g. own_by w k side c (client_closes side.client) g (closes_asks side.client.state side.client) (Prefix.own_close m pages lawful w k side c fit g.good))
-      (λ w k side c fit g. own_by w k side c (client_aborts side.client) g (aborts_asks side.client.state side.client) (Prefix.own_abort m pages lawful w k side c fit g.good))
-      (λ x w k side c fit g. own_by w k side c (tells_window x side.client) g (window_asks x side.client) (Prefix.own_window m pages lawful x w k side c fit g.good))
+      (λ served v act harm g fits. does_framed m G other reset evict mark (steady_of m pages lawful) served segment tick birth record {
+        took = took;
+        opens = λ w k side c fit g. own_by w k side c (client_opens side.client) g (opens_asks side.client) (Prefix.own_open m pages lawful w k side c fit g.good);
+        again = λ w k side c fit g. own_by w k side c (client_again side.client) g (again_asks side.client) (Prefix.own_again m pages lawful w k side c fit g.good);
+        closes = λ w k side c fit g. own_by w k side c (client_closes side.client) g (closes_asks side.client) (Prefix.own_close m pages lawful w k side c fit g.good);
+        aborts = λ w k side c fit g. own_by w k side c (client_aborts side.client) g (aborts_asks side.client) (Prefix.own_abort m pages lawful w k side c fit g.good);
+        windows = λ x w k side c fit g. own_by w k side c (tells_window x side.client) g (window_asks x side.client) (Prefix.own_window m pages lawful x w k side c fit g.good);
+      }
       v act harm g fits)
       opening_requested w r

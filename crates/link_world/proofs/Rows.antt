@@ -117,11 +117,6 @@ node_says tick flags seq len again = record { tick = tick; who = FromNode 1; fla
 abbrev client_says : ℕ → ℕ → ℕ → Shown
 client_says flags seq len = record { tick = 0; who = FromClient 1; flags = flags; seq = seq; len = len; again = false }
 
--- a page
-a_page : report_of (played (text_of 86) usual (Opens 1 ∷ rounds 12)) ≡ Ok (record { clients = one Is.Closed 86 None; ticks = 0; datagrams = 8 })
-unfolding idles peer_closes goes_on in_established fin_acked fin_waits in_fin_wait_2 on_segment rests_on ticks_established happened opens_in from_stranger sends_next takes_in_order takes_by client_takes opens_by again_by closes_by aborts_by
-a_page = refl
-
 a_page_shown : all_shown (played (text_of 86) usual (Opens 1 ∷ rounds 12))
     ≡ client_says SYN 1000 0 ∷ node_says 0 (SYN + ACK) 0 0 false ∷ client_says (ACK + PSH) 1001 18 ∷ node_says 0 (ACK + PSH) 1 86 false
     ∷ client_says ACK 1019 0 ∷ node_says 0 (FIN + ACK) 87 0 false ∷ client_says (FIN + ACK) 1019 0 ∷ node_says 0 ACK 88 0 false ∷ []
@@ -196,168 +191,97 @@ abbrev said_in : ℕ → Result World BadLine → List ℕ
 said_in k (Ok w) = text_at (numbered w.sent k)
 said_in k (Err bad) = []
 
--- a segment is lost each time: it is sent again at eight ages and given up at tick 249
-lost_segment : report_of lost_segment_run ≡ Ok (record { clients = one Is.Reset 0 None; ticks = 249; datagrams = 13 })
-unfolding idles peer_closes goes_on in_established fin_acked fin_waits in_fin_wait_2 on_segment rests_on ticks_established happened opens_in from_stranger sends_next takes_in_order takes_by client_takes opens_by again_by closes_by aborts_by
-lost_segment = refl
-
--- its datagram 5
-lost_segment_5 : shown 5 lost_segment_run ≡ Some (node_says 4 (ACK + PSH) 1 86 true)
-unfolding idles peer_closes goes_on in_established fin_acked fin_waits in_fin_wait_2 on_segment rests_on ticks_established happened opens_in from_stranger sends_next takes_in_order takes_by client_takes opens_by again_by closes_by aborts_by
-lost_segment_5 = refl
-
--- its datagram 12
-lost_segment_12 : shown 12 lost_segment_run ≡ Some (node_says 200 (ACK + PSH) 1 86 true)
-unfolding idles peer_closes goes_on in_established fin_acked fin_waits in_fin_wait_2 on_segment rests_on ticks_established happened opens_in from_stranger sends_next takes_in_order takes_by client_takes opens_by again_by closes_by aborts_by
-lost_segment_12 = refl
-
--- its datagram 13
-lost_segment_13 : shown 13 lost_segment_run ≡ Some (node_says 249 (RST + ACK) 1 0 false)
-unfolding idles peer_closes goes_on in_established fin_acked fin_waits in_fin_wait_2 on_segment rests_on ticks_established happened opens_in from_stranger sends_next takes_in_order takes_by client_takes opens_by again_by closes_by aborts_by
-lost_segment_13 = refl
-
--- SYN-ACKs are lost until the server gives up; the SYN sent again opens the next connection
-lost_syn_acks : report_of lost_syn_acks_run ≡ Ok (record { clients = one Is.Closed 86 None; ticks = 102; datagrams = 16 })
-unfolding idles peer_closes goes_on in_established fin_acked fin_waits in_fin_wait_2 on_segment rests_on ticks_established happened opens_in from_stranger sends_next takes_in_order takes_by client_takes opens_by again_by closes_by aborts_by
-lost_syn_acks = refl
-
--- its datagram 8
-lost_syn_acks_8 : shown 8 lost_syn_acks_run ≡ Some (node_says 102 (RST + ACK) 0 0 false)
-unfolding idles peer_closes goes_on in_established fin_acked fin_waits in_fin_wait_2 on_segment rests_on ticks_established happened opens_in from_stranger sends_next takes_in_order takes_by client_takes opens_by again_by closes_by aborts_by
-lost_syn_acks_8 = refl
-
--- its datagram 10
-lost_syn_acks_10 : shown 10 lost_syn_acks_run ≡ Some (node_says 102 (SYN + ACK) 1020 0 false)
-unfolding idles peer_closes goes_on in_established fin_acked fin_waits in_fin_wait_2 on_segment rests_on ticks_established happened opens_in from_stranger sends_next takes_in_order takes_by client_takes opens_by again_by closes_by aborts_by
-lost_syn_acks_10 = refl
-
--- the window shrinks while a segment is outstanding: it is sent again at its first length
-shrunk_window : report_of shrunk_window_run ≡ Ok (record { clients = one Is.Closed 1080 None; ticks = 4; datagrams = 14 })
-unfolding idles peer_closes goes_on in_established fin_acked fin_waits in_fin_wait_2 on_segment rests_on ticks_established happened opens_in from_stranger sends_next takes_in_order takes_by client_takes opens_by again_by closes_by aborts_by
-shrunk_window = refl
-
--- its datagram 6
-shrunk_window_6 : shown 6 shrunk_window_run ≡ Some (node_says 0 (ACK + PSH) 537 536 false)
-unfolding idles peer_closes goes_on in_established fin_acked fin_waits in_fin_wait_2 on_segment rests_on ticks_established happened opens_in from_stranger sends_next takes_in_order takes_by client_takes opens_by again_by closes_by aborts_by
-shrunk_window_6 = refl
-
--- its datagram 8
-shrunk_window_8 : shown 8 shrunk_window_run ≡ Some (node_says 4 (ACK + PSH) 537 536 true)
-unfolding idles peer_closes goes_on in_established fin_acked fin_waits in_fin_wait_2 on_segment rests_on ticks_established happened opens_in from_stranger sends_next takes_in_order takes_by client_takes opens_by again_by closes_by aborts_by
-shrunk_window_8 = refl
-
--- its datagram 10
-shrunk_window_10 : shown 10 shrunk_window_run ≡ Some (node_says 4 (ACK + PSH) 1073 8 false)
-unfolding idles peer_closes goes_on in_established fin_acked fin_waits in_fin_wait_2 on_segment rests_on ticks_established happened opens_in from_stranger sends_next takes_in_order takes_by client_takes opens_by again_by closes_by aborts_by
-shrunk_window_10 = refl
-
--- repeats and old acknowledgements
-repeats : report_of repeats_run ≡ Ok (record { clients = one Is.Closed 1080 None; ticks = 0; datagrams = 13 })
-unfolding idles peer_closes goes_on in_established fin_acked fin_waits in_fin_wait_2 on_segment rests_on ticks_established happened opens_in from_stranger sends_next takes_in_order takes_by client_takes opens_by again_by closes_by aborts_by
-repeats = refl
-
--- the client closes first and still gets its whole page
-client_first : report_of client_first_run ≡ Ok (record { clients = one Is.Ended 1080 None; ticks = 0; datagrams = 12 })
-unfolding idles peer_closes goes_on in_established fin_acked fin_waits in_fin_wait_2 on_segment rests_on ticks_established happened opens_in from_stranger sends_next takes_in_order takes_by client_takes opens_by again_by closes_by aborts_by
-client_first = refl
-
--- the client aborts, and an older datagram reaches it afterwards
-aborted : report_of aborted_run ≡ Ok (record { clients = one Is.Reset 0 (Some 4); ticks = 0; datagrams = 5 })
-unfolding idles peer_closes goes_on in_established fin_acked fin_waits in_fin_wait_2 on_segment rests_on ticks_established happened opens_in from_stranger sends_next takes_in_order takes_by client_takes opens_by again_by closes_by aborts_by
-aborted = refl
-
--- the client closes before its request is decided
-undecided : report_of undecided_run ≡ Ok (record { clients = one Is.Reset 0 None; ticks = 0; datagrams = 6 })
-unfolding idles peer_closes goes_on in_established fin_acked fin_waits in_fin_wait_2 on_segment rests_on ticks_established happened opens_in from_stranger sends_next takes_in_order takes_by client_takes opens_by again_by closes_by aborts_by
-undecided = refl
-
--- its datagram 6
-undecided_6 : shown 6 undecided_run ≡ Some (node_says 0 (RST + ACK) 1 0 false)
-unfolding idles peer_closes goes_on in_established fin_acked fin_waits in_fin_wait_2 on_segment rests_on ticks_established happened opens_in from_stranger sends_next takes_in_order takes_by client_takes opens_by again_by closes_by aborts_by
-undecided_6 = refl
-
--- two segments of the largest size
-large_mss : report_of large_mss_run ≡ Ok (record { clients = one Is.Closed 2080 None; ticks = 0; datagrams = 10 })
-unfolding idles peer_closes goes_on in_established fin_acked fin_waits in_fin_wait_2 on_segment rests_on ticks_established happened opens_in from_stranger sends_next takes_in_order takes_by client_takes opens_by again_by closes_by aborts_by
-large_mss = refl
-
--- its datagram 4
-large_mss_4 : shown 4 large_mss_run ≡ Some (node_says 0 (ACK + PSH) 1 1460 false)
-unfolding idles peer_closes goes_on in_established fin_acked fin_waits in_fin_wait_2 on_segment rests_on ticks_established happened opens_in from_stranger sends_next takes_in_order takes_by client_takes opens_by again_by closes_by aborts_by
-large_mss_4 = refl
-
--- its datagram 6
-large_mss_6 : shown 6 large_mss_run ≡ Some (node_says 0 (ACK + PSH) 1461 620 false)
-unfolding idles peer_closes goes_on in_established fin_acked fin_waits in_fin_wait_2 on_segment rests_on ticks_established happened opens_in from_stranger sends_next takes_in_order takes_by client_takes opens_by again_by closes_by aborts_by
-large_mss_6 = refl
-
--- an honest link
-honest : report_of honest_run ≡ Ok (record { clients = one Is.Closed 1080 None; ticks = 0; datagrams = 12 })
-unfolding idles peer_closes goes_on in_established fin_acked fin_waits in_fin_wait_2 on_segment rests_on ticks_established happened opens_in from_stranger sends_next takes_in_order takes_by client_takes opens_by again_by closes_by aborts_by
-honest = refl
-
--- a late SYN makes a finished client stale
-late_syn : report_of late_syn_run ≡ Ok (record { clients = record { state = Is.Closed; received = 86; first_stale = Some 1 } ∷ record { state = Is.Idle; received = 0; first_stale = None } ∷ []; ticks = 120; datagrams = 9 })
-unfolding idles peer_closes goes_on in_established fin_acked fin_waits in_fin_wait_2 on_segment rests_on ticks_established happened opens_in from_stranger sends_next takes_in_order takes_by client_takes opens_by again_by closes_by aborts_by
-late_syn = refl
-
--- a SYN takes a slot from TIME-WAIT; a late ACK of the client that had it makes that client stale
-evicted : report_of evicted_run ≡ Ok (record { clients = record { state = Is.Closed; received = 86; first_stale = Some 41 } ∷ replicate 10 (record { state = Is.Closed; received = 86; first_stale = None }); ticks = 0; datagrams = 89 })
-unfolding idles peer_closes goes_on in_established fin_acked fin_waits in_fin_wait_2 on_segment rests_on ticks_established happened opens_in from_stranger sends_next takes_in_order takes_by client_takes opens_by again_by closes_by aborts_by
-evicted = refl
-
--- its datagram 83
-evicted_83 : shown 83 evicted_run ≡ Some (node_says 0 (RST + ACK) 87 0 false)
-unfolding idles peer_closes goes_on in_established fin_acked fin_waits in_fin_wait_2 on_segment rests_on ticks_established happened opens_in from_stranger sends_next takes_in_order takes_by client_takes opens_by again_by closes_by aborts_by
-evicted_83 = refl
-
--- a full table: the eleventh SYN is dropped, and a page shows ten connections as they are when it is asked for
-full_table : report_of full_table_run ≡ Ok (record { clients = record { state = Is.Closed; received = 983; first_stale = None } ∷ replicate 9 (record { state = Is.Opened; received = 0; first_stale = None }) ++ record { state = Is.Opening; received = 0; first_stale = None } ∷ []; ticks = 0; datagrams = 40 })
-unfolding idles peer_closes goes_on in_established fin_acked fin_waits in_fin_wait_2 on_segment rests_on ticks_established happened opens_in from_stranger sends_next takes_in_order takes_by client_takes opens_by again_by closes_by aborts_by
-full_table = refl
-
--- a generated text is sent again as it was captured
-generator_again : report_of generator_again_run ≡ Ok (record { clients = one Is.Closed 520 None; ticks = 4; datagrams = 17 })
-unfolding idles peer_closes goes_on in_established fin_acked fin_waits in_fin_wait_2 on_segment rests_on ticks_established happened opens_in from_stranger sends_next takes_in_order takes_by client_takes opens_by again_by closes_by aborts_by ping_from
-generator_again = refl
-
--- its datagrams 6 and 11 show the counters of the moment of the first
-generator_again_6 : said_in 6 generator_again_run ≡ flat_map (λ n. replicate 11 n) (3 ∷ 2 ∷ 0 ∷ 0 ∷ 0 ∷ 0 ∷ 0 ∷ 0 ∷ 0 ∷ 0 ∷ 0 ∷ 0 ∷ 0 ∷ 0 ∷ 3 ∷ 2 ∷ 0 ∷ 0 ∷ 0 ∷ 0 ∷ [])
-unfolding idles peer_closes goes_on in_established fin_acked fin_waits in_fin_wait_2 on_segment rests_on ticks_established happened opens_in from_stranger sends_next takes_in_order takes_by client_takes opens_by again_by closes_by aborts_by ping_from
-generator_again_6 = refl
-
--- the same, sent again
-generator_again_11 : said_in 11 generator_again_run ≡ flat_map (λ n. replicate 11 n) (3 ∷ 2 ∷ 0 ∷ 0 ∷ 0 ∷ 0 ∷ 0 ∷ 0 ∷ 0 ∷ 0 ∷ 0 ∷ 0 ∷ 0 ∷ 0 ∷ 3 ∷ 2 ∷ 0 ∷ 0 ∷ 0 ∷ 0 ∷ [])
-unfolding idles peer_closes goes_on in_established fin_acked fin_waits in_fin_wait_2 on_segment rests_on ticks_established happened opens_in from_stranger sends_next takes_in_order takes_by client_takes opens_by again_by closes_by aborts_by ping_from
-generator_again_11 = refl
-
--- the second generator shows those of its own moment
-generator_again_13 : said_in 13 generator_again_run ≡ flat_map (λ n. replicate 11 n) (6 ∷ 6 ∷ 0 ∷ 0 ∷ 0 ∷ 0 ∷ 0 ∷ 0 ∷ 0 ∷ 0 ∷ 2 ∷ 2 ∷ 0 ∷ 0 ∷ 4 ∷ 4 ∷ 0 ∷ 0 ∷ 1 ∷ 0 ∷ [])
-unfolding idles peer_closes goes_on in_established fin_acked fin_waits in_fin_wait_2 on_segment rests_on ticks_established happened opens_in from_stranger sends_next takes_in_order takes_by client_takes opens_by again_by closes_by aborts_by ping_from
-generator_again_13 = refl
-
 abbrev damaged_run : ℕ → Result World BadLine
 damaged_run at = played (text_of 86) usual (Opens 1 ∷ rounds 3 ++ Damage 4 at 1 ∷ Lose ∷ Tick 4 ∷ rounds 5)
 
--- a damaged byte is a loss
-damaged : report_of (damaged_run 45) ≡ Ok (record { clients = one Is.Closed 86 None; ticks = 4; datagrams = 9 })
-unfolding idles peer_closes goes_on in_established fin_acked fin_waits in_fin_wait_2 on_segment rests_on ticks_established happened opens_in from_stranger sends_next takes_in_order takes_by client_takes opens_by again_by closes_by aborts_by folded head_or_fate head_bytes datagram_bytes segment_in
-damaged = refl
+-- runs, and what is reported of each
+abbrev endings : List (Result World BadLine × Result Report BadLine)
+endings =
+    -- a page
+    (played (text_of 86) usual (Opens 1 ∷ rounds 12), Ok (record { clients = one Is.Closed 86 None; ticks = 0; datagrams = 8 }))
+    -- a segment is lost each time: it is sent again at eight ages and given up at tick 249
+    ∷ (lost_segment_run, Ok (record { clients = one Is.Reset 0 None; ticks = 249; datagrams = 13 }))
+    -- SYN-ACKs are lost until the server gives up; the SYN sent again opens the next connection
+    ∷ (lost_syn_acks_run, Ok (record { clients = one Is.Closed 86 None; ticks = 102; datagrams = 16 }))
+    -- the window shrinks while a segment is outstanding: it is sent again at its first length
+    ∷ (shrunk_window_run, Ok (record { clients = one Is.Closed 1080 None; ticks = 4; datagrams = 14 }))
+    -- repeats and old acknowledgements
+    ∷ (repeats_run, Ok (record { clients = one Is.Closed 1080 None; ticks = 0; datagrams = 13 }))
+    -- the client closes first and still gets its whole page
+    ∷ (client_first_run, Ok (record { clients = one Is.Ended 1080 None; ticks = 0; datagrams = 12 }))
+    -- the client aborts, and an older datagram reaches it afterwards
+    ∷ (aborted_run, Ok (record { clients = one Is.Reset 0 (Some 4); ticks = 0; datagrams = 5 }))
+    -- the client closes before its request is decided
+    ∷ (undecided_run, Ok (record { clients = one Is.Reset 0 None; ticks = 0; datagrams = 6 }))
+    -- two segments of the largest size
+    ∷ (large_mss_run, Ok (record { clients = one Is.Closed 2080 None; ticks = 0; datagrams = 10 }))
+    -- an honest link
+    ∷ (honest_run, Ok (record { clients = one Is.Closed 1080 None; ticks = 0; datagrams = 12 }))
+    -- a late SYN makes a finished client stale
+    ∷ (late_syn_run, Ok (record { clients = record { state = Is.Closed; received = 86; first_stale = Some 1 } ∷ record { state = Is.Idle; received = 0; first_stale = None } ∷ []; ticks = 120; datagrams = 9 }))
+    -- a SYN takes a slot from TIME-WAIT; a late ACK of the client that had it makes that client stale
+    ∷ (evicted_run, Ok (record { clients = record { state = Is.Closed; received = 86; first_stale = Some 41 } ∷ replicate 10 (record { state = Is.Closed; received = 86; first_stale = None }); ticks = 0; datagrams = 89 }))
+    -- a full table: the eleventh SYN is dropped, and a page shows ten connections as they are when it is asked for
+    ∷ (full_table_run, Ok (record { clients = record { state = Is.Closed; received = 983; first_stale = None } ∷ replicate 9 (record { state = Is.Opened; received = 0; first_stale = None }) ++ record { state = Is.Opening; received = 0; first_stale = None } ∷ []; ticks = 0; datagrams = 40 }))
+    -- a generated text is sent again as it was captured
+    ∷ (generator_again_run, Ok (record { clients = one Is.Closed 520 None; ticks = 4; datagrams = 17 }))
+    ∷ []
 
-damaged_5 : shown 5 (damaged_run 45) ≡ Some (node_says 4 (ACK + PSH) 1 86 true)
-unfolding idles peer_closes goes_on in_established fin_acked fin_waits in_fin_wait_2 on_segment rests_on ticks_established happened opens_in from_stranger sends_next takes_in_order takes_by client_takes opens_by again_by closes_by aborts_by folded head_or_fate head_bytes datagram_bytes segment_in
-damaged_5 = refl
+endings_hold : map (λ row. report_of row.0) endings ≡ map (λ row. row.1) endings
+unfolding idles peer_closes goes_on in_established fin_acked fin_waits in_fin_wait_2 on_segment rests_on ticks_established happened opens_in from_stranger sends_next takes_in_order takes_by client_takes opens_by again_by closes_by aborts_by ping_from
+endings_hold = refl
 
--- a byte past the datagram
-no_byte : report_of (damaged_run 126) ≡ Err (record { place = 4; why = NoByte })
-unfolding idles peer_closes goes_on in_established fin_acked fin_waits in_fin_wait_2 on_segment rests_on ticks_established happened opens_in from_stranger sends_next takes_in_order takes_by client_takes opens_by again_by closes_by aborts_by folded head_or_fate head_bytes datagram_bytes segment_in
-no_byte = refl
+-- the numbers of datagrams in runs, and what is shown of each
+abbrev datagrams : List (ℕ × Result World BadLine × Shown)
+datagrams =
+    (5, lost_segment_run, node_says 4 (ACK + PSH) 1 86 true)
+    ∷ (12, lost_segment_run, node_says 200 (ACK + PSH) 1 86 true)
+    ∷ (13, lost_segment_run, node_says 249 (RST + ACK) 1 0 false)
+    ∷ (8, lost_syn_acks_run, node_says 102 (RST + ACK) 0 0 false)
+    ∷ (10, lost_syn_acks_run, node_says 102 (SYN + ACK) 1020 0 false)
+    ∷ (6, shrunk_window_run, node_says 0 (ACK + PSH) 537 536 false)
+    ∷ (8, shrunk_window_run, node_says 4 (ACK + PSH) 537 536 true)
+    ∷ (10, shrunk_window_run, node_says 4 (ACK + PSH) 1073 8 false)
+    ∷ (6, undecided_run, node_says 0 (RST + ACK) 1 0 false)
+    ∷ (4, large_mss_run, node_says 0 (ACK + PSH) 1 1460 false)
+    ∷ (6, large_mss_run, node_says 0 (ACK + PSH) 1461 620 false)
+    ∷ (83, evicted_run, node_says 0 (RST + ACK) 87 0 false)
+    ∷ []
 
--- a datagram that was not sent yet, and a client that is not idle
-no_datagram : report_of (played (text_of 86) usual (Opens 1 ∷ Give 2 ∷ [])) ≡ Err (record { place = 1; why = NoDatagram })
-unfolding idles peer_closes goes_on in_established fin_acked fin_waits in_fin_wait_2 on_segment rests_on ticks_established happened opens_in from_stranger sends_next takes_in_order takes_by client_takes opens_by again_by closes_by aborts_by folded head_or_fate head_bytes datagram_bytes segment_in
-no_datagram = refl
+datagrams_hold : map (λ row. shown row.0 row.1) datagrams ≡ map (λ row. Some row.2) datagrams
+unfolding idles peer_closes goes_on in_established fin_acked fin_waits in_fin_wait_2 on_segment rests_on ticks_established happened opens_in from_stranger sends_next takes_in_order takes_by client_takes opens_by again_by closes_by aborts_by
+datagrams_hold = refl
 
-already_open : report_of (played (text_of 86) usual (Opens 1 ∷ Opens 1 ∷ [])) ≡ Err (record { place = 1; why = AlreadyOpen })
+-- datagrams whose text is told
+abbrev texts : List (ℕ × Result World BadLine × List ℕ)
+texts =
+    (6, generator_again_run, flat_map (λ n. replicate 11 n) (3 ∷ 2 ∷ 0 ∷ 0 ∷ 0 ∷ 0 ∷ 0 ∷ 0 ∷ 0 ∷ 0 ∷ 0 ∷ 0 ∷ 0 ∷ 0 ∷ 3 ∷ 2 ∷ 0 ∷ 0 ∷ 0 ∷ 0 ∷ []))
+    -- the same, sent again
+    ∷ (11, generator_again_run, flat_map (λ n. replicate 11 n) (3 ∷ 2 ∷ 0 ∷ 0 ∷ 0 ∷ 0 ∷ 0 ∷ 0 ∷ 0 ∷ 0 ∷ 0 ∷ 0 ∷ 0 ∷ 0 ∷ 3 ∷ 2 ∷ 0 ∷ 0 ∷ 0 ∷ 0 ∷ []))
+    -- the second generator shows those of its own moment
+    ∷ (13, generator_again_run, flat_map (λ n. replicate 11 n) (6 ∷ 6 ∷ 0 ∷ 0 ∷ 0 ∷ 0 ∷ 0 ∷ 0 ∷ 0 ∷ 0 ∷ 2 ∷ 2 ∷ 0 ∷ 0 ∷ 4 ∷ 4 ∷ 0 ∷ 0 ∷ 1 ∷ 0 ∷ []))
+    ∷ []
+
+texts_hold : map (λ row. said_in row.0 row.1) texts ≡ map (λ row. row.2) texts
+unfolding idles peer_closes goes_on in_established fin_acked fin_waits in_fin_wait_2 on_segment rests_on ticks_established happened opens_in from_stranger sends_next takes_in_order takes_by client_takes opens_by again_by closes_by aborts_by ping_from
+texts_hold = refl
+
+-- runs with damage, and acts that are refused
+abbrev damages : List (Result World BadLine × Result Report BadLine)
+damages =
+    -- a damaged byte is a loss
+    (damaged_run 45, Ok (record { clients = one Is.Closed 86 None; ticks = 4; datagrams = 9 }))
+    -- a byte past the datagram
+    ∷ (damaged_run 126, Err (record { place = 4; why = NoByte }))
+    -- a datagram that was not sent yet, and a client that is not idle
+    ∷ (played (text_of 86) usual (Opens 1 ∷ Give 2 ∷ []), Err (record { place = 1; why = NoDatagram }))
+    ∷ (played (text_of 86) usual (Opens 1 ∷ Opens 1 ∷ []), Err (record { place = 1; why = AlreadyOpen }))
+    ∷ []
+
+damages_hold : map (λ row. report_of row.0) damages ≡ map (λ row. row.1) damages
 unfolding idles peer_closes goes_on in_established fin_acked fin_waits in_fin_wait_2 on_segment rests_on ticks_established happened opens_in from_stranger sends_next takes_in_order takes_by client_takes opens_by again_by closes_by aborts_by folded head_or_fate head_bytes datagram_bytes segment_in
-already_open = refl
+damages_hold = refl
+
+damaged_again : shown 5 (damaged_run 45) ≡ Some (node_says 4 (ACK + PSH) 1 86 true)
+unfolding idles peer_closes goes_on in_established fin_acked fin_waits in_fin_wait_2 on_segment rests_on ticks_established happened opens_in from_stranger sends_next takes_in_order takes_by client_takes opens_by again_by closes_by aborts_by folded head_or_fate head_bytes datagram_bytes segment_in
+damaged_again = refl

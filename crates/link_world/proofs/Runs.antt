@@ -9,7 +9,7 @@ use Rattle.link_world.specs.World.{World, Side}
 use Rattle.link_world.specs.Acts.{does, fault_of, done_or, acts, and_then, runs}
 use Rattle.link_world.specs.declared.act.Act.{Act}
 use Rattle.link_world.specs.declared.step_fault.StepFault.{StepFault}
-use Rattle.link_world.specs.History.{Planned, IsPlanned, IsPlan, fresh_side, opening_world}
+use Rattle.link_world.specs.History.{Planned, IsPlanned, IsPlan, fresh_side, opening_world, started}
 use Rattle.link_world.specs.Steady.{IsSteady}
 use Rattle.link_world.specs.Headline.{IsReachedPlainly, IsAct, IsPlainAct, HasBytes, IsReached}
 use Rattle.link_world.specs.Times.{IsLater}
@@ -114,13 +114,13 @@ module _ (m : Meaning) (pages : Pages) (lawful : IsPaged m pages) (served : ℕ 
 pub reached : (m : Meaning) (pages : Pages) → IsPaged m pages → (P : World → Type 0) → ((served : ℕ → Bool) (w : World) (act : Act) → Harmless m served w act → P w → FitWorld w → P (does m served w act)) →
     ((addr : Addr) (numbers : List ℕ) (plan : List Planned) → IsPlan plan → P (opening_world addr numbers plan)) → (w : World) → IsReached m pages w → P w
 reached m pages lawful P step opening w r =
-    (schedule_keeps m pages lawful r.served P (step r.served) r.addr r.numbers r.plan r.schedule w r.is_addr r.in_range r.is_plan
-    (fine m pages lawful r.served P (step r.served) r.schedule r.are_acts r.bytes) r.accepted (opening r.addr r.numbers r.plan r.is_plan)).fact
+    (schedule_keeps m pages lawful r.served P (step r.served) r.start.addr r.start.numbers r.start.plan r.schedule w r.start.is_addr r.start.in_range r.start.is_plan
+    (fine m pages lawful r.served P (step r.served) r.schedule r.are_acts r.bytes) r.accepted (opening r.start.addr r.start.numbers r.start.plan r.start.is_plan)).fact
 
 -- every world that is reached is sound
 pub reached_sound : (m : Meaning) (pages : Pages) → IsPaged m pages → HasBytes pages → (w : World) → IsReached m pages w → SoundWorld w
 reached_sound m pages lawful page w r =
-    (schedule_keeps m pages lawful r.served (λ v. Unit {0}) (λ v act h p f. tt) r.addr r.numbers r.plan r.schedule w r.is_addr r.in_range r.is_plan
+    (schedule_keeps m pages lawful r.served (λ v. Unit {0}) (λ v act h p f. tt) r.start.addr r.start.numbers r.start.plan r.schedule w r.start.is_addr r.start.in_range r.start.is_plan
     (fine m pages lawful r.served (λ v. Unit {0}) (λ v act h p f. tt) r.schedule r.are_acts r.bytes) r.accepted tt).sound page
 
 -- any fact that each harmless act keeps, from a world that is reached to a later one
@@ -128,7 +128,7 @@ pub reached_on : (m : Meaning) (pages : Pages) → IsPaged m pages → (P : Worl
     (v w : World) → IsLater m pages v w → P v → P w
 reached_on m pages lawful P step v w l p =
     let r : IsReached m pages v = l.reached in
-    let k = schedule_keeps m pages lawful r.served (λ u. Unit {0}) (λ u act h q f. tt) r.addr r.numbers r.plan r.schedule v r.is_addr r.in_range r.is_plan
+    let k = schedule_keeps m pages lawful r.served (λ u. Unit {0}) (λ u act h q f. tt) r.start.addr r.start.numbers r.start.plan r.schedule v r.start.is_addr r.start.in_range r.start.is_plan
     (fine m pages lawful r.served (λ u. Unit {0}) (λ u act h q f. tt) r.schedule r.are_acts r.bytes) r.accepted tt in
     (run_keeps m r.served (Fine m pages lawful r.served P (step r.served)) (Kept m pages lawful r.served P (step r.served)) (act_keeps m pages lawful r.served P (step r.served)) l.more v w
     (fine m pages lawful r.served P (step r.served) l.more l.are_acts l.bytes) record { fact = p; fits = k.fits; sound = k.sound } l.accepted).fact
@@ -139,4 +139,4 @@ pub reached_plainly : (m : Meaning) → IsSteady m → (P : World → Type 0) �
 reached_plainly m steady P step opening w r =
     (run_keeps m r.served IsPlainAct (λ v. P v × FitWorld v)
     (λ v act plain ok k. (let h : Harmless m r.served v act = plain_harmless m r.served v act plain in (step r.served v act h k.0 k.1, does_fit m steady r.served v act h k.1)))
-    r.schedule (opening_world r.addr r.numbers r.plan) w r.plain (opening r.addr r.numbers r.plan r.is_plan, opening_fits r.addr r.numbers r.plan r.in_range r.is_plan) r.accepted).0
+    r.schedule (started r.start) w r.plain (opening r.start.addr r.start.numbers r.start.plan r.start.is_plan, opening_fits r.start.addr r.start.numbers r.start.plan r.start.in_range r.start.is_plan) r.accepted).0

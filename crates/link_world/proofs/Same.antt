@@ -16,7 +16,7 @@ use Rattle.tcp_machine.specs.Segments.{segment_of, is_again, has_place, is_plain
 use Rattle.tcp_machine.specs.Ask.{Outcome, asked}
 use Rattle.tcp_machine.specs.OnSegment.{first_mss, accepted, on_segment}
 use Rattle.tcp_machine.specs.OnTick.{on_tick}
-use Rattle.link_client.specs.Client.{ClientStep, client_takes}
+use Rattle.link_client.specs.Client.{ClientStep}
 use Rattle.link_world.specs.World.{World, Side, Sent, Content, client_sockets, with_client, marked, is_clean}
 use Rattle.link_world.specs.World.Content.{OfSegment, OfPing, OfEcho}
 use Rattle.link_world.specs.Acts.{does}
@@ -36,7 +36,7 @@ use Rattle.link_world.proofs.Prefix.{none_serves, opening_apart}
 use Rattle.link_world.proofs.Harmless.{Harmless}
 use Rattle.link_world.proofs.FitWorlds.{FitWorld, closed_fits}
 use Rattle.link_world.proofs.Runs.{reached, reached_plainly}
-use Rattle.link_world.proofs.Any.{Framed, Steps, Takes, speech, entry, does_framed}
+use Rattle.link_world.proofs.Any.{Framed, Steps, Takes, any_step, speech, entry, does_framed}
 use Rattle.link_world.proofs.Any
 
 not_zero : (w : ℕ) → eqb w 0 ≡ false → 0 < w
@@ -377,9 +377,7 @@ module _ (m : Meaning) (steady : IsSteady m) (Low : ℕ → Type 0) (low_text : 
       let fo : FitOut o = on_tick_fits m steady old numbers f n in
       steps_by w old (asked m now o) k side l (stepped_fits now o is fo) (stepped_tells now old o is fo (tick_tells m steady Low low_text old numbers (t.safe l))) t)
       birth
-      (λ w k j side c number e fit sent who t. takes w k (marked side number e) c (client_takes side.client (seg e)) (mark k side c w.sent number e t))
-      (λ w k side c fit t. takes w k side c _ t) (λ w k side c fit t. takes w k side c _ t) (λ w k side c fit t. takes w k side c _ t) (λ w k side c fit t. takes w k side c _ t)
-      (λ x w k side c fit t. takes w k side c _ t)
+      (any_step m Told other reset evict mark takes)
       v act harm g fits
 
 -- a content with a place is a segment

@@ -334,10 +334,10 @@ module _ (m : Meaning) (served : ℕ → Bool) where
       slots_from slots (node_handles m served w (Periodic slot)) (stepped_from w (step m served w.node (Periodic slot)) (periodic_from w.sides w.sent m served w.node slot h.conns) h)
 
   does_from : (w : World) (act : Act) → Harmless m served w act → HasSenders w → HasSenders (does m served w act)
-  does_from w (Act.Opens n) l h = act_from w n client_opens (λ c. opens_setup c.state c) h
-  does_from w (Act.Again n) l h = act_from w n client_again (λ c. again_setup c.state c) h
-  does_from w (Act.Closes n) l h = act_from w n client_closes (λ c. closes_setup c.state c) h
-  does_from w (Act.Aborts n) l h = act_from w n client_aborts (λ c. aborts_setup c.state c) h
+  does_from w (Act.Opens n) l h = act_from w n client_opens opens_setup h
+  does_from w (Act.Again n) l h = act_from w n client_again again_setup h
+  does_from w (Act.Closes n) l h = act_from w n client_closes closes_setup h
+  does_from w (Act.Aborts n) l h = act_from w n client_aborts aborts_setup h
   does_from w (Act.Window n x) l h = act_from w n (tells_window x) (λ c. refl) h
   does_from w (Act.Ping source) l h = posts_from w Pinger false (OfPing (ping_from source w.node.addr)) (tt, tt) h
   does_from w (Act.Give k) l h = number_from w k h

@@ -1,122 +1,96 @@
--- A step of a client keeps its setup and its request, whatever the node did.
-use Rattle.std.proofs.Common.{◌≡◌, ◌&&◌, ◌+◌, Bool, true, false, not, length, refl, ap, eqb, ltb, ◌∙◌}
-use Rattle.uip_wire.specs.Numbers.{wrap}
-use Rattle.tcp_segment.specs.Segments.{PlainSegment, has_syn, has_rst, has_ack}
-use Rattle.tcp_machine.specs.Segments.{has_place}
-use Rattle.link_client.specs.Client.{AbstractClient, ClientStep, sends_next, has_outstanding, is_receiving, may_finish, fin_sent, fin_out, keeps, hears_ack, takes_in_order, takes_text, takes_by, client_takes, is_reset_by, opened_by, opens_by, again_by, closes_by, aborts_by, own_first, next_own}
+-- What a step of a client keeps, whatever the node did: its setup and its request, and once it is not idle it is so no more.
+use Rattle.std.proofs.Common.{◌≡◌, ◌&&◌, Bool, true, false, refl, ap, eqb, ◌∙◌}
+use Rattle.tcp_segment.specs.Segments.{PlainSegment, has_ack, has_fin}
+use Rattle.link_client.specs.Client.{AbstractClient, ClientStep, after_fin, client_aborts, client_again, client_closes, client_opens, client_takes, has_outstanding, hears_ack, next_own, opened_by, sends_next, takes_in_order, takes_text}
 use Rattle.link_client.specs.declared.client_state.ClientState.{ClientState}
 use Rattle.link_client.specs.declared.client_state.ClientState.TheVariants as Is
+use Rattle.link_world.specs.Acts.{is_idle}
 use Rattle.link_world.specs.History.{Planned}
 use Rattle.link_world.proofs.Basics.{choose}
+use Rattle.link_world.proofs.ClientCases.{of_aborts, of_again, of_closes, of_opens, of_order, of_sends, of_takes}
 
 -- what a plan says of a client
 abbrev pub planned_by : AbstractClient → Planned
 planned_by c = record { setup = c.setup; request = c.request }
 
-abbrev pub SamePlan : AbstractClient → ClientStep → Type 0
-SamePlan c x = planned_by x.client ≡ planned_by c
+pub record Follows (c d : AbstractClient) : Type 0 where
+  pub stays : is_idle c.state ≡ false → is_idle d.state ≡ false
+  pub planned : planned_by d ≡ planned_by c
 
-sends_plan : (owed : Bool) (c : AbstractClient) → SamePlan c (sends_next owed c)
-unfolding sends_next
-sends_plan owed c =
-    choose (λ x. SamePlan c x) (not (has_outstanding c) && (is_receiving c.state && ltb c.acked (length c.request))) _ _ (λ e. refl) (λ e.
-    choose (λ x. SamePlan c x) (not (has_outstanding c) && (may_finish c.state && not (fin_sent c.fin))) _ _ (λ f. refl) (λ f.
-    choose (λ x. SamePlan c x) owed _ _ (λ g. refl) (λ g. refl)))
+abbrev pub Keeps : AbstractClient → ClientStep → Type 0
+Keeps c x = Follows c x.client
 
-ack_plan : (c : AbstractClient) (s : PlainSegment) → planned_by (hears_ack c s) ≡ planned_by c
-ack_plan c s = choose (λ (x : AbstractClient). planned_by x ≡ planned_by c) (has_ack s.flags && (has_outstanding c && eqb s.ack (next_own c))) _ _ (λ e. refl) (λ e. refl)
+follows_on : (c d e : AbstractClient) → Follows c d → Follows d e → Follows c e
+follows_on c d e g h = record { stays = λ i. h.stays (g.stays i); planned = h.planned ∙ g.planned }
 
-order_plan : (c : AbstractClient) (s : PlainSegment) → SamePlan c (takes_in_order c s)
-unfolding takes_in_order
-order_plan c s =
-    choose (λ x. SamePlan c x) (has_syn s.flags) _ _ (λ e. sends_plan true c) (λ e.
-    choose (λ x. SamePlan c x) (not (has_place s)) _ _ (λ f. sends_plan false c) (λ f.
-    choose (λ x. SamePlan c x) (eqb s.seq c.expected && is_receiving c.state) _ _ (λ g. sends_plan true (takes_text c s)) (λ g. sends_plan true c)))
+sends_keeps : (owed : Bool) (c : AbstractClient) → Keeps c (sends_next owed c)
+sends_keeps owed c =
+    of_sends (λ x. Keeps c x) c owed record { stays = λ h. h; planned = refl } record { stays = λ h. h; planned = refl }
+    (λ o r. record { stays = λ h. h; planned = refl }) (λ o f n. record { stays = λ h. h; planned = refl })
 
-heard_plan : (c : AbstractClient) (s : PlainSegment) → SamePlan c (takes_in_order (hears_ack c s) s)
-heard_plan c s = order_plan (hears_ack c s) s ∙ ack_plan c s
+-- from what follows on the client
+from_keeps : (c d : AbstractClient) (owed : Bool) → Follows c d → Keeps c (sends_next owed d)
+from_keeps c d owed g = follows_on c d (sends_next owed d).client g (sends_keeps owed d)
 
-by_plan : (st : ClientState) (c : AbstractClient) (s : PlainSegment) → SamePlan c (takes_by st c s)
-unfolding takes_by
-by_plan Is.Idle c s = refl
-by_plan Is.Reset c s = refl
-by_plan Is.Opening c s = choose (λ x. SamePlan c x) (has_syn s.flags && (has_ack s.flags && eqb s.ack (wrap (own_first c + 1)))) _ _ (λ e. sends_plan true (opened_by c s)) (λ e. refl)
-by_plan Is.Opened c s = heard_plan c s
-by_plan Is.Closing c s = heard_plan c s
-by_plan Is.Closed c s = heard_plan c s
-by_plan Is.Ended c s = heard_plan c s
+ack_follows : (c : AbstractClient) (s : PlainSegment) → Follows c (hears_ack c s)
+ack_follows c s =
+    choose (λ x. Follows c x) (has_ack s.flags && (has_outstanding c && eqb s.ack (next_own c))) _ _ (λ e. record { stays = λ h. h; planned = refl }) (λ e. record { stays = λ h. h; planned = refl })
 
-pub takes_plan : (c : AbstractClient) (s : PlainSegment) → SamePlan c (client_takes c s)
-unfolding client_takes
-takes_plan c s =
-    choose (λ x. SamePlan c x) (has_rst s.flags) _ _
-    (λ e. choose (λ x. SamePlan c (keeps x)) (is_reset_by c.state c s) _ _ (λ f. refl) (λ f. refl))
-    (λ e. by_plan c.state c s)
+fin_stays : (st : ClientState) → is_idle st ≡ false → is_idle (after_fin st) ≡ false
+fin_stays Is.Idle h = h
+fin_stays Is.Opening h = refl
+fin_stays Is.Opened h = refl
+fin_stays Is.Closing h = refl
+fin_stays Is.Closed h = refl
+fin_stays Is.Ended h = refl
+fin_stays Is.Reset h = refl
 
-pub opens_plan : (st : ClientState) (c : AbstractClient) → SamePlan c (opens_by st c)
-unfolding opens_by
-opens_plan Is.Idle c = refl
-opens_plan Is.Opening c = refl
-opens_plan Is.Opened c = refl
-opens_plan Is.Closing c = refl
-opens_plan Is.Closed c = refl
-opens_plan Is.Ended c = refl
-opens_plan Is.Reset c = refl
+text_follows : (c : AbstractClient) (s : PlainSegment) → Follows c (takes_text c s)
+text_follows c s = record { stays = λ h. choose (λ x. is_idle x ≡ false) (has_fin s.flags) (after_fin c.state) c.state (λ e. fin_stays c.state h) (λ e. h); planned = refl }
 
-repeats_plan : (c : AbstractClient) → SamePlan c (again_by Is.Opened c)
-unfolding again_by
-repeats_plan c =
-    choose (λ x. SamePlan c x) (ltb 0 c.out) _ _ (λ e. refl) (λ e.
-    choose (λ x. SamePlan c x) (fin_out c.fin) _ _ (λ f. refl) (λ f. refl))
+order_keeps : (c : AbstractClient) (s : PlainSegment) → Keeps c (takes_in_order c s)
+order_keeps c s = of_order (λ x. Keeps c x) c s (sends_keeps true c) (sends_keeps false c) (λ g. from_keeps c (takes_text c s) true (text_follows c s))
 
-pub again_plan : (st : ClientState) (c : AbstractClient) → SamePlan c (again_by st c)
-unfolding again_by
-again_plan Is.Idle c = refl
-again_plan Is.Reset c = refl
-again_plan Is.Opening c = refl
-again_plan Is.Opened c = repeats_plan c
-again_plan Is.Closing c = repeats_plan c
-again_plan Is.Closed c = repeats_plan c
-again_plan Is.Ended c = repeats_plan c
+pub takes_keeps : (c : AbstractClient) (s : PlainSegment) → Keeps c (client_takes c s)
+takes_keeps c s =
+    let d : AbstractClient = hears_ack c s in
+    of_takes (λ x. Keeps c x) c s record { stays = λ h. h; planned = refl } (λ b. record { stays = λ h. refl; planned = refl })
+    (λ e r f. from_keeps c (opened_by c s) true record { stays = λ h. refl; planned = refl })
+    (λ r. follows_on c d (takes_in_order d s).client (ack_follows c s) (order_keeps d s))
 
-pub closes_plan : (st : ClientState) (c : AbstractClient) → SamePlan c (closes_by st c)
-unfolding closes_by
-closes_plan Is.Opened c = sends_plan false (record c { state = Is.Closing })
-closes_plan Is.Idle c = refl
-closes_plan Is.Opening c = refl
-closes_plan Is.Closing c = refl
-closes_plan Is.Closed c = refl
-closes_plan Is.Ended c = refl
-closes_plan Is.Reset c = refl
+pub opens_keeps : (c : AbstractClient) → Keeps c (client_opens c)
+opens_keeps c = of_opens (λ x. Keeps c x) c record { stays = λ h. h; planned = refl } (λ e. record { stays = λ h. refl; planned = refl })
 
-pub aborts_plan : (st : ClientState) (c : AbstractClient) → SamePlan c (aborts_by st c)
-unfolding aborts_by
-aborts_plan Is.Opening c = refl
-aborts_plan Is.Opened c = refl
-aborts_plan Is.Closing c = refl
-aborts_plan Is.Idle c = refl
-aborts_plan Is.Closed c = refl
-aborts_plan Is.Ended c = refl
-aborts_plan Is.Reset c = refl
+pub again_keeps : (c : AbstractClient) → Keeps c (client_again c)
+again_keeps c =
+    of_again (λ x. Keeps c x) c record { stays = λ h. h; planned = refl } record { stays = λ h. h; planned = refl } record { stays = λ h. h; planned = refl }
+    (λ f. record { stays = λ h. h; planned = refl }) record { stays = λ h. h; planned = refl }
+
+pub closes_keeps : (c : AbstractClient) → Keeps c (client_closes c)
+closes_keeps c =
+    of_closes (λ x. Keeps c x) c record { stays = λ h. h; planned = refl } (λ e. from_keeps c (record c { state = Is.Closing }) false record { stays = λ h. refl; planned = refl })
+
+pub aborts_keeps : (c : AbstractClient) → Keeps c (client_aborts c)
+aborts_keeps c = of_aborts (λ x. Keeps c x) c record { stays = λ h. h; planned = refl } (λ e. record { stays = λ h. refl; planned = refl })
 
 -- its setup alone
 abbrev pub SameSetup : AbstractClient → ClientStep → Type 0
 SameSetup c x = x.client.setup ≡ c.setup
 
-setup_of : (c : AbstractClient) (x : ClientStep) → SamePlan c x → SameSetup c x
-setup_of c x e = ap (λ (p : Planned). p.setup) e
+pub setup_of : (c : AbstractClient) (x : ClientStep) → Keeps c x → SameSetup c x
+setup_of c x g = ap (λ (p : Planned). p.setup) g.planned
 
 pub takes_setup : (c : AbstractClient) (s : PlainSegment) → SameSetup c (client_takes c s)
-takes_setup c s = setup_of c (client_takes c s) (takes_plan c s)
+takes_setup c s = setup_of c (client_takes c s) (takes_keeps c s)
 
-pub opens_setup : (st : ClientState) (c : AbstractClient) → SameSetup c (opens_by st c)
-opens_setup st c = setup_of c (opens_by st c) (opens_plan st c)
+pub opens_setup : (c : AbstractClient) → SameSetup c (client_opens c)
+opens_setup c = setup_of c (client_opens c) (opens_keeps c)
 
-pub again_setup : (st : ClientState) (c : AbstractClient) → SameSetup c (again_by st c)
-again_setup st c = setup_of c (again_by st c) (again_plan st c)
+pub again_setup : (c : AbstractClient) → SameSetup c (client_again c)
+again_setup c = setup_of c (client_again c) (again_keeps c)
 
-pub closes_setup : (st : ClientState) (c : AbstractClient) → SameSetup c (closes_by st c)
-closes_setup st c = setup_of c (closes_by st c) (closes_plan st c)
+pub closes_setup : (c : AbstractClient) → SameSetup c (client_closes c)
+closes_setup c = setup_of c (client_closes c) (closes_keeps c)
 
-pub aborts_setup : (st : ClientState) (c : AbstractClient) → SameSetup c (aborts_by st c)
-aborts_setup st c = setup_of c (aborts_by st c) (aborts_plan st c)
+pub aborts_setup : (c : AbstractClient) → SameSetup c (client_aborts c)
+aborts_setup c = setup_of c (client_aborts c) (aborts_keeps c)

@@ -5,8 +5,7 @@ use Rattle.std.proofs.lemmas.Grind.{common_steps}
 use Rattle.std.proofs.lemmas.List.Elements.{All-take, All-drop}
 use Rattle.uip_wire.specs.Numbers.{wrap}
 use Rattle.uip_wire.specs.declared.sizes.TheConstants.{OWN_MSS}
-use Rattle.tcp_segment.specs.Segments.{PlainSegment, has_fin, has_rst, has_ack, has_syn}
-use Rattle.rexmit_timer.specs.Ages.{beat_at}
+use Rattle.tcp_segment.specs.Segments.{PlainSegment, has_fin, has_rst, has_ack}
 use Rattle.rexmit_timer.specs.declared.timer.Beat.{Beat}
 use Rattle.app_events.specs.Part.{Meaning}
 use Rattle.app_events.specs.Pages.{Pages, IsPaged, IsByte, IsAddr}
@@ -16,16 +15,18 @@ use Rattle.app_events.specs.declared.state.State.TheVariants.{Closed, SynRcvd, E
 use Rattle.app_events.specs.declared.want.Want.{Want}
 use Rattle.app_events.specs.declared.want.Want.TheVariants.{Nothing, Send, Close, Abort}
 use Rattle.tcp_machine.specs.Connection.{Sockets, Connection, closed}
-use Rattle.tcp_machine.specs.Segments.{has_place, bare_ack, syn_ack, text_segment, fin_of, reset_of, reset_to_none, segment_of}
+use Rattle.tcp_machine.specs.Segments.{bare_ack, syn_ack, text_segment, fin_of, reset_of, reset_to_none, segment_of}
 use Rattle.tcp_machine.specs.Ask.{Outcome, peer_has_closed, idles, does_as_wanted, prepared, asked_for, asked}
 use Rattle.tcp_machine.specs.OnSegment.{first_mss, accepted, is_out_of_order, is_acked, rests, has_text, with_part, peer_closes, goes_on, in_established, fin_acked, fin_waits, in_fin_wait_2, by_state, on_segment}
-use Rattle.tcp_machine.specs.OnTick.{limit_of, by_beat, waits_for_ack, rests_on, rest_time, ticks_established, tick_by, on_tick}
+use Rattle.tcp_machine.specs.OnTick.{by_beat, on_tick}
 use Rattle.tcp_machine.specs.declared.step.Step.{Step}
-use Rattle.link_client.specs.Client.{AbstractClient, ClientStep, sends_next, has_outstanding as client_waits, is_receiving, may_finish, fin_sent, fin_out, keeps, hears_ack, takes_in_order, takes_text, takes_by, client_takes, is_reset_by, opened_by, opens_by, again_by, closes_by, aborts_by, own_first, next_own, own_request, ack_of, syn_of, offered}
+use Rattle.link_client.specs.Client.{AbstractClient, ClientStep, aborts_by, ack_of, again_by, client_aborts, client_again, client_closes, client_opens, client_takes, closes_by, fin_out, fin_sent, has_outstanding as client_waits, hears_ack, is_receiving, is_reset_by, keeps, may_finish, next_own, offered, opened_by, opens_by, own_first, own_request, sends_next, syn_of, takes_by, takes_in_order, takes_text}
 use Rattle.link_client.specs.Client as client
 use Rattle.link_client.specs.declared.client_state.ClientState.{ClientState}
 use Rattle.link_client.specs.declared.client_state.ClientState.TheVariants as Is
 use Rattle.link_world.specs.Headline.{HasBytes}
+use Rattle.link_world.proofs.Cases.{on_tick_by}
+use Rattle.link_world.proofs.ClientCases.{of_aborts, of_again, of_closes, of_opens, of_order, of_sends, of_takes}
 use Rattle.link_world.proofs.Basics.{choose, only_some, wrap_low}
 use Rattle.link_world.proofs.Fits.{FitConn, all_nil}
 
@@ -124,27 +125,14 @@ module _ (m : Meaning) where
   by_beat_lens Beat.Again c numbers h = record { len = h.len; mss = h.mss; initial = h.initial }
   by_beat_lens Beat.GiveUp c numbers h = record { len = h.len; mss = h.mss; initial = h.initial }
 
-  waits_lens : (c : Connection) (numbers : List ℕ) → Lens c → Lens (waits_for_ack m c numbers).connection
-  waits_lens c numbers h = by_beat_lens (beat_at (limit_of c.state) (c.age + 1)) c numbers h
-
-  rests_lens : (c : Connection) (numbers : List ℕ) → Lens c → Lens (rests_on c numbers).connection
-  unfolding rests_on
-  rests_lens c numbers h = choose (λ (o : Outcome). Lens o.connection) (eqb (c.age + 1) rest_time) _ _ (λ e. record { len = h.len; mss = h.mss; initial = h.initial }) (λ e. record { len = h.len; mss = h.mss; initial = h.initial })
-
-  tick_by_lens : (st : State) (c : Connection) (numbers : List ℕ) → Lens c → Lens (tick_by m st c numbers).connection
-  unfolding ticks_established
-  tick_by_lens Closed c numbers h = h
-  tick_by_lens SynRcvd c numbers h = waits_lens c numbers h
-  tick_by_lens Established c numbers h = choose (λ (o : Outcome). Lens o.connection) (ltb 0 c.len) _ _ (λ e. waits_lens c numbers h) (λ e. record { len = h.len; mss = h.mss; initial = h.initial })
-  tick_by_lens CloseWait c numbers h = waits_lens c numbers h
-  tick_by_lens FinWait1 c numbers h = waits_lens c numbers h
-  tick_by_lens FinWait2 c numbers h = rests_lens c numbers h
-  tick_by_lens Closing c numbers h = waits_lens c numbers h
-  tick_by_lens TimeWait c numbers h = rests_lens c numbers h
-  tick_by_lens LastAck c numbers h = waits_lens c numbers h
-
   pub on_tick_lens : (c : Connection) (numbers : List ℕ) → Lens c → Lens (on_tick m c numbers).connection
-  on_tick_lens c numbers h = tick_by_lens c.state c numbers h
+  on_tick_lens c numbers h = on_tick_by m (λ (o : Outcome). Lens o.connection) c numbers record {
+    none = h;
+    beats = λ r b. by_beat_lens b c numbers h;
+    rested = λ e. record { len = h.len; mss = h.mss; initial = h.initial };
+    ends = record { len = h.len; mss = h.mss; initial = h.initial };
+    polled = λ e l. record { len = h.len; mss = h.mss; initial = h.initial };
+  }
 
   module _ (pages : Pages) (lawful : IsPaged m pages) (page : HasBytes pages) where
     control : (c : Connection) (flags window : ℕ) (mss : Option ℕ) → flags < 64 → window < 65536 → IfSome mss (λ n. (0 < n) × (n < 65536)) →
@@ -240,15 +228,11 @@ abort_sound : (c d : AbstractClient) → IsSoundClient c → IsSoundSegment (cli
 abort_sound c d h = plain (next_own c) c.expected 20 c.window (wrap_low _) h.expected (omega arith) h.window
 
 sends_sound : (owed : Bool) (c : AbstractClient) → IsSoundClient c → SoundStep (sends_next owed c)
-unfolding sends_next
 sends_sound owed c h =
-    choose (λ x. SoundStep x) (not (client_waits c) && (is_receiving c.state && ltb c.acked (length c.request))) _ _
-    (λ e. let d : AbstractClient = record c { out = min c.setup.seg (length c.request - c.acked) } in
+    let d : AbstractClient = record c { out = min c.setup.seg (length c.request - c.acked) } in
     let g : IsSoundClient d = record { addr = h.addr; port = h.port; server = h.server; server_port = h.server_port; first = h.first; offered = h.offered; seg = h.seg; request = h.request; expected = h.expected; window = h.window; out = omega (arith, h.seg) } in
-    given d (own_request d) g (request_sound d g))
-    (λ e. choose (λ x. SoundStep x) (not (client_waits c) && (may_finish c.state && not (fin_sent c.fin))) _ _
-    (λ f. given _ (client.own_fin c) record { addr = h.addr; port = h.port; server = h.server; server_port = h.server_port; first = h.first; offered = h.offered; seg = h.seg; request = h.request; expected = h.expected; window = h.window; out = h.out } (end_sound c h))
-    (λ f. choose (λ x. SoundStep x) owed _ _ (λ g. given c (ack_of c) h (ack_sound c h)) (λ g. kept c h)))
+    of_sends SoundStep c owed (kept c h) (given c (ack_of c) h (ack_sound c h)) (λ o r. given d (own_request d) g (request_sound d g))
+    (λ o m n. given _ (client.own_fin c) record { addr = h.addr; port = h.port; server = h.server; server_port = h.server_port; first = h.first; offered = h.offered; seg = h.seg; request = h.request; expected = h.expected; window = h.window; out = h.out } (end_sound c h))
 
 hears_sound : (c : AbstractClient) (s : PlainSegment) → IsSoundClient c → IsSoundClient (hears_ack c s)
 hears_sound c s h =
@@ -260,80 +244,29 @@ text_taken : (c : AbstractClient) (s : PlainSegment) → IsSoundClient c → IsS
 text_taken c s h = record { addr = h.addr; port = h.port; server = h.server; server_port = h.server_port; first = h.first; offered = h.offered; seg = h.seg; request = h.request; expected = wrap_low _; window = h.window; out = h.out }
 
 order_sound : (c : AbstractClient) (s : PlainSegment) → IsSoundClient c → SoundStep (takes_in_order c s)
-unfolding takes_in_order
-order_sound c s h =
-    choose (λ x. SoundStep x) (has_syn s.flags) _ _ (λ e. sends_sound true c h) (λ e.
-    choose (λ x. SoundStep x) (not (has_place s)) _ _ (λ f. sends_sound false c h) (λ f.
-    choose (λ x. SoundStep x) (eqb s.seq c.expected && is_receiving c.state) _ _ (λ g. sends_sound true (takes_text c s) (text_taken c s h)) (λ g. sends_sound true c h)))
-
-by_sound : (st : ClientState) (c : AbstractClient) (s : PlainSegment) → IsSoundClient c → SoundStep (takes_by st c s)
-unfolding takes_by
-by_sound Is.Idle c s h = kept c h
-by_sound Is.Reset c s h = kept c h
-by_sound Is.Opening c s h =
-    choose (λ x. SoundStep x) (has_syn s.flags && (has_ack s.flags && eqb s.ack (wrap (own_first c + 1)))) _ _
-    (λ e. sends_sound true (opened_by c s) record { addr = h.addr; port = h.port; server = h.server; server_port = h.server_port; first = h.first; offered = h.offered; seg = h.seg; request = h.request; expected = wrap_low _; window = h.window; out = h.out })
-    (λ e. kept c h)
-by_sound Is.Opened c s h = order_sound (hears_ack c s) s (hears_sound c s h)
-by_sound Is.Closing c s h = order_sound (hears_ack c s) s (hears_sound c s h)
-by_sound Is.Closed c s h = order_sound (hears_ack c s) s (hears_sound c s h)
-by_sound Is.Ended c s h = order_sound (hears_ack c s) s (hears_sound c s h)
+order_sound c s h = of_order SoundStep c s (sends_sound true c h) (sends_sound false c h) (λ g. sends_sound true (takes_text c s) (text_taken c s h))
 
 in_other_state : (c : AbstractClient) (st : ClientState) → IsSoundClient c → IsSoundClient (record c { state = st })
 in_other_state c st h = record { addr = h.addr; port = h.port; server = h.server; server_port = h.server_port; first = h.first; offered = h.offered; seg = h.seg; request = h.request; expected = h.expected; window = h.window; out = h.out }
 
 pub takes_sound : (c : AbstractClient) (s : PlainSegment) → IsSoundClient c → SoundStep (client_takes c s)
-unfolding client_takes
 takes_sound c s h =
-    choose (λ x. SoundStep x) (has_rst s.flags) _ _
-    (λ e. choose (λ x. SoundStep (keeps x)) (is_reset_by c.state c s) _ _ (λ f. kept _ (in_other_state c Is.Reset h)) (λ f. kept c h))
-    (λ e. by_sound c.state c s h)
+    of_takes SoundStep c s (kept c h) (λ b. kept _ (in_other_state c Is.Reset h))
+    (λ e r f. sends_sound true (opened_by c s) record { addr = h.addr; port = h.port; server = h.server; server_port = h.server_port; first = h.first; offered = h.offered; seg = h.seg; request = h.request; expected = wrap_low _; window = h.window; out = h.out })
+    (λ r. order_sound (hears_ack c s) s (hears_sound c s h))
 
-pub opens_sound : (st : ClientState) (c : AbstractClient) → IsSoundClient c → SoundStep (opens_by st c)
-unfolding opens_by
-opens_sound Is.Idle c h = given _ _ (in_other_state c Is.Opening h) (syn_sound (record c { state = Is.Opening }) (in_other_state c Is.Opening h))
-opens_sound Is.Opening c h = kept c h
-opens_sound Is.Opened c h = kept c h
-opens_sound Is.Closing c h = kept c h
-opens_sound Is.Closed c h = kept c h
-opens_sound Is.Ended c h = kept c h
-opens_sound Is.Reset c h = kept c h
+pub opens_sound : (c : AbstractClient) → IsSoundClient c → SoundStep (client_opens c)
+opens_sound c h = of_opens SoundStep c (kept c h) (λ e. given _ _ (in_other_state c Is.Opening h) (syn_sound (record c { state = Is.Opening }) (in_other_state c Is.Opening h)))
 
-repeats_sound : (c : AbstractClient) → IsSoundClient c → SoundStep (again_by Is.Opened c)
-unfolding again_by
-repeats_sound c h =
-    choose (λ x. SoundStep x) (ltb 0 c.out) _ _ (λ e. given c (own_request c) h (request_sound c h)) (λ e.
-    choose (λ x. SoundStep x) (fin_out c.fin) _ _ (λ f. given c (client.own_fin c) h (end_sound c h)) (λ f. given c (ack_of c) h (ack_sound c h)))
+pub again_sound : (c : AbstractClient) → IsSoundClient c → SoundStep (client_again c)
+again_sound c h =
+    of_again SoundStep c (kept c h) (given c (syn_of c) h (syn_sound c h)) (given c (own_request c) h (request_sound c h)) (λ f. given c (client.own_fin c) h (end_sound c h)) (given c (ack_of c) h (ack_sound c h))
 
-pub again_sound : (st : ClientState) (c : AbstractClient) → IsSoundClient c → SoundStep (again_by st c)
-unfolding again_by
-again_sound Is.Idle c h = kept c h
-again_sound Is.Reset c h = kept c h
-again_sound Is.Opening c h = given c (syn_of c) h (syn_sound c h)
-again_sound Is.Opened c h = repeats_sound c h
-again_sound Is.Closing c h = repeats_sound c h
-again_sound Is.Closed c h = repeats_sound c h
-again_sound Is.Ended c h = repeats_sound c h
+pub closes_sound : (c : AbstractClient) → IsSoundClient c → SoundStep (client_closes c)
+closes_sound c h = of_closes SoundStep c (kept c h) (λ e. sends_sound false (record c { state = Is.Closing }) (in_other_state c Is.Closing h))
 
-pub closes_sound : (st : ClientState) (c : AbstractClient) → IsSoundClient c → SoundStep (closes_by st c)
-unfolding closes_by
-closes_sound Is.Opened c h = sends_sound false (record c { state = Is.Closing }) (in_other_state c Is.Closing h)
-closes_sound Is.Idle c h = kept c h
-closes_sound Is.Opening c h = kept c h
-closes_sound Is.Closing c h = kept c h
-closes_sound Is.Closed c h = kept c h
-closes_sound Is.Ended c h = kept c h
-closes_sound Is.Reset c h = kept c h
-
-pub aborts_sound : (st : ClientState) (c : AbstractClient) → IsSoundClient c → SoundStep (aborts_by st c)
-unfolding aborts_by
-aborts_sound Is.Opening c h = given _ (client.own_reset c) (in_other_state c Is.Reset h) (abort_sound c c h)
-aborts_sound Is.Opened c h = given _ (client.own_reset c) (in_other_state c Is.Reset h) (abort_sound c c h)
-aborts_sound Is.Closing c h = given _ (client.own_reset c) (in_other_state c Is.Reset h) (abort_sound c c h)
-aborts_sound Is.Idle c h = kept c h
-aborts_sound Is.Closed c h = kept c h
-aborts_sound Is.Ended c h = kept c h
-aborts_sound Is.Reset c h = kept c h
+pub aborts_sound : (c : AbstractClient) → IsSoundClient c → SoundStep (client_aborts c)
+aborts_sound c h = of_aborts SoundStep c (kept c h) (λ e. given _ (client.own_reset c) (in_other_state c Is.Reset h) (abort_sound c c h))
 
 pub window_sound : (w : ℕ) (c : AbstractClient) → w < 65536 → IsSoundClient c → SoundStep (client.tells_window w c)
 window_sound w c l h = kept _ record { addr = h.addr; port = h.port; server = h.server; server_port = h.server_port; first = h.first; offered = h.offered; seg = h.seg; request = h.request; expected = h.expected; window = l; out = h.out }

@@ -161,10 +161,10 @@ module _ (m : Meaning) (pages : Pages) (lawful : IsPaged m pages) (page : HasByt
       (stepped_sound w (step m served w.node (Periodic slot)) (periodic_node m pages lawful page served w.node slot f.node h.conns) h)
 
   pub does_sound : (w : World) (act : Act) → IsAct act → Harmless m served w act → FitWorld w → SoundWorld w → SoundWorld (does m served w act)
-  does_sound w (Act.Opens n) is l f h = act_sound w n client_opens (λ c s. opens_sound c.state c s) h
-  does_sound w (Act.Again n) is l f h = act_sound w n client_again (λ c s. again_sound c.state c s) h
-  does_sound w (Act.Closes n) is l f h = act_sound w n client_closes (λ c s. closes_sound c.state c s) h
-  does_sound w (Act.Aborts n) is l f h = act_sound w n client_aborts (λ c s. aborts_sound c.state c s) h
+  does_sound w (Act.Opens n) is l f h = act_sound w n client_opens opens_sound h
+  does_sound w (Act.Again n) is l f h = act_sound w n client_again again_sound h
+  does_sound w (Act.Closes n) is l f h = act_sound w n client_closes closes_sound h
+  does_sound w (Act.Aborts n) is l f h = act_sound w n client_aborts aborts_sound h
   does_sound w (Act.Window n x) is l f h = act_sound w n (tells_window x) (λ c s. window_sound x c is s) h
   does_sound w (Act.Ping source) is l f h = posts_sound w Pinger false (OfPing (ping_from source w.node.addr)) (of_ping source refl refl is) h
   does_sound w (Act.Give k) is l f h = number_sound w k f h

@@ -1,8 +1,7 @@
 -- One step of a connection keeps what holds of it.
-use Rattle.std.proofs.Common.{◌≡◌, ℕ, ◌+◌, ◌<◌, ◌≤◌, min, Bool, true, false, not, ◌&&◌, inl, inr, List, [], ◌∷◌, ◌++◌, length, take, drop, refl, sym, ap, ◌∙◌, subst, arith, Option, Some, None, length-append, eqb, ltb, append_assoc}
+use Rattle.std.proofs.Common.{◌≡◌, ℕ, ◌+◌, ◌<◌, ◌≤◌, min, Bool, true, false, not, ◌&&◌, inl, inr, List, [], ◌∷◌, ◌++◌, length, take, drop, refl, sym, ap, ◌∙◌, subst, arith, Option, Some, None, length-append, ltb, append_assoc}
 use Rattle.uip_wire.specs.Numbers.{wrap}
 use Rattle.tcp_segment.specs.Segments.{PlainSegment, has_fin, has_rst, has_ack}
-use Rattle.rexmit_timer.specs.Ages.{beat_at}
 use Rattle.rexmit_timer.specs.declared.timer.Beat.{Beat}
 use Rattle.app_events.specs.Part.{Part, Moment, Meaning}
 use Rattle.app_events.specs.Laws.{IsPrefixOf}
@@ -16,37 +15,15 @@ use Rattle.tcp_machine.specs.Connection.{Connection, is_live, rcv_nxt}
 use Rattle.tcp_machine.specs.Segments.{bare_ack, syn_ack, text_segment, fin_of, reset_of}
 use Rattle.tcp_machine.specs.Ask.{Outcome, leaves, closes, sends_text, sends_fin, after_own_fin, peer_has_closed, idles, does_as_wanted, prepared, ask, asked_for, asked}
 use Rattle.tcp_machine.specs.OnSegment.{is_out_of_order, is_acked, rests, has_text, hears, takes, with_part, in_state, with_window, connects, peer_closes, goes_on, in_established, fin_acked, fin_waits, in_fin_wait_2, by_state, on_segment}
-use Rattle.tcp_machine.specs.OnTick.{outstanding, limit_of, grows_older, by_beat, waits_for_ack, rests_on, rest_time, ticks_established, tick_by, on_tick}
+use Rattle.tcp_machine.specs.OnTick.{outstanding, grows_older, by_beat, on_tick}
 use Rattle.tcp_machine.specs.declared.step.Step.{Step}
 use Rattle.link_client.specs.Client.{AbstractClient, own_first}
 use Rattle.link_world.proofs.Basics.{IsPart, prefix_part, prefix_length, prefix_joins, and_true, same_place, empty_part, zero_or_more, ltb-zero, in_place, choose, append_nothing, cut_part, part_prefix}
+use Rattle.link_world.proofs.Cases.{by_open, by_own_fin, fin_lives, is_open, on_tick_by, open_live}
 use Rattle.link_world.proofs.Later.{page_more, page_heard, front_grows, front_all}
 use Rattle.link_world.proofs.Good.{Spoken, spoken, AtSyn, AtText, AtOpen, AtFin, ConnGood, StateGood, Moved, StepGood, SentGood, ClientSaid, IsData, Steady}
 use Rattle.link_world.proofs.Good.NodeSaid.{node_reset, node_syn, node_ack, node_text, node_fin}
 use Rattle.link_world.proofs.Good.ClientSaid.{said_reset, said_syn, said_data}
-
--- the application is asked only in these
-abbrev pub is_open : State → Bool
-is_open Established = true
-is_open CloseWait = true
-is_open Closed = false
-is_open SynRcvd = false
-is_open FinWait1 = false
-is_open FinWait2 = false
-is_open Closing = false
-is_open TimeWait = false
-is_open LastAck = false
-
-pub open_live : (st : State) → is_open st ≡ true → is_live st ≡ true
-open_live Established h = refl
-open_live CloseWait h = refl
-open_live Closed h = absurd (cc)
-open_live SynRcvd h = absurd (cc)
-open_live FinWait1 h = absurd (cc)
-open_live FinWait2 h = absurd (cc)
-open_live Closing h = absurd (cc)
-open_live TimeWait h = absurd (cc)
-open_live LastAck h = absurd (cc)
 
 module _ (m : Meaning) (pages : Pages) (lawful : IsPaged m pages) where
   -- what hearing text does to a part
@@ -139,48 +116,14 @@ module _ (m : Meaning) (pages : Pages) (lawful : IsPaged m pages) where
 
     -- in ESTABLISHED and CLOSE-WAIT
     text_at : (c : Connection) (st : State) → is_open st ≡ true → StateGood pages opened client c st → AtText pages opened client c
-    text_at c Established o h = h.text
-    text_at c CloseWait o h = h
-    text_at c Closed o h = absurd (cc)
-    text_at c SynRcvd o h = absurd (cc)
-    text_at c FinWait1 o h = absurd (cc)
-    text_at c FinWait2 o h = absurd (cc)
-    text_at c Closing o h = absurd (cc)
-    text_at c TimeWait o h = absurd (cc)
-    text_at c LastAck o h = absurd (cc)
+    text_at c st o h = by_open (λ x. StateGood pages opened client c x → AtText pages opened client c) (λ g. g.text) (λ g. g) st o h
 
     text_state : (c d : Connection) (st : State) → is_open st ≡ true → StateGood pages opened client c st → AtText pages opened client d → d.taken ≡ c.taken → d.part.heard ≡ c.part.heard → StateGood pages opened client d st
-    text_state c d Established o h t e f = record { text = t; taken = e ∙ h.taken ∙ ap length (sym f) }
-    text_state c d CloseWait o h t e f = t
-    text_state c d Closed o h t e f = absurd (cc)
-    text_state c d SynRcvd o h t e f = absurd (cc)
-    text_state c d FinWait1 o h t e f = absurd (cc)
-    text_state c d FinWait2 o h t e f = absurd (cc)
-    text_state c d Closing o h t e f = absurd (cc)
-    text_state c d TimeWait o h t e f = absurd (cc)
-    text_state c d LastAck o h t e f = absurd (cc)
+    text_state c d st o h t e f =
+        by_open (λ x. StateGood pages opened client c x → StateGood pages opened client d x) (λ g. record { text = t; taken = e ∙ g.taken ∙ ap length (sym f) }) (λ g. t) st o h
 
-    fin_state : (d : Connection) (st : State) → is_open st ≡ true → AtFin pages opened client d → StateGood pages opened client d (after_own_fin st)
-    fin_state d Established o h = h
-    fin_state d CloseWait o h = h
-    fin_state d Closed o h = h
-    fin_state d SynRcvd o h = h
-    fin_state d FinWait1 o h = h
-    fin_state d FinWait2 o h = h
-    fin_state d Closing o h = h
-    fin_state d TimeWait o h = h
-    fin_state d LastAck o h = h
-
-    fin_lives : (st : State) → is_live (after_own_fin st) ≡ true
-    fin_lives Established = refl
-    fin_lives CloseWait = refl
-    fin_lives Closed = refl
-    fin_lives SynRcvd = refl
-    fin_lives FinWait1 = refl
-    fin_lives FinWait2 = refl
-    fin_lives Closing = refl
-    fin_lives TimeWait = refl
-    fin_lives LastAck = refl
+    fin_state : (d : Connection) (st : State) → AtFin pages opened client d → StateGood pages opened client d (after_own_fin st)
+    fin_state d st h = by_own_fin (λ x. StateGood pages opened client d x) h h st
 
     -- the same text with other counts
     like_text : (c d : Connection) → d.part.heard ≡ c.part.heard → d.part.captures ≡ c.part.captures → d.acked ≡ 1 + d.part.acked → d.part.acked + d.len ≤ length (pages.text c.part.heard c.part.captures) → AtText pages opened client c → AtText pages opened client d
@@ -196,7 +139,7 @@ module _ (m : Meaning) (pages : Pages) (lawful : IsPaged m pages) where
     wanted_good Close fresh c numbers o g h w =
         let d : Connection = sends_fin (after_own_fin c.state) c in
         let a : AtFin pages opened client d = record { opened_is = h.opened_is; ends = front_all m pages lawful client c.part.heard c.part.captures c.part.acked h.heard w.0 w.1; count = h.count; heard = h.heard } in
-        move_says c d (fin_of d) (turns c d refl refl g.peer_first (fin_state d c.state o a)) (says_fin d (fin_lives c.state) a)
+        move_says c d (fin_of d) (turns c d refl refl g.peer_first (fin_state d c.state a)) (says_fin d (fin_lives c.state) a)
     wanted_good (Send n) fresh c numbers o g h w =
         let d : Connection = sends_text (min n c.mss) c in
         let t : AtText pages opened client d = like_text c d refl refl h.count (omega (arith, w.1)) h in
@@ -462,36 +405,16 @@ module _ (m : Meaning) (pages : Pages) (lawful : IsPaged m pages) where
     by_beat_good Beat.Again c numbers g = again_good c (grows_older c) c.state (older_moved c g) refl (older c c.state g.state)
     by_beat_good Beat.GiveUp c numbers g = move_says c (closes c) (reset_of (closes c)) (closes_good c c refl refl) (says_reset (closes c) (closes c))
 
-    waits_good : (c : Connection) (numbers : List ℕ) → ConnGood pages opened client c → OutGood c (waits_for_ack m c numbers)
-    waits_good c numbers g = by_beat_good (beat_at (limit_of c.state) (c.age + 1)) c numbers g
-
-    rests_good : (c : Connection) (numbers : List ℕ) → ConnGood pages opened client c → OutGood c (rests_on c numbers)
-    unfolding rests_on
-    rests_good c numbers g =
-        choose (λ (o : Outcome). OutGood c o) (eqb (c.age + 1) rest_time) _ _
-        (λ e. move_silent c (closes c) (closes_good c c refl refl))
-        (λ e. move_silent c (grows_older c) (older_moved c g))
-
-    ticks_good : (c : Connection) (numbers : List ℕ) → c.state ≡ Established → ConnGood pages opened client c → AtOpen pages opened client c → OutGood c (ticks_established m c numbers)
-    unfolding ticks_established
-    ticks_good c numbers st g h =
-        choose (λ (o : Outcome). OutGood c o) (ltb 0 c.len) _ _
-        (λ e. waits_good c numbers g)
-        (λ e. let x = lawful.polled_like numbers c.part in
-        let d : Connection = with_part (m.polled numbers c.part).part c in
-        let t : AtText pages opened client d = like_text c d x.heard x.captures (omega (arith, h.text.count, x.acked)) (omega (arith, h.text.fits, x.acked)) h.text in
-        record { moved = turns c d refl x.captures g.peer_first (state_at d Established st record { text = t; taken = h.taken ∙ ap length (sym x.heard) }); is_asked = ap is_open st; idle = ltb-zero c.len e })
-
-    tick_by_good : (st : State) (c : Connection) (numbers : List ℕ) → c.state ≡ st → ConnGood pages opened client c → StateGood pages opened client c st → OutGood c (tick_by m st c numbers)
-    tick_by_good Closed c numbers e g h = move_silent c c (stays_good c g)
-    tick_by_good SynRcvd c numbers e g h = waits_good c numbers g
-    tick_by_good Established c numbers e g h = ticks_good c numbers e g h
-    tick_by_good CloseWait c numbers e g h = waits_good c numbers g
-    tick_by_good FinWait1 c numbers e g h = waits_good c numbers g
-    tick_by_good FinWait2 c numbers e g h = rests_good c numbers g
-    tick_by_good Closing c numbers e g h = waits_good c numbers g
-    tick_by_good TimeWait c numbers e g h = rests_good c numbers g
-    tick_by_good LastAck c numbers e g h = waits_good c numbers g
-
     pub on_tick_good : (c : Connection) (numbers : List ℕ) → ConnGood pages opened client c → OutGood c (on_tick m c numbers)
-    on_tick_good c numbers g = tick_by_good c.state c numbers refl g g.state
+    on_tick_good c numbers g = on_tick_by m (λ o. OutGood c o) c numbers record {
+      none = move_silent c c (stays_good c g);
+      beats = λ r b. by_beat_good b c numbers g;
+      rested = λ e. move_silent c (grows_older c) (older_moved c g);
+      ends = move_silent c (closes c) (closes_good c c refl refl);
+      polled = λ e z.
+          (let h : AtOpen pages opened client c = subst (λ st. StateGood pages opened client c st) e g.state in
+          let x = lawful.polled_like numbers c.part in
+          let d : Connection = with_part (m.polled numbers c.part).part c in
+          let t : AtText pages opened client d = like_text c d x.heard x.captures (omega (arith, h.text.count, x.acked)) (omega (arith, h.text.fits, x.acked)) h.text in
+          record { moved = turns c d refl x.captures g.peer_first (state_at d Established e record { text = t; taken = h.taken ∙ ap length (sym x.heard) }); is_asked = ap is_open e; idle = z });
+    }

@@ -1,7 +1,6 @@
 -- The numbers of a connection beside those of its application's part, whatever happens.
-use Rattle.std.proofs.Common.{◌≡◌, ℕ, ◌+◌, ◌≤◌, Bool, true, false, not, ◌&&◌, inl, inr, List, [], ◌++◌, length, refl, sym, ap, ◌∙◌, subst, arith, length-append, eqb, ltb}
+use Rattle.std.proofs.Common.{◌≡◌, ℕ, ◌+◌, ◌≤◌, Bool, true, false, not, ◌&&◌, inl, inr, List, [], ◌++◌, length, refl, sym, ap, ◌∙◌, subst, arith, length-append, ltb}
 use Rattle.tcp_segment.specs.Segments.{PlainSegment, has_fin, has_rst}
-use Rattle.rexmit_timer.specs.Ages.{beat_at}
 use Rattle.rexmit_timer.specs.declared.timer.Beat.{Beat}
 use Rattle.app_events.specs.Part.{Meaning}
 use Rattle.app_events.specs.Pages.{Pages, IsPaged}
@@ -11,13 +10,14 @@ use Rattle.app_events.specs.declared.state.State.TheVariants.{Closed, SynRcvd, E
 use Rattle.app_events.specs.declared.want.Want.{Want}
 use Rattle.app_events.specs.declared.want.Want.TheVariants.{Nothing, Send, Close, Abort}
 use Rattle.tcp_machine.specs.Connection.{Connection, Sockets, closed, is_live}
-use Rattle.tcp_machine.specs.Ask.{Outcome, after_own_fin, closes, peer_has_closed, idles, does_as_wanted, prepared, asked_for, asked, sends_fin}
+use Rattle.tcp_machine.specs.Ask.{Outcome, after_own_fin, closes, peer_has_closed, idles, does_as_wanted, prepared, asked, sends_fin}
 use Rattle.tcp_machine.specs.OnSegment.{accepted, hears, is_out_of_order, is_acked, rests, has_text, in_state, takes, with_part, with_window, in_established, peer_closes, goes_on, fin_acked, fin_waits, in_fin_wait_2, by_state, on_segment}
-use Rattle.tcp_machine.specs.OnTick.{grows_older, limit_of, outstanding, by_beat, waits_for_ack, rests_on, rest_time, ticks_established, tick_by, on_tick}
+use Rattle.tcp_machine.specs.OnTick.{grows_older, by_beat, on_tick}
 use Rattle.tcp_machine.specs.declared.step.Step.{Step}
 use Rattle.link_world.specs.Nodes.{HasTextNumbers}
 use Rattle.link_world.proofs.Basics.{choose}
-use Rattle.link_world.proofs.Steps.{Heard, hears_is, is_open, open_live}
+use Rattle.link_world.proofs.Cases.{asked_by, by_open, by_own_fin, is_ask, is_open, no_ask_again, on_tick_by, open_live}
+use Rattle.link_world.proofs.Steps.{Heard, hears_is}
 
 -- the numbers, by the state
 abbrev AtNumbers : State → Connection → Type 0
@@ -34,15 +34,6 @@ AtNumbers LastAck c = length c.part.heard ≤ c.taken
 pub record Num (c : Connection) : Type 0 where
   pub at : AtNumbers c.state c
 
-abbrev is_ask : Step → Bool
-is_ask (Step.Ask fresh) = true
-is_ask Step.Drop = false
-is_ask Step.Ack = false
-is_ask (Step.SynAck again) = false
-is_ask (Step.Text again) = false
-is_ask (Step.Fin again) = false
-is_ask Step.Reset = false
-
 -- an outcome: a step asks in ESTABLISHED and CLOSE-WAIT alone
 record OutNum (o : Outcome) : Type 0 where
   num : Num o.connection
@@ -56,15 +47,8 @@ closes_num c = record { at = tt }
 
 -- in ESTABLISHED and CLOSE-WAIT, with the same numbers
 open_num : (c d : Connection) (st : State) → is_open st ≡ true → d.acked ≡ c.acked → d.taken ≡ c.taken → d.part.acked ≡ c.part.acked → d.part.heard ≡ c.part.heard → AtNumbers st c → AtNumbers st d
-open_num c d Established o a t pa ph h = (omega (arith, a, pa, h.0), omega (arith, t, ap length ph, h.1))
-open_num c d CloseWait o a t pa ph h = (omega (arith, a, pa, h.0), omega (arith, t, ap length ph, h.1))
-open_num c d Closed o a t pa ph h = absurd (cc)
-open_num c d SynRcvd o a t pa ph h = absurd (cc)
-open_num c d FinWait1 o a t pa ph h = absurd (cc)
-open_num c d FinWait2 o a t pa ph h = absurd (cc)
-open_num c d Closing o a t pa ph h = absurd (cc)
-open_num c d TimeWait o a t pa ph h = absurd (cc)
-open_num c d LastAck o a t pa ph h = absurd (cc)
+open_num c d st o a t pa ph h =
+    by_open (λ x. AtNumbers x c → AtNumbers x d) (λ g. (omega (arith, a, pa, g.0), omega (arith, t, ap length ph, g.1))) (λ g. (omega (arith, a, pa, g.0), omega (arith, t, ap length ph, g.1))) st o h
 
 -- the same numbers in the same state; what is outstanding stays too
 like_num : (c d : Connection) (st : State) → d.acked ≡ c.acked → d.len ≡ c.len → d.taken ≡ c.taken → d.part.acked ≡ c.part.acked → d.part.heard ≡ c.part.heard → AtNumbers st c → AtNumbers st d
@@ -91,15 +75,7 @@ low_num c LastAck l h = h
 
 -- the state after an own FIN
 fin_num : (d : Connection) (st : State) → length d.part.heard ≤ d.taken → AtNumbers (after_own_fin st) d
-fin_num d Closed h = h
-fin_num d SynRcvd h = h
-fin_num d Established h = h
-fin_num d CloseWait h = h
-fin_num d FinWait1 h = h
-fin_num d FinWait2 h = h
-fin_num d Closing h = h
-fin_num d TimeWait h = h
-fin_num d LastAck h = h
+fin_num d st h = by_own_fin (λ x. AtNumbers x d) h h st
 
 module _ (m : Meaning) (pages : Pages) (lawful : IsPaged m pages) where
   wanted_num : (w : Want) (fresh : Bool) (c : Connection) (numbers : List ℕ) → is_open c.state ≡ true → Num c → Num (does_as_wanted w fresh c numbers).connection
@@ -111,22 +87,16 @@ module _ (m : Meaning) (pages : Pages) (lawful : IsPaged m pages) where
       choose (λ (x : Outcome). Num x.connection) (peer_has_closed c.state) _ _ (λ e. closes_num c)
       (λ e. choose (λ (x : Outcome). Num x.connection) fresh _ _ (λ f. g) (λ f. g))
 
-  asked_for_num : (at : Connection → Now) (o : Outcome) (s : Step) → Num o.connection → (is_ask s ≡ true → is_open o.connection.state ≡ true) → Num (asked_for m at o s).connection
-  asked_for_num at o (Step.Ask fresh) g there =
-      let now : Now = at o.connection in
-      let b : Connection = prepared m now o.connection o.numbers in
-      let p = there refl in
-      let h : Num b = record { at = open_num o.connection b o.connection.state p refl refl (lawful.prepare_acked o.numbers o.connection.part now) (lawful.prepare_heard o.numbers o.connection.part now) g.at } in
-      wanted_num (m.want o.numbers (m.prepare o.numbers o.connection.part now)) fresh b o.numbers p h
-  asked_for_num at o Step.Drop g there = g
-  asked_for_num at o Step.Ack g there = g
-  asked_for_num at o (Step.SynAck again) g there = g
-  asked_for_num at o (Step.Text again) g there = g
-  asked_for_num at o (Step.Fin again) g there = g
-  asked_for_num at o Step.Reset g there = g
-
   asked_num : (at : Connection → Now) (o : Outcome) → OutNum o → Num (asked m at o).connection
-  asked_num at o h = asked_for_num at o o.step h.num h.open_there
+  asked_num at o h =
+      asked_by m (λ x. Num x.connection) at o
+      (λ a fresh. (let now : Now = at o.connection in
+      let b : Connection = prepared m now o.connection o.numbers in
+      let p = h.open_there a in
+      let g = h.num in
+      let same : Num b = record { at = open_num o.connection b o.connection.state p refl refl (lawful.prepare_acked o.numbers o.connection.part now) (lawful.prepare_heard o.numbers o.connection.part now) g.at } in
+      wanted_num (m.want o.numbers b.part) fresh b o.numbers p same))
+      h.num
 
   -- ---- a segment
 
@@ -207,53 +177,31 @@ module _ (m : Meaning) (pages : Pages) (lawful : IsPaged m pages) where
 
   -- ---- a tick
 
-  quiet_again : (st : State) → is_ask (outstanding true st) ≡ false
-  quiet_again Closed = refl
-  quiet_again SynRcvd = refl
-  quiet_again Established = refl
-  quiet_again CloseWait = refl
-  quiet_again FinWait1 = refl
-  quiet_again FinWait2 = refl
-  quiet_again Closing = refl
-  quiet_again TimeWait = refl
-  quiet_again LastAck = refl
-
   older_num : (c : Connection) → Num c → Num (grows_older c)
   older_num c g = record { at = like_num c (grows_older c) c.state refl refl refl refl refl g.at }
 
   by_beat_num : (b : Beat) (c : Connection) (numbers : List ℕ) → Num c → OutNum (by_beat m b c numbers)
   by_beat_num Beat.Wait c numbers g = record { num = older_num c g; open_there = λ z. absurd (cc) }
-  by_beat_num Beat.Again c numbers g = record { num = older_num c g; open_there = λ z. absurd (let q = quiet_again c.state in cc) }
+  by_beat_num Beat.Again c numbers g = record { num = older_num c g; open_there = λ z. absurd (let q = no_ask_again m c.state in cc) }
   by_beat_num Beat.GiveUp c numbers g = record { num = closes_num c; open_there = λ z. absurd (cc) }
 
-  waits_num : (c : Connection) (numbers : List ℕ) → Num c → OutNum (waits_for_ack m c numbers)
-  waits_num c numbers g = by_beat_num (beat_at (limit_of c.state) (c.age + 1)) c numbers g
-
-  rests_num : (c : Connection) (numbers : List ℕ) → Num c → OutNum (rests_on c numbers)
-  unfolding rests_on
-  rests_num c numbers g = choose (λ (o : Outcome). OutNum o) (eqb (c.age + 1) rest_time) _ _ (λ e. record { num = closes_num c; open_there = λ z. absurd (cc) }) (λ e. record { num = older_num c g; open_there = λ z. absurd (cc) })
-
-  tick_by_num : (st : State) (c : Connection) (numbers : List ℕ) → c.state ≡ st → Num c → OutNum (tick_by m st c numbers)
-  unfolding ticks_established
-  tick_by_num Closed c numbers e g = record { num = g; open_there = λ z. absurd (cc) }
-  tick_by_num SynRcvd c numbers e g = waits_num c numbers g
-  tick_by_num Established c numbers e g =
-      choose (λ (o : Outcome). OutNum o) (ltb 0 c.len) _ _ (λ f. waits_num c numbers g)
-      (λ f. let x = lawful.polled_like numbers c.part in
-      let d : Connection = with_part (m.polled numbers c.part).part c in
-      record { num = record { at = open_num c d c.state (ap is_open e) refl refl x.acked x.heard g.at }; open_there = λ z. ap is_open e })
-  tick_by_num CloseWait c numbers e g = waits_num c numbers g
-  tick_by_num FinWait1 c numbers e g = waits_num c numbers g
-  tick_by_num FinWait2 c numbers e g = rests_num c numbers g
-  tick_by_num Closing c numbers e g = waits_num c numbers g
-  tick_by_num TimeWait c numbers e g = rests_num c numbers g
-  tick_by_num LastAck c numbers e g = waits_num c numbers g
+  tick_out : (c : Connection) (numbers : List ℕ) → Num c → OutNum (on_tick m c numbers)
+  tick_out c numbers g = on_tick_by m OutNum c numbers record {
+    none = record { num = g; open_there = λ z. absurd (cc) };
+    beats = λ r b. by_beat_num b c numbers g;
+    rested = λ e. record { num = older_num c g; open_there = λ z. absurd (cc) };
+    ends = record { num = closes_num c; open_there = λ z. absurd (cc) };
+    polled = λ e l.
+        (let x = lawful.polled_like numbers c.part in
+        let d : Connection = with_part (m.polled numbers c.part).part c in
+        record { num = record { at = open_num c d c.state (ap is_open e) refl refl x.acked x.heard g.at }; open_there = λ z. ap is_open e });
+  }
 
   pub segment_num : (at : Connection → Now) (c : Connection) (numbers : List ℕ) (s : PlainSegment) → Num c → Num (asked m at (on_segment m c numbers s)).connection
   segment_num at c numbers s g = asked_num at (on_segment m c numbers s) (segment_out c numbers s g)
 
   pub tick_num : (at : Connection → Now) (c : Connection) (numbers : List ℕ) → Num c → Num (asked m at (on_tick m c numbers)).connection
-  tick_num at c numbers g = asked_num at (on_tick m c numbers) (tick_by_num c.state c numbers refl g)
+  tick_num at c numbers g = asked_num at (on_tick m c numbers) (tick_out c numbers g)
 
 pub closed_num : Num closed
 closed_num = record { at = tt }

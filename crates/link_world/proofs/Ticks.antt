@@ -1,5 +1,6 @@
 -- An expired timer sends in that tick.
-use Rattle.std.proofs.Common.{◌≡◌, ℕ, ◌+◌, ◌<◌, ◌≤◌, true, List, [], ◌∷◌, cond, count_by, refl, sym, ap, ◌∙◌, subst, arith, Option, Some, nat_le, ltb, if◌then◌else◌, ◌⊎◌, inl, inr}
+use Rattle.std.proofs.Common.{◌≡◌, ℕ, ◌+◌, ◌<◌, ◌≤◌, true, List, [], ◌∷◌, ◌++◌, length, cond, count_by, refl, sym, ap, ◌∙◌, subst, arith, Option, Some, nat_le, ltb, if◌then◌else◌, ◌⊎◌, inl, inr}
+use Rattle.std.specs.List.{list_all}
 use Rattle.std.proofs.lemmas.List.Recursion.{is_count_by}
 use Rattle.std.proofs.lemmas.Grind.{common_steps}
 use Rattle.rexmit_timer.specs.Ages.{ages, give_up_age, tries_at, count_at, beat_at}
@@ -20,7 +21,7 @@ use Rattle.uip_node.specs.Events.{Event, Reply}
 use Rattle.uip_node.specs.Events.Event.{Periodic}
 use Rattle.uip_node.specs.Node.{AbstractNode, moment, happened, connection_in, step}
 use Rattle.link_world.specs.Headline.{may_wait, IsExpired, SendsAgain, Tick}
-use Rattle.link_world.proofs.Basics.{ltb-yes}
+use Rattle.link_world.proofs.Basics.{and_true, ltb-yes}
 use Rattle.link_world.proofs.Tables.{index_of}
 
 -- how many of some ages were reached
@@ -37,31 +38,28 @@ le_yes a b h = grind (arith, common_steps)
 one_more : (age a : ℕ) (more : List ℕ) → a ≤ age → reached age (a ∷ more) ≡ 1 + reached age more
 one_more age a more h = ap (λ b. cond b (1 + reached age more) (reached age more)) (le_yes a age h)
 
+le_is : (a b : ℕ) → nat_le a b ≡ true → a ≤ b
+le_is a b h = grind (arith, common_steps)
+
+-- ages up to one that has come were reached
+front : (age limit : ℕ) (xs ys : List ℕ) → limit ≤ age → list_all (λ a. nat_le a limit) xs ≡ true → length xs ≤ reached age (xs ++ ys)
+front age limit [] ys l h = omega arith
+front age limit (x ∷ xs) ys l h =
+    let both = and_true (nat_le x limit) (list_all (λ a. nat_le a limit) xs) h in
+    omega (arith, one_more age x (xs ++ ys) (omega (arith, l, le_is x limit both.0)), front age limit xs ys l both.1)
+
 -- at age 102 six were reached, and at age 249 all nine
 six : (age : ℕ) → 102 ≤ age → 6 ≤ tries_at age
 six age h =
-    let e0 = one_more age 4 (8 ∷ 15 ∷ 28 ∷ 53 ∷ 102 ∷ 151 ∷ 200 ∷ 249 ∷ []) (omega arith) in
-    let e1 = one_more age 8 (15 ∷ 28 ∷ 53 ∷ 102 ∷ 151 ∷ 200 ∷ 249 ∷ []) (omega arith) in
-    let e2 = one_more age 15 (28 ∷ 53 ∷ 102 ∷ 151 ∷ 200 ∷ 249 ∷ []) (omega arith) in
-    let e3 = one_more age 28 (53 ∷ 102 ∷ 151 ∷ 200 ∷ 249 ∷ []) (omega arith) in
-    let e4 = one_more age 53 (102 ∷ 151 ∷ 200 ∷ 249 ∷ []) (omega arith) in
-    let e5 = one_more age 102 (151 ∷ 200 ∷ 249 ∷ []) (omega arith) in
+    let f : 6 ≤ reached age ages = front age 102 (4 ∷ 8 ∷ 15 ∷ 28 ∷ 53 ∷ 102 ∷ []) (151 ∷ 200 ∷ 249 ∷ []) h refl in
     let r : reached age ages ≡ tries_at age = reached_is age ages in
-    omega (arith, e0, e1, e2, e3, e4, e5, r)
+    omega (arith, f, r)
 
 nine : (age : ℕ) → 249 ≤ age → 9 ≤ tries_at age
 nine age h =
-    let e0 = one_more age 4 (8 ∷ 15 ∷ 28 ∷ 53 ∷ 102 ∷ 151 ∷ 200 ∷ 249 ∷ []) (omega arith) in
-    let e1 = one_more age 8 (15 ∷ 28 ∷ 53 ∷ 102 ∷ 151 ∷ 200 ∷ 249 ∷ []) (omega arith) in
-    let e2 = one_more age 15 (28 ∷ 53 ∷ 102 ∷ 151 ∷ 200 ∷ 249 ∷ []) (omega arith) in
-    let e3 = one_more age 28 (53 ∷ 102 ∷ 151 ∷ 200 ∷ 249 ∷ []) (omega arith) in
-    let e4 = one_more age 53 (102 ∷ 151 ∷ 200 ∷ 249 ∷ []) (omega arith) in
-    let e5 = one_more age 102 (151 ∷ 200 ∷ 249 ∷ []) (omega arith) in
-    let e6 = one_more age 151 (200 ∷ 249 ∷ []) (omega arith) in
-    let e7 = one_more age 200 (249 ∷ []) (omega arith) in
-    let e8 = one_more age 249 [] (omega arith) in
+    let f : 9 ≤ reached age ages = front age 249 ages [] h refl in
     let r : reached age ages ≡ tries_at age = reached_is age ages in
-    omega (arith, e0, e1, e2, e3, e4, e5, e6, e7, e8, r)
+    omega (arith, f, r)
 
 low_or_not : (a b : ℕ) → (a < b) ⊎ (b ≤ a)
 low_or_not a b = grind arith

@@ -23,7 +23,7 @@ use Rattle.tcp_machine.specs.declared.step.Step.{Step}
 use Rattle.link_world.specs.Headline.{Alike}
 use Rattle.link_world.specs.Steady.{IsSteady}
 use Rattle.link_world.proofs.Basics.{choose, append_nothing, only_some, ltb-zero, ltb-lt, ltb-yes, part_grows, cut_part, cut_length, IsPart, prefix_length}
-use Rattle.link_world.proofs.Steps.{is_open}
+use Rattle.link_world.proofs.Cases.{by_open, by_own_fin, fin_lives, is_open, open_live}
 
 -- what is outstanding in a state
 abbrev pub due : Meaning → State → Connection → PlainSegment
@@ -225,75 +225,21 @@ module _ (m : Meaning) (steady : IsSteady m) (Low : ℕ → Type 0) (low_text : 
   state_at : (d : Connection) (st : State) → d.state ≡ st → SafeState d st → SafeState d d.state
   state_at d st e h = subst (λ x. SafeState d x) (sym e) h
 
-  open_live : (st : State) → is_open st ≡ true → is_live st ≡ true
-  open_live st h = Rattle.link_world.proofs.Steps.open_live st h
-
   text_due : (d : Connection) (st : State) → is_open st ≡ true → Alike (text_segment m d) (due m st d)
-  text_due d Established o = alike_refl (text_segment m d)
-  text_due d CloseWait o = alike_refl (text_segment m d)
-  text_due d Closed o = absurd (cc)
-  text_due d SynRcvd o = absurd (cc)
-  text_due d FinWait1 o = absurd (cc)
-  text_due d FinWait2 o = absurd (cc)
-  text_due d Closing o = absurd (cc)
-  text_due d TimeWait o = absurd (cc)
-  text_due d LastAck o = absurd (cc)
+  text_due d st o = by_open (λ x. Alike (text_segment m d) (due m x d)) (alike_refl (text_segment m d)) (alike_refl (text_segment m d)) st o
 
   text_safe : (d : Connection) (st : State) → is_open st ≡ true → TextSafe d → 0 < d.len → SafeState d st
-  text_safe d Established o h l = h
-  text_safe d CloseWait o h l = record { text = h; some = l }
-  text_safe d Closed o h l = absurd (cc)
-  text_safe d SynRcvd o h l = absurd (cc)
-  text_safe d FinWait1 o h l = absurd (cc)
-  text_safe d FinWait2 o h l = absurd (cc)
-  text_safe d Closing o h l = absurd (cc)
-  text_safe d TimeWait o h l = absurd (cc)
-  text_safe d LastAck o h l = absurd (cc)
+  text_safe d st o h l = by_open (λ x. SafeState d x) h record { text = h; some = l } st o
 
-  fin_safe : (d : Connection) (st : State) → is_open st ≡ true → ControlSafe d → SafeState d (after_own_fin st)
-  fin_safe d Established o h = h
-  fin_safe d CloseWait o h = h
-  fin_safe d Closed o h = absurd (cc)
-  fin_safe d SynRcvd o h = absurd (cc)
-  fin_safe d FinWait1 o h = absurd (cc)
-  fin_safe d FinWait2 o h = absurd (cc)
-  fin_safe d Closing o h = absurd (cc)
-  fin_safe d TimeWait o h = absurd (cc)
-  fin_safe d LastAck o h = absurd (cc)
+  fin_safe : (d : Connection) (st : State) → ControlSafe d → SafeState d (after_own_fin st)
+  fin_safe d st h = by_own_fin (λ x. SafeState d x) h h st
 
-  fin_due : (d : Connection) (st : State) → is_open st ≡ true → Alike (fin_of d) (due m (after_own_fin st) d)
-  fin_due d Established o = alike_refl (fin_of d)
-  fin_due d CloseWait o = alike_refl (fin_of d)
-  fin_due d Closed o = absurd (cc)
-  fin_due d SynRcvd o = absurd (cc)
-  fin_due d FinWait1 o = absurd (cc)
-  fin_due d FinWait2 o = absurd (cc)
-  fin_due d Closing o = absurd (cc)
-  fin_due d TimeWait o = absurd (cc)
-  fin_due d LastAck o = absurd (cc)
-
-  fin_lives : (st : State) → is_open st ≡ true → is_live (after_own_fin st) ≡ true
-  fin_lives Established o = refl
-  fin_lives CloseWait o = refl
-  fin_lives Closed o = absurd (cc)
-  fin_lives SynRcvd o = absurd (cc)
-  fin_lives FinWait1 o = absurd (cc)
-  fin_lives FinWait2 o = absurd (cc)
-  fin_lives Closing o = absurd (cc)
-  fin_lives TimeWait o = absurd (cc)
-  fin_lives LastAck o = absurd (cc)
+  fin_due : (d : Connection) (st : State) → Alike (fin_of d) (due m (after_own_fin st) d)
+  fin_due d st = by_own_fin (λ x. Alike (fin_of d) (due m x d)) (alike_refl (fin_of d)) (alike_refl (fin_of d)) st
 
   -- with nothing wanted, ESTABLISHED rests
   idle_safe : (d : Connection) (st : State) → is_open st ≡ true → peer_has_closed st ≡ false → TextSafe d → SafeState d st
-  idle_safe d Established o p h = h
-  idle_safe d CloseWait o p h = absurd (cc)
-  idle_safe d Closed o p h = absurd (cc)
-  idle_safe d SynRcvd o p h = absurd (cc)
-  idle_safe d FinWait1 o p h = absurd (cc)
-  idle_safe d FinWait2 o p h = absurd (cc)
-  idle_safe d Closing o p h = absurd (cc)
-  idle_safe d TimeWait o p h = absurd (cc)
-  idle_safe d LastAck o p h = absurd (cc)
+  idle_safe d st o p h = by_open (λ x. peer_has_closed x ≡ false → SafeState d x) (λ q. h) (λ q. absurd (cc)) st o p
 
   abbrev pub OutTold : Connection → Outcome → Type 0
   OutTold c o = StepTells c o.connection (segment_of m o.connection o.step) (is_again o.step)
@@ -309,9 +255,9 @@ module _ (m : Meaning) (steady : IsSteady m) (Low : ℕ → Type 0) (low_text : 
   wanted_tells Abort fresh c numbers o z ms ini h fit w = reset_tells c c
   wanted_tells Close fresh c numbers o z ms ini h fit w =
       let d : Connection = sends_fin (after_own_fin c.state) c in
-      new_tells c d (fin_of d) (onto_idle c d refl z refl) (fin_lives c.state o)
-      record { mss = ms; initial = ini; state = fin_safe d c.state o record { len = refl; low = record { at = length (m.said c.part); low = low_text c.part fit; near = omega (arith, h.count, h.fits) } } }
-      record { len = omega arith; seq = refl; alike = fin_due d c.state o } (λ x. absurd (omega (arith, x, z))) refl
+      new_tells c d (fin_of d) (onto_idle c d refl z refl) (fin_lives c.state)
+      record { mss = ms; initial = ini; state = fin_safe d c.state record { len = refl; low = record { at = length (m.said c.part); low = low_text c.part fit; near = omega (arith, h.count, h.fits) } } }
+      record { len = omega arith; seq = refl; alike = fin_due d c.state } (λ x. absurd (omega (arith, x, z))) refl
   wanted_tells (Send n) fresh c numbers o z ms ini h fit w =
       let d : Connection = sends_text (min n c.mss) c in
       let some : 0 < d.len = omega (arith, w.0, ms) in

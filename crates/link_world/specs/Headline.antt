@@ -2,11 +2,10 @@
 use Rattle.std.specs.List.{All, list_any}
 use Rattle.std.specs.Prelude.{◌≡◌, ℕ, suc, ◌+◌, ◌<◌, ◌≤◌, ◌⊎◌, ◌==◌, Bool, true, false, if◌then◌else◌, List, [], ◌∷◌, length, Option, Some, None, Ok, slice_get}
 use Rattle.uip_wire.specs.Numbers.{wrap}
-use Rattle.uip_wire.specs.declared.addr.Addr.{Addr}
 use Rattle.tcp_segment.specs.Segments.{PlainSegment, has_rst, has_ack}
 use Rattle.app_events.specs.Part.{Moment, Meaning}
 use Rattle.app_events.specs.Laws.{IsPrefixOf}
-use Rattle.app_events.specs.Pages.{Pages, IsPaged, IsMoment, IsWord, IsByte, IsAddr}
+use Rattle.app_events.specs.Pages.{Pages, IsPaged, IsMoment, IsByte, IsAddr}
 use Rattle.link_client.specs.Client.{AbstractClient, has_closed}
 use Rattle.app_events.specs.declared.state.State.{State}
 use Rattle.app_events.specs.declared.state.State.TheVariants.{Closed, FinWait2, TimeWait}
@@ -34,7 +33,7 @@ use Rattle.link_world.specs.World.Content.{OfSegment}
 use Rattle.link_world.specs.declared.who.Who.{Who}
 use Rattle.link_world.specs.declared.who.Who.TheVariants.{FromClient, FromNode, Pinger}
 use Rattle.link_world.specs.Acts.{does, runs}
-use Rattle.link_world.specs.History.{Planned, IsPlan, era, serving, opening_world, page_of, is_whole}
+use Rattle.link_world.specs.History.{Start, started, era, serving, page_of, is_whole}
 use Rattle.link_world.specs.Schedule.{plays}
 use Rattle.link_world.specs.Steady.{IsSteady}
 use Rattle.link_world.specs.declared.act.Act.{Act}
@@ -72,29 +71,19 @@ HasBytes pages = (heard : List ℕ) (captures : List Moment) → All IsMoment ca
 -- the schedule damages nothing.
 pub record IsReached (m : Meaning) (pages : Pages) (w : World) : Type 0 where
   pub served : ℕ → Bool
-  pub addr : Addr
-  pub is_addr : IsAddr addr
-  pub numbers : List ℕ
-  pub in_range : All IsWord numbers
-  pub plan : List Planned
-  pub is_plan : IsPlan plan
+  pub start : Start
   pub schedule : List Act
   pub are_acts : All IsAct schedule
   pub bytes : HasBytes pages ⊎ All IsPlainAct schedule
-  pub accepted : runs m served schedule (opening_world addr numbers plan) ≡ Ok w
+  pub accepted : runs m served schedule (started start) ≡ Ok w
 
 -- The world that acts reach that damage nothing, whatever the application says.
 pub record IsReachedPlainly (m : Meaning) (w : World) : Type 0 where
   pub served : ℕ → Bool
-  pub addr : Addr
-  pub is_addr : IsAddr addr
-  pub numbers : List ℕ
-  pub in_range : All IsWord numbers
-  pub plan : List Planned
-  pub is_plan : IsPlan plan
+  pub start : Start
   pub schedule : List Act
   pub plain : All IsPlainAct schedule
-  pub accepted : runs m served schedule (opening_world addr numbers plan) ≡ Ok w
+  pub accepted : runs m served schedule (started start) ≡ Ok w
 
 -- what each act of a line is
 abbrev pub OfLine : (Act → Type 0) → Event → Type 0
@@ -116,16 +105,11 @@ OfLine P Event.Lose = Unit {0}
 -- The world that the lines of a schedule reach, each of them accepted.
 pub record IsSchedulePlayed (m : Meaning) (pages : Pages) (w : World) : Type 0 where
   pub served : ℕ → Bool
-  pub addr : Addr
-  pub is_addr : IsAddr addr
-  pub numbers : List ℕ
-  pub in_range : All IsWord numbers
-  pub plan : List Planned
-  pub is_plan : IsPlan plan
+  pub start : Start
   pub lines : List Event
   pub are_acts : All (OfLine IsAct) lines
   pub bytes : HasBytes pages ⊎ All (OfLine IsPlainAct) lines
-  pub accepted : plays m served lines (opening_world addr numbers plan) ≡ Ok w
+  pub accepted : plays m served lines (started start) ≡ Ok w
 
 -- What lines reach, acts reach, apart from the mark, of which no law speaks.
 abbrev pub LinesAreActs : Type 0
@@ -167,7 +151,8 @@ pub record IsRepeatOf (w : World) (e : Sent) (s : PlainSegment) (i j : ℕ) : Ty
 abbrev pub RepeatsSameBytes : World → Type 0
 RepeatsSameBytes w =
     (k : ℕ) (side : Side) → slice_get w.sides k ≡ Some side →
-    (i : ℕ) (e : Sent) (id : ℕ) (s : PlainSegment) → slice_get w.sent i ≡ Some e → e.who ≡ FromNode (suc k) → e.content ≡ OfSegment id s → e.again ≡ true →
+    (i : ℕ) (e : Sent) (id : ℕ) (s : PlainSegment) → slice_get w.sent i ≡ Some e → e.who ≡ FromNode (suc k) → e.content ≡ OfSegment id s
+    → e.again ≡ true →
     (j : ℕ) × IsRepeatOf w e s i j
 
 -- Same bytes: so it is in every world. This holds of clients that are not clean too.
@@ -183,7 +168,8 @@ SameBytesPlainly = (m : Meaning) → IsSteady m → (w : World) → IsReachedPla
 abbrev pub MarksRepeats : World → Type 0
 MarksRepeats w =
     (k : ℕ) (side : Side) → slice_get w.sides k ≡ Some side →
-    (i j : ℕ) (e f : Sent) (id id' : ℕ) (s t : PlainSegment) → slice_get w.sent i ≡ Some e → slice_get w.sent j ≡ Some f → j < i → e.who ≡ FromNode (suc k) → f.who ≡ FromNode (suc k) →
+    (i j : ℕ) (e f : Sent) (id id' : ℕ) (s t : PlainSegment) → slice_get w.sent i ≡ Some e → slice_get w.sent j ≡ Some f → j < i
+    → e.who ≡ FromNode (suc k) → f.who ≡ FromNode (suc k) →
     e.content ≡ OfSegment id s → f.content ≡ OfSegment id' t → e.epoch ≡ f.epoch → s.seq ≡ t.seq → has_place s ≡ true → has_place t ≡ true →
     (e.again ≡ true) × Alike t s
 
@@ -200,7 +186,8 @@ server_side w side = serving (client_sockets side) w.node.connections
 pub record IsInStep (w : World) (number : ℕ) (client : AbstractClient) (c : Connection) (first : ℕ) : Type 0 where
   pub ahead : ℕ
   pub expected : client.expected ≡ wrap (first + 1 + ahead)
-  pub acknowledges : (i : ℕ) (e : Sent) (id : ℕ) (s : PlainSegment) → slice_get w.sent i ≡ Some e → e.who ≡ FromClient number → e.content ≡ OfSegment id s →
+  pub acknowledges : (i : ℕ) (e : Sent) (id : ℕ) (s : PlainSegment) → slice_get w.sent i ≡ Some e → e.who ≡ FromClient number
+      → e.content ≡ OfSegment id s →
       has_rst s.flags ≡ false → has_ack s.flags ≡ true → (at : ℕ) × (at ≤ ahead) × (s.ack ≡ wrap (first + 1 + at))
   pub least : is_live c.state ≡ true → c.acked ≤ 1 + ahead
   pub most : is_live c.state ≡ true → 1 + ahead ≤ c.acked + c.len
@@ -307,7 +294,8 @@ CountsBy (FromNode number) w v = v.node.past ≡ w.node.past
 -- connection and no list; where it was sent to the node, its past has one refused datagram more.
 abbrev pub DamageIsLoss : Type 0
 DamageIsLoss =
-    (m : Meaning) (served : ℕ → Bool) (w : World) (k at mask : ℕ) (e : Sent) → numbered w.sent k ≡ Some e → IsWholeDatagram (sent_bytes w e) → at < length (sent_bytes w e) → 1 ≤ mask → mask < 256 →
+    (m : Meaning) (served : ℕ → Bool) (w : World) (k at mask : ℕ) (e : Sent) → numbered w.sent k ≡ Some e
+    → IsWholeDatagram (sent_bytes w e) → at < length (sent_bytes w e) → 1 ≤ mask → mask < 256 →
     IsLoss w (does m served w (Act.Damage k at mask)) × CountsBy e.who w (does m served w (Act.Damage k at mask))
 
 -- So it is in every world that is reached: each datagram there would have passed every check.

@@ -74,3 +74,15 @@ sockets_in p = record { peer = p.setup.addr; peer_port = p.setup.port; own_port 
 pub record IsPlan (plan : List Planned) : Type 0 where
   pub each : (k : ℕ) (p : Planned) → slice_get plan k ≡ Some p → IsPlanned p
   pub apart : (j k : ℕ) (p q : Planned) → slice_get plan j ≡ Some p → slice_get plan k ≡ Some q → sockets_in p ≡ sockets_in q → j ≡ k
+
+-- A start: the node's address, its numbers and the plan of its clients, as they can be.
+pub record Start : Type 0 where
+  pub addr : Addr
+  pub is_addr : IsAddr addr
+  pub numbers : List ℕ
+  pub in_range : All IsWord numbers
+  pub plan : List Planned
+  pub is_plan : IsPlan plan
+
+abbrev pub started : Start → World
+started start = opening_world start.addr start.numbers start.plan

@@ -18,7 +18,8 @@ use Rattle.link_schedule.specs.declared.event.Event.TheVariants.{Opens, Round}
 -- What an application that is asked may want, where `most` texts were left to say: to send, and then one text less is left as
 -- soon as it is acknowledged; to close; or nothing, as long as it has not heard the whole request.
 abbrev pub GoesOnBy : Meaning → List ℕ → ℕ → (Part → Bool) → (Part → ℕ) → Part → ℕ → Want → Type 0
-GoesOnBy m request mss fine left q most (Send n) = (numbers : List ℕ) → (fine (m.acked numbers q (min n mss)).part ≡ true) × (left (m.acked numbers q (min n mss)).part < most)
+GoesOnBy m request mss fine left q most (Send n) = (numbers : List ℕ) → (fine (m.acked numbers q (min n mss)).part ≡ true)
+    × (left (m.acked numbers q (min n mss)).part < most)
 GoesOnBy m request mss fine left q most Close = Unit {0}
 GoesOnBy m request mss fine left q most Nothing = (fine q ≡ true) × (left q ≤ most) × (q.heard ≡ request → ⊥)
 GoesOnBy m request mss fine left q most Abort = ⊥
@@ -27,7 +28,8 @@ GoesOnBy m request mss fine left q most Abort = ⊥
 -- its parts are fine, and each of them has a number of texts that are left to say. It is asked at a moment that a node can
 -- make, at which its own connection lives.
 pub record AnswersIn (m : Meaning) (request : List ℕ) (mss : ℕ) (fine : Part → Bool) (left : Part → ℕ) (texts : ℕ) : Type 0 where
-  pub starts : (numbers : List ℕ) (port : ℕ) → (fine (m.connected numbers port).part ≡ true) × (left (m.connected numbers port).part ≤ texts)
+  pub starts : (numbers : List ℕ) (port : ℕ) → (fine (m.connected numbers port).part ≡ true)
+      × (left (m.connected numbers port).part ≤ texts)
   pub hears : (numbers : List ℕ) (p : Part) (piece rest : List ℕ) → fine p ≡ true → (p.heard ++ piece) ++ rest ≡ request →
       (fine (m.newdata numbers p piece).part ≡ true) × (left (m.newdata numbers p piece).part ≤ left p)
   pub goes_on : (numbers : List ℕ) (p : Part) (now : Now) (rest : List ℕ) → fine p ≡ true → p.heard ++ rest ≡ request →
@@ -51,4 +53,5 @@ HonestLink =
     IsAddr addr → All IsWord numbers → IsPlan (p ∷ []) → served p.setup.server_port.0 ≡ true →
     (fine : Part → Bool) (left : Part → ℕ) (parts texts : ℕ) → AnswersIn m p.request (first_mss (offered p.setup.mss)) fine left texts →
     0 < length p.request → length p.request ≤ parts * p.setup.seg → 2 * parts + 2 * texts + 7 ≤ 65535 →
-    (w : World) × (plays m served (Opens 1 ∷ replicate (2 * parts + 2 * texts + 6) Round) (opening_world addr numbers (p ∷ [])) ≡ Ok w) × IsServedWhole pages w
+    (w : World) × (plays m served (Opens 1 ∷ replicate (2 * parts + 2 * texts + 6) Round) (opening_world addr numbers (p ∷ [])) ≡ Ok w)
+    × IsServedWhole pages w

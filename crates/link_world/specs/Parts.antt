@@ -72,11 +72,14 @@ pub record HasTaken (client : AbstractClient) (c : Connection) : Type 0 where
 -- Every datagram of the node and of the client says what it may, a client acknowledges nothing before it opened, and its server has
 -- taken what it may of the request.
 pub record HasParts (pages : Pages) (w : World) (number : ℕ) (side : Side) (c : Connection) : Type 0 where
-  pub of_node : (i : ℕ) (e : Sent) (id : ℕ) (s : PlainSegment) → slice_get w.sent i ≡ Some e → e.who ≡ FromNode number → e.content ≡ OfSegment id s → has_rst s.flags ≡ false →
+  pub of_node : (i : ℕ) (e : Sent) (id : ℕ) (s : PlainSegment) → slice_get w.sent i ≡ Some e → e.who ≡ FromNode number
+      → e.content ≡ OfSegment id s → has_rst s.flags ≡ false →
       SaysPage pages side e.epoch (era side.past c e.epoch) s
-  pub of_client : (i : ℕ) (e : Sent) (id : ℕ) (s : PlainSegment) → slice_get w.sent i ≡ Some e → e.who ≡ FromClient number → e.content ≡ OfSegment id s → has_rst s.flags ≡ false → 0 < length s.text →
+  pub of_client : (i : ℕ) (e : Sent) (id : ℕ) (s : PlainSegment) → slice_get w.sent i ≡ Some e → e.who ≡ FromClient number
+      → e.content ≡ OfSegment id s → has_rst s.flags ≡ false → 0 < length s.text →
       AsksRequest side s
-  pub acknowledges : (i : ℕ) (e : Sent) (id : ℕ) (s : PlainSegment) → slice_get w.sent i ≡ Some e → e.who ≡ FromClient number → e.content ≡ OfSegment id s → has_rst s.flags ≡ false → has_ack s.flags ≡ true →
+  pub acknowledges : (i : ℕ) (e : Sent) (id : ℕ) (s : PlainSegment) → slice_get w.sent i ≡ Some e → e.who ≡ FromClient number
+      → e.content ≡ OfSegment id s → has_rst s.flags ≡ false → has_ack s.flags ≡ true →
       is_some side.opened ≡ true
   pub requested : is_live c.state ≡ true → is_some side.opened ≡ true → HasTaken side.client c
   pub epochs : HasOneEpoch side c

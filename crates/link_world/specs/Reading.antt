@@ -16,9 +16,11 @@ use Rattle.link_world.specs.Headline.{HasBytes, IsReached}
 -- server is the node.
 abbrev pub IsRead : World → Who → Content → List ℕ → Type 0
 IsRead w (FromClient number) (OfSegment id s) bytes =
-    (side : Side) → numbered w.sides number ≡ Some side → side.client.setup.server ≡ w.node.addr → event_of w.node.addr bytes ≡ Arrived (client_sockets side) s
+    (side : Side) → numbered w.sides number ≡ Some side → side.client.setup.server ≡ w.node.addr
+    → event_of w.node.addr bytes ≡ Arrived (client_sockets side) s
 IsRead w (FromNode number) (OfSegment id s) bytes =
-    (side : Side) → numbered w.sides number ≡ Some side → side.client.setup.server ≡ w.node.addr → hears_datagram side.client.setup bytes ≡ Some s
+    (side : Side) → numbered w.sides number ≡ Some side → side.client.setup.server ≡ w.node.addr
+    → hears_datagram side.client.setup bytes ≡ Some s
 IsRead w Pinger (OfPing datagram) bytes = event_of w.node.addr bytes ≡ EchoAsked datagram
 IsRead w who content bytes = Unit {0}  -- nothing else is delivered
 
@@ -26,7 +28,8 @@ IsRead w who content bytes = Unit {0}  -- nothing else is delivered
 abbrev pub BytesAreRead : Type 0
 BytesAreRead =
     (m : Meaning) (pages : Pages) → IsPaged m pages → HasBytes pages → (w : World) → IsReached m pages w →
-    (k : ℕ) (e : Sent) → slice_get w.sent k ≡ Some e → IsRead w e.who e.content (sent_bytes w e) × (length (sent_bytes w e) ≤ LARGEST_DATAGRAM)
+    (k : ℕ) (e : Sent) → slice_get w.sent k ≡ Some e → IsRead w e.who e.content (sent_bytes w e)
+    × (length (sent_bytes w e) ≤ LARGEST_DATAGRAM)
 
 -- a client has this number
 abbrev pub IsNumberOf : List Side → ℕ → Type 0

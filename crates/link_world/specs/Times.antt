@@ -30,7 +30,8 @@ pub record IsLater (m : Meaning) (pages : Pages) (v w : World) : Type 0 where
 abbrev pub OneConnection : Type 0
 OneConnection =
     (m : Meaning) (pages : Pages) → IsPaged m pages → (v w : World) → IsLater m pages v w →
-    (k : ℕ) (a b : Side) → slice_get v.sides k ≡ Some a → slice_get w.sides k ≡ Some b → epoch a ≡ epoch b → is_live (server_side v a).state ≡ true →
+    (k : ℕ) (a b : Side) → slice_get v.sides k ≡ Some a → slice_get w.sides k ≡ Some b → epoch a ≡ epoch b
+    → is_live (server_side v a).state ≡ true →
     (is_live (server_side w b).state ≡ true) × ((server_side w b).first ≡ (server_side v a).first)
 
 -- Acknowledged after opening: what a client acknowledges, without RST, is sent after every world in which it was clean and had not
@@ -68,4 +69,5 @@ pub record KeepsPlan (m : Meaning) (served : ℕ → Bool) (addr : Addr) (number
   pub by_lines : (lines : List Event) → plays m served lines (opening_world addr numbers plan) ≡ Ok w → map planned_of w.sides ≡ plan
 
 abbrev pub SidesAsPlanned : Type 0
-SidesAsPlanned = (m : Meaning) (served : ℕ → Bool) (addr : Addr) (numbers : List ℕ) (plan : List Planned) (w : World) → KeepsPlan m served addr numbers plan w
+SidesAsPlanned = (m : Meaning) (served : ℕ → Bool) (addr : Addr) (numbers : List ℕ) (plan : List Planned) (w : World)
+    → KeepsPlan m served addr numbers plan w

@@ -81,7 +81,8 @@ buries (Some gone) sides = map (buries_in gone) sides
 -- the client, by its number, whose sockets a datagram of the node has; 0 where there is none
 abbrev pub addressed : ℕ → Sockets → List Side → ℕ
 addressed number sockets [] = 0
-addressed number sockets (side ∷ sides) = if same_sockets sockets (client_sockets side) then number else addressed (number + 1) sockets sides
+addressed number sockets (side ∷ sides) = if same_sockets sockets (client_sockets side) then number else addressed
+    (number + 1) sockets sides
 
 abbrev pub epoch_at : Option Side → ℕ
 epoch_at None = 0

@@ -4,7 +4,6 @@ use Rattle.std.specs.Prelude.{decimal, flat_map}
 use Rattle.std.proofs.lemmas.List.{length-replicate}
 use Rattle.std.proofs.Math.Bool.{and-false}
 use Rattle.tcp_segment.specs.Segments.{PlainSegment, has_fin, has_rst}
-use Rattle.rexmit_timer.specs.Ages.{beat_at}
 use Rattle.rexmit_timer.specs.declared.timer.Beat.{Beat}
 use Rattle.script_lang.specs.declared.function.Function.{Function}
 use Rattle.script_lang.specs.declared.function.Function.TheVariants.{FileStats, TcpConnections, NetStats, Ticks, Unknown}
@@ -19,7 +18,7 @@ use Rattle.site_image.specs.Files.{File}
 use Rattle.tcp_machine.specs.Connection.{Connection, Sockets, closed, is_live, rows_from}
 use Rattle.tcp_machine.specs.Ask.{Outcome, after_own_fin, ask, asked, asked_for, closes, does_as_wanted, idles, peer_has_closed, prepared}
 use Rattle.tcp_machine.specs.OnSegment.{accepted, by_state, fin_acked, fin_waits, goes_on, has_text, hears, in_established, in_fin_wait_2, is_acked, is_out_of_order, on_segment, peer_closes, rests, with_part}
-use Rattle.tcp_machine.specs.OnTick.{by_beat, limit_of, on_tick, outstanding, rest_time, rests_on, tick_by, ticks_established}
+use Rattle.tcp_machine.specs.OnTick.{by_beat, on_tick, outstanding}
 use Rattle.tcp_machine.specs.declared.step.Step.{Step}
 use Rattle.uip_node.specs.Events.{Event}
 use Rattle.uip_node.specs.Node.{AbstractNode, moment}
@@ -31,6 +30,7 @@ use Rattle.web_pages.specs.Requests.Wanted.{NotYet, Refused, Name}
 use Rattle.web_pages.specs.WebMeaning.{is_acknowledged, left_of, waits_for_capture, web_meaning, web_want}
 use Rattle.web_pages.specs.declared.TheConstants.{MOST_POLLS}
 use Rattle.link_world.proofs.Basics.{and_true, choose, eqb-eq, ltb-zero, not-true}
+use Rattle.link_world.proofs.Cases.{by_own_fin, on_tick_by}
 use Rattle.link_world.proofs.NodeRuns.{every}
 use Rattle.replay_command.specs.Apart.{AbortAndCloseApart, ClosesInTime, is_at_end}
 
@@ -128,15 +128,7 @@ module _ (files : List File) where
       (λ e q. captured_apart p (record { numbers = numbers; now = now }) g e) (λ e. h)
 
   never_open : (st : State) → after_own_fin st ≡ Established → ⊥
-  never_open Closed e = cc
-  never_open SynRcvd e = cc
-  never_open Established e = cc
-  never_open CloseWait e = cc
-  never_open FinWait1 e = cc
-  never_open FinWait2 e = cc
-  never_open Closing e = cc
-  never_open TimeWait e = cc
-  never_open LastAck e = cc
+  never_open st e = by_own_fin (λ x. x ≡ Established → ⊥) (λ q. (let z : FinWait1 ≡ Established = q in cc)) (λ q. (let z : LastAck ≡ Established = q in cc)) st e
 
   closes_apart : (c : Connection) → Apart c.part → ClosesInTime files (closes c)
   closes_apart c h = record { idle = λ s l. absurd (let z : Closed ≡ Established = s in cc); apart = h }
@@ -258,29 +250,17 @@ module _ (files : List File) where
   beat_apart Beat.Again c numbers h = outstanding_apart c.state (record c { age = c.age + 1 }) (record { idle = h.idle; apart = h.apart })
   beat_apart Beat.GiveUp c numbers h = closes_apart c h.apart
 
-  rest_apart : (c : Connection) (numbers : List ℕ) → ClosesInTime files c → Leaves (rests_on c numbers)
-  unfolding rests_on
-  rest_apart c numbers h = choose (λ (o : Outcome). Leaves o) (eqb (c.age + 1) rest_time) _ _ (λ e. closes_apart c h.apart) (λ e. record { idle = h.idle; apart = h.apart })
-
-  polled_apart : (c : Connection) (numbers : List ℕ) → c.state ≡ Established → ClosesInTime files c → Leaves (ticks_established m c numbers)
-  unfolding ticks_established
-  polled_apart c numbers e h =
-      choose (λ (o : Outcome). Leaves o) (ltb 0 c.len) _ _ (λ l. beat_apart (beat_at (limit_of c.state) (c.age + 1)) c numbers h)
-      (λ l. (ap is_live e, λ q. h.idle e (ltb-zero c.len l)))
-
-  tick_apart : (st : State) (c : Connection) (numbers : List ℕ) → c.state ≡ st → ClosesInTime files c → Leaves (tick_by m st c numbers)
-  tick_apart Closed c numbers e h = h
-  tick_apart SynRcvd c numbers e h = beat_apart (beat_at (limit_of c.state) (c.age + 1)) c numbers h
-  tick_apart Established c numbers e h = polled_apart c numbers e h
-  tick_apart CloseWait c numbers e h = beat_apart (beat_at (limit_of c.state) (c.age + 1)) c numbers h
-  tick_apart FinWait1 c numbers e h = beat_apart (beat_at (limit_of c.state) (c.age + 1)) c numbers h
-  tick_apart FinWait2 c numbers e h = rest_apart c numbers h
-  tick_apart Closing c numbers e h = beat_apart (beat_at (limit_of c.state) (c.age + 1)) c numbers h
-  tick_apart TimeWait c numbers e h = rest_apart c numbers h
-  tick_apart LastAck c numbers e h = beat_apart (beat_at (limit_of c.state) (c.age + 1)) c numbers h
+  tick_apart : (c : Connection) (numbers : List ℕ) → ClosesInTime files c → Leaves (on_tick m c numbers)
+  tick_apart c numbers h = on_tick_by m Leaves c numbers record {
+    none = h;
+    beats = λ r b. beat_apart b c numbers h;
+    rested = λ e. record { idle = h.idle; apart = h.apart };
+    ends = closes_apart c h.apart;
+    polled = λ e l. (ap is_live e, λ q. h.idle e l);
+  }
 
   ticks_apart : (at : Connection → Now) → IsAt at → (c : Connection) (numbers : List ℕ) → ClosesInTime files c → ClosesInTime files (asked m at (on_tick m c numbers)).connection
-  ticks_apart at g c numbers h = (let o : Outcome = on_tick m c numbers in asked_apart at g o o.step (tick_apart c.state c numbers refl h))
+  ticks_apart at g c numbers h = (let o : Outcome = on_tick m c numbers in asked_apart at g o o.step (tick_apart c numbers h))
 
   -- ---- the moments of a node
 

@@ -25,12 +25,7 @@ module _ (site : SiteContent) (loaded : IsLoaded site) (bytes : All IsByte site.
   reached : IsAt (web_meaning (files_of site)) served w → IsReached (web_meaning (files_of site)) (pages_of (files_of site)) (record w { mark = 0 })
   reached h = record {
     served = served;
-    addr = h.addr;
-    is_addr = h.is_addr;
-    numbers = h.numbers;
-    in_range = h.in_range;
-    plan = h.plan;
-    is_plan = h.is_plan;
+    start = h.start;
     schedule = h.schedule;
     are_acts = h.are_acts;
     bytes = inl (has_bytes site bytes);

@@ -10,7 +10,7 @@ use Rattle.site_image.specs.Files.{File}
 use Rattle.file_tree.specs.Site.{SiteContent, IsLoaded, files_of}
 use Rattle.link_client.specs.Client.{offered}
 use Rattle.link_world.specs.World.{World, Side, is_clean}
-use Rattle.link_world.specs.History.{Planned, IsPlan, opening_world}
+use Rattle.link_world.specs.History.{Planned, IsPlan, Start, opening_world, started}
 use Rattle.link_world.specs.Schedule.{plays}
 use Rattle.link_schedule.specs.declared.event.Event.{Event}
 use Rattle.link_schedule.specs.declared.event.Event.TheVariants.{Opens, Round}
@@ -27,15 +27,10 @@ use Rattle.web_pages.specs.WebMeaning.{web_meaning}
 -- any other.
 pub record IsReplayed (site : SiteContent) (w : World) : Type 0 where
   pub served : ℕ → Bool
-  pub addr : Addr
-  pub is_addr : IsAddr addr
-  pub hits : List ℕ
-  pub in_range : All IsWord hits
-  pub plan : List Planned
-  pub is_plan : IsPlan plan
+  pub start : Start
   pub lines : List Event
   pub are_acts : All (OfLine IsAct) lines
-  pub accepted : plays (web_meaning (files_of site)) served lines (opening_world addr hits plan) ≡ Ok w
+  pub accepted : plays (web_meaning (files_of site)) served lines (started start) ≡ Ok w
 
 -- Every client to and from which nothing stale was delivered has received a prefix of its page, and the whole page where it saw
 -- a plain close.

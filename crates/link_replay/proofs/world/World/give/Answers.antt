@@ -13,13 +13,11 @@ use Rattle.link_replay.specs.declared.sent.Sent.{Sent as CodeSent}
 use Rattle.link_replay.proofs.Delivered.{answers_seen, hands, seen, speaks_to}
 use Rattle.link_replay.proofs.Pairs.{numbered_at, partner, there_is}
 use Rattle.link_replay.proofs.Readable.{read_at, sent_at}
+use Rattle.link_replay.proofs.Handling.{still_kept}
 use Rattle.link_replay.proofs.world.World.give.Goals as goal
 
 pub hand-requires-clause-kept : goal.hand-requires-clause-kept
-hand-requires-clause-kept g c = record {
-  node = c.requires.kept.node;
-  link = (c.requires.kept.link.0, c.see.ensures.kept c.requires.kept.link.0 c.requires.kept.link.1);
-}
+hand-requires-clause-kept g c = still_kept g.A.App _ _ c.requires.kept.node c.requires.kept.link c.see.ensures.kept
 
 pub hand-requires-clause-most : goal.hand-requires-clause-most
 hand-requires-clause-most g c =

@@ -3,20 +3,14 @@ use Rattle.link_world.specs.Acts.{hands_over}
 use Rattle.link_world.specs.World.{numbered}
 use Rattle.link_world.specs.declared.who.Who.{Who}
 use Rattle.link_replay.specs.Stands.{WorldStands}
-use Rattle.link_replay.proofs.Handling.{handed_done}
+use Rattle.link_replay.proofs.Handling.{handed_done, still_kept}
 use Rattle.link_replay.proofs.world.World.hand.Goals as goal
 
 pub returns-in_err-hear-in-FromNode-clause-kept : goal.returns-in_err-hear-in-FromNode-clause-kept
-returns-in_err-hear-in-FromNode-clause-kept g c = record {
-  node = c.requires.kept.node;
-  link = (c.requires.kept.link.0, c.hear.ensures.kept c.requires.kept.link.0 c.requires.kept.link.1);
-}
+returns-in_err-hear-in-FromNode-clause-kept g c = still_kept g.A.App _ _ c.requires.kept.node c.requires.kept.link c.hear.ensures.kept
 
 pub returns-in_ok-hear-in-FromNode-clause-kept : goal.returns-in_ok-hear-in-FromNode-clause-kept
-returns-in_ok-hear-in-FromNode-clause-kept g c = record {
-  node = c.requires.kept.node;
-  link = (c.requires.kept.link.0, c.hear.ensures.kept c.requires.kept.link.0 c.requires.kept.link.1);
-}
+returns-in_ok-hear-in-FromNode-clause-kept g c = still_kept g.A.App _ _ c.requires.kept.node c.requires.kept.link c.hear.ensures.kept
 
 pub returns-in_ok-hear-in-FromNode-clause-handed : goal.returns-in_ok-hear-in-FromNode-clause-handed
 returns-in_ok-hear-in-FromNode-clause-handed g c = λ w s to.

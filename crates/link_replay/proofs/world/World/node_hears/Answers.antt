@@ -1,18 +1,12 @@
 use Rattle.uip_node.specs.Edge.{event_of}
-use Rattle.link_replay.proofs.Handling.{handled}
+use Rattle.link_replay.proofs.Handling.{handled, still_kept}
 use Rattle.link_replay.proofs.world.World.node_hears.Goals as goal
 
 pub returns-in_err-tell-clause-kept : goal.returns-in_err-tell-clause-kept
-returns-in_err-tell-clause-kept g c = record {
-  node = c.input-sent.ensures.whole;
-  link = (c.requires.kept.link.0, c.tell.ensures.kept c.requires.kept.link.0 c.requires.kept.link.1);
-}
+returns-in_err-tell-clause-kept g c = still_kept g.A.App _ _ c.input-sent.ensures.whole c.requires.kept.link c.tell.ensures.kept
 
 pub returns-clause-kept : goal.returns-clause-kept
-returns-clause-kept g c = record {
-  node = c.input-sent.ensures.whole;
-  link = (c.requires.kept.link.0, c.tell.ensures.kept c.requires.kept.link.0 c.requires.kept.link.1);
-}
+returns-clause-kept g c = still_kept g.A.App _ _ c.input-sent.ensures.whole c.requires.kept.link c.tell.ensures.kept
 
 pub returns-clause-heard : goal.returns-clause-heard
 returns-clause-heard g c = λ w s to.

@@ -1,18 +1,12 @@
 use Rattle.uip_node.specs.Events.Event.{Periodic}
-use Rattle.link_replay.proofs.Handling.{handled, periodic_to}
+use Rattle.link_replay.proofs.Handling.{handled, periodic_to, still_kept}
 use Rattle.link_replay.proofs.world.World.node_ticks.Goals as goal
 
 pub returns-in_err-tell-clause-kept : goal.returns-in_err-tell-clause-kept
-returns-in_err-tell-clause-kept g c = record {
-  node = c.periodic-sent.ensures.whole;
-  link = (c.requires.kept.link.0, c.tell.ensures.kept c.requires.kept.link.0 c.requires.kept.link.1);
-}
+returns-in_err-tell-clause-kept g c = still_kept g.A.App _ _ c.periodic-sent.ensures.whole c.requires.kept.link c.tell.ensures.kept
 
 pub returns-clause-kept : goal.returns-clause-kept
-returns-clause-kept g c = record {
-  node = c.periodic-sent.ensures.whole;
-  link = (c.requires.kept.link.0, c.tell.ensures.kept c.requires.kept.link.0 c.requires.kept.link.1);
-}
+returns-clause-kept g c = still_kept g.A.App _ _ c.periodic-sent.ensures.whole c.requires.kept.link c.tell.ensures.kept
 
 pub returns-clause-ticked : goal.returns-clause-ticked
 returns-clause-ticked g c = λ w s.

@@ -1,19 +1,13 @@
 use Rattle.link_world.specs.World.{numbered}
 use Rattle.link_replay.specs.Owning.{own_step}
-use Rattle.link_replay.proofs.Handling.{own_done}
+use Rattle.link_replay.proofs.Handling.{own_done, still_kept}
 use Rattle.link_replay.proofs.world.World.own.Goals as goal
 
 pub returns-in_err-act-clause-kept : goal.returns-in_err-act-clause-kept
-returns-in_err-act-clause-kept g c = record {
-  node = c.requires.kept.node;
-  link = (c.requires.kept.link.0, c.act.ensures.kept c.requires.kept.link.0 c.requires.kept.link.1);
-}
+returns-in_err-act-clause-kept g c = still_kept g.A.App _ _ c.requires.kept.node c.requires.kept.link c.act.ensures.kept
 
 pub returns-clause-kept : goal.returns-clause-kept
-returns-clause-kept g c = record {
-  node = c.requires.kept.node;
-  link = (c.requires.kept.link.0, c.act.ensures.kept c.requires.kept.link.0 c.requires.kept.link.1);
-}
+returns-clause-kept g c = still_kept g.A.App _ _ c.requires.kept.node c.requires.kept.link c.act.ensures.kept
 
 pub returns-clause-acted : goal.returns-clause-acted
 returns-clause-acted g c = λ w s.

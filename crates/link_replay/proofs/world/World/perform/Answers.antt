@@ -4,14 +4,11 @@ use Rattle.link_world.specs.Acts.{does}
 use Rattle.link_world.specs.World.{numbered}
 use Rattle.link_world.specs.declared.act.Act.{Act}
 use Rattle.link_replay.specs.Stands.{WorldStands}
-use Rattle.link_replay.proofs.Handling.{own_done}
+use Rattle.link_replay.proofs.Handling.{own_done, still_kept}
 use Rattle.link_replay.proofs.world.World.perform.Goals as goal
 
 pub returns-in-Window-clause-kept : goal.returns-in-Window-clause-kept
-returns-in-Window-clause-kept g c = record {
-  node = c.requires.kept.node;
-  link = (c.requires.kept.link.0, c.tell_window.ensures.kept c.requires.kept.link.0 c.requires.kept.link.1);
-}
+returns-in-Window-clause-kept g c = still_kept g.A.App _ _ c.requires.kept.node c.requires.kept.link c.tell_window.ensures.kept
 
 pub returns-in-Window-clause-done : goal.returns-in-Window-clause-done
 returns-in-Window-clause-done g c = λ w h f s.

@@ -1,20 +1,14 @@
 use Rattle.std.proofs.Common.{◌≡◌, refl, ap, ◌∙◌, rules, tests}
 use Rattle.link_world.specs.Bytes.{ping_from}
 use Rattle.link_world.specs.World.Content.{OfPing}
-use Rattle.link_replay.proofs.Handling.{linked}
+use Rattle.link_replay.proofs.Handling.{linked, still_kept}
 use Rattle.link_replay.proofs.world.World.ping.Goals as goal
 
 pub returns-in_err-post-clause-kept : goal.returns-in_err-post-clause-kept
-returns-in_err-post-clause-kept g c = record {
-  node = c.requires.kept.node;
-  link = (c.requires.kept.link.0, c.post.ensures.kept c.requires.kept.link.0 c.requires.kept.link.1);
-}
+returns-in_err-post-clause-kept g c = still_kept g.A.App _ _ c.requires.kept.node c.requires.kept.link c.post.ensures.kept
 
 pub returns-clause-kept : goal.returns-clause-kept
-returns-clause-kept g c = record {
-  node = c.requires.kept.node;
-  link = (c.requires.kept.link.0, c.post.ensures.kept c.requires.kept.link.0 c.requires.kept.link.1);
-}
+returns-clause-kept g c = still_kept g.A.App _ _ c.requires.kept.node c.requires.kept.link c.post.ensures.kept
 
 pub returns-clause-sent : goal.returns-clause-sent
 returns-clause-sent g c = λ w s.

@@ -1,0 +1,139 @@
+-- A fact about a step of a connection by its cases: each walk is made once, for every law.
+use Rattle.std.proofs.Common.{◌≡◌, ℕ, ◌+◌, Bool, true, false, List, refl, ap, eqb, ltb}
+use Rattle.rexmit_timer.specs.Ages.{beat_at}
+use Rattle.rexmit_timer.specs.declared.timer.Beat.{Beat}
+use Rattle.app_events.specs.Part.{Meaning}
+use Rattle.app_events.specs.declared.now.Now.{Now}
+use Rattle.app_events.specs.declared.state.State.{State}
+use Rattle.app_events.specs.declared.state.State.TheVariants.{Closed, SynRcvd, Established, CloseWait, FinWait1, FinWait2, Closing, TimeWait, LastAck}
+use Rattle.app_events.specs.declared.want.Want.{Want}
+use Rattle.app_events.specs.declared.want.Want.TheVariants.{Nothing, Send, Close, Abort}
+use Rattle.tcp_machine.specs.Connection.{Connection, is_live, is_resting}
+use Rattle.tcp_machine.specs.Ask.{Outcome, after_own_fin, leaves, closes, peer_has_closed, idles, does_as_wanted, ask, asked_for, asked}
+use Rattle.tcp_machine.specs.OnTick.{limit_of, grows_older, outstanding, by_beat, rests_on, rest_time, polls, ticks_established, tick_by, on_tick}
+use Rattle.tcp_machine.specs.declared.step.Step.{Step}
+use Rattle.link_world.proofs.Basics.{choose, ltb-zero}
+
+-- ---- the states in which the application is asked
+
+abbrev pub is_open : State → Bool
+is_open Established = true
+is_open CloseWait = true
+is_open _ = false
+
+pub by_open : (P : State → Type 0) → P Established → P CloseWait → (st : State) → is_open st ≡ true → P st
+by_open P e w Established o = e
+by_open P e w CloseWait o = w
+by_open P e w Closed o = absurd (cc)
+by_open P e w SynRcvd o = absurd (cc)
+by_open P e w FinWait1 o = absurd (cc)
+by_open P e w FinWait2 o = absurd (cc)
+by_open P e w Closing o = absurd (cc)
+by_open P e w TimeWait o = absurd (cc)
+by_open P e w LastAck o = absurd (cc)
+
+-- the states after an own FIN
+pub by_own_fin : (P : State → Type 0) → P FinWait1 → P LastAck → (st : State) → P (after_own_fin st)
+by_own_fin P f l CloseWait = l
+by_own_fin P f l Closed = f
+by_own_fin P f l SynRcvd = f
+by_own_fin P f l Established = f
+by_own_fin P f l FinWait1 = f
+by_own_fin P f l FinWait2 = f
+by_own_fin P f l Closing = f
+by_own_fin P f l TimeWait = f
+by_own_fin P f l LastAck = f
+
+pub fin_lives : (st : State) → is_live (after_own_fin st) ≡ true
+fin_lives st = by_own_fin (λ x. is_live x ≡ true) refl refl st
+
+pub open_live : (st : State) → is_open st ≡ true → is_live st ≡ true
+open_live st o = by_open (λ x. is_live x ≡ true) refl refl st o
+
+-- ---- asking the application
+
+abbrev pub is_ask : Step → Bool
+is_ask (Step.Ask fresh) = true
+is_ask Step.Drop = false
+is_ask Step.Ack = false
+is_ask (Step.SynAck again) = false
+is_ask (Step.Text again) = false
+is_ask (Step.Fin again) = false
+is_ask Step.Reset = false
+
+-- what an application that is asked leaves as it was
+pub record Unmoved (c d : Connection) : Type 0 where
+  pub sockets : d.sockets ≡ c.sockets
+  pub peer_first : d.peer_first ≡ c.peer_first
+  pub taken : d.taken ≡ c.taken
+  pub first : d.first ≡ c.first
+  pub acked : d.acked ≡ c.acked
+  pub part : d.part ≡ c.part
+
+module _ (m : Meaning) where
+  pub wanted_unmoved : (w : Want) (fresh : Bool) (c : Connection) (numbers : List ℕ) → Unmoved c (does_as_wanted w fresh c numbers).connection
+  unfolding idles
+  wanted_unmoved Abort fresh c numbers = record { sockets = refl; peer_first = refl; taken = refl; first = refl; acked = refl; part = refl }
+  wanted_unmoved Close fresh c numbers = record { sockets = refl; peer_first = refl; taken = refl; first = refl; acked = refl; part = refl }
+  wanted_unmoved (Send n) fresh c numbers = record { sockets = refl; peer_first = refl; taken = refl; first = refl; acked = refl; part = refl }
+  wanted_unmoved Nothing fresh c numbers =
+      let same : Unmoved c c = record { sockets = refl; peer_first = refl; taken = refl; first = refl; acked = refl; part = refl } in
+      choose (λ (o : Outcome). Unmoved c o.connection) (peer_has_closed c.state) _ _ (λ e. record { sockets = refl; peer_first = refl; taken = refl; first = refl; acked = refl; part = refl })
+      (λ e. choose (λ (o : Outcome). Unmoved c o.connection) fresh _ _ (λ f. same) (λ f. same))
+
+  asked_for_by : (P : Outcome → Type 0) (at : Connection → Now) (o : Outcome) (s : Step) → ((fresh : Bool) → s ≡ Step.Ask fresh → P (ask m (at o.connection) fresh o.connection o.numbers)) → P o → P (asked_for m at o s)
+  asked_for_by P at o (Step.Ask fresh) a h = a fresh refl
+  asked_for_by P at o Step.Drop a h = h
+  asked_for_by P at o Step.Ack a h = h
+  asked_for_by P at o (Step.SynAck again) a h = h
+  asked_for_by P at o (Step.Text again) a h = h
+  asked_for_by P at o (Step.Fin again) a h = h
+  asked_for_by P at o Step.Reset a h = h
+
+  -- the application is asked, or nothing changes
+  pub asked_by : (P : Outcome → Type 0) (at : Connection → Now) (o : Outcome) → (is_ask o.step ≡ true → (fresh : Bool) → P (ask m (at o.connection) fresh o.connection o.numbers)) → P o → P (asked m at o)
+  asked_by P at o a h = asked_for_by P at o o.step (λ fresh e. a (ap is_ask e) fresh) h
+
+  -- ---- a tick
+
+  -- what is outstanding is no question
+  pub no_ask_again : (st : State) → is_ask (outstanding true st) ≡ false
+  no_ask_again Closed = refl
+  no_ask_again SynRcvd = refl
+  no_ask_again Established = refl
+  no_ask_again CloseWait = refl
+  no_ask_again FinWait1 = refl
+  no_ask_again FinWait2 = refl
+  no_ask_again Closing = refl
+  no_ask_again TimeWait = refl
+  no_ask_again LastAck = refl
+
+  -- a fact about a tick: nothing is there, the timer of what is outstanding beats, a rest goes on or ends, or the application hears of it
+  pub record OfTick (P : Outcome → Type 0) (c : Connection) (numbers : List ℕ) : Type 0 where
+    pub none : P (leaves c numbers Step.Drop)
+    pub beats : is_resting c.state ≡ false → (b : Beat) → P (by_beat m b c numbers)
+    pub rested : eqb (c.age + 1) rest_time ≡ false → P (leaves (grows_older c) numbers Step.Drop)
+    pub ends : P (leaves (closes c) numbers Step.Drop)
+    pub polled : c.state ≡ Established → c.len ≡ 0 → P (polls m c numbers)
+
+  by_rest : (P : Outcome → Type 0) (c : Connection) (numbers : List ℕ) → OfTick P c numbers → P (rests_on c numbers)
+  unfolding rests_on
+  by_rest P c numbers g = choose P (eqb (c.age + 1) rest_time) _ _ (λ e. g.ends) (λ e. g.rested e)
+
+  by_poll : (P : Outcome → Type 0) (c : Connection) (numbers : List ℕ) → c.state ≡ Established → OfTick P c numbers → P (ticks_established m c numbers)
+  unfolding ticks_established
+  by_poll P c numbers e g = choose P (ltb 0 c.len) _ _ (λ l. g.beats (ap is_resting e) (beat_at (limit_of c.state) (c.age + 1))) (λ l. g.polled e (ltb-zero c.len l))
+
+  by_tick : (P : Outcome → Type 0) (st : State) (c : Connection) (numbers : List ℕ) → c.state ≡ st → OfTick P c numbers → P (tick_by m st c numbers)
+  by_tick P Closed c numbers e g = g.none
+  by_tick P SynRcvd c numbers e g = g.beats (ap is_resting e) (beat_at (limit_of c.state) (c.age + 1))
+  by_tick P Established c numbers e g = by_poll P c numbers e g
+  by_tick P CloseWait c numbers e g = g.beats (ap is_resting e) (beat_at (limit_of c.state) (c.age + 1))
+  by_tick P FinWait1 c numbers e g = g.beats (ap is_resting e) (beat_at (limit_of c.state) (c.age + 1))
+  by_tick P FinWait2 c numbers e g = by_rest P c numbers g
+  by_tick P Closing c numbers e g = g.beats (ap is_resting e) (beat_at (limit_of c.state) (c.age + 1))
+  by_tick P TimeWait c numbers e g = by_rest P c numbers g
+  by_tick P LastAck c numbers e g = g.beats (ap is_resting e) (beat_at (limit_of c.state) (c.age + 1))
+
+  pub on_tick_by : (P : Outcome → Type 0) (c : Connection) (numbers : List ℕ) → OfTick P c numbers → P (on_tick m c numbers)
+  on_tick_by P c numbers g = by_tick P c.state c numbers refl g
