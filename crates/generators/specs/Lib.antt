@@ -1,5 +1,4 @@
 pub mod Captures
-pub mod Cells
 pub mod Parts
 pub mod Short
 pub mod Text

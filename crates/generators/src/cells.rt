@@ -1,27 +1,14 @@
-//! A row of the table of connections as the cells that are written in turn.
+//! The text of a row of the table of connections.
 
-ghost use Rattle.std.specs.Prelude.{◌≡◌, ℕ, ◌+◌, ◌++◌, ◌≤◌, ◌<◌, ◌^◌, List, flat_map, length};
-ghost use Rattle.generators.specs.Cells.{cell_text, IsFixed};
+ghost use Rattle.std.specs.Prelude.{◌≡◌, ℕ, ◌+◌, ◌++◌, ◌≤◌, ◌<◌, ◌^◌, List, decimal, length, take};
 ghost use Rattle.generators.specs.Parts.{HoldsPart};
 ghost use Rattle.generators.specs.Text.{state_name, waiting_mark, row_text};
 
-use crate::numbers::{decimal_len, put_decimal};
+use crate::numbers::decimal_len;
 use crate::parts::{Place, put};
-use crate::written::{Written, put_all};
+use crate::written::Written;
 use app_events::{Row, State};
-
-/// A part of a row's text.
-#[derive(Clone, Copy, Drop)]
-pub(crate) enum Cell {
-    Begin,
-    Next,
-    End,
-    Dot,
-    Colon,
-    Named(State),
-    Number(u32),
-    Mark(bool),
-}
+use itoa::Buffer;
 
 /// The length of what is the same in each row: the cells' ends, three dots, a colon and the mark.
 const FIXED_LEN: usize = 8 + 5 * 9 + 3 + 1 + 1 + 12;
@@ -44,23 +31,6 @@ fn name_of(state: State) -> &'static [u8]
     }
 }
 
-/// The text of a cell without a number.
-fn fixed_text(cell: Cell) -> &'static [u8]
-    ensures text { IsFixed cell → result.now ≡ cell_text cell }
-    ensures short { length result.now ≤ 20 }
-{
-    match cell {
-        Cell::Begin => b"<tr><td>",
-        Cell::Next => b"</td><td>",
-        Cell::End => b"</td></tr>\r\n",
-        Cell::Dot => b".",
-        Cell::Colon => b":",
-        Cell::Named(state) => name_of(state),
-        Cell::Number(_) => b"",
-        Cell::Mark(waiting) => mark_of(waiting),
-    }
-}
-
 /// The mark of a connection with something outstanding, or its place.
 fn mark_of(waiting: bool) -> &'static [u8]
     ensures text { result.now ≡ waiting_mark waiting }
@@ -69,55 +39,80 @@ fn mark_of(waiting: bool) -> &'static [u8]
     if waiting { b"*" } else { b" " }
 }
 
-/// The cells of a row.
-#[tactic(auto, unfolding(crate::specs::Text::row_parts))]
-fn cells_of(row: &Row) -> [Cell; 21]
-    ensures { flat_map cell_text result ≡ row_text row.now }
+/// So much room has the text of each row.
+const ROW_ROOM: usize = 192;
+
+/// Appends a piece to the text at the front of a room, and says how long the text is then.
+#[inline(always)]
+fn append(room: &mut [u8], len: usize, piece: &[u8]) -> usize
+    requires { len + length piece.now ≤ length room.old }
+    ensures long { length room.new ≡ length room.old }
+    ensures end { result ≡ len + length piece.now }
+    ensures text { take result room.new ≡ take len room.old ++ piece.now }
 {
-    let peer = row.peer.0;
-    [
-        Cell::Begin,
-        Cell::Number(row.slot as u32),
-        Cell::Next,
-        Cell::Number(peer[0] as u32),
-        Cell::Dot,
-        Cell::Number(peer[1] as u32),
-        Cell::Dot,
-        Cell::Number(peer[2] as u32),
-        Cell::Dot,
-        Cell::Number(peer[3] as u32),
-        Cell::Colon,
-        Cell::Number(row.port.0 as u32),
-        Cell::Next,
-        Cell::Named(row.state),
-        Cell::Next,
-        Cell::Number(row.tries as u32),
-        Cell::Next,
-        Cell::Number(row.count as u32),
-        Cell::Next,
-        Cell::Mark(row.waiting),
-        Cell::End,
-    ]
+    let end = len + piece.len();
+    room[len..end].copy_from_slice(piece);
+    end
 }
 
-impl Written for Cell {
-    ghost text = { cell_text };
-
-    ghost longest = { 20 };
-
-    fn len(&self) -> usize {
-        match *self {
-            Cell::Number(number) => decimal_len(number),
-            fixed => fixed_text(fixed).len(),
-        }
+/// Appends a number.
+#[inline(always)]
+fn append_number(room: &mut [u8], len: usize, number: u32) -> usize
+    requires { len + 10 ≤ length room.old }
+    ensures long { length room.new ≡ length room.old }
+    ensures bound { result ≤ len + 10 }
+    ensures text { take result room.new ≡ take len room.old ++ decimal number }
+{
+    if number < 10 {
+        return append(room, len, &[b'0' + number as u8]);
     }
+    append_digits(room, len, number)
+}
 
-    fn put(&self, place: Place, out: &mut [u8]) -> Place {
-        match *self {
-            Cell::Number(number) => put_decimal(place, out, number),
-            fixed => put(place, out, fixed_text(fixed)),
-        }
-    }
+/// Appends a number of any length.
+fn append_digits(room: &mut [u8], len: usize, number: u32) -> usize
+    requires { len + 10 ≤ length room.old }
+    ensures long { length room.new ≡ length room.old }
+    ensures bound { result ≤ len + 10 }
+    ensures text { take result room.new ≡ take len room.old ++ decimal number }
+{
+    let mut digits = Buffer::new();
+    append(room, len, digits.format(number).as_bytes())
+}
+
+/// Appends a number and what ends it.
+#[inline(always)]
+fn append_ended(room: &mut [u8], len: usize, number: u32, end: &[u8]) -> usize
+    requires { len + 10 + length end.now ≤ length room.old }
+    ensures long { length room.new ≡ length room.old }
+    ensures bound { result ≤ len + 10 + length end.now }
+    ensures text { take result room.new ≡ take len room.old ++ decimal number ++ end.now }
+{
+    let numbered = append_number(room, len, number);
+    append(room, numbered, end)
+}
+
+/// Writes the text of a row to the front of a room, and says how long it is.
+#[tactic(auto, unfolding(crate::specs::Text::row_parts))]
+fn row_into(row: &Row, room: &mut [u8]) -> usize
+    requires { length room.old ≡ ROW_ROOM }
+    ensures within { result ≤ ROW_ROOM }
+    ensures text { take result room.new ≡ row_text row.now }
+{
+    let peer = row.peer.0;
+    let begun = append(room, 0, b"<tr><td>");
+    let slot = append_ended(room, begun, row.slot as u32, b"</td><td>");
+    let one = append_ended(room, slot, peer[0] as u32, b".");
+    let two = append_ended(room, one, peer[1] as u32, b".");
+    let three = append_ended(room, two, peer[2] as u32, b".");
+    let four = append_ended(room, three, peer[3] as u32, b":");
+    let port = append_ended(room, four, row.port.0 as u32, b"</td><td>");
+    let named = append(room, port, name_of(row.state));
+    let state = append(room, named, b"</td><td>");
+    let tries = append_ended(room, state, row.tries as u32, b"</td><td>");
+    let count = append_ended(room, tries, row.count as u32, b"</td><td>");
+    let marked = append(room, count, mark_of(row.waiting));
+    append(room, marked, b"</td></tr>\r\n")
 }
 
 impl Written for Row {
@@ -140,6 +135,8 @@ impl Written for Row {
     }
 
     fn put(&self, place: Place, out: &mut [u8]) -> Place {
-        put_all(&cells_of(self), place, out)
+        let mut room = [0u8; ROW_ROOM];
+        let len = row_into(self, &mut room);
+        put(place, out, &room[..len])
     }
 }

@@ -32,18 +32,6 @@ pub(crate) fn decimal_len(number: u32) -> usize
     digits.format(number).len()
 }
 
-/// The text goes on with a number, without leading zeros.
-pub(crate) fn put_decimal(place: Place, out: &mut [u8], number: u32) -> Place
-    requires { place.so_far < 2 ^ 63 - 10 }
-    ensures at { result.at ≡ place.at }
-    ensures so_far { result.so_far ≡ place.so_far + length (decimal number) }
-    ensures bound { length (decimal number) ≤ 10 }
-    ensures part { (text : List ℕ) → HoldsPart text place out.old → HoldsPart (text ++ decimal number) result out.new }
-{
-    let mut digits = Buffer::new();
-    put(place, out, digits.format(number).as_bytes())
-}
-
 /// The length of a number in ten places.
 pub(crate) fn in_ten_places_len(_number: u32) -> usize
     ensures length { result ≡ length (in_ten_places _number) }
