@@ -50,4 +50,5 @@ pub record IsIndex (image : List ℕ) (places : List Place) (order : List FileId
 
 -- each place holds the greatest length of its file's page
 abbrev pub AreMeasured : List ℕ → List Place → Type 0
-AreMeasured image places = (k : ℕ) (place : Place) → slice_get places k ≡ Some place → place.greatest ≡ page_length (files_in image places) (file_in image place)
+AreMeasured image places =
+    (k : ℕ) (place : Place) → slice_get places k ≡ Some place → place.greatest ≡ page_length (files_in image places) (file_in image place)

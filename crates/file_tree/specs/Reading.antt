@@ -10,7 +10,8 @@ use Rattle.file_tree.specs.Index.{IsSlot}
 
 -- the entry at a place of the image has no fault, its file lies at its own place, the next entry follows it, and its name
 -- goes to the slot of the order
-pub record IsEntry (image : List ℕ) (version : Version) (earlier : List File) (order : List FileId) (at : ℕ) (place : Place) (slot next : ℕ) : Type 0 where
+pub record IsEntry (image : List ℕ) (version : Version) (earlier : List File) (order : List FileId) (at : ℕ)
+    (place : Place) (slot next : ℕ) : Type 0 where
   pub none : entry_fault version earlier (drop at image) ≡ None
   pub file_is : file_in image place ≡ entry_file version (drop at image)
   pub rest_is : drop next image ≡ after_entry version (drop at image)

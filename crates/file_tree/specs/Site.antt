@@ -31,7 +31,8 @@ AreGood files = (k : ℕ) (file : File) → slice_get files k ≡ Some file → 
 
 -- two files have two names
 abbrev pub AreApart : List File → Type 0
-AreApart files = (j k : ℕ) (one other : File) → slice_get files j ≡ Some one → slice_get files k ≡ Some other → one.name ≡ other.name → j ≡ k
+AreApart files =
+    (j k : ℕ) (one other : File) → slice_get files j ≡ Some one → slice_get files k ≡ Some other → one.name ≡ other.name → j ≡ k
 
 -- the three parts are those of one good image, or of the site without files
 pub record IsLoaded (site : SiteContent) : Type 0 where

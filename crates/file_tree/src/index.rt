@@ -53,7 +53,8 @@ pub(crate) fn find_id(
     requires { IsIndex image.now files.now order.now }
     ensures found { IfSome result (λ id. option_map (λ file. file.name) (slice_get (files_in image.now files.now) id.0) ≡ Some name.now) }
     ensures there { is_some result ≡ has_name (files_in image.now files.now) name.now }
-    ensures file { option_and_then (λ id. slice_get (files_in image.now files.now) id.0) result ≡ file_named (files_in image.now files.now) name.now }
+    ensures file { option_and_then (λ id. slice_get (files_in image.now files.now) id.0) result
+        ≡ file_named (files_in image.now files.now) name.now }
 {
     match search(image, files, order, name) {
         Ok(rank) => Some(order[rank]),

@@ -52,9 +52,11 @@ fn push_named(draft: &mut Draft, name: &[u8], content: &[u8]) -> Result<(), Load
     requires table { IsIndex draft.old.image.items draft.old.files.items draft.old.order.items }
     requires few { length draft.old.files.items < MOST_FILES }
     requires room { length draft.old.image.items + length (written One (file_of name.now content.now)) ≤ LONGEST_IMAGE }
-    ensures fault { Gives (λ done. done) result (unless (listed_fault (files_in draft.old.image.items draft.old.files.items) name.now) (length draft.old.files.items + 1) (Ok tt)) }
+    ensures fault { let listed = files_in draft.old.image.items draft.old.files.items in
+        Gives (λ done. done) result (unless (listed_fault listed name.now) (length draft.old.files.items + 1) (Ok tt)) }
     ensures image { OnOk result (draft.new.image.items ≡ draft.old.image.items ++ written One (file_of name.now content.now)) }
-    ensures files { OnOk result (files_in draft.new.image.items draft.new.files.items ≡ files_in draft.old.image.items draft.old.files.items ++ file_of name.now content.now ∷ []) }
+    ensures files { OnOk result (files_in draft.new.image.items draft.new.files.items
+        ≡ files_in draft.old.image.items draft.old.files.items ++ file_of name.now content.now ∷ []) }
     ensures count { OnOk result (length draft.new.files.items ≡ length draft.old.files.items + 1) }
     ensures table { OnOk result (IsIndex draft.new.image.items draft.new.files.items draft.new.order.items) }
 {
@@ -74,9 +76,11 @@ fn push_listed(draft: &mut Draft, entry: &Entry) -> Result<(), LoadFault>
     requires table { IsIndex draft.old.image.items draft.old.files.items draft.old.order.items }
     requires few { length draft.old.files.items < MOST_FILES }
     requires room { length draft.old.image.items + length (written One (file_of entry.now.name entry.now.content)) ≤ LONGEST_IMAGE }
-    ensures fault { Gives (λ done. done) result (unless (listed_fault (files_in draft.old.image.items draft.old.files.items) entry.now.name) (length draft.old.files.items + 1) (Ok tt)) }
+    ensures fault { let listed = files_in draft.old.image.items draft.old.files.items in
+        Gives (λ done. done) result (unless (listed_fault listed entry.now.name) (length draft.old.files.items + 1) (Ok tt)) }
     ensures image { OnOk result (draft.new.image.items ≡ draft.old.image.items ++ written One (file_of entry.now.name entry.now.content)) }
-    ensures files { OnOk result (files_in draft.new.image.items draft.new.files.items ≡ files_in draft.old.image.items draft.old.files.items ++ file_of entry.now.name entry.now.content ∷ []) }
+    ensures files { OnOk result (files_in draft.new.image.items draft.new.files.items
+        ≡ files_in draft.old.image.items draft.old.files.items ++ file_of entry.now.name entry.now.content ∷ []) }
     ensures count { OnOk result (length draft.new.files.items ≡ length draft.old.files.items + 1) }
     ensures table { OnOk result (IsIndex draft.new.image.items draft.new.files.items draft.new.order.items) }
 {

@@ -27,7 +27,8 @@ fn piece_len(
     requires image_fits { length image.now ≤ LONGEST_IMAGE }
     requires script_fits { length script.now ≤ LONGEST_IMAGE }
     requires within { LiesWithin (length script.now) piece }
-    ensures missing { MatchOption result (misses (files_in image.now files.now) script.now piece ≡ true) (λ _. misses (files_in image.now files.now) script.now piece ≡ false) }
+    ensures missing { let missed = misses (files_in image.now files.now) script.now piece in
+        MatchOption result (missed ≡ true) (λ _. missed ≡ false) }
     ensures len { IfSome result (λ n. n ≡ piece_length (files_in image.now files.now) script.now piece) }
     ensures bound { IfSome result (λ n. n ≤ LONGEST_IMAGE) }
 {
@@ -42,7 +43,8 @@ fn piece_len(
 fn included_len(image: &[u8], files: &[Place], order: &[FileId], name: &[u8]) -> Option<usize>
     requires table { IsIndex image.now files.now order.now }
     requires image_fits { length image.now ≤ LONGEST_IMAGE }
-    ensures missing { MatchOption result (has_name (files_in image.now files.now) name.now ≡ false) (λ _. has_name (files_in image.now files.now) name.now ≡ true) }
+    ensures missing { let there = has_name (files_in image.now files.now) name.now in
+        MatchOption result (there ≡ false) (λ _. there ≡ true) }
     ensures len { IfSome result (λ n. n ≡ size_of (file_named (files_in image.now files.now) name.now)) }
     ensures bound { IfSome result (λ n. n ≤ LONGEST_IMAGE) }
 {
@@ -57,9 +59,11 @@ fn script_len(image: &[u8], files: &[Place], order: &[FileId], script: &[u8]) ->
     requires table { IsIndex image.now files.now order.now }
     requires image_fits { length image.now ≤ LONGEST_IMAGE }
     requires script_fits { length script.now ≤ LONGEST_IMAGE }
-    ensures missing { MatchOption result (list_any (λ found. misses (files_in image.now files.now) script.now found.piece) (pieces script.now) ≡ true)
+    ensures missing { MatchOption result
+        (list_any (λ found. misses (files_in image.now files.now) script.now found.piece) (pieces script.now) ≡ true)
         (λ _. list_any (λ found. misses (files_in image.now files.now) script.now found.piece) (pieces script.now) ≡ false) }
-    ensures len { IfSome result (λ n. n ≡ sum_by (λ found. piece_length (files_in image.now files.now) script.now found.piece) (pieces script.now)) }
+    ensures len { IfSome result (λ n. n
+        ≡ sum_by (λ found. piece_length (files_in image.now files.now) script.now found.piece) (pieces script.now)) }
     ensures bound { IfSome result (λ n. n ≤ LONGEST_IMAGE * LONGEST_IMAGE) }
 {
     let mut at = 0;

@@ -23,7 +23,15 @@ fn place_of(name: Part, kind: Part, content: Part) -> Place
     requires name_fits { name.at + name.len < 2 ^ 32 }
     requires kind_fits { kind.at + kind.len < 2 ^ 32 }
     requires content_fits { content.at + content.len < 2 ^ 32 }
-    ensures { result ≡ record { name_at = name.at; name_len = name.len; kind_at = kind.at; kind_len = kind.len; at = content.at; len = content.len; greatest = 0 } }
+    ensures { result ≡ record {
+      name_at = name.at;
+      name_len = name.len;
+      kind_at = kind.at;
+      kind_len = kind.len;
+      at = content.at;
+      len = content.len;
+      greatest = 0;
+    } }
 {
     Place {
         name_at: name.at as u32,
@@ -48,7 +56,8 @@ fn read_entry(
     requires inside { at ≤ length image.now }
     requires within { AreWithin image.now files.now }
     requires order { IsOrder (files_in image.now files.now) order.now }
-    ensures ok { IfOk result (λ entry. IsEntry image.now version (files_in image.now files.now) order.now at entry.place entry.slot entry.next) }
+    ensures ok { IfOk result (λ entry.
+        IsEntry image.now version (files_in image.now files.now) order.now at entry.place entry.slot entry.next) }
     ensures err { IfErr result (λ why. entry_fault version (files_in image.now files.now) (drop at image.now) ≡ Some why) }
 {
     let name = name_part(image, at)?;
@@ -74,7 +83,8 @@ pub(crate) fn read_entries(
     requires size { length image.now ≤ LONGEST_IMAGE }
     requires head { 10 ≤ length image.now }
     requires few { count ≤ MOST_FILES }
-    ensures ok { IfOk result (λ table. entries version count [] (drop 10 image.now) ≡ Ok (files_in image.now table.files.items, drop table.next image.now)) }
+    ensures ok { IfOk result (λ table. entries version count [] (drop 10 image.now)
+        ≡ Ok (files_in image.now table.files.items, drop table.next image.now)) }
     ensures table { IfOk result (λ table. IsIndex image.now table.files.items table.order.items) }
     ensures count_is { IfOk result (λ table. length table.files.items ≡ count) }
     ensures next { IfOk result (λ table. table.next ≤ length image.now) }

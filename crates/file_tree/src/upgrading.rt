@@ -56,7 +56,8 @@ struct NewFile<'a> {
 /// The file with the id, as it is in the new list.
 fn new_file<'a>(site: &'a Site, words: &'a [KindWord], id: FileId) -> NewFile<'a>
     requires { id.0 < length (files_of site.now) }
-    ensures { slice_get (upgraded words.now (files_of site.now)) id.0 ≡ Some (record { name = result.name.now; kind = result.kind.now; content = result.content.now }) }
+    ensures { slice_get (upgraded words.now (files_of site.now)) id.0
+        ≡ Some (record { name = result.name.now; kind = result.kind.now; content = result.content.now }) }
 {
     NewFile {
         name: site.name(id),
@@ -70,10 +71,14 @@ fn push_new(image: &mut Vec<u8>, files: &mut Vec<Place>, file: NewFile<'_>) -> R
     requires name { IsTrue (is_name file.name.now) }
     requires kind { IsTrue (is_kind file.kind.now) }
     requires within { AreWithin image.old.items files.old.items }
-    ensures long { IfErr result (λ fault. Fails fault (refuse (nat_lt LONGEST_IMAGE (length image.old.items + length (entry Two (record { name = file.entry.name.now; kind = file.entry.kind.now; content = file.entry.content.now })))) TooLong)) }
-    ensures image { OnOk result (image.new.items ≡ image.old.items ++ entry Two (record { name = file.entry.name.now; kind = file.entry.kind.now; content = file.entry.content.now })) }
+    ensures long { let size = length image.old.items
+        + length (entry Two (record { name = file.entry.name.now; kind = file.entry.kind.now; content = file.entry.content.now })) in
+        IfErr result (λ fault. Fails fault (refuse (nat_lt LONGEST_IMAGE size) TooLong)) }
+    ensures image { OnOk result (image.new.items ≡ image.old.items
+        ++ entry Two (record { name = file.entry.name.now; kind = file.entry.kind.now; content = file.entry.content.now })) }
     ensures room { OnOk result (length image.new.items ≤ LONGEST_IMAGE) }
-    ensures files { OnOk result (files_in image.new.items files.new.items ≡ files_in image.old.items files.old.items ++ record { name = file.entry.name.now; kind = file.entry.kind.now; content = file.entry.content.now } ∷ []) }
+    ensures files { OnOk result (files_in image.new.items files.new.items ≡ files_in image.old.items files.old.items
+        ++ record { name = file.entry.name.now; kind = file.entry.kind.now; content = file.entry.content.now } ∷ []) }
     ensures count { OnOk result (length files.new.items ≡ length files.old.items + 1) }
     ensures within { OnOk result (AreWithin image.new.items files.new.items) }
 {
@@ -102,7 +107,8 @@ fn push_new_files(
     requires few { length (files_of site.now) ≤ MOST_FILES }
     requires good { AreGood (files_of site.now) }
     requires kinds { All (λ word. IsTrue (is_kind word.kind)) words.now }
-    ensures long { IfErr result (λ fault. Fails fault (refuse (nat_lt LONGEST_IMAGE (length (spelled Two (upgraded words.now (files_of site.now))))) TooLong)) }
+    ensures long { let new = spelled Two (upgraded words.now (files_of site.now)) in
+        IfErr result (λ fault. Fails fault (refuse (nat_lt LONGEST_IMAGE (length new)) TooLong)) }
     ensures image { OnOk result (image.new.items ≡ spelled Two (upgraded words.now (files_of site.now))) }
     ensures room { OnOk result (length image.new.items ≤ LONGEST_IMAGE) }
     ensures files { OnOk result (files_in image.new.items files.new.items ≡ upgraded words.now (files_of site.now)) }

@@ -42,10 +42,13 @@ pub(crate) fn push_file(
 ) -> Result<Place, AllocError>
     requires name { IsTrue (is_name name.now) }
     requires kind { IsKindIn version kind.now }
-    requires room { length image.old.items + length (entry version (record { name = name.now; kind = kind.now; content = content.now })) ≤ LONGEST_IMAGE }
-    ensures items { OnOk result (image.new.items ≡ image.old.items ++ entry version (record { name = name.now; kind = kind.now; content = content.now })) }
+    requires room { length image.old.items
+        + length (entry version (record { name = name.now; kind = kind.now; content = content.now })) ≤ LONGEST_IMAGE }
+    ensures items { OnOk result (image.new.items ≡ image.old.items
+        ++ entry version (record { name = name.now; kind = kind.now; content = content.now })) }
     ensures place { IfOk result (λ place. IsWithin image.new.items place) }
-    ensures file { IfOk result (λ place. file_in image.new.items place ≡ record { name = name.now; kind = kind.now; content = content.now }) }
+    ensures file { IfOk result (λ place. file_in image.new.items place
+        ≡ record { name = name.now; kind = kind.now; content = content.now }) }
 {
     let start = image.len();
     push_entry(image, version, name, kind, content)?;

@@ -138,7 +138,7 @@ quiet_prepared files p moment w e never =
     prepared_by files p moment false
     (ap (λ v. is_acknowledged files p && waits_for_capture files v p) e ∙ ap (λ b. is_acknowledged files p && b) never ∙ Rattle.std.proofs.Math.Bool.and-false (is_acknowledged files p))
 
-other_inner : (site : SiteContent) (found : Option FileId) (one other : Capture) (next : ℕ) → IsInner (reply_in site found one) next → IsInner (reply_in site found other) next
+pub other_inner : (site : SiteContent) (found : Option FileId) (one other : Capture) (next : ℕ) → IsInner (reply_in site found one) next → IsInner (reply_in site found other) next
 other_inner site found one other next is = record { script = is.script; goes_on = record { within = is.goes_on.within; between = is.goes_on.between } }
 
 -- ---- a call that is due

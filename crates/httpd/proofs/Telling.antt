@@ -22,7 +22,7 @@ use Rattle.httpd.specs.Hearing.{HearsMethod, HearsTarget, IsDecided}
 use Rattle.httpd.specs.HttpdStands.{HttpdStands, IsLeft, IsReplying, SaysNothing, StandsIn}
 
 -- from the front of its head a reply says its pieces
-reply_start : (files : List File) (file : Option File) (capture : Capture) → left_from (record { files = files; file = file; capture = capture }) (Head 0) ≡ reply_to files file
+pub reply_start : (files : List File) (file : Option File) (capture : Capture) → left_from (record { files = files; file = file; capture = capture }) (Head 0) ≡ reply_to files file
 unfolding left_from
 reply_start files None capture = refl
 reply_start files (Some file) capture = refl
@@ -38,7 +38,7 @@ front_left r name p e none =
       within = subst (λ n. n ≤ length (page_text r.files (reply_pieces r.files name) p.captures)) (sym none.acked) (omega arith);
     }
 
-front_fits : (r : FileReply) → Fits r (Head 0)
+pub front_fits : (r : FileReply) → Fits r (Head 0)
 unfolding Fits
 front_fits r = omega arith
 

@@ -1,101 +1,142 @@
--- Texts that are written one after another.
-use Rattle.std.proofs.Common.{◌≡◌, ℕ, List, [], ◌∷◌, ◌++◌, map, Bool, true, false, if◌then◌else◌, Option, None, Some, Result, Ok, Err, refl, sym, ap, ◌∙◌, subst, arith, append_assoc, append-nil, inl}
+-- A reply is written piece by piece, as its thread says it.
+use Rattle.std.proofs.Common.{◌≡◌, ℕ, ◌+◌, ◌<◌, List, [], ◌++◌, length, replicate, Option, Some, Result, Ok, Err, IsErr, refl, sym, ap, ◌∙◌, subst, arith, append_assoc, length-append, if◌then◌else◌, inl, inr}
+use Rattle.std.proofs.lemmas.Bool.{cases_eq}
 use Rattle.std.specs.List.{flat_map}
 use Rattle.std.specs.Io.KnownBytes.{Appends}
 use Rattle.uip_edge.specs.declared.failed.Failed.{Failed}
-use Rattle.uip_edge.specs.Causes.{Rose}
-use Rattle.uip_edge.proofs.Told.{Appends-none, Appends-then, appends_by, prefix_by, prefix_more, prefix_then}
-use Rattle.script_lang.specs.declared.piece.Found.{Found}
-use Rattle.script_lang.specs.Directives.{IsPlace}
-use Rattle.script_lang.specs.Pieces.{pieces_from}
-use Rattle.site_image.specs.Names.{is_script}
-use Rattle.site_image.specs.Files.{File, kind_of}
-use Rattle.web_pages.specs.Pieces.{says, found_head, kind_line}
-use Rattle.web_pages.specs.Pieces.Say.{Plain}
-use Rattle.web_pages.specs.ZeroPages.{zero_said, zero_reply, zero_page, request_for}
+use Rattle.uip_edge.specs.Told.{SinkTold}
+use Rattle.uip_edge.specs.Writing.{Writes}
+use Rattle.uip_edge.proofs.Told.{Appends-none, Appends-then}
+use Rattle.uip_edge.proofs.Writes.{writes_broken, writes_by, writes_none, writes_then}
+use Rattle.script_lang.specs.declared.function.Function.{Function}
+use Rattle.generators.specs.declared.capture.Capture.{Capture}
+use Rattle.generators.specs.Captures.{capture_of}
+use Rattle.generators.specs.Text.{capture_text}
+use Rattle.site_image.specs.Files.{File}
 use Rattle.web_pages.specs.Requests.{wanted}
 use Rattle.web_pages.specs.Requests.Wanted.{Refused, Name}
-use Rattle.web_pages.proofs.ZeroLaws.{zero_asked}
+use Rattle.web_pages.specs.Pieces.{Say}
+use Rattle.web_pages.specs.ZeroPages.{request_for, zero_moment, zero_page, zero_reply, zero_said}
+use Rattle.web_pages.proofs.ZeroLaws.{zero_asked, zero_text}
 use Rattle.file_tree.specs.declared.file_id.FileId.{FileId}
-use Rattle.httpd.specs.Reply.{found_file, head_text, kind_text, body_bytes}
-use Rattle.httpd.specs.Zero.{IsAsked, script_said, zero_body}
-use Rattle.uip_edge.specs.Writing.{Writes}
-use Rattle.uip_edge.specs.Told.{SinkTold}
+use Rattle.file_tree.specs.Site.{SiteContent}
+use Rattle.httpd.specs.declared.span.Look.{Look}
+use Rattle.httpd.specs.declared.thread.Thread.{Thread}
+use Rattle.httpd.specs.declared.thread.Thread.TheVariants.{Head}
+use Rattle.httpd.specs.Reply.{FileReply, body_from, calls_in, found_file, left_from, reply_in}
+use Rattle.httpd.specs.Places.{Fits}
+use Rattle.httpd.specs.Looking.{SeesCall, SeesText, span_text}
+use Rattle.httpd.specs.Zero.{IsAsked}
+use Rattle.httpd.proofs.Asking.{other_inner}
+use Rattle.httpd.proofs.Telling.{front_fits, reply_start}
+use Rattle.httpd.proofs.Walking.{call_before}
 
--- what was written of a script so far, and what it still says
-pub record Saying (files : List File) (script : List ℕ) (at : ℕ) (first now : SinkTold) : Type 0 where
+-- what a thread has left to say where each call is given the zero record of its kind
+pub zero_left : FileReply → Thread → List ℕ
+zero_left r t = flat_map zero_said (left_from r t)
+
+-- what was written of a reply so far, and what its thread still says
+pub record Saying (r : FileReply) (thread : Thread) (first now : SinkTold) : Type 0 where
   pub front : List ℕ
-  pub parts : script_said files script 0 ≡ front ++ script_said files script at
-  pub place : IsPlace script at
+  pub parts : zero_reply r.files r.file ≡ front ++ zero_left r thread
+  pub fits : Fits r thread
   pub told : Appends first.written now.written front
   pub same : now.faults ≡ first.faults
 
-pub saying_starts : (files : List File) (script : List ℕ) (first : SinkTold) → Saying files script 0 first first
-saying_starts files script first = record { front = []; parts = refl; place = (omega arith, inl refl); told = Appends-none first.written; same = refl }
+pub saying_starts : (r : FileReply) (first : SinkTold) → Saying r (Head 0) first first
+unfolding zero_left
+saying_starts r first = record {
+  front = [];
+  parts = sym (ap (flat_map zero_said) (reply_start r.files r.file r.capture));
+  fits = front_fits r;
+  told = Appends-none first.written;
+  same = refl;
+}
 
--- a piece more
-pub saying_more : {T : Type 0} (files : List File) (script : List ℕ) (at : ℕ) (found : Found) (first mid now : SinkTold) (t : T)
-    → Saying files script at first mid → pieces_from script at ≡ found ∷ pieces_from script found.next → IsPlace script found.next
-    → Writes {T = T} {E = Failed} mid now (Ok t) (zero_said (says files script found.piece)) → Saying files script found.next first now
-saying_more files script at found first mid now t s step place w =
-    let text = zero_said (says files script found.piece) in
-    let more = script_said files script found.next in
-    let parts : script_said files script at ≡ text ++ more = ap (λ pieces. flat_map zero_said (map (λ (f : Found). says files script f.piece) pieces)) step in
-    record {
-      front = s.front ++ text;
-      parts = s.parts ∙ ap (λ rest. s.front ++ rest) parts ∙ sym (append_assoc s.front text more);
-      place = place;
-      told = Appends-then first.written mid.written now.written s.front text s.told w.whole;
-      same = w.cause.same ∙ s.same;
-    }
+-- the text that is seen comes first
+leads_zero : (r : FileReply) (thread : Thread) (look : Look) → SeesText r (left_from r thread) look → zero_left r thread ≡ span_text look.span ++ zero_left r look.next
+unfolding zero_left
+leads_zero r thread look sees =
+    let n = length (left_from r thread) in
+    sym (zero_text r.files (left_from r thread) n (omega arith))
+    ∙ sees.leads.text (replicate n zero_moment)
+    ∙ ap (λ more. span_text look.span ++ more) (zero_text r.files (left_from r look.next) n sees.no_more)
 
--- a piece failed
-pub saying_stops : {T U : Type 0} (files : List File) (script : List ℕ) (at : ℕ) (found : Found) (first mid now : SinkTold) (e d : Failed) (r : Result U Failed)
-    → r ≡ Err d → Saying files script at first mid → pieces_from script at ≡ found ∷ pieces_from script found.next
-    → Writes {T = T} {E = Failed} mid now (Err e) (zero_said (says files script found.piece))
-    → Writes first now r (script_said files script 0)
-saying_stops files script at found first mid now e d (Ok u) is s step w = absurd cc
-saying_stops files script at found first mid now e d (Err f) is s step w =
-    let text = zero_said (says files script found.piece) in
-    let more = script_said files script found.next in
-    let parts : script_said files script at ≡ text ++ more = ap (λ pieces. flat_map zero_said (map (λ (f : Found). says files script f.piece) pieces)) step in
-    let same : mid.faults ≡ first.faults = s.same in
-    record {
-      whole = tt;
-      front = prefix_by first.written now.written (s.front ++ (text ++ more)) (script_said files script 0) (s.parts ∙ ap (λ rest. s.front ++ rest) parts)
-          (prefix_then first.written mid.written now.written s.front (text ++ more) s.told (prefix_more mid.written now.written text more (text ++ more) refl w.front));
-      cause = record { later = omega (arith, same, w.cause.later); same = tt; failed = subst (λ n. Rose n now.faults) same w.cause.failed };
-    }
+-- a text more
+pub saying_more : {T : Type 0} (r : FileReply) (thread : Thread) (look : Look) (first mid now : SinkTold) (t : T) → Saying r thread first mid → SeesText r (left_from r thread) look
+    → Writes {T = T} {E = Failed} mid now (Ok t) (span_text look.span) → Saying r look.next first now
+saying_more r thread look first mid now t s sees w = record {
+  front = s.front ++ span_text look.span;
+  parts = s.parts ∙ ap (λ rest. s.front ++ rest) (leads_zero r thread look sees) ∙ sym (append_assoc s.front (span_text look.span) (zero_left r look.next));
+  fits = sees.next;
+  told = Appends-then first.written mid.written now.written s.front (span_text look.span) s.told w.whole;
+  same = w.cause.same ∙ s.same;
+}
+
+-- a text failed
+pub saying_stops : {T U : Type 0} (r : FileReply) (thread : Thread) (look : Look) (first mid now : SinkTold) (e : Failed) (result : Result U Failed) → IsErr result → Saying r thread first mid → SeesText r (left_from r thread) look
+    → Writes {T = T} {E = Failed} mid now (Err e) (span_text look.span) → Writes first now result (zero_reply r.files r.file)
+saying_stops {T = T} r thread look first mid now e result fails s sees w =
+    writes_broken {U = T} result fails e first mid now s.front (span_text look.span) (zero_left r look.next) (zero_reply r.files r.file)
+    (append_assoc s.front (span_text look.span) (zero_left r look.next) ∙ sym (s.parts ∙ ap (λ rest. s.front ++ rest) (leads_zero r thread look sees))) s.told s.same w
+
+-- the text of a call's record comes next
+call_zero : (site : SiteContent) (found : Option FileId) (old new : Capture) (pieces : List Say) (f : Function) (argument : List ℕ) (next : Thread) → SeesCall (reply_in site found old) pieces f argument next
+    → new ≡ capture_of f 0 zero_moment.now
+    → (flat_map zero_said pieces ≡ zero_left (reply_in site found new) next) × Fits (reply_in site found new) next × (calls_in pieces ≡ 1 + calls_in (left_from (reply_in site found new) next)) × (length pieces ≡ length (left_from (reply_in site found new) next))
+unfolding zero_left left_from Fits
+call_zero site found old new pieces f argument next sees made =
+    let call = call_before (reply_in site found old) pieces f argument next sees in
+    let more = body_from (reply_in site found old) call.0 in
+    subst (λ t. (flat_map zero_said pieces ≡ zero_left (reply_in site found new) t) × Fits (reply_in site found new) t × (calls_in pieces ≡ 1 + calls_in (left_from (reply_in site found new) t)) × (length pieces ≡ length (left_from (reply_in site found new) t))) (sym call.2) (
+      ap (flat_map zero_said) call.1.first ∙ ap (λ c. capture_text c ++ flat_map zero_said more) (sym made),
+      (other_inner site found old new call.0 call.1.inner, omega arith),
+      ap calls_in call.1.first ∙ ap (λ t. if t then 1 + calls_in more else calls_in more) call.1.takes,
+      ap length call.1.first,
+    )
+
+-- a record is taken
+pub saying_taken : (site : SiteContent) (found : Option FileId) (old new : Capture) (thread next : Thread) (f : Function) (argument : List ℕ) (first now : SinkTold) → Saying (reply_in site found old) thread first now
+    → SeesCall (reply_in site found old) (left_from (reply_in site found old) thread) f argument next → new ≡ capture_of f 0 zero_moment.now → Saying (reply_in site found new) next first now
+unfolding zero_left
+saying_taken site found old new thread next f argument first now s sees made =
+    let call = call_zero site found old new (left_from (reply_in site found old) thread) f argument next sees made in
+    record { front = s.front; parts = s.parts ∙ ap (λ rest. s.front ++ rest) call.0; fits = call.1; told = s.told; same = s.same }
 
 -- nothing is left
-pub saying_ends : {T E : Type 0} (files : List File) (script : List ℕ) (at : ℕ) (first now : SinkTold) (t : T)
-    → Saying files script at first now → pieces_from script at ≡ [] → Writes {T = T} {E = E} first now (Ok t) (script_said files script 0)
-saying_ends files script at first now t s none =
-    let nothing : script_said files script at ≡ [] = ap (λ pieces. flat_map zero_said (map (λ (f : Found). says files script f.piece) pieces)) none in
-    record {
-      whole = appends_by first.written now.written s.front (script_said files script 0) (s.parts ∙ ap (λ rest. s.front ++ rest) nothing ∙ append-nil s.front) s.told;
-      front = tt;
-      cause = record { later = omega (arith, s.same); same = s.same; failed = tt };
-    }
+pub saying_ends : {T E : Type 0} (r : FileReply) (thread : Thread) (first now : SinkTold) (t : T) → Saying r thread first now → left_from r thread ≡ [] → Writes {T = T} {E = E} first now (Ok t) (zero_reply r.files r.file)
+unfolding zero_left
+saying_ends r thread first now t s none =
+    writes_by (Ok t) first now (s.front ++ []) (zero_reply r.files r.file) (s.parts ∙ ap (λ ps. s.front ++ flat_map zero_said ps) none)
+    (writes_then (Ok t) first now now s.front [] s.told s.same (writes_none now t))
 
--- a reply is its head, the line of its content type, and its body
-body_parts : (files : List File) (body : List ℕ) (script : Bool)
-    → flat_map zero_said (if script then map (λ (f : Found). says files body f.piece) (pieces_from body 0) else Plain body ∷ []) ≡ (if script then script_said files body 0 else body)
-body_parts files body true = refl
-body_parts files body false = append-nil body
+-- ---- each look brings fewer calls, fewer pieces or fewer bytes
 
-pub reply_parts : (files : List File) (found : Option File)
-    → zero_reply files found ≡ head_text found ++ (kind_line (kind_text found) ++ zero_body files found)
-reply_parts files None =
-    ap (λ body. head_text None ++ (kind_line (kind_text None) ++ body)) (append-nil (body_bytes files None))
-reply_parts files (Some file) =
-    ap (λ body. found_head ++ (kind_line (kind_of file) ++ body)) (body_parts files file.content (is_script file.name))
+pub zero_size : FileReply → Thread → ℕ
+zero_size r t = calls_in (left_from r t) + length (left_from r t) + length (zero_left r t)
 
--- what is asked for is written
+pub smaller_text : (r : FileReply) (thread : Thread) (look : Look) → SeesText r (left_from r thread) look → zero_size r look.next < zero_size r thread
+unfolding zero_size
+smaller_text r thread look sees =
+    let bytes = ap length (leads_zero r thread look sees) ∙ length-append (span_text look.span) (zero_left r look.next) in
+    elim (cases_eq (length (span_text look.span)) 0) [
+      | inl none ↦ omega (arith, bytes, sees.leads.calls, sees.fewer none)
+      | inr some ↦ omega (arith, bytes, sees.leads.calls, sees.no_more, some)
+    ]
+
+pub smaller_call : (site : SiteContent) (found : Option FileId) (old new : Capture) (thread next : Thread) (f : Function) (argument : List ℕ)
+    → SeesCall (reply_in site found old) (left_from (reply_in site found old) thread) f argument next → new ≡ capture_of f 0 zero_moment.now
+    → zero_size (reply_in site found new) next < zero_size (reply_in site found old) thread
+unfolding zero_size zero_left
+smaller_call site found old new thread next f argument sees made =
+    let call = call_zero site found old new (left_from (reply_in site found old) thread) f argument next sees made in
+    omega (arith, ap length call.0, call.2, call.3)
+
+-- ---- what is asked for is written
+
 pub asked_none : (files : List File) (target : List ℕ) → wanted (request_for target) ≡ Refused → [] ≡ zero_page files target
 asked_none files target e = sym (zero_asked files target Refused e)
 
 pub asked_some : (files : List File) (target : List ℕ) (found : Option FileId) → IsAsked files (wanted (request_for target)) (Some found)
     → zero_reply files (found_file files found) ≡ zero_page files target
-asked_some files target found is =
-    ap (zero_reply files) is.file ∙ sym (zero_asked files target (Name is.name) is.wanted)
+asked_some files target found is = ap (zero_reply files) is.file ∙ sym (zero_asked files target (Name is.name) is.wanted)

@@ -88,8 +88,8 @@ pub(crate) fn want_reply(
     while ready < LARGEST_SEGMENT {
         let seen = look(site, found, capture, place);
         match seen.span {
-            Span::Call { .. } => return want_before_call(ready),
-            Span::End => return want_before_end(ready),
+            Span::Call { .. } => return sent_or(Want::Nothing, ready),
+            Span::End => return sent_or(Want::Close, ready),
             _ => {}
         }
         ready += span_len(&seen.span);
@@ -98,26 +98,11 @@ pub(crate) fn want_reply(
     Want::Send(LARGEST_SEGMENT)
 }
 
-/// What is wanted where so much is left before a call.
-fn want_before_call(ready: usize) -> Want
-    ensures { result ≡ (if ready == 0 then Want.Nothing else Want.Send ready) }
+/// What is wanted where `ready` bytes are left, and the other where that is none.
+fn sent_or(other: Want, ready: usize) -> Want
+    ensures { result ≡ (if ready == 0 then other else Want.Send ready) }
 {
-    if ready == 0 {
-        Want::Nothing
-    } else {
-        Want::Send(ready)
-    }
-}
-
-/// What is wanted where so much is left before the end.
-fn want_before_end(ready: usize) -> Want
-    ensures { result ≡ (if ready == 0 then Want.Close else Want.Send ready) }
-{
-    if ready == 0 {
-        Want::Close
-    } else {
-        Want::Send(ready)
-    }
+    if ready == 0 { other } else { Want::Send(ready) }
 }
 
 /// A call that is due: its record is to be taken.

@@ -31,7 +31,8 @@ pub(crate) fn advance_both<A: Says, B: Says>(
     requires enough { count ≤ length (A.text_left first.old world.now ++ B.text_left second.old world.now) }
     ensures first_fits { A.fits first.new world.now }
     ensures second_fits { B.fits second.new world.now }
-    ensures rest { A.text_left first.new world.now ++ B.text_left second.new world.now ≡ drop count (A.text_left first.old world.now ++ B.text_left second.old world.now) }
+    ensures rest { A.text_left first.new world.now ++ B.text_left second.new world.now
+        ≡ drop count (A.text_left first.old world.now ++ B.text_left second.old world.now) }
 {
     let middle = first.left(world).min(count);
     first.advance(world, middle);

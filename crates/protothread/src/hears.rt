@@ -27,5 +27,6 @@ pub trait Hears {
 
     ghost done_takes_nothing: { (s : Self) (piece : List ℕ) → is_done s ≡ true → (taken s piece ≡ 0) × (after s piece ≡ s) };
 
-    ghost joined: { (s : Self) (xs ys : List ℕ) → (after s (xs ++ ys) ≡ after (after s xs) ys) × (taken s (xs ++ ys) ≡ taken s xs + taken (after s xs) ys) };
+    ghost joined: { (s : Self) (xs ys : List ℕ) → (after s (xs ++ ys) ≡ after (after s xs) ys)
+        × (taken s (xs ++ ys) ≡ taken s xs + taken (after s xs) ys) };
 }

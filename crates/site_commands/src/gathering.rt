@@ -37,7 +37,8 @@ fn push_read<H: Shelf>(
     shelf: &mut H,
 ) -> Result<usize, LoadFault>
     requires { room ≤ LONGEST_IMAGE }
-    ensures read { IfOk result (λ left. HoldsFile (H.held shelf.old) named.now.file (WasRead named.now room left list.old.items list.new.items)) }
+    ensures read { IfOk result (λ left. HoldsFile (H.held shelf.old) named.now.file
+        (WasRead named.now room left list.old.items list.new.items)) }
     ensures left { IfOk result (λ left. left ≤ room) }
     ensures long { IfErr result (IsTooLong (H.held shelf.old) named.now.file room) }
     ensures kept { H.held shelf.new ≡ H.held shelf.old }

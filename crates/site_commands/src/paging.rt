@@ -37,7 +37,8 @@ pub fn page<H: Shelf, K: Sink>(
 
 /// Writes the page of a target.
 fn write_page<K: Sink>(site: &Site, target: &[u8], out: &mut K) -> SiteEnd
-    ensures { WritesEnd ends.Done ends.WriteFault (sink_told K.Sink out.old) (sink_told K.Sink out.new) (zero_page (files_of site.now) target.now) result }
+    ensures { WritesEnd ends.Done ends.WriteFault (sink_told K.Sink out.old) (sink_told K.Sink out.new)
+        (zero_page (files_of site.now) target.now) result }
 {
     match page_zero(site, target, out) {
         Ok(()) => SiteEnd::Done,

@@ -33,7 +33,8 @@ fn push_files(text: &mut Vec<u8>, site: &Site) -> Result<(), AllocError>
 /// Appends the line of a file.
 fn push_file(text: &mut Vec<u8>, site: &Site, id: FileId) -> Result<(), AllocError>
     requires { id.0 < length (files_of site.now) }
-    ensures { OnOk result ((file : File) → slice_get (files_of site.now) id.0 ≡ Some file → text.new.items ≡ text.old.items ++ file_line (files_of site.now) file) }
+    ensures { OnOk result ((file : File) → slice_get (files_of site.now) id.0 ≡ Some file
+        → text.new.items ≡ text.old.items ++ file_line (files_of site.now) file) }
 {
     text.extend_from_slice(site.name(id))?;
     text.extend_from_slice(b" ")?;

@@ -46,7 +46,8 @@ pub record IsFile (version : Version) (file : File) : Type 0 where
 pub record IsSite (version : Version) (files : List File) : Type 0 where
   pub count : length files ≤ MOST_FILES
   pub each : (k : ℕ) (file : File) → slice_get files k ≡ Some file → IsFile version file
-  pub distinct : (j k : ℕ) (one other : File) → slice_get files j ≡ Some one → slice_get files k ≡ Some other → one.name ≡ other.name → j ≡ k
+  pub distinct : (j k : ℕ) (one other : File) → slice_get files j ≡ Some one → slice_get files k ≡ Some other → one.name ≡ other.name
+      → j ≡ k
   pub size : length (image version files) ≤ LONGEST_IMAGE
   pub scripts : (k : ℕ) (file : File) → slice_get files k ≡ Some file → script_fault files file ≡ None
 

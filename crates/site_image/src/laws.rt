@@ -6,6 +6,7 @@ ghost use Rattle.site_image.specs.Faults.{read_image};
 /// The two laws of the grammar: what is read without a fault is what the bytes spell, and what is spelled is read. So a
 /// good image stands for one list of files, and has no fault.
 pub fn one_reading()
-    ensures spelled { (bytes : List ℕ) (files : List File) → ((i : ℕ) → slice_index bytes i < 256) → read_image bytes ≡ Ok files → IsImage bytes files }
+    ensures spelled { (bytes : List ℕ) (files : List File) → ((i : ℕ) → slice_index bytes i < 256)
+        → read_image bytes ≡ Ok files → IsImage bytes files }
     ensures read { (bytes : List ℕ) (files : List File) → IsImage bytes files → read_image bytes ≡ Ok files }
 {}

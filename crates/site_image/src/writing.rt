@@ -53,7 +53,8 @@ pub fn push_entry(
     requires name { length name.now ≤ LONGEST_NAME }
     requires kind { length kind.now ≤ LONGEST_KIND }
     requires content { length content.now < 2 ^ 32 }
-    ensures { OnOk result (out.new.items ≡ out.old.items ++ entry version (record { name = name.now; kind = kind.now; content = content.now })) }
+    ensures { OnOk result (out.new.items ≡ out.old.items
+        ++ entry version (record { name = name.now; kind = kind.now; content = content.now })) }
 {
     push_short(out, name)?;
     if version == Version::Two {

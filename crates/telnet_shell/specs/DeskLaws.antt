@@ -25,7 +25,8 @@ either_port : (b : Bool) (p q : Part) → q.port ≡ p.port → (if b then q els
 either_port true p q e = e
 either_port false p q e = refl
 
-byte_port : (p : Part) (byte : ℕ) (lost full : Bool) → (if lost then p else if full then record p { own = 1 } else with_byte p byte).port ≡ p.port
+byte_port : (p : Part) (byte : ℕ) (lost full : Bool)
+    → (if lost then p else if full then record p { own = 1 } else with_byte p byte).port ≡ p.port
 byte_port p byte true full = refl
 byte_port p byte false true = refl
 byte_port p byte false false = refl
@@ -55,7 +56,8 @@ shell_port = record {
   polled = λ numbers p. refl;
 }
 
-by_port : (P : Meaning → Type 0) (files : List File) (shell : Bool) → P (web_meaning files) → P shell_meaning → P (if shell then shell_meaning else web_meaning files)
+by_port : (P : Meaning → Type 0) (files : List File) (shell : Bool) → P (web_meaning files) → P shell_meaning
+    → P (if shell then shell_meaning else web_meaning files)
 by_port P files true w s = s
 by_port P files false w s = w
 
@@ -64,7 +66,8 @@ IsLawfulAnywhere m = IsLawful m (λ p. Unit {0})
 
 -- of the application of each port
 lawful_at : (files : List File) (port : ℕ) → IsLawfulAnywhere (meaning_at files port)
-lawful_at files port = by_port IsLawfulAnywhere files (port == TELNET_PORT) (web_lawful files (λ p. Unit {0})) (shell_lawful (λ p. Unit {0}))
+lawful_at files port =
+    by_port IsLawfulAnywhere files (port == TELNET_PORT) (web_lawful files (λ p. Unit {0})) (shell_lawful (λ p. Unit {0}))
 
 starts_at : (files : List File) (port : ℕ) → StartsAnew (meaning_at files port)
 starts_at files port = by_port StartsAnew files (port == TELNET_PORT) (web_starts files) shell_starts
@@ -85,9 +88,11 @@ grows_at files p q e g = record {
 pub desk_lawful : (files : List File) (stands : Part → Type 0) → IsLawful (desk_meaning files) stands
 desk_lawful files stands = record {
   newdata_grows = λ numbers p piece s.
-      grows_at files p ((desk_meaning files).newdata numbers p piece).part ((port_at files p.port).newdata numbers p piece) ((lawful_at files p.port).newdata_grows numbers p piece tt);
+      grows_at files p ((desk_meaning files).newdata numbers p piece).part ((port_at files p.port).newdata numbers p piece)
+      ((lawful_at files p.port).newdata_grows numbers p piece tt);
   prepare_grows = λ numbers p now s.
-      grows_at files p ((desk_meaning files).prepare numbers p now) ((port_at files p.port).prepare numbers p now) ((lawful_at files p.port).prepare_grows numbers p now tt);
+      grows_at files p ((desk_meaning files).prepare numbers p now) ((port_at files p.port).prepare numbers p now)
+      ((lawful_at files p.port).prepare_grows numbers p now tt);
   acked_moves = λ numbers p n s h.
       let both = (lawful_at files p.port).acked_moves numbers p n tt h in
       (says_at files p ((desk_meaning files).acked numbers p n).part ((port_at files p.port).acked numbers p n) ∙ both.0, both.1);
@@ -99,5 +104,8 @@ desk_lawful files stands = record {
 
 pub desk_starts : (files : List File) → StartsAnew (desk_meaning files)
 desk_starts files numbers port =
-    let both = starts_at files port numbers port in
-    (ap (λ (at : ℕ). (meaning_at files at).said ((desk_meaning files).connected numbers port).part) ((port_at files port).connected numbers port) ∙ both.0, both.1)
+    let both = starts_at files port numbers port in (
+      ap (λ (at : ℕ). (meaning_at files at).said ((desk_meaning files).connected numbers port).part)
+          ((port_at files port).connected numbers port) ∙ both.0,
+      both.1,
+    )

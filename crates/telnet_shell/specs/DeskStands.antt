@@ -35,13 +35,16 @@ at_web files port e = ap (λ (b : Bool). if b then shell_meaning else web_meanin
 pub at_shell : (files : List File) (port : ℕ) → (port == TELNET_PORT) ≡ true → meaning_at files port ≡ shell_meaning
 at_shell files port e = ap (λ (b : Bool). if b then shell_meaning else web_meaning files) e
 
-left_by : (files : List File) (part : Part) (m : Meaning) → meaning_at files part.port ≡ m → text_left (desk_meaning files) part ≡ text_left m part
+left_by : (files : List File) (part : Part) (m : Meaning) → meaning_at files part.port ≡ m
+    → text_left (desk_meaning files) part ≡ text_left m part
 left_by files part m e = ap (λ (n : Meaning). text_left n part) e
 
-pub web_left : (files : List File) (part : Part) → (part.port == TELNET_PORT) ≡ false → text_left (desk_meaning files) part ≡ text_left (web_meaning files) part
+pub web_left : (files : List File) (part : Part) → (part.port == TELNET_PORT) ≡ false
+    → text_left (desk_meaning files) part ≡ text_left (web_meaning files) part
 web_left files part e = left_by files part (web_meaning files) (at_web files part.port e)
 
-pub shell_left : (files : List File) (part : Part) → (part.port == TELNET_PORT) ≡ true → text_left (desk_meaning files) part ≡ text_left shell_meaning part
+pub shell_left : (files : List File) (part : Part) → (part.port == TELNET_PORT) ≡ true
+    → text_left (desk_meaning files) part ≡ text_left shell_meaning part
 shell_left files part e = left_by files part shell_meaning (at_shell files part.port e)
 
 -- what is left to be said is told by the value alone

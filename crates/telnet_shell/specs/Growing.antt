@@ -17,7 +17,9 @@ tokens_joined awaits (x ∷ xs) ys =
 -- a byte of the text behind which the rest is joined, whatever the line is
 byte_joined : (line : List ℕ) (byte : ℕ) (ts us : List Token) (ends drops : Bool)
     → ((l : List ℕ) → commands l (ts ++ us) ≡ commands l ts ++ commands (line_after l ts) us)
-    → (if ends then command_of line ∷ commands [] (ts ++ us) else if drops then commands line (ts ++ us) else commands (line ++ byte ∷ []) (ts ++ us))
+    → (if ends then command_of line ∷ commands [] (ts ++ us)
+    else if drops then commands line (ts ++ us)
+    else commands (line ++ byte ∷ []) (ts ++ us))
     ≡ (if ends then command_of line ∷ commands [] ts else if drops then commands line ts else commands (line ++ byte ∷ []) ts)
     ++ commands (if ends then line_after [] ts else if drops then line_after line ts else line_after (line ++ byte ∷ []) ts) us
 byte_joined line byte ts us true drops rest = ap (λ (cs : List Command). command_of line ∷ cs) (rest [])
@@ -50,7 +52,8 @@ pub commands_grow : (heard more : List ℕ) → commands_in (heard ++ more) ≡ 
 commands_grow heard more =
     ap (λ (ts : List Token). until_quit (commands [] ts)) (tokens_joined Text heard more)
     ∙ ap (λ (cs : List Command). until_quit cs) (commands_joined [] (tokens Text heard) (tokens (awaits_after Text heard) more))
-    ∙ until_quit_joined (commands [] (tokens Text heard)) (commands (line_after [] (tokens Text heard)) (tokens (awaits_after Text heard) more))
+    ∙ until_quit_joined (commands [] (tokens Text heard))
+    (commands (line_after [] (tokens Text heard)) (tokens (awaits_after Text heard) more))
 
 -- ---- the transcript
 
@@ -61,11 +64,13 @@ none_left : (b : Bool) (said xs ys : List ℕ) → IsPrefixOf xs ys → IsPrefix
 none_left true said xs ys p = record { rest = []; joined = refl }
 none_left false said xs ys p = behind said xs ys p
 
-one_more : (b : Bool) (said other xs ys zs : List ℕ) → IsPrefixOf xs ys → IsPrefixOf (if b then [] else said ++ xs) (if b then other ++ zs else said ++ ys)
+one_more : (b : Bool) (said other xs ys zs : List ℕ) → IsPrefixOf xs ys
+    → IsPrefixOf (if b then [] else said ++ xs) (if b then other ++ zs else said ++ ys)
 one_more true said other xs ys zs p = record { rest = other ++ zs; joined = refl }
 one_more false said other xs ys zs p = behind said xs ys p
 
-one_each : (b : Bool) (other said ws zs xs ys : List ℕ) → IsPrefixOf ws zs → IsPrefixOf xs ys → IsPrefixOf (if b then other ++ ws else said ++ xs) (if b then other ++ zs else said ++ ys)
+one_each : (b : Bool) (other said ws zs xs ys : List ℕ) → IsPrefixOf ws zs → IsPrefixOf xs ys
+    → IsPrefixOf (if b then other ++ ws else said ++ xs) (if b then other ++ zs else said ++ ys)
 one_each true other said ws zs xs ys p q = behind other ws zs p
 one_each false other said ws zs xs ys p q = behind said xs ys q
 
@@ -77,5 +82,6 @@ transcript_grows (c ∷ cs) ds [] (l ∷ ls) =
     one_more (needs_capture c) (said_plainly c) (said_at c l) (transcript cs []) (transcript (cs ++ ds) (l ∷ ls)) (transcript (cs ++ ds) ls)
     (transcript_grows cs ds [] (l ∷ ls))
 transcript_grows (c ∷ cs) ds (k ∷ ks) ls =
-    one_each (needs_capture c) (said_at c k) (said_plainly c) (transcript cs ks) (transcript (cs ++ ds) (ks ++ ls)) (transcript cs (k ∷ ks)) (transcript (cs ++ ds) (k ∷ (ks ++ ls)))
+    one_each (needs_capture c) (said_at c k) (said_plainly c) (transcript cs ks) (transcript (cs ++ ds) (ks ++ ls)) (transcript cs (k ∷ ks))
+    (transcript (cs ++ ds) (k ∷ (ks ++ ls)))
     (transcript_grows cs ds ks ls) (transcript_grows cs ds (k ∷ ks) ls)

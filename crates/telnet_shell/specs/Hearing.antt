@@ -1,5 +1,6 @@
 -- How far the shell has heard: what its fields tell of the bytes so far.
 use Rattle.std.specs.Prelude.{◌≡◌, ℕ, ◌==◌, Bool, List, [], ◌∷◌, length, take, nat_lt, slice_index, if◌then◌else◌, Option, None, Some}
+use Rattle.telnet_shell.specs.declared.TheConstants.{LONGEST_LINE}
 use Rattle.telnet_shell.specs.declared.command.Command.{Command}
 use Rattle.telnet_shell.specs.declared.hearing.Told.{Told}
 use Rattle.telnet_shell.specs.declared.hearing.Told.TheVariants as told
@@ -23,10 +24,10 @@ abbrev pub command_in : Option Command → List Command
 command_in None = []
 command_in (Some command) = command ∷ []
 
--- 16 bytes of a line are kept, and whether there were more
+-- the front of a line is kept, and whether there was more
 pub record IsLine (kept : List ℕ) (over : Bool) (line : List ℕ) : Type 0 where
-  pub front : kept ≡ take 16 line
-  pub more : over ≡ nat_lt 16 (length line)
+  pub front : kept ≡ take LONGEST_LINE line
+  pub more : over ≡ nat_lt LONGEST_LINE (length line)
 
 -- the sequence and the line that are open behind the bytes
 pub record IsOpen (kept : List ℕ) (over : Bool) (iac : List ℕ) (heard : List ℕ) : Type 0 where

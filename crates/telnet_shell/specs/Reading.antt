@@ -1,7 +1,8 @@
 -- What a list of bytes says to the shell: the sequences of the telnet protocol (RFC 854) are taken out, the rest are lines, and
 -- each line and each offer of an option is a command.
-use Rattle.std.specs.Prelude.{ℕ, ◌==◌, ◌&&◌, Bool, true, false, List, [], ◌∷◌, ◌++◌, codes, nat_lt, if◌then◌else◌}
+use Rattle.std.specs.Prelude.{ℕ, ◌==◌, ◌&&◌, Bool, true, false, List, [], ◌∷◌, ◌++◌, codes, nat_le, if◌then◌else◌}
 use Rattle.std.specs.Str.{bytes_eq}
+use Rattle.telnet_shell.specs.declared.hearing.TheConstants.{IAC, WILL, WONT, DO, DONT}
 use Rattle.telnet_shell.specs.declared.command.Command.{Command}
 use Rattle.telnet_shell.specs.declared.command.Command.TheVariants.{Refuse, Help, Stats, Conns, Ticks, Quit, Blank, Other}
 
@@ -17,24 +18,24 @@ pub data Token : Type 0 where
 
 -- WILL, WONT, DO and DONT
 abbrev pub is_verb : ℕ → Bool
-is_verb byte = nat_lt 250 byte && nat_lt byte 255
+is_verb byte = nat_le WILL byte && nat_le byte DONT
 
 abbrev pub next_awaits : Awaits → ℕ → Awaits
-next_awaits Text byte = if byte == 255 then Second else Text
+next_awaits Text byte = if byte == IAC then Second else Text
 next_awaits Second byte = if is_verb byte then Choice byte else Text
 next_awaits (Choice verb) byte = Text
 
--- an option is refused: WILL (251) by DONT (254), DO (253) by WONT (252); a WONT and a DONT need no answer
+-- an option is refused: WILL by DONT, DO by WONT; a WONT and a DONT need no answer
 abbrev pub refusal : ℕ → ℕ → List Token
 refusal verb option =
-    if verb == 251 then Answer (Refuse 254 option) ∷ []
-    else if verb == 253 then Answer (Refuse 252 option) ∷ []
+    if verb == WILL then Answer (Refuse DONT option) ∷ []
+    else if verb == DO then Answer (Refuse WONT option) ∷ []
     else []
 
 -- what a byte tells where it is awaited so
 abbrev pub told : Awaits → ℕ → List Token
-told Text byte = if byte == 255 then [] else Byte byte ∷ []
-told Second byte = if byte == 255 then Byte 255 ∷ [] else []
+told Text byte = if byte == IAC then [] else Byte byte ∷ []
+told Second byte = if byte == IAC then Byte IAC ∷ [] else []
 told (Choice verb) byte = refusal verb byte
 
 abbrev pub tokens : Awaits → List ℕ → List Token

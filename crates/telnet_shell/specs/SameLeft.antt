@@ -12,7 +12,8 @@ use Rattle.telnet_shell.specs.ShellStands.{ShellStands}
 pub left_of_value : (a : Shell) (p : Part) → ShellStands a p → text_left shell_meaning p ≡ drop a.at (left_said a.queue.items a.capture)
 left_of_value a p s =
     ap (λ (n : ℕ). drop n (talk p)) s.behind.acked
-    ∙ ap (λ (xs : List ℕ). drop (length (transcript s.behind.before s.behind.spoken) + a.at) xs) (talk_is a.queue.items a.capture a.at p s.behind)
+    ∙ ap (λ (xs : List ℕ). drop (length (transcript s.behind.before s.behind.spoken) + a.at) xs)
+    (talk_is a.queue.items a.capture a.at p s.behind)
     ∙ drop-append-add (transcript s.behind.before s.behind.spoken) (left_said a.queue.items a.capture) a.at
 
 pub same_left : (a : Shell) (p q : Part) → ShellStands a p → ShellStands a q → text_left shell_meaning p ≡ text_left shell_meaning q

@@ -29,7 +29,8 @@ grows_on p q r g h = record { text = prefix_of_prefix (talk p) (talk q) (talk r)
 
 byte_grows : (p : Part) (byte : ℕ) → Grows shell_meaning p (with_byte p byte)
 byte_grows p byte =
-    let t : IsPrefixOf (transcript (commands_in p.heard) p.captures) (transcript (commands_in p.heard ++ further p.heard (byte ∷ [])) (p.captures ++ [])) =
+    let t : IsPrefixOf (transcript (commands_in p.heard) p.captures)
+    (transcript (commands_in p.heard ++ further p.heard (byte ∷ [])) (p.captures ++ [])) =
     transcript_grows (commands_in p.heard) (further p.heard (byte ∷ [])) p.captures [] in
     record {
       text = record {
@@ -41,7 +42,8 @@ byte_grows p byte =
       offset = refl;
     }
 
-heard_grows : (p : Part) (byte : ℕ) (lost full : Bool) → Grows shell_meaning p (if lost then p else if full then record p { own = 1 } else with_byte p byte)
+heard_grows : (p : Part) (byte : ℕ) (lost full : Bool)
+    → Grows shell_meaning p (if lost then p else if full then record p { own = 1 } else with_byte p byte)
 heard_grows p byte true full = same_grows p
 heard_grows p byte false true = record { text = same_prefix (talk p); offset = refl }
 heard_grows p byte false false = byte_grows p byte
@@ -55,7 +57,8 @@ all_grows p (byte ∷ more) =
 
 unpolled_grows : (p : Part) (piece : List ℕ) → Grows shell_meaning p (hear_all (record p { polls = 0 }) piece)
 unpolled_grows p piece =
-    let g : Grows shell_meaning (record p { polls = 0 }) (hear_all (record p { polls = 0 }) piece) = all_grows (record p { polls = 0 }) piece in
+    let g : Grows shell_meaning (record p { polls = 0 }) (hear_all (record p { polls = 0 }) piece) =
+    all_grows (record p { polls = 0 }) piece in
     record { text = g.text; offset = g.offset }
 
 capture_grows : (p : Part) (k : Moment) → Grows shell_meaning p (record p { captures = p.captures ++ k ∷ [] })
@@ -70,7 +73,8 @@ capture_grows p k =
       offset = refl;
     }
 
-either_grows : (p : Part) (k : Moment) (takes : Bool) → Grows shell_meaning p (if takes then record p { captures = p.captures ++ k ∷ [] } else p)
+either_grows : (p : Part) (k : Moment) (takes : Bool)
+    → Grows shell_meaning p (if takes then record p { captures = p.captures ++ k ∷ [] } else p)
 either_grows p k true = capture_grows p k
 either_grows p k false = same_grows p
 
@@ -85,7 +89,8 @@ sends_left : (left : ℕ) (b : Bool) → nat_lt 0 left ≡ b → CanSend (if b t
 sends_left left true e = some_left LARGEST_SEGMENT left (omega arith) e
 sends_left left false e = tt
 
-sends_by : (left : ℕ) (gives_up ends : Bool) → CanSend (if gives_up then Abort else if ends then Close else if nat_lt 0 left then Send (min LARGEST_SEGMENT left) else Nothing) left
+sends_by : (left : ℕ) (gives_up ends : Bool)
+    → CanSend (if gives_up then Abort else if ends then Close else if nat_lt 0 left then Send (min LARGEST_SEGMENT left) else Nothing) left
 sends_by left true ends = tt
 sends_by left false true = tt
 sends_by left false false = sends_left left (nat_lt 0 left) refl

@@ -1,5 +1,5 @@
 -- What was said before the queue, and what the queue says.
-use Rattle.std.proofs.Common.{◌≡◌, ℕ, ◌+◌, ◌-◌, ◌≤◌, ◌<◌, Bool, true, false, ◌&&◌, not, nat_le, List, [], ◌∷◌, ◌++◌, length, if◌then◌else◌, refl, sym, ap, subst, ◌∙◌, arith, append_assoc, append-nil, length-append, true≢false, drop, take, min, inl, inr}
+use Rattle.std.proofs.Common.{◌≡◌, ℕ, ◌+◌, ◌-◌, ◌≤◌, ◌<◌, Bool, true, false, ◌&&◌, not, List, [], ◌∷◌, ◌++◌, codes, length, if◌then◌else◌, refl, sym, ap, subst, ◌∙◌, arith, append_assoc, append-nil, length-append, true≢false, drop, take, min, inl, inr}
 use Rattle.std.proofs.lemmas.List.{drop-append-le, take-append-le, take_all}
 use Rattle.std.proofs.Math.Seq.{take-append-add}
 use Rattle.std.proofs.lemmas.Bool.{le-leb, lt-leb, cases_lt}
@@ -10,7 +10,7 @@ use Rattle.generators.specs.declared.capture.Capture.TheVariants.{Empty}
 use Rattle.app_events.specs.Part.{Part, Moment}
 use Rattle.telnet_shell.specs.declared.command.Command.{Command}
 use Rattle.telnet_shell.specs.declared.command.Command.TheVariants.{Refuse, Help, Stats, Conns, Ticks, Quit, Blank, Other}
-use Rattle.telnet_shell.specs.Transcript.{function_of, needs_capture, said_with, said_plainly, said_at, transcript, unfinished}
+use Rattle.telnet_shell.specs.Transcript.{behind, function_of, needs_capture, said_with, said_plainly, said_at, transcript, unfinished}
 use Rattle.telnet_shell.specs.Saying.{is_taken, stops_at, left_said, IsInFront, Shows, needed, IsBehind}
 use Rattle.telnet_shell.specs.ShellMeaning.{talk, waiting}
 
@@ -19,7 +19,8 @@ none_split : (b : Bool) (s u x y w : List ℕ) (n : ℕ) → 0 ≡ (if b then n 
 none_split true s u x y w n e f = absurd (omega (arith, e))
 none_split false s u x y w n e f = ap (λ (z : List ℕ). s ++ z) (f e) ∙ sym (append_assoc s x y)
 
-each_split : (b : Bool) (r u x s v z y : List ℕ) (len l n : ℕ) → l ≡ len + 1 → l ≡ (if b then n + 1 else n) → (len ≡ n → u ≡ x ++ y) → (l ≡ n → v ≡ z ++ y)
+each_split : (b : Bool) (r u x s v z y : List ℕ) (len l n : ℕ) → l ≡ len + 1 → l ≡ (if b then n + 1 else n) → (len ≡ n → u ≡ x ++ y)
+    → (l ≡ n → v ≡ z ++ y)
     → (if b then r ++ u else s ++ v) ≡ (if b then r ++ x else s ++ z) ++ y
 each_split true r u x s v z y len l n d e f g = ap (λ (t : List ℕ). r ++ t) (f (omega (arith, d, e))) ∙ sym (append_assoc r x y)
 each_split false r u x s v z y len l n d e f g = ap (λ (t : List ℕ). s ++ t) (g e) ∙ sym (append_assoc s z y)
@@ -32,37 +33,44 @@ pub split : (before q : List Command) (spoken later : List Moment) → length sp
 split [] q [] later e = refl
 split [] q (k ∷ ks) later e = absurd (omega (arith, e))
 split (c ∷ cs) q [] [] e =
-    none_split (needs_capture c) (said_plainly c) (transcript (cs ++ q) []) (transcript cs []) (transcript q []) [] (needed cs) e (λ f. split cs q [] [] f)
+    none_split (needs_capture c) (said_plainly c) (transcript (cs ++ q) []) (transcript cs []) (transcript q []) [] (needed cs) e
+    (λ f. split cs q [] [] f)
 split (c ∷ cs) q [] (l ∷ ls) e =
-    none_split (needs_capture c) (said_plainly c) (transcript (cs ++ q) (l ∷ ls)) (transcript cs []) (transcript q (l ∷ ls)) (said_at c l ++ transcript (cs ++ q) ls) (needed cs) e
+    none_split (needs_capture c) (said_plainly c) (transcript (cs ++ q) (l ∷ ls)) (transcript cs []) (transcript q (l ∷ ls))
+    (said_at c l ++ transcript (cs ++ q) ls) (needed cs) e
     (λ f. split cs q [] (l ∷ ls) f)
 split (c ∷ cs) q (k ∷ ks) later e =
-    each_split (needs_capture c) (said_at c k) (transcript (cs ++ q) (ks ++ later)) (transcript cs ks) (said_plainly c) (transcript (cs ++ q) (k ∷ (ks ++ later))) (transcript cs (k ∷ ks)) (transcript q later)
+    each_split (needs_capture c) (said_at c k) (transcript (cs ++ q) (ks ++ later)) (transcript cs ks) (said_plainly c)
+    (transcript (cs ++ q) (k ∷ (ks ++ later))) (transcript cs (k ∷ ks)) (transcript q later)
     (length ks) (length (k ∷ ks)) (needed cs) (one_longer k ks) e (λ f. split cs q ks later f) (λ f. split cs q (k ∷ ks) later f)
 
 -- a command whose text is among the first bytes is passed
 past_said : (s x : List ℕ) (at : ℕ) (go : ℕ → List Command) (stay : List Command)
-    → (if nat_le (length s) (length (s ++ x) + at) then go (length (s ++ x) + at - length s) else stay) ≡ go (length x + at)
+    → behind s (length (s ++ x) + at) go stay ≡ go (length x + at)
 past_said s x at go stay =
     let size : length (s ++ x) ≡ length s + length x = length-append s x in
-    ap (λ (b : Bool). if b then go (length (s ++ x) + at - length s) else stay) (le-leb (length s) (length (s ++ x) + at) (omega (arith, size)))
+    ap (λ (b : Bool). if b then go (length (s ++ x) + at - length s) else stay)
+    (le-leb (length s) (length (s ++ x) + at) (omega (arith, size)))
     ∙ ap (λ (n : ℕ). go n) (let e : length (s ++ x) + at - length s ≡ length x + at = omega (arith, size) in e)
 
-none_past : (b : Bool) (s x : List ℕ) (at n : ℕ) (go : ℕ → List Command) (held other stay r : List Command) → 0 ≡ (if b then n + 1 else n) → (0 ≡ n → go (length x + at) ≡ r)
-    → (if b then held else if nat_le (length s) (length (if b then [] else s ++ x) + at) then go (length (if b then [] else s ++ x) + at - length s) else stay) ≡ r
+none_past : (b : Bool) (s x : List ℕ) (at n : ℕ) (go : ℕ → List Command) (held other stay r : List Command) → 0 ≡ (if b then n + 1 else n)
+    → (0 ≡ n → go (length x + at) ≡ r)
+    → (if b then held else behind s (length (if b then [] else s ++ x) + at) go stay) ≡ r
 none_past true s x at n go held other stay r e f = absurd (omega (arith, e))
 none_past false s x at n go held other stay r e f = past_said s x at go stay ∙ f e
 
-none_past_with : (b : Bool) (s t x : List ℕ) (at n : ℕ) (go gone : ℕ → List Command) (stay r : List Command) → 0 ≡ (if b then n + 1 else n) → (0 ≡ n → go (length x + at) ≡ r)
-    → (if b then (if nat_le (length t) (length (if b then [] else s ++ x) + at) then gone (length (if b then [] else s ++ x) + at - length t) else stay)
-    else (if nat_le (length s) (length (if b then [] else s ++ x) + at) then go (length (if b then [] else s ++ x) + at - length s) else stay)) ≡ r
+none_past_with : (b : Bool) (s t x : List ℕ) (at n : ℕ) (go gone : ℕ → List Command) (stay r : List Command) → 0 ≡ (if b then n + 1 else n)
+    → (0 ≡ n → go (length x + at) ≡ r)
+    → (if b then behind t (length (if b then [] else s ++ x) + at) gone stay
+    else behind s (length (if b then [] else s ++ x) + at) go stay) ≡ r
 none_past_with true s t x at n go gone stay r e f = absurd (omega (arith, e))
 none_past_with false s t x at n go gone stay r e f = past_said s x at go stay ∙ f e
 
-each_past : (b : Bool) (t x s z : List ℕ) (at len l n : ℕ) (gone go : ℕ → List Command) (stay r : List Command) → l ≡ len + 1 → l ≡ (if b then n + 1 else n)
+each_past : (b : Bool) (t x s z : List ℕ) (at len l n : ℕ) (gone go : ℕ → List Command) (stay r : List Command) → l ≡ len + 1
+    → l ≡ (if b then n + 1 else n)
     → (len ≡ n → gone (length x + at) ≡ r) → (l ≡ n → go (length z + at) ≡ r)
-    → (if b then (if nat_le (length t) (length (if b then t ++ x else s ++ z) + at) then gone (length (if b then t ++ x else s ++ z) + at - length t) else stay)
-    else (if nat_le (length s) (length (if b then t ++ x else s ++ z) + at) then go (length (if b then t ++ x else s ++ z) + at - length s) else stay)) ≡ r
+    → (if b then behind t (length (if b then t ++ x else s ++ z) + at) gone stay
+    else behind s (length (if b then t ++ x else s ++ z) + at) go stay) ≡ r
 each_past true t x s z at len l n gone go stay r d e f g = past_said t x at gone stay ∙ f (omega (arith, d, e))
 each_past false t x s z at len l n gone go stay r d e f g = past_said s z at go stay ∙ g e
 
@@ -71,14 +79,18 @@ pub passed : (before q : List Command) (spoken later : List Moment) (at : ℕ) �
 passed [] q [] later at e = ap (λ (n : ℕ). unfinished q later n) (let e : 0 + at ≡ at = omega arith in e)
 passed [] q (k ∷ ks) later at e = absurd (omega (arith, e))
 passed (c ∷ cs) q [] [] at e =
-    none_past (needs_capture c) (said_plainly c) (transcript cs []) at (needed cs) (λ n. unfinished (cs ++ q) [] n) (c ∷ (cs ++ q)) [] (c ∷ (cs ++ q)) (unfinished q [] at) e
+    none_past (needs_capture c) (said_plainly c) (transcript cs []) at (needed cs) (λ n. unfinished (cs ++ q) [] n) (c ∷ (cs ++ q)) []
+    (c ∷ (cs ++ q)) (unfinished q [] at) e
     (λ f. passed cs q [] [] at f)
 passed (c ∷ cs) q [] (l ∷ ls) at e =
-    none_past_with (needs_capture c) (said_plainly c) (said_at c l) (transcript cs []) at (needed cs) (λ n. unfinished (cs ++ q) (l ∷ ls) n) (λ n. unfinished (cs ++ q) ls n) (c ∷ (cs ++ q)) (unfinished q (l ∷ ls) at) e
+    none_past_with (needs_capture c) (said_plainly c) (said_at c l) (transcript cs []) at (needed cs) (λ n. unfinished (cs ++ q) (l ∷ ls) n)
+    (λ n. unfinished (cs ++ q) ls n) (c ∷ (cs ++ q)) (unfinished q (l ∷ ls) at) e
     (λ f. passed cs q [] (l ∷ ls) at f)
 passed (c ∷ cs) q (k ∷ ks) later at e =
-    each_past (needs_capture c) (said_at c k) (transcript cs ks) (said_plainly c) (transcript cs (k ∷ ks)) at (length ks) (length (k ∷ ks)) (needed cs)
-    (λ n. unfinished (cs ++ q) (ks ++ later) n) (λ n. unfinished (cs ++ q) (k ∷ (ks ++ later)) n) (c ∷ (cs ++ q)) (unfinished q later at) (one_longer k ks) e
+    each_past (needs_capture c) (said_at c k) (transcript cs ks) (said_plainly c) (transcript cs (k ∷ ks)) at (length ks) (length (k ∷ ks))
+    (needed cs)
+    (λ n. unfinished (cs ++ q) (ks ++ later) n) (λ n. unfinished (cs ++ q) (k ∷ (ks ++ later)) n) (c ∷ (cs ++ q)) (unfinished q later at)
+    (one_longer k ks) e
     (λ f. passed cs q ks later at f) (λ f. passed cs q (k ∷ ks) later at f)
 
 -- ---- the front
@@ -86,9 +98,9 @@ passed (c ∷ cs) q (k ∷ ks) later at e =
 pub said_some : (c : Command) (capture : Capture) → 1 ≤ length (said_with c capture)
 said_some (Refuse verb option) capture = omega arith
 said_some Help capture = omega arith
-said_some Stats capture = omega (arith, length-append (capture_text capture) (62 ∷ 32 ∷ []))
-said_some Conns capture = omega (arith, length-append (capture_text capture) (62 ∷ 32 ∷ []))
-said_some Ticks capture = omega (arith, length-append (capture_text capture) (13 ∷ 10 ∷ 62 ∷ 32 ∷ []))
+said_some Stats capture = omega (arith, length-append (capture_text capture) (codes "> "))
+said_some Conns capture = omega (arith, length-append (capture_text capture) (codes "> "))
+said_some Ticks capture = omega (arith, length-append (capture_text capture) (codes "\r\n> "))
 said_some Quit capture = omega arith
 said_some Blank capture = omega arith
 said_some Other capture = omega arith
@@ -104,7 +116,8 @@ taken_is Blank k e = elim (true≢false (sym e)) [ ]
 taken_is Other k e = elim (true≢false (sym e)) [ ]
 
 -- a front whose capture is held does not stop
-pub held_goes : (c : Command) (k : Moment) (capture : Capture) → needs_capture c ≡ true → capture ≡ capture_of (function_of c) 0 k.now → stops_at c capture ≡ false
+pub held_goes : (c : Command) (k : Moment) (capture : Capture) → needs_capture c ≡ true → capture ≡ capture_of (function_of c) 0 k.now
+    → stops_at c capture ≡ false
 held_goes c k capture e f =
     ap (λ (b : Bool). b && not (is_taken capture)) e ∙ ap (λ (b : Bool). not b) (ap (λ (d : Capture). is_taken d) f ∙ taken_is c k e)
 
@@ -116,7 +129,8 @@ empty_stops c capture e = ap (λ (d : Capture). stops_at c d) e ∙ by_need (nee
     by_need true = refl
     by_need false = refl
 
-pub front_left : (q : List Command) (capture : Capture) (front : List Moment) → Shows q capture front → transcript q front ≡ left_said q capture
+pub front_left : (q : List Command) (capture : Capture) (front : List Moment) → Shows q capture front
+    → transcript q front ≡ left_said q capture
 front_left [] capture [] s = refl
 front_left [] capture (k ∷ ks) s = absurd s
 front_left (c ∷ cs) capture [] s =
@@ -129,35 +143,39 @@ front_left (c ∷ cs) capture (k ∷ ks) s =
     ∙ ap (λ (b : Bool). if b then [] else said_with c capture ++ transcript cs []) (sym (held_goes c k capture s.1 s.2))
 
 -- the front is not wholly acknowledged
-stays_plain : (c : Command) (cs go : List Command) (capture : Capture) (at : ℕ) → capture ≡ Empty → IsInFront (c ∷ cs) capture at → (b : Bool) → needs_capture c ≡ b
-    → (if b then c ∷ cs else if nat_le (length (said_plainly c)) at then go else c ∷ cs) ≡ c ∷ cs
+stays_plain : (c : Command) (cs go : List Command) (capture : Capture) (at : ℕ) → capture ≡ Empty → IsInFront (c ∷ cs) capture at
+    → (b : Bool) → needs_capture c ≡ b
+    → (if b then c ∷ cs else behind (said_plainly c) at (λ n. go) (c ∷ cs)) ≡ c ∷ cs
 stays_plain c cs go capture at s i true e = refl
 stays_plain c cs go capture at s i false e =
     let short : at < length (said_with c capture) = i.1 (empty_stops c capture s ∙ e) in
     let small : at < length (said_plainly c) = subst (λ (d : Capture). at < length (said_with c d)) s short in
     ap (λ (b : Bool). if b then go else c ∷ cs) (lt-leb (length (said_plainly c)) at small)
 
-pub stays : (q : List Command) (capture : Capture) (front : List Moment) (at : ℕ) → Shows q capture front → IsInFront q capture at → unfinished q front at ≡ q
+pub stays : (q : List Command) (capture : Capture) (front : List Moment) (at : ℕ) → Shows q capture front → IsInFront q capture at
+    → unfinished q front at ≡ q
 stays [] capture [] at s i = refl
 stays [] capture (k ∷ ks) at s i = absurd s
 stays (c ∷ cs) capture [] at s i = stays_plain c cs (unfinished cs [] (at - length (said_plainly c))) capture at s i (needs_capture c) refl
 stays (c ∷ cs) capture (k ∷ ks) at s i =
     let short : at < length (said_with c capture) = i.1 (held_goes c k capture s.1 s.2) in
     let small : at < length (said_at c k) = subst (λ (d : Capture). at < length (said_with c d)) s.2 short in
-    ap (λ (b : Bool). if b then (if nat_le (length (said_at c k)) at then unfinished cs ks (at - length (said_at c k)) else c ∷ cs)
-    else (if nat_le (length (said_plainly c)) at then unfinished cs (k ∷ ks) (at - length (said_plainly c)) else c ∷ cs)) s.1
+    ap (λ (b : Bool). if b then behind (said_at c k) at (λ n. unfinished cs ks n) (c ∷ cs)
+    else behind (said_plainly c) at (λ n. unfinished cs (k ∷ ks) n) (c ∷ cs)) s.1
     ∙ ap (λ (b : Bool). if b then unfinished cs ks (at - length (said_at c k)) else c ∷ cs) (lt-leb (length (said_at c k)) at small)
 
 -- ---- behind what was said before
 
-pub talk_is : (q : List Command) (capture : Capture) (at : ℕ) (p : Part) (b : IsBehind q capture at p) → talk p ≡ transcript b.before b.spoken ++ left_said q capture
+pub talk_is : (q : List Command) (capture : Capture) (at : ℕ) (p : Part) (b : IsBehind q capture at p)
+    → talk p ≡ transcript b.before b.spoken ++ left_said q capture
 talk_is q capture at p b =
     ap (λ (cs : List Command). transcript cs p.captures) b.commands
     ∙ ap (λ (ks : List Moment). transcript (b.before ++ q) ks) b.captures
     ∙ split b.before q b.spoken b.front b.took
     ∙ ap (λ (xs : List ℕ). transcript b.before b.spoken ++ xs) (front_left q capture b.front b.shows)
 
-pub waiting_is : (q : List Command) (capture : Capture) (at : ℕ) (p : Part) → IsBehind q capture at p → IsInFront q capture at → waiting p ≡ q
+pub waiting_is : (q : List Command) (capture : Capture) (at : ℕ) (p : Part) → IsBehind q capture at p → IsInFront q capture at
+    → waiting p ≡ q
 waiting_is q capture at p b i =
     ap (λ (cs : List Command). unfinished cs p.captures p.acked) b.commands
     ∙ ap (λ (ks : List Moment). unfinished (b.before ++ q) ks p.acked) b.captures
@@ -168,11 +186,18 @@ waiting_is q capture at p b i =
 pub from_front : (n at : ℕ) (s t : List ℕ) → at ≤ length s → take n (drop at (s ++ t)) ≡ take n (drop at s ++ t)
 from_front n at s t h = ap (λ (xs : List ℕ). take n xs) (drop-append-le at s t h)
 
-pub two_parts : (d t x y : List ℕ) (n m a b : ℕ) → m ≡ min (length d) n → a ≡ m → b + m ≡ n → x ≡ take a d → y ≡ take b t → x ++ y ≡ take n (d ++ t)
+pub two_parts : (d t x y : List ℕ) (n m a b : ℕ) → m ≡ min (length d) n → a ≡ m → b + m ≡ n → x ≡ take a d → y ≡ take b t
+    → x ++ y ≡ take n (d ++ t)
 two_parts d t x y n m a b least e f g h =
     elim (cases_lt n (length d)) [
       | inl l ↦ (let u : a ≡ n = omega arith in let z : b ≡ 0 = omega arith in
-          ap (λ (ys : List ℕ). x ++ ys) (h ∙ ap (λ (k : ℕ). take k t) z) ∙ append-nil x ∙ g ∙ ap (λ (k : ℕ). take k d) u ∙ sym (take-append-le n d t (omega (arith, l))))
+          ap (λ (ys : List ℕ). x ++ ys) (h ∙ ap (λ (k : ℕ). take k t) z)
+          ∙ append-nil x
+          ∙ g
+          ∙ ap (λ (k : ℕ). take k d) u
+          ∙ sym (take-append-le n d t (omega (arith, l))))
       | inr l ↦ (let u : length d ≤ a = omega arith in let v : n ≡ length d + b = omega arith in
-          ap (λ (xs : List ℕ). xs ++ y) (g ∙ take_all a d u) ∙ ap (λ (ys : List ℕ). d ++ ys) h ∙ sym (ap (λ (k : ℕ). take k (d ++ t)) v ∙ take-append-add d t b))
+          ap (λ (xs : List ℕ). xs ++ y) (g ∙ take_all a d u)
+          ∙ ap (λ (ys : List ℕ). d ++ ys) h
+          ∙ sym (ap (λ (k : ℕ). take k (d ++ t)) v ∙ take-append-add d t b))
     ]

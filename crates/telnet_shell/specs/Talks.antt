@@ -39,5 +39,6 @@ pub record KeepsTalk : Type 0 where
   pub wants : (numbers : List ℕ) (p : Part) → p.acked ≤ length (talk p) → MayWant talks p (shell_meaning.want numbers p)
   -- once it is given up, a connection hears nothing more and is aborted
   pub aborts : (numbers : List ℕ) (p : Part) → p.own ≡ 1 → shell_meaning.want numbers p ≡ Abort
-  pub hears_no_more : (numbers : List ℕ) (p : Part) (piece : List ℕ) → p.own ≡ 1 → (shell_meaning.newdata numbers p piece).part.heard ≡ p.heard
+  pub hears_no_more : (numbers : List ℕ) (p : Part) (piece : List ℕ) → p.own ≡ 1
+      → (shell_meaning.newdata numbers p piece).part.heard ≡ p.heard
   pub stays_lost : (numbers : List ℕ) (p : Part) (piece : List ℕ) → p.own ≡ 1 → (shell_meaning.newdata numbers p piece).part.own ≡ 1

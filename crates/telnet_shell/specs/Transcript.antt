@@ -8,6 +8,7 @@ use Rattle.generators.specs.Text.{capture_text}
 use Rattle.generators.specs.declared.capture.Capture.{Capture}
 use Rattle.generators.specs.declared.capture.Capture.TheVariants.{Empty}
 use Rattle.app_events.specs.Part.{Moment}
+use Rattle.telnet_shell.specs.declared.hearing.TheConstants.{IAC}
 use Rattle.telnet_shell.specs.declared.command.Command.{Command}
 use Rattle.telnet_shell.specs.declared.command.Command.TheVariants.{Refuse, Help, Stats, Conns, Ticks, Quit, Blank, Other}
 
@@ -26,7 +27,7 @@ needs_capture _ = false
 
 -- what a command says with its capture
 abbrev pub said_with : Command → Capture → List ℕ
-said_with (Refuse verb option) capture = 255 ∷ verb ∷ option ∷ []
+said_with (Refuse verb option) capture = IAC ∷ verb ∷ option ∷ []
 said_with Help capture = codes "help stats conns ticks quit\r\n> "
 said_with Stats capture = capture_text capture ++ codes "> "
 said_with Conns capture = capture_text capture ++ codes "> "
@@ -50,14 +51,16 @@ transcript (command ∷ more) (capture ∷ later) =
     if needs_capture command then said_at command capture ++ transcript more later
     else said_plainly command ++ transcript more (capture ∷ later)
 
+-- what goes on with the bytes behind a text, where the text is wholly among them
+abbrev pub behind : List ℕ → ℕ → (ℕ → List Command) → List Command → List Command
+behind text bytes goes_on stays = if nat_le (length text) bytes then goes_on (bytes - length text) else stays
+
 -- the commands whose texts are not wholly among the first bytes
 abbrev pub unfinished : List Command → List Moment → ℕ → List Command
 unfinished [] captures bytes = []
 unfinished (command ∷ more) [] bytes =
     if needs_capture command then command ∷ more
-    else if nat_le (length (said_plainly command)) bytes then unfinished more [] (bytes - length (said_plainly command))
-    else command ∷ more
+    else behind (said_plainly command) bytes (λ n. unfinished more [] n) (command ∷ more)
 unfinished (command ∷ more) (capture ∷ later) bytes =
-    if needs_capture command
-    then (if nat_le (length (said_at command capture)) bytes then unfinished more later (bytes - length (said_at command capture)) else command ∷ more)
-    else (if nat_le (length (said_plainly command)) bytes then unfinished more (capture ∷ later) (bytes - length (said_plainly command)) else command ∷ more)
+    if needs_capture command then behind (said_at command capture) bytes (λ n. unfinished more later n) (command ∷ more)
+    else behind (said_plainly command) bytes (λ n. unfinished more (capture ∷ later) n) (command ∷ more)

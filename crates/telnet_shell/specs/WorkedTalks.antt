@@ -4,6 +4,9 @@ use Rattle.std.specs.List.{concat}
 use Rattle.app_events.specs.Part.{Part, Moment}
 use Rattle.app_events.specs.Laws.{IsLawful, StartsAnew}
 use Rattle.app_events.specs.declared.want.Want.TheVariants.{Nothing, Send, Close, Abort}
+use Rattle.uip_wire.specs.declared.port.TheConstants.{WEB_PORT}
+use Rattle.telnet_shell.specs.declared.shell.TheConstants.{TELNET_PORT}
+use Rattle.telnet_shell.specs.declared.hearing.TheConstants.{IAC, WILL, WONT, DO, DONT}
 use Rattle.telnet_shell.specs.declared.command.Command.TheVariants.{Refuse, Help, Stats, Conns, Ticks, Quit, Blank, Other}
 use Rattle.telnet_shell.specs.Reading.{commands_in}
 use Rattle.telnet_shell.specs.Transcript.{transcript}
@@ -15,7 +18,7 @@ abbrev pub at_tick : ℕ → Moment
 at_tick ticks = record { numbers = []; now = record { ticks = ticks; net = replicate 20 0; rows = [] } }
 
 abbrev pub opened : Part
-opened = (shell_meaning.connected [] 23).part
+opened = (shell_meaning.connected [] TELNET_PORT).part
 
 abbrev pub heard : List ℕ → Part
 heard piece = (shell_meaning.newdata [] opened piece).part
@@ -28,7 +31,7 @@ acked part count = (shell_meaning.acked [] part count).part
 
 -- an offer of an option, and then the end
 abbrev pub offer_and_quit : List ℕ
-offer_and_quit = 255 ∷ 251 ∷ 1 ∷ codes "quit\n"
+offer_and_quit = IAC ∷ WILL ∷ 1 ∷ codes "quit\n"
 
 abbrev pub many_helps : ℕ → List ℕ
 many_helps count = concat (replicate count (codes "help\n"))
@@ -41,7 +44,7 @@ pub record AreWorkedTalks : Type 0 where
   pub ticks_once : (shell_meaning.prepare [] (prepared (codes "ticks\r\n")) (at_tick 7).now).captures ≡ at_tick 0 ∷ []
   pub two_ticks : transcript (Ticks ∷ Ticks ∷ []) (at_tick 0 ∷ at_tick 7 ∷ []) ≡ codes "         0\r\n>          7\r\n> "
   -- an option is refused, and `quit` closes once its text is acknowledged
-  pub quit : talk (heard offer_and_quit) ≡ 255 ∷ 254 ∷ 1 ∷ codes "bye\r\n"
+  pub quit : talk (heard offer_and_quit) ≡ IAC ∷ DONT ∷ 1 ∷ codes "bye\r\n"
   pub quit_length : length (talk (heard offer_and_quit)) ≡ 8
   pub quit_sends : shell_meaning.want [] (heard offer_and_quit) ≡ Send 8
   pub quit_waits : shell_meaning.want [] (acked (heard offer_and_quit) 7) ≡ Send 1
@@ -57,15 +60,15 @@ pub record AreWorkedTalks : Type 0 where
   pub too_silent : shell_meaning.want [] (shell_meaning.polled [] (record opened { polls = 1199 })).part ≡ Abort
   pub hears_again : (shell_meaning.newdata [] (record opened { polls = 1199 }) (codes "h")).part.polls ≡ 0
   -- the ports
-  pub pages_served : is_served_at 80 ≡ true
-  pub shell_served : is_served_at 23 ≡ true
+  pub pages_served : is_served_at WEB_PORT ≡ true
+  pub shell_served : is_served_at TELNET_PORT ≡ true
   pub no_other_served : is_served_at 24 ≡ false
   -- the table of the protocol's sequences
-  pub byte_255 : commands_in (255 ∷ 255 ∷ 10 ∷ []) ≡ Other ∷ []
-  pub offers : commands_in (255 ∷ 251 ∷ 3 ∷ 255 ∷ 253 ∷ 24 ∷ []) ≡ Refuse 254 3 ∷ Refuse 252 24 ∷ []
-  pub no_answer : commands_in (255 ∷ 252 ∷ 3 ∷ 255 ∷ 254 ∷ 24 ∷ []) ≡ []
-  pub inside_a_line : commands_in (codes "he" ++ 255 ∷ 253 ∷ 1 ∷ codes "lp\n") ≡ Refuse 252 1 ∷ Help ∷ []
-  pub two_taken_out : commands_in (codes "he" ++ 255 ∷ 10 ∷ codes "lp\n") ≡ Help ∷ []
+  pub byte_255 : commands_in (IAC ∷ IAC ∷ codes "\n") ≡ Other ∷ []
+  pub offers : commands_in (IAC ∷ WILL ∷ 3 ∷ IAC ∷ DO ∷ 24 ∷ []) ≡ Refuse DONT 3 ∷ Refuse WONT 24 ∷ []
+  pub no_answer : commands_in (IAC ∷ WONT ∷ 3 ∷ IAC ∷ DONT ∷ 24 ∷ []) ≡ []
+  pub inside_a_line : commands_in (codes "he" ++ IAC ∷ DO ∷ 1 ∷ codes "lp\n") ≡ Refuse WONT 1 ∷ Help ∷ []
+  pub two_taken_out : commands_in (codes "he" ++ IAC ∷ codes "\nlp\n") ≡ Help ∷ []
   -- lines
   pub words : commands_in (codes "help\nstats\nconns\r\nticks\n\nhelp \n") ≡ Help ∷ Stats ∷ Conns ∷ Ticks ∷ Blank ∷ Other ∷ []
   pub returns_drop : commands_in (codes "\rh\relp\r\r\n\r\n") ≡ Help ∷ Blank ∷ []

@@ -6,19 +6,24 @@ ghost use Rattle.telnet_shell.specs.Reading.Awaits.{Text};
 ghost use Rattle.telnet_shell.specs.Reading.Token.{Byte};
 ghost use Rattle.telnet_shell.specs.Hearing.{IsLine, IsOpen, awaited, command_in, tokens_of};
 
+use crate::LONGEST_LINE;
 use crate::command::Command;
 use arrayvec::ArrayVec;
 
 /// The byte that begins a sequence of the protocol (RFC 854).
-const IAC: u8 = 255;
+pub(crate) const IAC: u8 = 255;
 
-const WILL: u8 = 251;
+/// A peer offers an option.
+pub(crate) const WILL: u8 = 251;
 
-const DO: u8 = 253;
+/// A peer asks for an option.
+pub(crate) const DO: u8 = 253;
 
-const WONT: u8 = 252;
+/// An option is refused, of those that a peer asks for.
+pub(crate) const WONT: u8 = 252;
 
-const DONT: u8 = 254;
+/// An option is refused, of those that a peer offers.
+pub(crate) const DONT: u8 = 254;
 
 /// What a byte tells.
 pub(crate) enum Told {
@@ -70,7 +75,7 @@ fn sequence_after(iac: [u8; 2], byte: u8) -> [u8; 2]
     if iac[0] == 0 {
         if byte == IAC { [IAC, 0] } else { [0, 0] }
     } else if iac[1] == 0 {
-        if byte > 250 && byte < IAC {
+        if byte >= WILL && byte <= DONT {
             [IAC, byte]
         } else {
             [0, 0]
@@ -119,7 +124,7 @@ fn line_ended(kept: &[u8], over: bool) -> Command
 }
 
 /// The line goes on with a byte.
-fn keep(kept: &mut ArrayVec<u8, 16>, over: &mut bool, byte: u8)
+fn keep(kept: &mut ArrayVec<u8, LONGEST_LINE>, over: &mut bool, byte: u8)
     ensures { (line : List ℕ) → IsLine kept.old.items over.old line → IsLine kept.new.items over.new (line ++ byte ∷ []) }
 {
     if kept.is_full() {
@@ -130,8 +135,9 @@ fn keep(kept: &mut ArrayVec<u8, 16>, over: &mut bool, byte: u8)
 }
 
 /// A byte of the text, which ends the line or goes on with it.
-fn hear_text(kept: &mut ArrayVec<u8, 16>, over: &mut bool, byte: u8) -> Option<Command>
-    ensures open { (line : List ℕ) → IsLine kept.old.items over.old line → IsLine kept.new.items over.new (line_after line (Byte byte ∷ [])) }
+fn hear_text(kept: &mut ArrayVec<u8, LONGEST_LINE>, over: &mut bool, byte: u8) -> Option<Command>
+    ensures open { (line : List ℕ) → IsLine kept.old.items over.old line
+        → IsLine kept.new.items over.new (line_after line (Byte byte ∷ [])) }
     ensures command { (line : List ℕ) → IsLine kept.old.items over.old line → command_in result ≡ commands line (Byte byte ∷ []) }
 {
     if byte == b'\n' {
@@ -149,13 +155,15 @@ fn hear_text(kept: &mut ArrayVec<u8, 16>, over: &mut bool, byte: u8) -> Option<C
 
 /// The bytes go on with one, which may complete a command.
 pub(crate) fn hear(
-    kept: &mut ArrayVec<u8, 16>,
+    kept: &mut ArrayVec<u8, LONGEST_LINE>,
     over: &mut bool,
     iac: &mut [u8; 2],
     byte: u8,
 ) -> Option<Command>
-    ensures open { (heard : List ℕ) → IsOpen kept.old.items over.old iac.old heard → IsOpen kept.new.items over.new iac.new (heard ++ byte ∷ []) }
-    ensures command { (heard : List ℕ) → IsOpen kept.old.items over.old iac.old heard → command_in result ≡ commands (line_after [] (tokens Text heard)) (told (awaits_after Text heard) byte) }
+    ensures open { (heard : List ℕ) → IsOpen kept.old.items over.old iac.old heard
+        → IsOpen kept.new.items over.new iac.new (heard ++ byte ∷ []) }
+    ensures command { (heard : List ℕ) → IsOpen kept.old.items over.old iac.old heard
+        → command_in result ≡ commands (line_after [] (tokens Text heard)) (told (awaits_after Text heard) byte) }
 {
     let told = heard_as(*iac, byte);
     *iac = sequence_after(*iac, byte);

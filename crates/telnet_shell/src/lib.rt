@@ -19,5 +19,8 @@ pub const MOST_SILENT_POLLS: u16 = 1200;
 /// The most commands that are not wholly acknowledged.
 pub const MOST_COMMANDS: usize = 32;
 
+/// The most bytes of a line that are kept. No command is as long.
+pub const LONGEST_LINE: usize = 16;
+
 #[cfg(test)]
 mod tests;

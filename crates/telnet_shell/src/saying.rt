@@ -6,11 +6,18 @@ ghost use Rattle.generators.specs.declared.capture.Capture.TheVariants.{Empty};
 ghost use Rattle.telnet_shell.specs.Transcript.{function_of, needs_capture, said_with, transcript};
 ghost use Rattle.telnet_shell.specs.Saying.{IsBehind, IsInFront, Passes, due, front_size, is_past, is_taken, left_said, stops_at};
 ghost use Rattle.app_events.specs.Part.{Part};
+ghost use Rattle.telnet_shell.specs.declared.TheConstants.{MOST_COMMANDS};
+ghost use Rattle.telnet_shell.specs.declared.saying.TheConstants.{LONGEST_SAID};
 
+use crate::MOST_COMMANDS;
 use crate::command::Command;
+use crate::hearing::IAC;
 use arrayvec::ArrayVec;
 use generators::{Capture, fill_at, text_len};
 use script_lang::Function;
+
+/// No command says more bytes.
+const LONGEST_SAID: usize = 4300;
 
 const HELP: &[u8] = b"help stats conns ticks quit\r\n> ";
 
@@ -51,7 +58,7 @@ pub(crate) fn is_stopped(command: Command, capture: &Capture) -> bool
 pub(crate) fn said_len(command: Command, capture: &Capture) -> usize
     ensures length { result ≡ length (said_with command capture.now) }
     ensures some { 1 ≤ result }
-    ensures short { result ≤ 4300 }
+    ensures short { result ≤ LONGEST_SAID }
 {
     match command {
         Command::Refuse(_, _) => 3,
@@ -95,7 +102,7 @@ fn fill_said(command: Command, capture: &Capture, at: usize, out: &mut [u8])
     ensures { out.new ≡ take (length out.old) (drop at (said_with command capture.now)) }
 {
     match command {
-        Command::Refuse(verb, choice) => copy_from(&[255, verb, choice], at, out),
+        Command::Refuse(verb, choice) => copy_from(&[IAC, verb, choice], at, out),
         Command::Help => copy_from(HELP, at, out),
         Command::Stats => fill_made(capture, PROMPT, at, out),
         Command::Conns => fill_made(capture, PROMPT, at, out),
@@ -108,9 +115,9 @@ fn fill_said(command: Command, capture: &Capture, at: usize, out: &mut [u8])
 
 /// The length of the texts of commands up to the first that needs a capture.
 fn rest_len(queue: &[Command]) -> usize
-    requires { length queue.now ≤ 32 }
+    requires { length queue.now ≤ MOST_COMMANDS }
     ensures length { result ≡ length (transcript queue.now []) }
-    ensures short { result ≤ 4300 * length queue.now }
+    ensures short { result ≤ LONGEST_SAID * length queue.now }
 {
     match queue {
         [] => 0,
@@ -141,9 +148,9 @@ fn fill_rest(queue: &[Command], out: &mut [u8])
 
 /// The length of what a queue says.
 pub(crate) fn left_len(queue: &[Command], capture: &Capture) -> usize
-    requires { length queue.now ≤ 32 }
+    requires { length queue.now ≤ MOST_COMMANDS }
     ensures length { result ≡ length (left_said queue.now capture.now) }
-    ensures short { result ≤ 137600 }
+    ensures short { result ≤ LONGEST_SAID * MOST_COMMANDS }
 {
     match queue {
         [] => 0,
@@ -197,7 +204,11 @@ fn is_past(queue: &[Command], capture: &Capture, at: usize) -> bool
 }
 
 /// Drops the front, and answers the place in the next one.
-fn pass_front(queue: &mut ArrayVec<Command, 32>, capture: &mut Capture, at: usize) -> usize
+fn pass_front(
+    queue: &mut ArrayVec<Command, MOST_COMMANDS>,
+    capture: &mut Capture,
+    at: usize,
+) -> usize
     requires { is_past queue.old.items capture.old at ≡ true }
     ensures { Passes queue.old.items capture.old at queue.new.items capture.new result }
 {
@@ -209,13 +220,14 @@ fn pass_front(queue: &mut ArrayVec<Command, 32>, capture: &mut Capture, at: usiz
 
 /// Drops the commands whose texts are wholly among the first bytes, and answers the place in the front that is left.
 pub(crate) fn advance(
-    queue: &mut ArrayVec<Command, 32>,
+    queue: &mut ArrayVec<Command, MOST_COMMANDS>,
     capture: &mut Capture,
     at: u32,
     count: usize,
 ) -> u32
     requires { at + count ≤ length (left_said queue.old.items capture.old) }
-    ensures behind { (p : Part) → IsBehind queue.old.items capture.old (at + count) p → IsBehind queue.new.items capture.new result p }
+    ensures behind { (p : Part) → IsBehind queue.old.items capture.old (at + count) p
+        → IsBehind queue.new.items capture.new result p }
     ensures place { IsInFront queue.new.items capture.new result }
 {
     let mut place = at as usize + count.min(left_len(queue.as_slice(), capture));

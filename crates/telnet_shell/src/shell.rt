@@ -5,10 +5,10 @@ ghost use Rattle.app_events.specs.Part.{Part};
 ghost use Rattle.telnet_shell.specs.Reading.{is_quit};
 ghost use Rattle.telnet_shell.specs.ShellMeaning.{hear_all, hear_byte};
 
-use crate::MOST_SILENT_POLLS;
 use crate::command::Command;
 use crate::hearing::hear;
 use crate::saying::{advance, due, fill_left, left_len};
+use crate::{LONGEST_LINE, MOST_COMMANDS, MOST_SILENT_POLLS};
 use app_events::{App, Ending, Now, Want};
 use arrayvec::ArrayVec;
 use generators::{Capture, take};
@@ -24,13 +24,13 @@ pub const TELNET_PORT: u16 = 23;
 #[derive(Drop)]
 pub struct Shell {
     /// The first bytes of the open line.
-    pub line: ArrayVec<u8, 16>,
+    pub line: ArrayVec<u8, LONGEST_LINE>,
     /// The line has more bytes than are kept.
     pub over: bool,
     /// The open sequence of the protocol: nothing, its first byte, or its first two.
     pub iac: [u8; 2],
     /// The front is the command whose text is being said.
-    pub queue: ArrayVec<Command, 32>,
+    pub queue: ArrayVec<Command, MOST_COMMANDS>,
     /// A command came for which there was no room.
     pub lost: bool,
     /// `quit` came.

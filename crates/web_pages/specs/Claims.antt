@@ -32,9 +32,11 @@ IsMadeOfBytes =
 -- An upgrade in which no word names a file keeps every page.
 abbrev pub UpgradeKeepsPages : Type 0
 UpgradeKeepsPages =
-    (files : List File) (words : List KindContent) → ((word : KindContent) (k : ℕ) → slice_get words k ≡ Some word → has_name files word.name ≡ false) →
-    (request : List ℕ) (captures : List Moment) →
-    (page (upgraded words files) request captures ≡ page files request captures) × (is_page_whole (upgraded words files) request captures ≡ is_page_whole files request captures)
+    (files : List File) (words : List KindContent)
+    → ((word : KindContent) (k : ℕ) → slice_get words k ≡ Some word → has_name files word.name ≡ false)
+    → (request : List ℕ) (captures : List Moment)
+    → (page (upgraded words files) request captures ≡ page files request captures)
+    × (is_page_whole (upgraded words files) request captures ≡ is_page_whole files request captures)
 
 -- What is decided of a request stays, whatever bytes follow.
 abbrev pub DecisionStays : Type 0

@@ -34,7 +34,8 @@ abbrev pub by_tests : Bool → Bool → Bool → List ℕ → Wanted
 by_tests method is_get target word =
     if not method then NotYet else if not is_get then Refused else if not target then NotYet else wanted_by word
 
-stays_by : (a a' b b' c c' : Bool) (t t' : List ℕ) → (a ≡ true → a' ≡ true) → (a ≡ true → b' ≡ b) → (a ≡ true → c ≡ true → (c' ≡ true) × (t' ≡ t))
+stays_by : (a a' b b' c c' : Bool) (t t' : List ℕ) → (a ≡ true → a' ≡ true) → (a ≡ true → b' ≡ b)
+    → (a ≡ true → c ≡ true → (c' ≡ true) × (t' ≡ t))
     → by_tests a b c t ≢ NotYet → by_tests a' b' c' t' ≡ by_tests a b c t
 stays_by false a' b b' c c' t t' f g h decided = absurd (decided refl)
 stays_by true a' false b' c c' t t' f g h decided = λ i. by_tests (f refl i) (g refl i) c' t'
@@ -44,7 +45,8 @@ stays_by true a' true b' true c' t t' f g h decided = λ i. by_tests (f refl i) 
 pub stays_wanted : (request more : List ℕ) → wanted request ≢ NotYet → wanted (request ++ more) ≡ wanted request
 stays_wanted request more decided =
     stays_by (has_ended Space request) (has_ended Space (request ++ more)) (bytes_eq (method_of request) (codes "GET"))
-    (bytes_eq (method_of (request ++ more)) (codes "GET")) (has_ended SpaceOrLine (after_method request)) (has_ended SpaceOrLine (after_method (request ++ more)))
+    (bytes_eq (method_of (request ++ more)) (codes "GET")) (has_ended SpaceOrLine (after_method request))
+    (has_ended SpaceOrLine (after_method (request ++ more)))
     (target_of request) (target_of (request ++ more))
     (ended_more Space request more)
     (λ e. ap (λ word. bytes_eq word (codes "GET")) (word_more Space request more e))
@@ -70,7 +72,8 @@ pub method_open : (request : List ℕ) → has_ended Space request ≡ false →
 method_open request e =
     ap (λ a. by_tests a (bytes_eq (method_of request) (codes "GET")) (has_ended SpaceOrLine (after_method request)) (target_of request)) e
 
-pub other_method : (request : List ℕ) → has_ended Space request ≡ true → bytes_eq (method_of request) (codes "GET") ≡ false → wanted request ≡ Refused
+pub other_method : (request : List ℕ) → has_ended Space request ≡ true → bytes_eq (method_of request) (codes "GET") ≡ false
+    → wanted request ≡ Refused
 other_method request e f = λ i. by_tests (e i) (f i) (has_ended SpaceOrLine (after_method request)) (target_of request)
 
 pub target_open : (request : List ℕ) → has_ended Space request ≡ true → bytes_eq (method_of request) (codes "GET") ≡ true
@@ -89,7 +92,8 @@ method_goes_on request more e = none_before (is_stop Space) request more e
 pub target_begins : (request more : List ℕ) → has_ended Space request ≡ false → after_method (request ++ more) ≡ after_method more
 target_begins request more e =
     let word = method_of more in
-    let counted : length (method_of (request ++ more)) ≡ length request + length word = ap length (method_goes_on request more e) ∙ length-append request word in
+    let counted : length (method_of (request ++ more)) ≡ length request + length word =
+    ap length (method_goes_on request more e) ∙ length-append request word in
     ap (λ n. drop n (request ++ more)) (omega (arith, counted))
     ∙ sym (drop-drop (length word + 1) (length request) (request ++ more))
     ∙ ap (drop (length word + 1)) (drop_at request more (length request) refl)

@@ -9,19 +9,21 @@ use Rattle.app_events.specs.declared.want.Want.{Want}
 use Rattle.app_events.specs.declared.want.Want.TheVariants.{Nothing, Send, Close, Abort}
 use Rattle.web_pages.specs.Requests.{wanted}
 use Rattle.web_pages.specs.Pages.{page, is_page_whole, pages_of}
-use Rattle.web_pages.specs.WebMeaning.{web_meaning, web_want, is_acknowledged, waits_for_capture, left_of}
+use Rattle.web_pages.specs.WebMeaning.{web_meaning, open_want, web_want, is_acknowledged, waits_for_capture, left_of}
 use Rattle.web_pages.specs.Growing.{page_grows, same_prefix}
 use Rattle.web_pages.specs.declared.TheConstants.{MOST_POLLS, LARGEST_SEGMENT}
 
 no_more : (xs : List ℕ) → xs ++ [] ≡ xs
 no_more xs = append-nil xs
 
-pub newdata_grows : (files : List File) (part : Part) (piece : List ℕ) → IsPrefixOf (page files part.heard part.captures) (page files (part.heard ++ piece) part.captures)
+pub newdata_grows : (files : List File) (part : Part) (piece : List ℕ)
+    → IsPrefixOf (page files part.heard part.captures) (page files (part.heard ++ piece) part.captures)
 newdata_grows files part piece =
     let p = page_grows files part.heard piece part.captures [] in
     record { rest = p.rest; joined = p.joined ∙ ap (λ captures. page files (part.heard ++ piece) captures) (append-nil part.captures) }
 
-capture_grows : (files : List File) (part : Part) (capture : Moment) → IsPrefixOf (page files part.heard part.captures) (page files part.heard (part.captures ++ capture ∷ []))
+capture_grows : (files : List File) (part : Part) (capture : Moment)
+    → IsPrefixOf (page files part.heard part.captures) (page files part.heard (part.captures ++ capture ∷ []))
 capture_grows files part capture =
     let p = page_grows files part.heard [] part.captures (capture ∷ []) in
     record { rest = p.rest; joined = p.joined ∙ ap (λ heard. page files heard (part.captures ++ capture ∷ [])) (no_more part.heard) }
@@ -29,9 +31,11 @@ capture_grows files part capture =
 abbrev pub with_capture : Part → Moment → Part
 with_capture part capture = record part { captures = part.captures ++ capture ∷ [] }
 
-either_grows : (files : List File) (part : Part) (capture : Moment) (waits : Bool) → Grows (web_meaning files) part (if waits then with_capture part capture else part)
+either_grows : (files : List File) (part : Part) (capture : Moment) (waits : Bool)
+    → Grows (web_meaning files) part (if waits then with_capture part capture else part)
 either_grows files part capture true = record { text = capture_grows files part capture; offset = refl }
-either_grows files part capture false = record { text = same_prefix (page files part.heard part.captures) (page files part.heard part.captures) refl; offset = refl }
+either_grows files part capture false =
+    record { text = same_prefix (page files part.heard part.captures) (page files part.heard part.captures) refl; offset = refl }
 
 -- ---- what it wants
 
@@ -60,9 +64,7 @@ wants_by files part P abort nothing close send =
         close both.0 (eqb-true part.acked (length (page files part.heard part.captures)) both.1)
     by_end false e = by_left (nat_lt 0 (left_of files part)) refl
 
-    by_polls : (b : Bool)
-        → P (if is_page_whole files part.heard part.captures && is_acknowledged files part then Close else (if nat_lt 0 (left_of files part) then Send (min LARGEST_SEGMENT (left_of files part)) else Nothing))
-        → P (if b then Abort else (if is_page_whole files part.heard part.captures && is_acknowledged files part then Close else (if nat_lt 0 (left_of files part) then Send (min LARGEST_SEGMENT (left_of files part)) else Nothing)))
+    by_polls : (b : Bool) → P (open_want files part) → P (if b then Abort else open_want files part)
     by_polls true rest = abort
     by_polls false rest = rest
 
@@ -70,10 +72,12 @@ pub may_want : (files : List File) (part : Part) → MayWant (pages_of files) pa
 may_want files part =
     wants_by files part (MayWant (pages_of files) part) tt tt (λ whole all. (whole, all)) (λ n one most. (one, omega arith))
 
-can_send : (files : List File) (part : Part) → CanSend (web_want files part) (length (drop part.acked (page files part.heard part.captures)))
+can_send : (files : List File) (part : Part)
+    → CanSend (web_want files part) (length (drop part.acked (page files part.heard part.captures)))
 can_send files part =
     let left = length-drop part.acked (page files part.heard part.captures) in
-    wants_by files part (λ want. CanSend want (length (drop part.acked (page files part.heard part.captures)))) tt tt (λ whole all. tt) (λ n one most. (one, omega arith))
+    wants_by files part (λ want. CanSend want (length (drop part.acked (page files part.heard part.captures)))) tt tt (λ whole all. tt)
+    (λ n one most. (one, omega arith))
 
 -- ---- the laws
 
@@ -81,7 +85,8 @@ pub web_lawful : (files : List File) (stands : Part → Type 0) → IsLawful (we
 web_lawful files stands = record {
   newdata_grows = λ hits part piece s. record { text = newdata_grows files part piece; offset = refl };
   prepare_grows = λ hits part now s.
-      either_grows files part (record { numbers = hits; now = now }) (is_acknowledged files part && waits_for_capture files (wanted part.heard) part);
+      either_grows files part (record { numbers = hits; now = now })
+      (is_acknowledged files part && waits_for_capture files (wanted part.heard) part);
   acked_moves = λ hits part n s h. (refl, refl);
   polled_keeps = λ hits part s. (refl, refl);
   sends = λ hits part s. can_send files part;

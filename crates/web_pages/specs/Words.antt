@@ -22,8 +22,9 @@ told_so_far method target =
 -- target's name came than is kept.
 abbrev pub ToldInPieces : Type 0
 ToldInPieces =
-    (pieces later : List (List ℕ)) → after_method (concat pieces) ≡ concat later →
-    (fold after (fresh SpaceOrLine) later).over ≡ false → wanted (concat pieces) ≡ told_so_far (fold after (fresh Space) pieces) (fold after (fresh SpaceOrLine) later)
+    (pieces later : List (List ℕ)) → after_method (concat pieces) ≡ concat later
+    → (fold after (fresh SpaceOrLine) later).over ≡ false
+    → wanted (concat pieces) ≡ told_so_far (fold after (fresh Space) pieces) (fold after (fresh SpaceOrLine) later)
 
 -- Where more came, the name that is asked for is longer than any file's.
 abbrev pub LongNames : Type 0

@@ -88,5 +88,6 @@ pub record AreWorkedPages : Type 0 where
   pub no_capture : page calls_site (get (codes "/s.shtml")) [] ≡ ok ++ as_html ++ codes "a"
   pub one_capture : page calls_site (get (codes "/s.shtml")) (moment_at 0 7 ∷ []) ≡ ok ++ as_html ++ codes "a         7bc"
   pub one_capture_open : is_page_whole calls_site (get (codes "/s.shtml")) (moment_at 0 7 ∷ []) ≡ false
-  pub two_captures : page calls_site (get (codes "/s.shtml")) (moment_at 0 7 ∷ moment_at 0 12 ∷ []) ≡ ok ++ as_html ++ codes "a         7bc        12d"
+  pub two_captures : page calls_site (get (codes "/s.shtml")) (moment_at 0 7 ∷ moment_at 0 12 ∷ [])
+      ≡ ok ++ as_html ++ codes "a         7bc        12d"
   pub two_captures_whole : is_page_whole calls_site (get (codes "/s.shtml")) (moment_at 0 7 ∷ moment_at 0 12 ∷ []) ≡ true

@@ -1,5 +1,5 @@
 -- The page of a target at which each call is given the zero record of its kind: hits 0, ticks 0, twenty zeros, no rows.
-use Rattle.std.specs.Prelude.{ℕ, List, [], ◌∷◌, ◌++◌, codes, length, replicate, Option}
+use Rattle.std.specs.Prelude.{ℕ, List, [], ◌++◌, codes, length, replicate, Option}
 use Rattle.std.specs.List.{flat_map}
 use Rattle.app_events.specs.Part.{Moment}
 use Rattle.generators.specs.Captures.{capture_of}
@@ -16,7 +16,7 @@ zero_moment = record { numbers = []; now = record { ticks = 0; net = replicate 2
 
 -- the shortest request for a target
 abbrev pub request_for : List ℕ → List ℕ
-request_for target = codes "GET " ++ target ++ 10 ∷ []
+request_for target = codes "GET " ++ target ++ codes "\n"
 
 -- no page takes more captures than it has pieces
 abbrev pub most_captures : List File → Wanted → ℕ

@@ -1,5 +1,4 @@
 use Rattle.std.proofs.Common.{[], ◌∷◌, sym, ap, subst, arith}
-use Rattle.file_tree.specs.Site.{files_of}
 use Rattle.web_pages.specs.Pieces.{piece_bytes}
 use Rattle.web_pages.specs.Pieces.Say.{Plain}
 use Rattle.httpd.specs.Reply.{body_from, left_from, reply_in}

@@ -10,14 +10,14 @@ returns-in-Call c =
     let r = reply_in c.args.site.now c.args.found c.args.capture.now in
     let call = call_seen r (left_from r c.loop-ready.place) c.look-seen.result c.in-Call.function c.in-Call.argument c.in-Call.is c.look-seen.ensures.sees in
     let stops = call_stops r (left_from r c.loop-ready.place) c.in-Call.function c.in-Call.argument.now c.look-seen.result.next call in
-    c.want_before_call.ensures
+    c.sent_or.ensures
     ∙ want_at r c.args.thread c.loop-ready.place c.loop-ready.ready Nothing false c.loop-ready.invariant.0 c.loop-ready.invariant.1 c.loop-ready-test.true stops.0 stops.1 refl
 
 pub returns-in-End : goal.returns-in-End
 returns-in-End c =
     let r = reply_in c.args.site.now c.args.found c.args.capture.now in
     let end = end_reached r (left_from r c.loop-ready.place) c.look-seen.result c.in-End.is c.look-seen.ensures.sees in
-    c.want_before_end.ensures
+    c.sent_or-in-End.ensures
     ∙ want_at r c.args.thread c.loop-ready.place c.loop-ready.ready Close true c.loop-ready.invariant.0 c.loop-ready.invariant.1 c.loop-ready-test.true
     (ap (λ p. page_text r.files p []) end) (ap (λ p. reach_end p []) end) refl
 

@@ -1,24 +1,48 @@
-use Rattle.std.proofs.Common.{◌++◌, sym}
-use Rattle.file_tree.specs.Site.{files_of}
-use Rattle.web_pages.specs.Pieces.{kind_line}
-use Rattle.httpd.specs.Reply.{found_file, head_text, kind_text}
-use Rattle.httpd.specs.Zero.{zero_body}
-use Rattle.httpd.proofs.ZeroWriting.{reply_parts}
-use Rattle.uip_edge.proofs.Writes.{writes_by, writes_stop, writes_both}
+use Rattle.std.proofs.Common.{◌∙◌, ap}
+use Rattle.generators.specs.Captures.{capture_of}
+use Rattle.httpd.specs.Reply.{left_from, reply_in}
+use Rattle.httpd.proofs.Walking.{call_seen, end_reached, plain_seen, text_unless}
+use Rattle.httpd.proofs.ZeroWriting.{saying_ends, saying_more, saying_starts, saying_stops, saying_taken, smaller_call, smaller_text}
 use Rattle.httpd.proofs.zero.write_reply.Goals as goal
 
-pub returns-in_err-say : goal.returns-in_err-say
-returns-in_err-say g c =
-    let files = files_of c.args.site.now in
-    let file = found_file files c.args.found in
-    writes_by _ _ _ _ _ (reply_parts files file)
-    (writes_stop _ _ c.in_err-say.field-0.0 c.from_residual.result (head_text file) (kind_line (kind_text file) ++ zero_body files file) c.from_residual.ensures.0
-    (writes_by _ _ _ _ _ (sym c.head_of.ensures.text) c.in_err-say.ensures))
+pub loop-function-init : goal.loop-function-init
+loop-function-init g c = saying_starts (reply_in c.args.site.now c.args.found _) _
 
-pub returns : goal.returns
-returns g c =
-    let files = files_of c.args.site.now in
-    let file = found_file files c.args.found in
-    writes_by _ _ _ _ _ (reply_parts files file)
-    (writes_both _ _ _ c.in_ok-say.field-0 c.write_content.result (head_text file) (kind_line (kind_text file) ++ zero_body files file)
-    (writes_by _ _ _ _ _ (sym c.head_of.ensures.text) c.in_ok-say.ensures) c.write_content.ensures)
+pub returns-in-End : goal.returns-in-End
+returns-in-End g c =
+    let r = reply_in c.args.site.now c.args.found c.loop-function.capture in
+    saying_ends r c.loop-function.thread _ _ tt c.loop-function.invariant (end_reached r (left_from r c.loop-function.thread) c.look-seen.result c.in-End.is c.look-seen.ensures.sees)
+
+pub loop-function-preserved-in-Call : goal.loop-function-preserved-in-Call
+loop-function-preserved-in-Call g c =
+    let r = reply_in c.args.site.now c.args.found c.loop-function.capture in
+    saying_taken c.args.site.now c.args.found c.loop-function.capture c.take-capture.result c.loop-function.thread c.look-seen.result.next c.in-Call.function c.in-Call.argument.now _ _
+    c.loop-function.invariant (call_seen r (left_from r c.loop-function.thread) c.look-seen.result c.in-Call.function c.in-Call.argument c.in-Call.is c.look-seen.ensures.sees)
+    (c.take-capture.ensures ∙ ap (λ now. capture_of c.in-Call.function 0 now) c.zero_now.ensures)
+
+pub loop-function-smaller-in-Call : goal.loop-function-smaller-in-Call
+loop-function-smaller-in-Call g c =
+    let r = reply_in c.args.site.now c.args.found c.loop-function.capture in
+    smaller_call c.args.site.now c.args.found c.loop-function.capture c.take-capture.result c.loop-function.thread c.look-seen.result.next c.in-Call.function c.in-Call.argument.now
+    (call_seen r (left_from r c.loop-function.thread) c.look-seen.result c.in-Call.function c.in-Call.argument c.in-Call.is c.look-seen.ensures.sees)
+    (c.take-capture.ensures ∙ ap (λ now. capture_of c.in-Call.function 0 now) c.zero_now.ensures)
+
+pub loop-function-preserved : goal.loop-function-preserved
+loop-function-preserved g c =
+    let r = reply_in c.args.site.now c.args.found c.loop-function.capture in
+    saying_more r c.loop-function.thread c.look-seen.result _ _ _ c.in_ok-say_span-in_default.field-0 c.loop-function.invariant
+    (plain_seen r (left_from r c.loop-function.thread) c.look-seen.result (text_unless c.look-seen.result.span c.in_default.not-Call c.in_default.not-End) c.look-seen.ensures.sees)
+    c.in_ok-say_span-in_default.ensures
+
+pub loop-function-smaller : goal.loop-function-smaller
+loop-function-smaller g c =
+    let r = reply_in c.args.site.now c.args.found c.loop-function.capture in
+    smaller_text r c.loop-function.thread c.look-seen.result
+    (plain_seen r (left_from r c.loop-function.thread) c.look-seen.result (text_unless c.look-seen.result.span c.in_default.not-Call c.in_default.not-End) c.look-seen.ensures.sees)
+
+pub returns-in_err-say_span-in_default : goal.returns-in_err-say_span-in_default
+returns-in_err-say_span-in_default g c =
+    let r = reply_in c.args.site.now c.args.found c.loop-function.capture in
+    saying_stops r c.loop-function.thread c.look-seen.result _ _ _ c.in_err-say_span-in_default.field-0.0 c.from_residual.result c.from_residual.ensures.0 c.loop-function.invariant
+    (plain_seen r (left_from r c.loop-function.thread) c.look-seen.result (text_unless c.look-seen.result.span c.in_default.not-Call c.in_default.not-End) c.look-seen.ensures.sees)
+    c.in_err-say_span-in_default.ensures

@@ -1,9 +1,0 @@
-use Rattle.std.proofs.Common.{length, arith, ◌∙◌, sym}
-use Rattle.std.proofs.lemmas.List.{take_all}
-use Rattle.generators.specs.Text.{capture_text}
-use Rattle.uip_edge.proofs.Writes.{writes_by}
-use Rattle.httpd.proofs.zero.say_record.Goals as goal
-
-pub returns : goal.returns
-returns g c =
-    writes_by _ _ _ _ _ (sym (c.fill_at.ensures ∙ take_all (length c.args.room.now) (capture_text c.args.capture.now) (omega arith))) c.say.ensures
