@@ -10,11 +10,13 @@ use Rattle.tcp_machine.specs.Sound.{IsSound}
 use Rattle.tcp_machine.specs.Stands.{ConnStands, Meets}
 use Rattle.tcp_machine.specs.declared.step.Step.{Step}
 
--- The connection takes this step: it stands for what the definition leaves, asks for what it says, and stays sound; and where one that rests in
--- CLOSE-WAIT has something outstanding before, it has so after.
-pub record Takes {A S : Type 0} (g : Ghosts A S) (f : Meaning → Connection → List ℕ → Outcome) (old : Conn A) (before : S) (new : Conn A) (after : S) (step : Step) : Type 0 where
+-- The connection takes this step: it stands for what the definition leaves, asks for what it says, and stays sound; and where one that
+-- rests in CLOSE-WAIT has something outstanding before, it has so after.
+pub record Takes {A S : Type 0} (g : Ghosts A S) (f : Meaning → Connection → List ℕ → Outcome) (old : Conn A) (before : S) (new : Conn A)
+    (after : S) (step : Step) : Type 0 where
   pub same : g.kept after ≡ g.kept before
   pub sound : IsSound g (g.kept before) new
   pub place : SameSockets old new
   pub fits : Rests old → StepFits new step
-  pub meets : (a : Connection) → ConnStands g (g.kept before) old a → Meets g (g.kept before) new (g.numbers after) step (f (g.meaning (g.kept before)) a (g.numbers before))
+  pub meets : (a : Connection) → ConnStands g (g.kept before) old a
+      → Meets g (g.kept before) new (g.numbers after) step (f (g.meaning (g.kept before)) a (g.numbers before))

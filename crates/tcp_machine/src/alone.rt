@@ -25,7 +25,8 @@ fn fin_acked<A>(conn: &mut Conn<A>, seg: &Segment, piece: &[u8]) -> Step
     ensures closed_to_it { is_open conn.new.state ≡ false }
     ensures place { SameSockets conn.old conn.new }
     ensures fits { StepFits conn.new result }
-    ensures meets { (a : Connection) (ns : List ℕ) → NumbersStand conn.old a → MeetsAlone conn.new ns result (fin_acked a ns (plain seg.now piece.now)) }
+    ensures meets { (a : Connection) (ns : List ℕ) → NumbersStand conn.old a
+        → MeetsAlone conn.new ns result (fin_acked a ns (plain seg.now piece.now)) }
 {
     rest(conn);
     let count = piece.len() as u32;
@@ -49,7 +50,8 @@ fn fin_waits<A>(conn: &mut Conn<A>, seg: &Segment, piece: &[u8]) -> Step
     ensures closed_to_it { is_open conn.new.state ≡ false }
     ensures place { SameSockets conn.old conn.new }
     ensures fits { StepFits conn.new result }
-    ensures meets { (a : Connection) (ns : List ℕ) → NumbersStand conn.old a → MeetsAlone conn.new ns result (fin_waits a ns (plain seg.now piece.now)) }
+    ensures meets { (a : Connection) (ns : List ℕ) → NumbersStand conn.old a
+        → MeetsAlone conn.new ns result (fin_waits a ns (plain seg.now piece.now)) }
 {
     let count = piece.len() as u32;
     if seg.has_fin() {
@@ -74,7 +76,8 @@ pub(crate) fn in_fin_wait_2<A>(conn: &mut Conn<A>, seg: &Segment, piece: &[u8]) 
     ensures closed_to_it { is_open conn.new.state ≡ false }
     ensures place { SameSockets conn.old conn.new }
     ensures fits { StepFits conn.new result }
-    ensures meets { (a : Connection) (ns : List ℕ) → NumbersStand conn.old a → MeetsAlone conn.new ns result (in_fin_wait_2 a ns (plain seg.now piece.now)) }
+    ensures meets { (a : Connection) (ns : List ℕ) → NumbersStand conn.old a
+        → MeetsAlone conn.new ns result (in_fin_wait_2 a ns (plain seg.now piece.now)) }
 {
     let count = piece.len() as u32;
     if seg.has_fin() {
@@ -98,7 +101,8 @@ pub(crate) fn in_fin_wait_1<A>(conn: &mut Conn<A>, seg: &Segment, piece: &[u8], 
     ensures closed_to_it { is_open conn.new.state ≡ false }
     ensures place { SameSockets conn.old conn.new }
     ensures fits { StepFits conn.new result }
-    ensures meets { (m : Meaning) (a : Connection) (ns : List ℕ) → NumbersStand conn.old a → MeetsAlone conn.new ns result (by_state m State.FinWait1 acked a ns (plain seg.now piece.now)) }
+    ensures meets { (m : Meaning) (a : Connection) (ns : List ℕ) → NumbersStand conn.old a
+        → MeetsAlone conn.new ns result (by_state m State.FinWait1 acked a ns (plain seg.now piece.now)) }
 {
     if acked {
         fin_acked(conn, seg, piece)
@@ -115,7 +119,8 @@ pub(crate) fn in_closing<A>(conn: &mut Conn<A>, acked: bool) -> Step
     ensures closed_to_it { is_open conn.new.state ≡ false }
     ensures place { SameSockets conn.old conn.new }
     ensures fits { StepFits conn.new result }
-    ensures meets { (m : Meaning) (a : Connection) (ns : List ℕ) (s : PlainSegment) → NumbersStand conn.old a → MeetsAlone conn.new ns result (by_state m State.Closing acked a ns s) }
+    ensures meets { (m : Meaning) (a : Connection) (ns : List ℕ) (s : PlainSegment) → NumbersStand conn.old a
+        → MeetsAlone conn.new ns result (by_state m State.Closing acked a ns s) }
 {
     if acked {
         rest(conn);
@@ -132,7 +137,8 @@ pub(crate) fn in_last_ack<A>(conn: &mut Conn<A>, acked: bool) -> Step
     ensures closed_to_it { is_open conn.new.state ≡ false }
     ensures place { SameSockets conn.old conn.new }
     ensures fits { StepFits conn.new result }
-    ensures meets { (m : Meaning) (a : Connection) (ns : List ℕ) (s : PlainSegment) → NumbersStand conn.old a → MeetsAlone conn.new ns result (by_state m State.LastAck acked a ns s) }
+    ensures meets { (m : Meaning) (a : Connection) (ns : List ℕ) (s : PlainSegment) → NumbersStand conn.old a
+        → MeetsAlone conn.new ns result (by_state m State.LastAck acked a ns s) }
 {
     if acked {
         rest(conn);

@@ -32,7 +32,8 @@ fn prepare<A: App>(conn: &mut Conn<A>, shared: &A::Shared, now: &Now)
     ensures sound { IsSound A.App (A.kept shared.now) conn.new }
     ensures place { SameSockets conn.old conn.new }
     ensures same_numbers { SameNumbers conn.old conn.new }
-    ensures conn { (a : Connection) → ConnStands A.App (A.kept shared.now) conn.old a → ConnStands A.App (A.kept shared.now) conn.new (prepared (A.meaning (A.kept shared.now)) now.now a (A.numbers shared.now)) }
+    ensures conn { (a : Connection) → ConnStands A.App (A.kept shared.now) conn.old a
+        → ConnStands A.App (A.kept shared.now) conn.new (prepared (A.meaning (A.kept shared.now)) now.now a (A.numbers shared.now)) }
 {
     conn.app.prepare(shared, now);
 }
@@ -58,7 +59,8 @@ fn idle<A: App>(conn: &mut Conn<A>, shared: &A::Shared, fresh: bool) -> Step
 fn do_as_wanted<A: App>(conn: &mut Conn<A>, shared: &A::Shared, want: Want, fresh: bool) -> Step
     requires asked { CanBeAsked conn.old }
     requires sound { IsSound A.App (A.kept shared.now) conn.old }
-    requires want { (p : Part) → A.stands_for conn.old.app (A.kept shared.now) p → want ≡ (A.meaning (A.kept shared.now)).want (A.numbers shared.now) p }
+    requires want { (p : Part) → A.stands_for conn.old.app (A.kept shared.now) p
+        → want ≡ (A.meaning (A.kept shared.now)).want (A.numbers shared.now) p }
     ensures same_numbers { SameNumbers conn.old conn.new }
     ensures answer { IsAnswer result }
     ensures takes { Takes A.App (λ m a ns. does_as_wanted want fresh a ns) conn.old shared.now conn.new shared.now result }

@@ -37,7 +37,8 @@ pub(crate) fn enter<A>(conn: &mut Conn<A>, state: State)
     requires busy { is_resting conn.old.state ≡ false }
     ensures kept { KeepsAll conn.old conn.new }
     ensures state { conn.new.state ≡ state }
-    ensures like { (a : Connection) → conn.old.state ≡ a.state → (is_resting state ≡ true → a.age ≡ 0) → IsLike conn.old a → IsLike conn.new (in_state state a) }
+    ensures like { (a : Connection) → conn.old.state ≡ a.state → (is_resting state ≡ true → a.age ≡ 0) → IsLike conn.old a
+        → IsLike conn.new (in_state state a) }
 {
     conn.state = state;
 }

@@ -39,7 +39,8 @@ pub fn accept<A: App>(conn: &mut Conn<A>, peer: Addr, seg: &Segment, iss: Seq) -
     ensures live { is_live conn.new.state ≡ true }
     ensures fits { StepFits conn.new result }
     ensures sound { (k : A.Kept) → IsSound A.App k conn.new }
-    ensures stands { (k : A.Kept) (text : List ℕ) → ConnStands A.App k conn.new (accepted iss.0 (record { peer = peer; peer_port = seg.now.from; own_port = seg.now.to }) (plain seg.now text)) }
+    ensures stands { (k : A.Kept) (text : List ℕ) → ConnStands A.App k conn.new (accepted iss.0
+        (record { peer = peer; peer_port = seg.now.from; own_port = seg.now.to }) (plain seg.now text)) }
 {
     let mss = mss_of(seg.mss);
     *conn = Conn {

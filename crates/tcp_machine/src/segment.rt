@@ -26,7 +26,8 @@ pub(crate) fn leave<A: App>(conn: &mut Conn<A>, shared: &mut A::Shared, how: End
     ensures closed { conn.new.state ≡ State.Closed }
     ensures place { SameSockets conn.old conn.new }
     ensures same_numbers { SameNumbers conn.old conn.new }
-    ensures numbers { (a : Connection) → ConnStands A.App (A.kept shared.old) conn.old a → A.numbers shared.new ≡ told_end (A.meaning (A.kept shared.old)) how a.state a.part (A.numbers shared.old) }
+    ensures numbers { (a : Connection) → ConnStands A.App (A.kept shared.old) conn.old a
+        → A.numbers shared.new ≡ told_end (A.meaning (A.kept shared.old)) how a.state a.part (A.numbers shared.old) }
 {
     if is_open(conn.state) {
         conn.app.ended(shared, how);
@@ -39,7 +40,8 @@ fn connects<A: App>(conn: &mut Conn<A>, shared: &mut A::Shared, piece: &[u8]) ->
     requires state { conn.old.state ≡ State.SynRcvd }
     requires sound { IsSound A.App (A.kept shared.old) conn.old }
     requires short { length piece.now ≤ 1500 }
-    ensures { (s : PlainSegment) → Takes A.App (λ m a ns. connects m a ns (record s { text = piece.now })) conn.old shared.old conn.new shared.new result }
+    ensures { (s : PlainSegment) → Takes A.App (λ m a ns. connects m a ns (record s { text = piece.now }))
+        conn.old shared.old conn.new shared.new result }
 {
     conn.app.connected(shared, conn.own_port);
     hear(&mut conn.app, shared, piece);
@@ -131,7 +133,8 @@ fn established<A: App>(
     requires state { conn.old.state ≡ State.Established }
     requires sound { IsSound A.App (A.kept shared.old) conn.old }
     requires short { length piece.now ≤ 1500 }
-    ensures { Takes A.App (λ m a ns. by_state m State.Established acked a ns (plain seg.now piece.now)) conn.old shared.old conn.new shared.new result }
+    ensures { Takes A.App (λ m a ns. by_state m State.Established acked a ns (plain seg.now piece.now))
+        conn.old shared.old conn.new shared.new result }
 {
     if acked {
         take_ack(conn, shared);
@@ -149,7 +152,8 @@ fn in_close_wait<A: App>(
 ) -> Step
     requires state { conn.old.state ≡ State.CloseWait }
     requires sound { IsSound A.App (A.kept shared.old) conn.old }
-    ensures { (s : PlainSegment) → Takes A.App (λ m a ns. by_state m State.CloseWait acked a ns (record s { window = seg.now.window })) conn.old shared.old conn.new shared.new result }
+    ensures { (s : PlainSegment) → Takes A.App (λ m a ns. by_state m State.CloseWait acked a ns (record s { window = seg.now.window }))
+        conn.old shared.old conn.new shared.new result }
 {
     if acked {
         take_ack(conn, shared);
@@ -185,7 +189,8 @@ fn by_state<A: App>(
     requires live { is_live conn.old.state ≡ true }
     requires sound { IsSound A.App (A.kept shared.old) conn.old }
     requires short { length piece.now ≤ 1500 }
-    ensures { Takes A.App (λ m a ns. by_state m a.state acked a ns (plain seg.now piece.now)) conn.old shared.old conn.new shared.new result }
+    ensures { Takes A.App (λ m a ns. by_state m a.state acked a ns (plain seg.now piece.now))
+        conn.old shared.old conn.new shared.new result }
 {
     match conn.state {
         State::Closed => Step::Drop,

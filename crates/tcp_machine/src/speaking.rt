@@ -23,8 +23,10 @@ pub(crate) fn is_open(state: State) -> bool
 pub(crate) fn hear<A: App>(app: &mut A, shared: &mut A::Shared, piece: &[u8])
     requires { HasPart A.stands_for app.old (A.kept shared.old) }
     ensures same { A.kept shared.new ≡ A.kept shared.old }
-    ensures part { (p : Part) → A.stands_for app.old (A.kept shared.old) p → A.stands_for app.new (A.kept shared.old) (hears (A.meaning (A.kept shared.old)) (A.numbers shared.old) p piece.now).part }
-    ensures numbers { (p : Part) → A.stands_for app.old (A.kept shared.old) p → A.numbers shared.new ≡ (hears (A.meaning (A.kept shared.old)) (A.numbers shared.old) p piece.now).numbers }
+    ensures part { (p : Part) → A.stands_for app.old (A.kept shared.old) p
+        → A.stands_for app.new (A.kept shared.old) (hears (A.meaning (A.kept shared.old)) (A.numbers shared.old) p piece.now).part }
+    ensures numbers { (p : Part) → A.stands_for app.old (A.kept shared.old) p
+        → A.numbers shared.new ≡ (hears (A.meaning (A.kept shared.old)) (A.numbers shared.old) p piece.now).numbers }
 {
     if !piece.is_empty() {
         app.newdata(shared, piece);
@@ -40,8 +42,11 @@ pub(crate) fn take_ack<A: App>(conn: &mut Conn<A>, shared: &mut A::Shared)
     ensures len { conn.new.len ≡ 0 }
     ensures place { SameSockets conn.old conn.new }
     ensures sound { IsSound A.App (A.kept shared.old) conn.new }
-    ensures conn { (a : Connection) → ConnStands A.App (A.kept shared.old) conn.old a → ConnStands A.App (A.kept shared.old) conn.new (with_part ((A.meaning (A.kept shared.old)).acked (A.numbers shared.old) a.part a.len).part (rests a)) }
-    ensures numbers { (a : Connection) → ConnStands A.App (A.kept shared.old) conn.old a → A.numbers shared.new ≡ ((A.meaning (A.kept shared.old)).acked (A.numbers shared.old) a.part a.len).numbers }
+    ensures conn { (a : Connection) → ConnStands A.App (A.kept shared.old) conn.old a
+        → ConnStands A.App (A.kept shared.old) conn.new (with_part
+        ((A.meaning (A.kept shared.old)).acked (A.numbers shared.old) a.part a.len).part (rests a)) }
+    ensures numbers { (a : Connection) → ConnStands A.App (A.kept shared.old) conn.old a
+        → A.numbers shared.new ≡ ((A.meaning (A.kept shared.old)).acked (A.numbers shared.old) a.part a.len).numbers }
 {
     conn.app.acked(shared, conn.len as usize);
     rest(conn);
@@ -63,8 +68,11 @@ pub(crate) fn absorb<A: App>(
     ensures timer { conn.new.timer ≡ conn.old.timer }
     ensures place { SameSockets conn.old conn.new }
     ensures sound { IsSound A.App (A.kept shared.old) conn.new }
-    ensures conn { (a : Connection) → ConnStands A.App (A.kept shared.old) conn.old a → ConnStands A.App (A.kept shared.old) conn.new (with_window window (with_part (hears (A.meaning (A.kept shared.old)) (A.numbers shared.old) a.part piece.now).part (takes count a))) }
-    ensures numbers { (a : Connection) → ConnStands A.App (A.kept shared.old) conn.old a → A.numbers shared.new ≡ (hears (A.meaning (A.kept shared.old)) (A.numbers shared.old) a.part piece.now).numbers }
+    ensures conn { (a : Connection) → ConnStands A.App (A.kept shared.old) conn.old a
+        → ConnStands A.App (A.kept shared.old) conn.new (with_window window
+        (with_part (hears (A.meaning (A.kept shared.old)) (A.numbers shared.old) a.part piece.now).part (takes count a))) }
+    ensures numbers { (a : Connection) → ConnStands A.App (A.kept shared.old) conn.old a
+        → A.numbers shared.new ≡ (hears (A.meaning (A.kept shared.old)) (A.numbers shared.old) a.part piece.now).numbers }
 {
     hear(&mut conn.app, shared, piece);
     take(conn, count);
