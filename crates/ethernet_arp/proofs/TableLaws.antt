@@ -59,6 +59,29 @@ is_live age =
       | false ↦ λ e. inr (ltb-false age 2400 e)
     ] refl
 
+-- where no hardware address is told, the learning is not fresh
+some_none : (m : List ℕ) → Some m ≡ None → ⊥
+some_none m e = cc
+
+stale : (l : Learning) → mac_of (Some l) ≡ None → is_fresh l ≡ false
+stale l e =
+    elim (is_fresh l) as (λ v. (if◌then◌else◌ {A = Option (List ℕ)} v (Some l.mac) None) ≡ None → v ≡ false) [
+      | true ↦ λ f. absurd (some_none l.mac f)
+      | false ↦ λ f. refl
+    ] e
+
+-- and it is not after more ticks and more addresses
+no_fresher : (t t' n n' : ℕ) → t ≤ t' → n ≤ n' → (nat_lt t 2400 && nat_lt n 8) ≡ false → (nat_lt t' 2400 && nat_lt n' 8) ≡ false
+no_fresher t t' n n' e f h =
+    elim (nat_lt t' 2400 && nat_lt n' 8) as (λ v. (nat_lt t' 2400 && nat_lt n' 8) ≡ v → v ≡ false) [
+      | true ↦ λ g.
+          let it = both (nat_lt t' 2400) (nat_lt n' 8) g in
+          let small : n < 8 = (let s = ltb-true n' 8 it.1 in omega arith) in
+          let young : t < 2400 = (let s = ltb-true t' 2400 it.0 in omega arith) in
+          absurd (not_both (nat_lt t 2400 && nat_lt n 8) (ap (λ v. v && nat_lt n 8) (lt-ltb t 2400 young) ∙ lt-ltb n 8 small) h)
+      | false ↦ λ g. refl
+    ] refl
+
 -- what an entry remembers, with one more learning of another address
 module _ (acts : List Act) (act : Act) (pair : Pair) (is : taught act ≡ Some pair) where
   abbrev now : List Act
@@ -239,37 +262,16 @@ module _ (acts : List Act) (act : Act) (pair : Pair) (is : taught act ≡ Some p
   fresh_less l e =
       let h = addresses-learnt l.later act pair is in
       let ticks = ticks-learnt l.later act pair is in
-      less (ticks_in l.later) (ticks_in (l.later ++ act ∷ [])) (length (addresses_of l.later)) (length (addresses_of (l.later ++ act ∷ []))) ticks
+      no_fresher (ticks_in l.later) (ticks_in (l.later ++ act ∷ [])) (length (addresses_of l.later)) (length (addresses_of (l.later ++ act ∷ []))) (omega (arith, ticks))
       (at_least (length (addresses_of l.later)) (length (addresses_of (l.later ++ act ∷ []))) (among pair.addr (addresses_of l.later)) h.size) e
     where
       at_least : (n m : ℕ) (b : Bool) → m ≡ n + (if b then 0 else 1) → n ≤ m
       at_least n m true e = omega (arith, e)
       at_least n m false e = omega (arith, e)
 
-      less : (t t' n n' : ℕ) → t' ≡ t → n ≤ n' → (nat_lt t 2400 && nat_lt n 8) ≡ false → (nat_lt t' 2400 && nat_lt n' 8) ≡ false
-      less t t' n n' e f h =
-          elim (nat_lt t' 2400 && nat_lt n' 8) as (λ v. (nat_lt t' 2400 && nat_lt n' 8) ≡ v → v ≡ false) [
-            | true ↦ λ g.
-                let it = both (nat_lt t' 2400) (nat_lt n' 8) g in
-                let small : n < 8 = (let s = ltb-true n' 8 it.1 in omega arith) in
-                let young : t < 2400 = (let s = ltb-true t' 2400 it.0 in omega arith) in
-                absurd (not_both (nat_lt t 2400 && nat_lt n 8) (ap (λ v. v && nat_lt n 8) (lt-ltb t 2400 young) ∙ lt-ltb n 8 small) h)
-            | false ↦ λ g. refl
-          ] refl
-
   mac_none : (o : Option Learning) → mac_of o ≡ None → mac_of (on_later act o) ≡ None
   mac_none None e = refl
   mac_none (Some l) e = ap (λ v. if v then Some l.mac else None) (fresh_less l (stale l e))
-    where
-      some_none : (m : List ℕ) → Some m ≡ None → ⊥
-      some_none m e = cc
-
-      stale : (l : Learning) → mac_of (Some l) ≡ None → is_fresh l ≡ false
-      stale l e =
-          elim (is_fresh l) as (λ v. (if◌then◌else◌ {A = Option (List ℕ)} v (Some l.mac) None) ≡ None → v ≡ false) [
-            | true ↦ λ f. absurd (some_none l.mac f)
-            | false ↦ λ f. refl
-          ] e
 
   still_unknown : (addr : List ℕ) → bytes_eq pair.addr addr ≡ false → known acts addr ≡ None → known after addr ≡ None
   still_unknown addr away e = ap (λ (o : Option Learning). mac_of o) (last-other addr acts act pair is away) ∙ mac_none (last_learning addr acts) e
@@ -487,28 +489,8 @@ module _ (acts : List Act) where
 
   mac_ticked : (o : Option Learning) → mac_of o ≡ None → mac_of (on_later Ticked o) ≡ None
   mac_ticked None e = refl
-  mac_ticked (Some l) e = ap (λ v. if v then Some l.mac else None) (no_younger (ticks_in l.later) (ticks_in (l.later ++ Ticked ∷ [])) (ticks-tick l.later) (length (addresses_of l.later)) (length (addresses_of (l.later ++ Ticked ∷ []))) (ap (λ (x : List (List ℕ)). length x) (addresses-tick l.later)) (stale l e))
-    where
-      some_none : (m : List ℕ) → Some m ≡ None → ⊥
-      some_none m e = cc
-
-      stale : (l : Learning) → mac_of (Some l) ≡ None → is_fresh l ≡ false
-      stale l e =
-          elim (is_fresh l) as (λ v. (if◌then◌else◌ {A = Option (List ℕ)} v (Some l.mac) None) ≡ None → v ≡ false) [
-            | true ↦ λ f. absurd (some_none l.mac f)
-            | false ↦ λ f. refl
-          ] e
-
-      no_younger : (t t' : ℕ) → t' ≡ t + 1 → (n n' : ℕ) → n' ≡ n → (nat_lt t 2400 && nat_lt n 8) ≡ false → (nat_lt t' 2400 && nat_lt n' 8) ≡ false
-      no_younger t t' e n n' f h =
-          elim (nat_lt t' 2400 && nat_lt n' 8) as (λ v. (nat_lt t' 2400 && nat_lt n' 8) ≡ v → v ≡ false) [
-            | true ↦ λ g.
-                let it = both (nat_lt t' 2400) (nat_lt n' 8) g in
-                let small : n < 8 = (let s = ltb-true n' 8 it.1 in omega arith) in
-                let young : t < 2400 = (let s = ltb-true t' 2400 it.0 in omega arith) in
-                absurd (not_both (nat_lt t 2400 && nat_lt n 8) (ap (λ v. v && nat_lt n 8) (lt-ltb t 2400 young) ∙ lt-ltb n 8 small) h)
-            | false ↦ λ g. refl
-          ] refl
+  mac_ticked (Some l) e = ap (λ v. if v then Some l.mac else None) (no_fresher (ticks_in l.later) (ticks_in (l.later ++ Ticked ∷ [])) (length (addresses_of l.later)) (length (addresses_of (l.later ++ Ticked ∷ [])))
+      (omega (arith, ticks-tick l.later)) (omega (arith, ap (λ (x : List (List ℕ)). length x) (addresses-tick l.later))) (stale l e))
 
   -- an entry at its last tick
   ends_unknown : (e : Entry) (front : List (List ℕ)) → e.age + 1 ≡ 2400 → Remembers acts front e → known ticked e.addr.0 ≡ None

@@ -1,6 +1,7 @@
 -- One call of the node, told of a station at which it stands.
-use Rattle.std.proofs.Common.{◌≡◌, ℕ, ◌≤◌, ◌<◌, ◌+◌, ◌-◌, Bool, List, [], ◌∷◌, ◌++◌, Option, Result, Ok, Err, OnErr, suc, zero, map, refl, sym, ap, ◌∙◌, subst, add-one, add-suc, add-zero, append-nil, append_assoc, arith}
+use Rattle.std.proofs.Common.{◌≡◌, ℕ, ◌≤◌, ◌<◌, ◌+◌, ◌-◌, Bool, List, [], ◌∷◌, ◌++◌, Option, Result, OnErr, OnOk, suc, zero, map, refl, sym, ap, ◌∙◌, subst, add-one, add-suc, add-zero, append-nil, append_assoc, arith}
 use Rattle.std.specs.Io.KnownBytes.{Appends}
+use Rattle.std.proofs.lemmas.Result.{on_err_weaker, on_ok_weaker}
 use Rattle.uip_wire.specs.declared.addr.Addr.{Addr}
 use Rattle.app_events.specs.Part.{Meaning}
 use Rattle.app_events.specs.declared.app.App.{Ghosts}
@@ -17,10 +18,6 @@ use Rattle.line_medium.specs.Ways.{Way, all_said}
 use Rattle.serve_loop.specs.Turns.{IsHere, IsNode}
 use Rattle.serve_loop.proofs.AddrLaws.{step-addr}
 use Rattle.serve_loop.proofs.RunLaws.{broke_by, broke_more, broke_one, broke_then, wrote_one}
-
-pub on_err_weaker : {T E P Q : Type 0} (r : Result T E) → (P → Q) → OnErr r P → OnErr r Q
-on_err_weaker (Ok x) f p = tt
-on_err_weaker (Err e) f p = f p
 
 module _ {A S : Type 0} (g : Ghosts A S) where
   abbrev At : Meaning → Addr → Node A S → AbstractNode → Type 0
@@ -67,6 +64,22 @@ module _ {A S : Type 0} (g : Ghosts A S) where
         broke_one m g.served w own (Happens event) (Here did m own old) (Here did' m own new) a b
         (λ s p. let both = node_step m own old new result event s.node same (steps s.node p.stands) p.stands in
         (record { stands = both.0; acted = on s.acts p.acted }, wrote s.acts own (step m g.served s.node event).sent p.acted both.1))
+
+  -- a call and the writing of what it sends, whose answer this is
+  module _ {T E Set C : Type 0} (r : Result T E) (way : Set → Way C) (did did' : Set → List C → Type 0) (old new : Node A S) (result : Option ℕ) (event : Addr → Event) (a b : Option (List ℕ)) where
+    abbrev Writes : (Option (List ℕ) → Option (List ℕ) → List ℕ → Type 0) → Type 0
+    Writes P = (k : Set) (acts : List C) (own : Addr) (reply : Option Reply) → did k acts → IsSent own reply result new.packet → P a b (text_behind (way k) acts own reply)
+
+    pub call_told : g.kept new.shared ≡ g.kept old.shared
+        → ((m : Meaning) (own : Addr) (n : AbstractNode) → At m own old n → Steps g new result (step (g.meaning (g.kept old.shared)) g.served n (event own)))
+        → ((k : Set) (acts : List C) → did k acts → did' k acts)
+        → OnOk r (Writes (λ a b text. Appends a b text)) → OnErr r (Writes (λ a b text. BreaksOff [] text a b))
+        → OnOk r ((k : Set) (m : Meaning) (own : Addr) → AllSaid m g.served (way k) own (Happens (event own) ∷ []) (λ s. IsHere g (did k) m own old s) (λ s. IsHere g (did' k) m own new s) a b)
+        × OnErr r ((k : Set) (m : Meaning) (own : Addr) → FrontSaid m g.served (way k) own (Happens (event own) ∷ []) (λ s. IsHere g (did k) m own old s) (λ s. IsHere g (did' k) m own new s) a b)
+    call_told same steps on ok err = (
+      on_ok_weaker r (λ wrote k m own. call_wrote (way k) (did k) (did' k) m own old new result (event own) a b same (steps m own) (on k) (wrote k)) ok,
+      on_err_weaker r (λ wrote k m own. call_broke (way k) (did k) (did' k) m own old new result (event own) a b same (steps m own) (on k) (wrote k)) err,
+    )
 
 -- the medium's own acts
 module _ {C : Type 0} (m : Meaning) (served : ℕ → Bool) (w : Way C) (own : Addr) where

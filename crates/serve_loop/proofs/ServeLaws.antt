@@ -10,7 +10,7 @@ use Rattle.uip_edge.specs.Coming.{Consumes, bytes_among}
 use Rattle.uip_edge.proofs.Told.{Consumes-then, none_more, taken_within, took_all}
 use Rattle.uip_node.specs.declared.node.Node.{Node}
 use Rattle.line_medium.specs.declared.medium.Medium.{Ghosts as MediumGhosts}
-use Rattle.serve_loop.specs.declared.line.Turn.TheVariants.{Stopped}
+use Rattle.serve_loop.specs.declared.turn.Turn.TheVariants.{Stopped}
 use Rattle.serve_loop.specs.declared.pacer.Pacer.{Pacer}
 use Rattle.serve_loop.specs.LineDeeds.{deeds_behind, line_deeds}
 use Rattle.serve_loop.specs.DeedRuns.{Deed, Station, AllSaid}
@@ -23,7 +23,7 @@ use Rattle.uip_edge.specs.Told.{LineTold, LineUnfailed}
 use Rattle.uip_edge.specs.Ending.{EndsBy}
 
 -- the cause of the end that a turn tells
-ends_by : (n : ℕ) (taken items : List Item) (old mid new : LineTold) (end : ServeEnd)
+pub ends_by : (n : ℕ) (taken items : List Item) (old mid new : LineTold) (end : ServeEnd)
     → Consumes old.link.coming mid.link.coming taken → length taken < n → length items + length taken ≤ n
     → mid.link.faults ≡ old.link.faults → mid.sink.faults ≡ old.sink.faults
     → TurnsBy mid new items (Stopped end) → EndsBy n old new (taken ++ items) end

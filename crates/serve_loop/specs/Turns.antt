@@ -12,8 +12,8 @@ use Rattle.uip_node.specs.Node.{AbstractNode}
 use Rattle.uip_node.specs.StandsFor.{Stands}
 use Rattle.line_medium.specs.Ways.{Way}
 use Rattle.line_medium.specs.declared.medium.Medium.{Ghosts as MediumGhosts}
-use Rattle.serve_loop.specs.declared.line.Turn.{Turn}
-use Rattle.serve_loop.specs.declared.line.Turn.TheVariants as turns
+use Rattle.serve_loop.specs.declared.turn.Turn.{Turn}
+use Rattle.serve_loop.specs.declared.turn.Turn.TheVariants as turns
 use Rattle.serve_loop.specs.declared.pacer.Pacer.{Pacer}
 use Rattle.serve_loop.specs.DeedRuns.{AllSaid, Deed, FrontSaid, Station}
 use Rattle.serve_loop.specs.LineDeeds.{deeds_behind}

@@ -8,6 +8,8 @@ mod node_calls;
 mod pacer;
 mod serving;
 mod slip;
+mod turn;
 
 pub use serving::{budget_is_told, end_is_told, serve, serve_over};
 pub use slip::Slip;
+pub use turn::Turn;

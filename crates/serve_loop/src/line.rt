@@ -11,16 +11,11 @@ ghost use Rattle.uip_edge.specs.Telling.{line_told};
 
 use crate::node_calls::{take_datagram, tick};
 use crate::pacer::Pacer;
+use crate::turn::Turn;
 use app_events::App;
 use line_medium::{Brought, Medium};
 use uip_edge::{Failed, Got, Link, ServeEnd, Sink};
 use uip_node::Node;
-
-/// What became of one turn: so many items were taken, or the serving ends.
-pub(crate) enum Turn {
-    Went(u64),
-    Stopped(ServeEnd),
-}
 
 /// Hands to the node what the link gives next, and writes what the node sends.
 pub(crate) fn take_turn<A: App, M: Medium, L: Link, K: Sink>(

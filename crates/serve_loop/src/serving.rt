@@ -11,9 +11,10 @@ ghost use Rattle.uip_edge.specs.Telling.{line_told};
 ghost use Rattle.uip_edge.specs.Told.{LineTold, LineUnfailed};
 ghost use Rattle.uip_edge.specs.Ending.{EndsBy};
 
-use crate::line::{Turn, take_turn};
+use crate::line::take_turn;
 use crate::pacer::Pacer;
 use crate::slip::Slip;
+use crate::turn::Turn;
 use app_events::App;
 use line_medium::Medium;
 use uip_edge::{Link, ServeEnd, Sink};

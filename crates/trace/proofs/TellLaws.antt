@@ -1,30 +1,20 @@
 -- The turns of a reading, put together.
-use Rattle.std.proofs.Common.{◌≡◌, ℕ, ◌+◌, ◌<◌, ◌≤◌, List, [], ◌++◌, Option, length, sym, ap, ◌∙◌, arith, length-append, subst}
+use Rattle.std.proofs.Common.{◌≡◌, ℕ, ◌+◌, ◌<◌, ◌≤◌, List, [], ◌++◌, Option, length, sym, ap, ◌∙◌, arith, subst}
 use Rattle.std.specs.Io.KnownBytes.{Appends}
 use Rattle.uip_edge.specs.Coming.{Consumes, TookAll}
-use Rattle.uip_edge.proofs.Told.{Appends-then, Consumes-then, appends_by, prefix_by, prefix_then, took_all, none_more}
+use Rattle.uip_edge.proofs.Told.{Appends-then, Consumes-then, appends_by, prefix_by, prefix_then}
 use Rattle.uip_edge.specs.declared.item.Item.{Item}
 use Rattle.uip_edge.specs.declared.serve_end.ServeEnd.{ServeEnd}
 use Rattle.uip_edge.specs.declared.serve_end.ServeEnd.TheVariants as ends
 use Rattle.uip_slip.specs.Decoding.{State}
 use Rattle.trace.specs.Telling.{TellsLine}
-use Rattle.trace.specs.Watching.{Watches, WatchBy, TellsOn, text_after}
+use Rattle.trace.specs.Watching.{Watches, TellsOn, text_after}
 use Rattle.trace.specs.declared.form.Form.{Form}
-use Rattle.trace.specs.declared.watch.Turn.TheVariants.{Stopped}
+use Rattle.serve_loop.specs.declared.turn.Turn.TheVariants.{Stopped}
+use Rattle.serve_loop.proofs.ServeLaws.{ends_by}
 use Rattle.trace.proofs.SeenLaws.{text-then}
 use Rattle.uip_edge.specs.Told.{LineTold}
 use Rattle.uip_edge.specs.Ending.{EndsBy, WrittenBy}
-
--- the cause of the end that a turn tells
-ends_by : (n : ℕ) (taken items : List Item) (old mid new : LineTold) (end : ServeEnd)
-    → Consumes old.link.coming mid.link.coming taken → length taken < n → length items + length taken ≤ n
-    → mid.link.faults ≡ old.link.faults → mid.sink.faults ≡ old.sink.faults
-    → WatchBy mid new items (Stopped end) → EndsBy n old new (taken ++ items) end
-ends_by n taken items old mid new ends.End c below fits l k t =
-    rw (none_more taken items t.0) (took_all _ _ taken c t.1, below, t.2 ∙ l, t.3 ∙ k)
-ends_by n taken items old mid new ends.LinkFault c below fits l k t = rw (none_more taken items t.0) (below, rw l at t.1, t.2 ∙ k)
-ends_by n taken items old mid new ends.WriteFault c below fits l k t = (omega (arith, length-append taken items), t.0 ∙ l, rw k at t.1)
-ends_by n taken items old mid new ends.Budget c below fits l k t = absurd t
 
 -- what was written up to such an end
 wrote_by : (first more whole : List ℕ) (a b c : Option (List ℕ)) (end : ServeEnd) → whole ≡ first ++ more

@@ -1,14 +1,16 @@
 -- A turn of the reader of a capture file.
-use Rattle.std.proofs.Common.{◌≡◌, ℕ, ◌<◌, List, [], ◌∷◌, ◌++◌, Option, Some, None, Ok, length, map, refl, sym, ap, ◌∙◌, append-nil, arith, subst}
+use Rattle.std.proofs.Common.{◌≡◌, ℕ, ◌<◌, ◌≤◌, List, [], ◌∷◌, ◌++◌, Option, Some, None, Ok, length, map, take, refl, sym, ap, ◌∙◌, append-nil, arith, subst}
 use Rattle.std.specs.Io.KnownBytes.{Appends}
 use Rattle.uip_edge.specs.Causes.{Rose}
-use Rattle.uip_edge.specs.Coming.{IsAtEnd, bytes_among, TookAll}
+use Rattle.uip_edge.specs.Coming.{Consumes, IsAtEnd, bytes_among, TookAll}
 use Rattle.uip_edge.specs.declared.got.Got.TheVariants.{End}
 use Rattle.uip_edge.specs.declared.item.Item.{Item}
 use Rattle.uip_edge.specs.declared.item.Item.TheVariants.{Byte, Quiet}
 use Rattle.trace.specs.CaptureReading.{Captured, IsReadAs, Reading, cut_in, captured_in, fault_in, lines_of}
 use Rattle.trace.specs.CaptureReading.Reading.{BadHeader, BadLength, InRecord, InHeader, Whole}
-use Rattle.trace.specs.Gathering.{BrokeOff, IsReadTo, IsAtFault, IsOpen, EndsIn, end_at}
+use Rattle.trace.specs.Gathering.{BrokeOff, IsReadTo, IsAtFault, IsOpen, EndsIn, ReadBy, ReadsTurn, end_at}
+use Rattle.serve_loop.proofs.EventLaws.{counted}
+use Rattle.trace.specs.declared.reader.Turn.{Turn}
 use Rattle.trace.specs.declared.slip_end.CaptureWhy.{CaptureWhy}
 use Rattle.trace.specs.declared.slip_end.CaptureWhy.TheVariants as whys
 use Rattle.trace.specs.declared.slip_end.SlipEnd.{SlipEnd}
@@ -114,6 +116,13 @@ pub bytes_on : (before : List Item) (bytes : List ℕ) → bytes_among before ++
 bytes_on before bytes = ap (λ l. bytes_among before ++ l) (sym (bytes_among-map bytes)) ∙ sym (bytes_among-append before (map Byte bytes))
 
 -- a write failed
+-- a turn that took bytes
+pub took_bytes : (start : Option (List ℕ)) (before : List Item) (old new : LineTold) (stage : Stage) (number : ℕ) (part : List ℕ) (room : ℕ) (turn : Turn) (n : ℕ) (buf : List ℕ) → n ≤ length buf
+    → length buf ≡ room → Consumes old.link.coming new.link.coming (map Byte (take n buf))
+    → ReadBy start before (map Byte (take n buf)) old new stage number part turn → ReadsTurn start before old new stage number part room turn
+took_bytes start before old new stage number part room turn n buf fits size c by =
+    record { items = map Byte (take n buf); consumed = c; within = omega (arith, counted n buf fits, size, fits); by = by }
+
 pub write_failed : (start : Option (List ℕ)) (before : List Item) (bytes : List ℕ) (old new : LineTold) → BrokeOff start new.sink.written (bytes_among before ++ bytes)
     → new.link.faults ≡ old.link.faults → Rose old.sink.faults new.sink.faults → EndsIn start before (map Byte bytes) old new ends.WriteFault
 write_failed start before bytes old new b calm rose = record {

@@ -2,8 +2,7 @@
 use Rattle.std.specs.Prelude.{◌≡◌, ◌<◌, ◌≤◌, ◌+◌, ⊤, ℕ, List, [], ◌++◌, Option, length}
 use Rattle.std.specs.List.{enumerate_from, flat_map}
 use Rattle.std.specs.Io.KnownBytes.{Appends}
-use Rattle.uip_edge.specs.Causes.{Rose}
-use Rattle.uip_edge.specs.Coming.{Consumes, bytes_among, TookAll}
+use Rattle.uip_edge.specs.Coming.{Consumes, bytes_among}
 use Rattle.uip_edge.specs.Writing.{AppendsPrefix}
 use Rattle.uip_edge.specs.declared.item.Item.{Item}
 use Rattle.uip_edge.specs.declared.serve_end.ServeEnd.TheVariants as ends
@@ -13,10 +12,11 @@ use Rattle.trace.specs.DumpText.{dump_line}
 use Rattle.trace.specs.Seen.{Seen, seen_behind, seen_on, silences_of}
 use Rattle.trace.specs.declared.form.Form.{Form}
 use Rattle.trace.specs.declared.form.Form.TheVariants.{Capture, Dump}
-use Rattle.trace.specs.declared.watch.Turn.{Turn}
 use Rattle.trace.specs.declared.watch.Watch.{Watch}
 use Rattle.uip_edge.specs.Told.{LineTold}
-use Rattle.trace.specs.declared.watch.Turn.TheVariants as turns
+use Rattle.serve_loop.specs.Turns.{TurnsBy}
+use Rattle.serve_loop.specs.declared.turn.Turn.{Turn}
+use Rattle.serve_loop.specs.declared.turn.Turn.TheVariants as turns
 
 -- what is written of a frame with its number
 abbrev pub frame_text : Form → ℕ × Seen → List ℕ
@@ -47,16 +47,6 @@ WatchFits (turns.Went n) room frames silences frames' silences' =
     (0 < n) × (n ≤ room) × (frames' ≤ frames + n) × (silences' ≤ silences + n)
 WatchFits (turns.Stopped s) room frames silences frames' silences' = ⊤
 
--- the cause of what a turn tells that took these items
-abbrev pub WatchBy : LineTold → LineTold → List Item → Turn → Type 0
-WatchBy old new items (turns.Went n) = (length items ≡ n) × (new.link.faults ≡ old.link.faults) × (new.sink.faults ≡ old.sink.faults)
-WatchBy old new items (turns.Stopped ends.End) =
-    (items ≡ []) × TookAll old.link.coming [] × (new.link.faults ≡ old.link.faults) × (new.sink.faults ≡ old.sink.faults)
-WatchBy old new items (turns.Stopped ends.LinkFault) =
-    (items ≡ []) × Rose old.link.faults new.link.faults × (new.sink.faults ≡ old.sink.faults)
-WatchBy old new items (turns.Stopped ends.WriteFault) = (new.link.faults ≡ old.link.faults) × Rose old.sink.faults new.sink.faults
-WatchBy old new items (turns.Stopped ends.Budget) = ⊥
-
 -- a turn that went on has read the items
 abbrev pub ReadsOn : Turn → List Item → State → ℕ → ℕ → Type 0
 ReadsOn (turns.Went n) items decoder frames silences = HasSeen items decoder frames silences
@@ -76,6 +66,6 @@ pub record Watches (form : Form) (before : List Item) (old new : LineTold) (deco
   pub items : List Item
   pub consumed : Consumes old.link.coming new.link.coming items
   pub within : length items ≤ room
-  pub cause : WatchBy old new items turn
+  pub cause : TurnsBy old new items turn
   pub on : ReadsOn turn (before ++ items) decoder frames silences
   pub wrote : TellsOn turn old.sink.written new.sink.written (text_after form before items)

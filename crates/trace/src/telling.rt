@@ -9,7 +9,8 @@ ghost use Rattle.uip_edge.specs.Telling.{line_told};
 
 use crate::form::Form;
 use crate::record::HEADER;
-use crate::watch::{Turn, Watch};
+use crate::watch::Watch;
+use serve_loop::Turn;
 use uip_edge::{Link, ServeEnd, Sink};
 
 /// The most bytes that are asked of a link at once.

@@ -14,15 +14,10 @@ use crate::area::Area;
 use crate::dump_line::{put_datagram_line, put_overlong_line};
 use crate::form::Form;
 use crate::record::put_record;
+use serve_loop::Turn;
 use uip_edge::{Failed, Got, Link, ServeEnd, Sink};
 use uip_slip::{Decoder, Fed};
 use uip_wire::LARGEST_DATAGRAM;
-
-/// What became of one turn: so many items were taken, or the reading ends.
-pub(crate) enum Turn {
-    Went(u64),
-    Stopped(ServeEnd),
-}
 
 /// A serial line, as far as it was read.
 #[derive(Drop)]

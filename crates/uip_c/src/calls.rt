@@ -5,9 +5,9 @@ ghost use Rattle.std.specs.Option.{is_some};
 ghost use Rattle.std.specs.declared.option.Option.TheVariants.{None};
 ghost use Rattle.slip_node.specs.Calls.{Calls, HandsOn, Hears};
 ghost use Rattle.uip_device.specs.Devices.{Answers};
-ghost use Rattle.uip_c.specs.Handles.{GoesOn, IsOf, left_flag};
+ghost use Rattle.uip_c.specs.Handles.{DoesNothing, GoesOn, HasText, IsOf, IsTextStatus, left_flag};
 
-use crate::handle::{UipDevice, put_in, take_out};
+use crate::handle::{Idle, UipDevice, put_in, take_idle, take_out};
 use crate::status::{BAD_CALL, FINE, NO_DEVICE, TEXT_LEFT, UipDone, is_left};
 use std::alloc::Global;
 use uip_device::LARGEST_TEXT;
@@ -24,7 +24,7 @@ pub extern "C" fn uip_hear(
     bytes: &[u8],
     out: &mut [u8],
 ) -> UipDone
-    ensures known { (result.status ≡ FINE) ⊎ (result.status ≡ NO_DEVICE) ⊎ (result.status ≡ BAD_CALL) ⊎ (result.status ≡ TEXT_LEFT) }
+    ensures known { IsTextStatus result.status }
     ensures fine { result.status ≡ FINE
         → GoesOn (λ d d'. Answers (Hears (take result.taken bytes.now)) d d' (take result.wrote out.new))
         device.old.held.device device.new.held.device }
@@ -34,20 +34,18 @@ pub extern "C" fn uip_hear(
     ensures all { result.status ≡ FINE → LARGEST_TEXT ≤ length out.old → result.left ≡ 0 }
     ensures no_device { result.status ≡ NO_DEVICE → device.old.held.device ≡ None }
     ensures bad_call { (result.status == BAD_CALL) ≡ ((length bytes.now == 0) || nat_lt (length out.old) LEAST_ROOM) }
-    ensures text_left { result.status ≡ TEXT_LEFT → IsOf (λ d. is_some d.left ≡ true) device.old.held.device }
-    ensures refused { (result.status ≡ FINE → ⊥) → (result.taken ≡ 0) × (result.wrote ≡ 0) × (out.new ≡ out.old)
-        × (device.new.held.device ≡ device.old.held.device) }
+    ensures text_left { result.status ≡ TEXT_LEFT → HasText device.old.held.device }
+    ensures refused { (result.status ≡ FINE → ⊥)
+        → DoesNothing result out.old out.new device.old.held.device device.new.held.device }
 {
     if bytes.is_empty() || out.len() < LEAST_ROOM {
         return UipDone::refused(BAD_CALL);
     }
-    let Some(mut opened) = take_out(alloc, device) else {
-        return UipDone::refused(NO_DEVICE);
+    let mut opened = match take_idle(alloc, device) {
+        Idle::Taken(opened) => opened,
+        Idle::Missing => return UipDone::refused(NO_DEVICE),
+        Idle::HasText => return UipDone::refused(TEXT_LEFT),
     };
-    if opened.left.is_some() {
-        put_in(device, opened);
-        return UipDone::refused(TEXT_LEFT);
-    }
     let heard = opened.hear(bytes, out);
     let left = is_left(opened.left);
     put_in(device, opened);
@@ -68,7 +66,7 @@ pub extern "C" fn uip_call(
     slot: usize,
     out: &mut [u8],
 ) -> UipDone
-    ensures known { (result.status ≡ FINE) ⊎ (result.status ≡ NO_DEVICE) ⊎ (result.status ≡ BAD_CALL) ⊎ (result.status ≡ TEXT_LEFT) }
+    ensures known { IsTextStatus result.status }
     ensures fine { result.status ≡ FINE
         → GoesOn (λ d d'. Answers (Calls slot) d d' (take result.wrote out.new))
         device.old.held.device device.new.held.device }
@@ -77,20 +75,18 @@ pub extern "C" fn uip_call(
     ensures all { result.status ≡ FINE → LARGEST_TEXT ≤ length out.old → result.left ≡ 0 }
     ensures no_device { result.status ≡ NO_DEVICE → device.old.held.device ≡ None }
     ensures bad_call { (result.status == BAD_CALL) ≡ (nat_le 10 slot || nat_lt (length out.old) LEAST_ROOM) }
-    ensures text_left { result.status ≡ TEXT_LEFT → IsOf (λ d. is_some d.left ≡ true) device.old.held.device }
-    ensures refused { (result.status ≡ FINE → ⊥) → (result.wrote ≡ 0) × (out.new ≡ out.old)
-        × (device.new.held.device ≡ device.old.held.device) }
+    ensures text_left { result.status ≡ TEXT_LEFT → HasText device.old.held.device }
+    ensures refused { (result.status ≡ FINE → ⊥)
+        → DoesNothing result out.old out.new device.old.held.device device.new.held.device }
 {
     if slot >= 10 || out.len() < LEAST_ROOM {
         return UipDone::refused(BAD_CALL);
     }
-    let Some(mut opened) = take_out(alloc, device) else {
-        return UipDone::refused(NO_DEVICE);
+    let mut opened = match take_idle(alloc, device) {
+        Idle::Taken(opened) => opened,
+        Idle::Missing => return UipDone::refused(NO_DEVICE),
+        Idle::HasText => return UipDone::refused(TEXT_LEFT),
     };
-    if opened.left.is_some() {
-        put_in(device, opened);
-        return UipDone::refused(TEXT_LEFT);
-    }
     let wrote = opened.call(slot, out);
     let left = is_left(opened.left);
     put_in(device, opened);
@@ -114,8 +110,8 @@ pub extern "C" fn uip_more(alloc: Global, device: &mut UipDevice, out: &mut [u8]
     ensures left { result.status ≡ FINE → IsOf (λ d. result.left ≡ left_flag d.left) device.new.held.device }
     ensures no_device { result.status ≡ NO_DEVICE → device.old.held.device ≡ None }
     ensures bad_call { (result.status == BAD_CALL) ≡ nat_lt (length out.old) LEAST_ROOM }
-    ensures refused { (result.status ≡ FINE → ⊥) → (result.wrote ≡ 0) × (out.new ≡ out.old)
-        × (device.new.held.device ≡ device.old.held.device) }
+    ensures refused { (result.status ≡ FINE → ⊥)
+        → DoesNothing result out.old out.new device.old.held.device device.new.held.device }
 {
     if out.len() < LEAST_ROOM {
         return UipDone::refused(BAD_CALL);

@@ -1,13 +1,12 @@
 //! The calls over a link that carries datagrams.
 
-ghost use Rattle.std.specs.Prelude.{◌≡◌, ◌==◌, ◌||◌, ◌≤◌, ◌⊎◌, length, nat_le, nat_lt, take, true};
-ghost use Rattle.std.specs.Option.{is_some};
+ghost use Rattle.std.specs.Prelude.{◌≡◌, ◌==◌, ◌||◌, ◌≤◌, length, nat_le, nat_lt, take};
 ghost use Rattle.std.specs.declared.option.Option.TheVariants.{None};
 ghost use Rattle.slip_node.specs.DatagramCalls.{CallsSlot, HearsDatagram};
 ghost use Rattle.uip_device.specs.Devices.{AnswersDatagram};
-ghost use Rattle.uip_c.specs.Handles.{GoesOn, IsOf};
+ghost use Rattle.uip_c.specs.Handles.{DoesNothing, GoesOn, HasText, IsTextStatus};
 
-use crate::handle::{UipDevice, put_in, take_out};
+use crate::handle::{Idle, UipDevice, put_in, take_idle};
 use crate::status::{BAD_CALL, FINE, NO_DEVICE, TEXT_LEFT, UipDone};
 use std::alloc::Global;
 use uip_wire::LARGEST_DATAGRAM;
@@ -20,7 +19,7 @@ pub extern "C" fn uip_hear_datagram(
     datagram: &[u8],
     out: &mut [u8],
 ) -> UipDone
-    ensures known { (result.status ≡ FINE) ⊎ (result.status ≡ NO_DEVICE) ⊎ (result.status ≡ BAD_CALL) ⊎ (result.status ≡ TEXT_LEFT) }
+    ensures known { IsTextStatus result.status }
     ensures fine { result.status ≡ FINE
         → GoesOn (λ d d'. AnswersDatagram (HearsDatagram datagram.now) d d' (take result.wrote out.new))
         device.old.held.device device.new.held.device }
@@ -29,20 +28,18 @@ pub extern "C" fn uip_hear_datagram(
     ensures no_device { result.status ≡ NO_DEVICE → device.old.held.device ≡ None }
     ensures bad_call { (result.status == BAD_CALL)
         ≡ ((length datagram.now == 0) || nat_lt LARGEST_DATAGRAM (length datagram.now) || nat_lt (length out.old) LARGEST_DATAGRAM) }
-    ensures text_left { result.status ≡ TEXT_LEFT → IsOf (λ d. is_some d.left ≡ true) device.old.held.device }
-    ensures refused { (result.status ≡ FINE → ⊥) → (result.taken ≡ 0) × (result.wrote ≡ 0) × (out.new ≡ out.old)
-        × (device.new.held.device ≡ device.old.held.device) }
+    ensures text_left { result.status ≡ TEXT_LEFT → HasText device.old.held.device }
+    ensures refused { (result.status ≡ FINE → ⊥)
+        → DoesNothing result out.old out.new device.old.held.device device.new.held.device }
 {
     if datagram.is_empty() || datagram.len() > LARGEST_DATAGRAM || out.len() < LARGEST_DATAGRAM {
         return UipDone::refused(BAD_CALL);
     }
-    let Some(mut opened) = take_out(alloc, device) else {
-        return UipDone::refused(NO_DEVICE);
+    let mut opened = match take_idle(alloc, device) {
+        Idle::Taken(opened) => opened,
+        Idle::Missing => return UipDone::refused(NO_DEVICE),
+        Idle::HasText => return UipDone::refused(TEXT_LEFT),
     };
-    if opened.left.is_some() {
-        put_in(device, opened);
-        return UipDone::refused(TEXT_LEFT);
-    }
     let wrote = opened.hear_datagram(datagram, out);
     put_in(device, opened);
     UipDone {
@@ -61,27 +58,25 @@ pub extern "C" fn uip_call_datagram(
     slot: usize,
     out: &mut [u8],
 ) -> UipDone
-    ensures known { (result.status ≡ FINE) ⊎ (result.status ≡ NO_DEVICE) ⊎ (result.status ≡ BAD_CALL) ⊎ (result.status ≡ TEXT_LEFT) }
+    ensures known { IsTextStatus result.status }
     ensures fine { result.status ≡ FINE
         → GoesOn (λ d d'. AnswersDatagram (CallsSlot slot) d d' (take result.wrote out.new))
         device.old.held.device device.new.held.device }
     ensures within { (result.taken ≡ 0) × (result.wrote ≤ length out.new) }
     ensures no_device { result.status ≡ NO_DEVICE → device.old.held.device ≡ None }
     ensures bad_call { (result.status == BAD_CALL) ≡ (nat_le 10 slot || nat_lt (length out.old) LARGEST_DATAGRAM) }
-    ensures text_left { result.status ≡ TEXT_LEFT → IsOf (λ d. is_some d.left ≡ true) device.old.held.device }
-    ensures refused { (result.status ≡ FINE → ⊥) → (result.wrote ≡ 0) × (out.new ≡ out.old)
-        × (device.new.held.device ≡ device.old.held.device) }
+    ensures text_left { result.status ≡ TEXT_LEFT → HasText device.old.held.device }
+    ensures refused { (result.status ≡ FINE → ⊥)
+        → DoesNothing result out.old out.new device.old.held.device device.new.held.device }
 {
     if slot >= 10 || out.len() < LARGEST_DATAGRAM {
         return UipDone::refused(BAD_CALL);
     }
-    let Some(mut opened) = take_out(alloc, device) else {
-        return UipDone::refused(NO_DEVICE);
+    let mut opened = match take_idle(alloc, device) {
+        Idle::Taken(opened) => opened,
+        Idle::Missing => return UipDone::refused(NO_DEVICE),
+        Idle::HasText => return UipDone::refused(TEXT_LEFT),
     };
-    if opened.left.is_some() {
-        put_in(device, opened);
-        return UipDone::refused(TEXT_LEFT);
-    }
     let wrote = opened.call_datagram(slot, out);
     put_in(device, opened);
     UipDone {

@@ -2,6 +2,7 @@ ghost use Rattle.std.specs.Prelude.{◌≡◌, ◌==◌, option_map, IfSome};
 ghost use Rattle.std.specs.Option.{is_some};
 ghost use Rattle.std.specs.declared.option.Option.TheVariants.{None, Some};
 ghost use Rattle.uip_device.specs.Devices.{IsSoundDevice};
+ghost use Rattle.uip_c.specs.Taking.{TakesIdle};
 
 use crate::held::Held;
 use loose_box::BoxParts;
@@ -35,6 +36,33 @@ pub(crate) fn take_out(alloc: Global, device: &mut UipDevice) -> Option<Box<Devi
         Some(old.held.into_parts().into_box())
     } else {
         None
+    }
+}
+
+/// What a handle has for a call that hands out a text of its own.
+#[derive(Drop)]
+pub(crate) enum Idle {
+    /// A device of which no text is left.
+    Taken(Box<Device>),
+    /// No device.
+    Missing,
+    /// A device of which a text is left.
+    HasText,
+}
+
+/// The handle's device, if it has one of which no text is left; it has none after. Else the handle stays as it is.
+pub(crate) fn take_idle(alloc: Global, device: &mut UipDevice) -> Idle
+    ensures { TakesIdle result device.old.held.device device.new.held.device }
+{
+    match take_out(alloc, device) {
+        None => Idle::Missing,
+        Some(opened) => {
+            if opened.left.is_some() {
+                put_in(device, opened);
+                return Idle::HasText;
+            }
+            Idle::Taken(opened)
+        }
     }
 }
 

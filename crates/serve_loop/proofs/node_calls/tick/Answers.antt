@@ -1,8 +1,8 @@
 use Rattle.std.proofs.Common.{map}
-use Rattle.std.proofs.lemmas.Result.{on_ok_weaker}
+use Rattle.std.proofs.lemmas.Result.{on_err_weaker, on_ok_weaker}
 use Rattle.uip_node.specs.Events.{tick}
 use Rattle.serve_loop.specs.DeedRuns.{Does, Happens}
-use Rattle.serve_loop.proofs.NodeLaws.{Here, acts_wrote, on_err_weaker}
+use Rattle.serve_loop.proofs.NodeLaws.{Here, acts_wrote}
 use Rattle.serve_loop.proofs.RunLaws.{broke_then, wrote_then}
 use Rattle.serve_loop.proofs.node_calls.tick.Goals as goal
 

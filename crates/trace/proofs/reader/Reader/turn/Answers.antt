@@ -1,8 +1,8 @@
-use Rattle.std.proofs.Common.{◌≡◌, [], ◌∷◌, List, ℕ, length, map, take, refl, subst, arith}
-use Rattle.uip_edge.specs.declared.item.Item.TheVariants.{Byte, Quiet}
+use Rattle.std.proofs.Common.{[], ◌∷◌, List, ℕ, take, refl, subst, arith}
+use Rattle.uip_edge.specs.declared.item.Item.TheVariants.{Quiet}
 use Rattle.serve_loop.proofs.EventLaws.{counted}
 use Rattle.trace.specs.Gathering.{IsReadTo}
-use Rattle.trace.proofs.TurnLaws.{bytes_on, file_fault, is_dry, link_ended, link_failed, silence_read, sound_at, write_failed}
+use Rattle.trace.proofs.TurnLaws.{bytes_on, file_fault, is_dry, link_ended, link_failed, silence_read, sound_at, took_bytes, write_failed}
 use Rattle.uip_edge.specs.Coming.{bytes_among}
 use Rattle.trace.proofs.reader.Reader.turn.Goals as goal
 
@@ -41,45 +41,24 @@ returns-in-Ok-clause-turns g c = λ start before at.
     let done = c.in-Ok.ensures in
     let n = c.in-Ok-Bytes.count in
     let buf = c.next.new.buf in
-    let count : length (map Byte (take n buf)) ≡ n = counted n buf told.count.1 in
-    record {
-      items = map Byte (take n buf);
-      consumed = told.items;
-      within = omega (arith, count, told.count.1, c.next.auto.buf);
-      by = (
-        count,
-        record { link = told.cause.same; sink = done.cause },
-        subst (λ (l : List ℕ). IsReadTo start (g.K.Sink.written c.take.new.sink) l c.take.new.self.stage c.take.new.self.number c.take.new.self.part)
-            (bytes_on before (take n buf)) (done.at start (bytes_among before) at),
-      );
-    }
+    took_bytes start before _ _ _ _ _ _ _ n buf told.count.1 c.next.auto.buf told.items (
+      counted n buf told.count.1,
+      record { link = told.cause.same; sink = done.cause },
+      subst (λ (l : List ℕ). IsReadTo start (g.K.Sink.written c.take.new.sink) l c.take.new.self.stage c.take.new.self.number c.take.new.self.part)
+          (bytes_on before (take n buf)) (done.at start (bytes_among before) at),
+    )
 
 pub returns-in-Err-WriteFault-clause-turns : goal.returns-in-Err-WriteFault-clause-turns
 returns-in-Err-WriteFault-clause-turns g c = λ start before at.
     let told = rw c.in-Ok-Bytes.field-0-is at c.in-Ok-Bytes.ensures in
     let done = rw c.in-Err-WriteFault.field-0-is at c.in-Err-WriteFault.ensures in
-    let n = c.in-Ok-Bytes.count in
-    let buf = c.next.new.buf in
-    let count : length (map Byte (take n buf)) ≡ n = counted n buf told.count.1 in
-    record {
-      items = map Byte (take n buf);
-      consumed = told.items;
-      within = omega (arith, count, told.count.1, c.next.auto.buf);
-      by = write_failed start before (take n buf) _ _ (done.stop start (bytes_among before) at) told.cause.same done.cause;
-    }
+    took_bytes start before _ _ _ _ _ _ _ _ _ told.count.1 c.next.auto.buf told.items
+    (write_failed start before _ _ _ (done.stop start (bytes_among before) at) told.cause.same done.cause)
 
 pub returns-in-Err-Bad-clause-turns : goal.returns-in-Err-Bad-clause-turns
 returns-in-Err-Bad-clause-turns g c = λ start before at.
     let told = rw c.in-Ok-Bytes.field-0-is at c.in-Ok-Bytes.ensures in
     let done = rw c.in-Err-Bad.field-0-is at c.in-Err-Bad.ensures in
-    let n = c.in-Ok-Bytes.count in
-    let buf = c.next.new.buf in
-    let count : length (map Byte (take n buf)) ≡ n = counted n buf told.count.1 in
-    record {
-      items = map Byte (take n buf);
-      consumed = told.items;
-      within = omega (arith, count, told.count.1, c.next.auto.buf);
-      by = rw c.bad.ensures
-          (file_fault c.in-Err-Bad.why start before (take n buf) _ _ c.take.new.self.number (done.stop start (bytes_among before) at)
-          (record { link = told.cause.same; sink = done.cause }));
-    }
+    let fault = file_fault c.in-Err-Bad.why start before _ _ _ c.take.new.self.number (done.stop start (bytes_among before) at)
+    (record { link = told.cause.same; sink = done.cause }) in
+    took_bytes start before _ _ _ _ _ _ _ _ _ told.count.1 c.next.auto.buf told.items (rw c.bad.ensures fault)
