@@ -49,7 +49,8 @@ made_short files function argument moment is =
 
 -- ---- the pieces
 
-silent_none : (function : Function) → takes_capture function ≡ false → length_at_most function ≡ 0
+-- a call that takes no capture says nothing
+pub silent_none : (function : Function) → takes_capture function ≡ false → length_at_most function ≡ 0
 silent_none FileStats e = absurd cc
 silent_none TcpConnections e = absurd cc
 silent_none NetStats e = absurd cc
