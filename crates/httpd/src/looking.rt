@@ -24,6 +24,7 @@ use script_lang::{Function, Piece, next_piece, runs_past};
 use web_pages::LARGEST_SEGMENT;
 
 /// What the thread sees.
+#[tactic(auto, using(crate::proofs::Seeing::keeps_same))]
 pub(crate) fn look<'a>(
     site: &'a Site,
     found: Option<FileId>,
