@@ -5,7 +5,7 @@ use Rattle.std.proofs.Math.Logic.{∥∥₁_elim}
 use Rattle.std.specs.Coded.{le_prop}
 use Rattle.app_events.specs.Part.{Part, Meaning, text_left, CanSay}
 use Rattle.app_events.specs.FixedMeaning.{fixed_meaning, fixed_text, hello, FixedStands}
-use Rattle.app_events.specs.FixedLaws.{fixed_same_left}
+use Rattle.app_events.specs.Lemmas.FixedLaws.{fixed_same_left}
 use Rattle.app_events.specs.declared.fixed.Fixed.{Fixed}
 use Rattle.app_events.proofs.Says.{can_say_each}
 

@@ -2,5 +2,5 @@ pub mod Part
 pub mod Laws
 pub mod Pages
 pub mod FixedMeaning
-pub mod FixedLaws
 pub mod States
+pub mod Lemmas

@@ -18,7 +18,7 @@ pub struct Fixed {
 impl App for Fixed {
     ghost use Rattle.uip_wire.specs.declared.port.TheConstants.{WEB_PORT};
     ghost use Rattle.app_events.specs.FixedMeaning.{FixedStands};
-    ghost use Rattle.app_events.specs.FixedLaws.{fixed_lawful, fixed_starts, fixed_same_left};
+    ghost use Rattle.app_events.specs.Lemmas.FixedLaws.{fixed_lawful, fixed_starts, fixed_same_left};
 
     type Shared = ();
 

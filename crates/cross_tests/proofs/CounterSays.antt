@@ -7,7 +7,7 @@ use Rattle.app_events.specs.Part.{Part, Meaning, text_left, CanSay}
 use Rattle.app_events.proofs.Says.{can_say_each}
 use Rattle.cross_tests.specs.declared.counting.Counter.{Counter}
 use Rattle.cross_tests.specs.CounterMeaning.{CounterStands, counter_meaning, counter_text}
-use Rattle.cross_tests.specs.CounterLaws.{counter_same_left}
+use Rattle.cross_tests.specs.Lemmas.CounterLaws.{counter_same_left}
 
 abbrev pub means : Unit {0} → Meaning
 means k = counter_meaning

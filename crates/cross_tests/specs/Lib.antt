@@ -1,2 +1,2 @@
 pub mod CounterMeaning
-pub mod CounterLaws
+pub mod Lemmas

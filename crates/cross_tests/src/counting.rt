@@ -22,7 +22,7 @@ pub struct Counter {
 
 impl App for Counter {
     ghost use Rattle.cross_tests.specs.CounterMeaning.{CounterStands};
-    ghost use Rattle.cross_tests.specs.CounterLaws.{counter_lawful, counter_starts, counter_same_left};
+    ghost use Rattle.cross_tests.specs.Lemmas.CounterLaws.{counter_lawful, counter_starts, counter_same_left};
 
     type Shared = Tally;
 

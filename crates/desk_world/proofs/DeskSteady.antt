@@ -10,9 +10,9 @@ use Rattle.link_world.specs.Steady.{IsSteady}
 use Rattle.link_world.proofs.Steadiness.{steady_of}
 use Rattle.telnet_shell.specs.declared.shell.TheConstants.{TELNET_PORT}
 use Rattle.telnet_shell.specs.ShellMeaning.{shell_meaning, is_stopped}
-use Rattle.telnet_shell.specs.ShellLaws.{shell_lawful}
+use Rattle.telnet_shell.specs.Lemmas.ShellLaws.{shell_lawful}
 use Rattle.telnet_shell.specs.DeskMeaning.{meaning_at, desk_meaning}
-use Rattle.telnet_shell.specs.DeskLaws.{desk_lawful}
+use Rattle.telnet_shell.specs.Lemmas.DeskLaws.{desk_lawful}
 use Rattle.telnet_shell.proofs.TalkLaws.{keeps_talk}
 
 either_capture : (p : Part) (k : Moment) (takes : Bool)

@@ -15,11 +15,10 @@ use Rattle.web_pages.specs.Pieces.{Say, reply_pieces}
 use Rattle.web_pages.specs.Pieces.Say.{Made}
 use Rattle.web_pages.specs.Pages.{hits_of, is_page_whole, page, page_for, reach_end, page_text, takes_capture, whole_for}
 use Rattle.web_pages.specs.WebMeaning.{is_acknowledged, left_of, waits_for_capture, web_want}
-use Rattle.web_pages.specs.Growing.{made_end, made_first, stopped_end, stopped_text, text_grows}
+use Rattle.web_pages.specs.Lemmas.Growing.{made_end, made_first, stopped_end, stopped_text, text_grows}
 use Rattle.httpd.specs.declared.httpd.Httpd.{Httpd}
 use Rattle.httpd.specs.declared.stage.Stage.TheVariants as stage
 use Rattle.httpd.specs.declared.thread.Thread.{Thread}
-use Rattle.httpd.specs.declared.thread.Thread.TheVariants.{Head, Kind, Body, Inside, Making, End}
 use Rattle.httpd.specs.declared.saying.Due.{Due}
 use Rattle.httpd.specs.Reply.{body_from, calls_in, left_from, reply_in}
 use Rattle.httpd.specs.Places.{Fits, IsInner}
@@ -28,6 +27,7 @@ use Rattle.httpd.specs.Looking.{SeesCall}
 use Rattle.httpd.specs.Saying.{IsDueReply, IsNotDue, left_text, left_whole, want_left}
 use Rattle.httpd.specs.HttpdStands.{HttpdStands, IsLeft, IsReplying, SaysNothing, StandsIn}
 use Rattle.httpd.proofs.Standing.{replying}
+use Rattle.httpd.proofs.Walking.{call_before}
 
 -- what is left of the page of a reply
 abbrev text_of : Httpd → SiteContent → Option FileId → List ℕ
@@ -160,22 +160,17 @@ record Begun (site : SiteContent) (found : Option FileId) (old new : Capture) (p
 begun : (site : SiteContent) (found : Option FileId) (old new : Capture) (pieces : List Say) (f : Function) (argument : List ℕ) (next : Thread) → SeesCall (reply_in site found old) pieces f argument next
     → Begun site found old new pieces f argument next
 unfolding Fits left_from
-begun site found old new pieces f argument (Making next at) call =
-    let front : drop at (Rattle.generators.specs.Text.capture_text new) ≡ Rattle.generators.specs.Text.capture_text new = ap (λ n. drop n (Rattle.generators.specs.Text.capture_text new)) call.1 in
-    record {
-      fits = (other_inner site found old new next call.0.inner, omega (arith, call.1));
-      takes = call.0.takes;
-      more = body_from (reply_in site found old) next;
-      pieces_are = call.0.first;
-      says = λ later. ap (λ xs. xs ++ page_text (files_of site) (body_from (reply_in site found old) next) later) front;
+begun site found old new pieces f argument next sees =
+    let call = call_before (reply_in site found old) pieces f argument next sees in
+    subst (λ t. Begun site found old new pieces f argument t) (sym call.2) (record {
+      fits = (other_inner site found old new call.0 call.1.inner, omega arith);
+      takes = call.1.takes;
+      more = body_from (reply_in site found old) call.0;
+      pieces_are = call.1.first;
+      says = λ later. refl;
       ends = λ later. refl;
       calls = refl;
-    }
-begun site found old new pieces f argument (Head at) call = absurd call
-begun site found old new pieces f argument (Kind at) call = absurd call
-begun site found old new pieces f argument (Body at) call = absurd call
-begun site found old new pieces f argument (Inside next file at) call = absurd call
-begun site found old new pieces f argument End call = absurd call
+    })
 
 due_left : (a : Httpd) (site : SiteContent) (found : Option FileId) (p : Part) (name : List ℕ) (due : Due) (capture : Capture) (moment : Moment) → IsDueReply (reply_in site found a.capture) a.thread due → IsReplying a site name found p
     → capture ≡ capture_of due.function (hits_of (files_of site) moment.numbers due.argument.now) moment.now → IsLeft (reply_in site found capture) due.next name (with_capture p moment)
@@ -216,28 +211,18 @@ due_left a site found p name due capture moment is_due is made =
 -- the record is that of the last capture
 taken_by : (site : SiteContent) (found : Option FileId) (old new : Capture) (pieces : List Say) (f : Function) (argument : List ℕ) (next : Thread) (captures : List Moment) (moment : Moment) → SeesCall (reply_in site found old) pieces f argument next
     → new ≡ capture_of f (hits_of (files_of site) moment.numbers argument) moment.now → Keeps (reply_in site found new) (captures ++ moment ∷ []) next
-taken_by site found old new pieces f argument (Making next at) captures moment call made = record {
-  function = f;
-  argument = argument;
-  earlier = captures;
-  last = moment;
-  directive = record {
-    from = call.0.directive.from;
-    at = call.0.directive.at;
-    len = call.0.directive.len;
-    begins = call.0.directive.begins;
-    piece = call.0.directive.piece;
-    names = call.0.directive.names;
-  };
-  takes = call.0.takes;
-  taken = refl;
-  record_is = made;
-}
-taken_by site found old new pieces f argument (Head at) captures moment call made = absurd call
-taken_by site found old new pieces f argument (Kind at) captures moment call made = absurd call
-taken_by site found old new pieces f argument (Body at) captures moment call made = absurd call
-taken_by site found old new pieces f argument (Inside next file at) captures moment call made = absurd call
-taken_by site found old new pieces f argument End captures moment call made = absurd call
+taken_by site found old new pieces f argument next captures moment sees made =
+    let call = call_before (reply_in site found old) pieces f argument next sees in
+    subst (λ t. Keeps (reply_in site found new) (captures ++ moment ∷ []) t) (sym call.2) (record {
+      function = f;
+      argument = argument;
+      earlier = captures;
+      last = moment;
+      directive = call.1.directive;
+      takes = call.1.takes;
+      taken = refl;
+      record_is = made;
+    })
 
 -- nothing is left before the call, and the end is not reached
 due_waits : (a : Httpd) (site : SiteContent) (found : Option FileId) (p : Part) (name : List ℕ) (due : Due) → IsDueReply (reply_in site found a.capture) a.thread due → IsReplying a site name found p

@@ -7,9 +7,9 @@ use Rattle.protosocket.specs.declared.stops.Stops.TheVariants.{Space, SpaceOrLin
 use Rattle.protosocket.specs.Line.{Line, after, fresh, heard, is_stop, part_taken, word_of}
 use Rattle.web_pages.specs.Requests.{after_method, has_ended, method_of, name_in, target_of, wanted}
 use Rattle.web_pages.specs.Requests.Wanted.{Name, Refused}
-use Rattle.web_pages.specs.Deciding.{after_more, ended_more, word_more}
+use Rattle.web_pages.specs.Lemmas.Deciding.{after_more, ended_more, word_more}
 use Rattle.httpd.specs.Hearing.{HasName, HearsMethod, HearsTarget}
-use Rattle.web_pages.specs.Deciding.{decided_by_target, other_method}
+use Rattle.web_pages.specs.Lemmas.Deciding.{decided_by_target, other_method}
 use Rattle.httpd.proofs.Words.{EndsHere, ends_here, front_of, get_heard, heard_more, path_heard, rest_of}
 
 -- ---- the first word

@@ -20,7 +20,7 @@ use Rattle.httpd.specs.Places.{Fits, IsBodyPlace, IsFound, IsInner}
 use Rattle.httpd.specs.Kept.{KeepsOn}
 use Rattle.httpd.specs.Looking.{IsPast}
 use Rattle.httpd.specs.HttpdStands.{HttpdStands, IsLeft, IsReplying, StandsIn}
-use Rattle.httpd.specs.SameLeft.{left_in, left_of_value}
+use Rattle.httpd.specs.Lemmas.SameLeft.{left_in, left_of_value}
 
 abbrev pub means : SiteContent → Rattle.app_events.specs.Part.Meaning
 means site = web_meaning (files_of site)

@@ -10,7 +10,7 @@ use Rattle.web_pages.specs.Requests.Wanted.{Name, NotYet, Refused}
 use Rattle.web_pages.specs.Pieces.{reply_pieces, reply_to}
 use Rattle.web_pages.specs.Pages.{reach_end, page_text}
 use Rattle.web_pages.specs.WebMeaning.{hits_by}
-use Rattle.web_pages.specs.Deciding.{more_by}
+use Rattle.web_pages.specs.Lemmas.Deciding.{more_by}
 use Rattle.httpd.specs.declared.httpd.Httpd.{Httpd}
 use Rattle.httpd.specs.declared.stage.Stage.{Stage}
 use Rattle.httpd.specs.declared.stage.Stage.TheVariants as stage

@@ -8,7 +8,7 @@ use Rattle.script_lang.specs.declared.function.Function.{Function}
 use Rattle.site_image.specs.Files.{File}
 use Rattle.web_pages.specs.Pieces.{Say}
 use Rattle.web_pages.specs.Pages.{reach_end, page_text}
-use Rattle.web_pages.specs.Growing.{stopped_text, stopped_end}
+use Rattle.web_pages.specs.Lemmas.Growing.{stopped_text, stopped_end}
 use Rattle.httpd.specs.declared.span.Span.{Span}
 use Rattle.httpd.specs.declared.span.Span.TheVariants as span
 use Rattle.httpd.specs.declared.span.Look.{Look}

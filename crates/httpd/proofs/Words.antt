@@ -11,7 +11,7 @@ use Rattle.site_image.specs.Files.{File, has_name}
 use Rattle.protosocket.specs.declared.stops.Stops.{Stops}
 use Rattle.protosocket.specs.declared.stops.Stops.TheVariants.{Space}
 use Rattle.protosocket.specs.Line.{after, fresh, heard, is_query_mark, is_stop, word_of}
-use Rattle.protosocket.specs.Hearing.{hears_joined, none_at_all, none_before, one_before}
+use Rattle.protosocket.specs.Lemmas.Hearing.{hears_joined, none_at_all, none_before, one_before}
 use Rattle.web_pages.specs.Requests.{after_method, has_ended, method_of, name_in}
 
 -- a line that heard some bytes hears more
@@ -58,7 +58,7 @@ pub cut_stops : (p : ℕ → Bool) (xs : List ℕ) → list_any p xs ≡ true
     → (list_any p (take (length (before_first p xs) + 1) xs) ≡ true) × (before_first p (take (length (before_first p xs) + 1) xs) ≡ before_first p xs) × (length (before_first p xs) + 1 ≤ length xs)
 cut_stops p xs e =
     let fits : length (before_first p xs) + 1 ≤ length xs =
-    subst (λ b. length (before_first p xs) + (if b then 1 else 0) ≤ length xs) e (Rattle.protosocket.specs.Hearing.stop_fits p xs) in
+    subst (λ b. length (before_first p xs) + (if b then 1 else 0) ≤ length xs) e (Rattle.protosocket.specs.Lemmas.Hearing.stop_fits p xs) in
     by (length (before_first p xs) + 1) refl (take-append-drop (length (before_first p xs) + 1) xs) fits (list_any p (take (length (before_first p xs) + 1) xs)) refl
   where
     by : (n : ℕ) → n ≡ length (before_first p xs) + 1 → take n xs ++ drop n xs ≡ xs → n ≤ length xs → (b : Bool) → list_any p (take n xs) ≡ b

@@ -10,7 +10,7 @@ use Rattle.protosocket.specs.Line.{heard as heard_line}
 use Rattle.file_tree.specs.declared.file_id.FileId.{FileId}
 use Rattle.site_image.specs.Files.{File, file_named}
 use Rattle.web_pages.specs.Requests.{wanted, has_ended, after_method, name_in, target_of}
-use Rattle.web_pages.specs.Deciding.{ended_more, after_more, name_stays}
+use Rattle.web_pages.specs.Lemmas.Deciding.{ended_more, after_more, name_stays}
 use Rattle.httpd.specs.Places.{IsFound}
 use Rattle.httpd.specs.Reply.{found_file}
 use Rattle.httpd.specs.Hearing.{HearsMethod, HearsTarget, HasName}

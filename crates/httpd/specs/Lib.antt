@@ -6,5 +6,5 @@ pub mod Saying
 pub mod Web
 pub mod Hearing
 pub mod HttpdStands
-pub mod SameLeft
 pub mod Zero
+pub mod Lemmas

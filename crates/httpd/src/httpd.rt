@@ -30,9 +30,9 @@ impl App for Httpd {
     ghost use Rattle.file_tree.specs.Site.{SiteContent, files_of};
     ghost use Rattle.web_pages.specs.Serving.{is_served};
     ghost use Rattle.web_pages.specs.WebMeaning.{web_meaning};
-    ghost use Rattle.web_pages.specs.WebLaws.{web_lawful, web_starts};
+    ghost use Rattle.web_pages.specs.Lemmas.WebLaws.{web_lawful, web_starts};
     ghost use Rattle.httpd.specs.HttpdStands.{HttpdStands};
-    ghost use Rattle.httpd.specs.SameLeft.{same_left};
+    ghost use Rattle.httpd.specs.Lemmas.SameLeft.{same_left};
 
     type Shared = Web;
 

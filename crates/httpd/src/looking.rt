@@ -25,6 +25,7 @@ use web_pages::LARGEST_SEGMENT;
 
 /// What the thread sees.
 #[inline(always)]
+#[tactic(auto, using(crate::proofs::Seeing::keeps_same))]
 pub(crate) fn look<'a>(
     site: &'a Site,
     found: Option<FileId>,

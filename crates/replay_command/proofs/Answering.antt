@@ -16,26 +16,19 @@ use Rattle.site_image.specs.Files.{File}
 use Rattle.generators.specs.Text.{in_ten_places, counter_line, row_parts, row_text}
 use Rattle.web_pages.specs.Requests.{Wanted, wanted}
 use Rattle.web_pages.specs.Requests.Wanted.{NotYet, Refused, Name}
-use Rattle.web_pages.specs.Deciding.{name_stays}
+use Rattle.web_pages.specs.Lemmas.Deciding.{name_stays}
 use Rattle.web_pages.specs.Pieces.{Say}
 use Rattle.web_pages.specs.Pieces.Say.{Plain, Made}
 use Rattle.web_pages.specs.Pages.{takes_capture, made_text, hits_of, page_text, reach_end, page_for, whole_for, page, is_page_whole}
-use Rattle.web_pages.specs.Growing.{silent_text, silent_end, stopped_text, made_first, made_end}
-use Rattle.web_pages.specs.WebLaws.{newdata_grows, with_capture}
+use Rattle.web_pages.specs.Lemmas.Growing.{silent_text, silent_end, stopped_text, made_first, made_end}
+use Rattle.web_pages.specs.Lemmas.WebLaws.{newdata_grows, with_capture}
 use Rattle.web_pages.specs.WebMeaning.{web_meaning, web_want, is_acknowledged, waits_for_capture, left_of}
-use Rattle.web_pages.proofs.Bounds.{text_bound}
+use Rattle.web_pages.proofs.Bounds.{silent_none, text_bound}
 use Rattle.link_world.specs.Honest.{GoesOnBy, AnswersIn}
 use Rattle.link_world.proofs.Basics.{prefix_length, both_ways, ltb-zero, not-true}
 use Rattle.link_world.proofs.Fits.{all_nil, all_cons}
 use Rattle.replay_command.specs.Web.{most_of, texts_for, pieces_for}
 use Rattle.replay_command.proofs.Counting.{left_in, behind, counted, shorter, one_less}
-
-silent_none : (function : Function) → takes_capture function ≡ false → length_at_most function ≡ 0
-silent_none FileStats e = absurd cc
-silent_none TcpConnections e = absurd cc
-silent_none NetStats e = absurd cc
-silent_none Ticks e = absurd cc
-silent_none Unknown e = refl
 
 -- ---- what a call says is something, and no more than its greatest length
 

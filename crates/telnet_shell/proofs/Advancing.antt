@@ -9,7 +9,7 @@ use Rattle.telnet_shell.specs.Reading.{commands_in}
 use Rattle.telnet_shell.specs.Transcript.{needs_capture, said_with, transcript}
 use Rattle.telnet_shell.specs.Saying.{stops_at, left_said, IsInFront, Shows, needed, IsBehind, is_past, Passes}
 use Rattle.telnet_shell.specs.ShellMeaning.{with_byte}
-use Rattle.telnet_shell.specs.Speaking.{split, front_left, empty_stops, said_some}
+use Rattle.telnet_shell.specs.Lemmas.Speaking.{split, front_left, empty_stops, said_some}
 
 pub passes : (q new : List Command) (front : Command) (capture : Capture) (at len place : ℕ) → is_past q capture at ≡ true → front ≡ slice_index_or q 0 front → new ≡ remove q 0
     → len ≡ length (said_with front capture) → place ≡ at - len → Passes q capture at new Empty place

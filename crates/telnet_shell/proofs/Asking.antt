@@ -13,7 +13,7 @@ use Rattle.telnet_shell.specs.declared.command.Command.{Command}
 use Rattle.telnet_shell.specs.declared.shell.Shell.{Shell}
 use Rattle.telnet_shell.specs.Transcript.{function_of, needs_capture, said_with, transcript}
 use Rattle.telnet_shell.specs.Saying.{IsBehind, IsInFront, Shows, stops_at, is_taken, left_said, due}
-use Rattle.telnet_shell.specs.Speaking.{talk_is, waiting_is, said_some, held_goes}
+use Rattle.telnet_shell.specs.Lemmas.Speaking.{talk_is, waiting_is, said_some, held_goes}
 use Rattle.telnet_shell.specs.ShellMeaning.{talk, is_acknowledged, is_settled, is_stopped, has_ended, left_of, shell_want, take_capture, hear_byte, hear_all}
 use Rattle.telnet_shell.specs.ShellStands.{ShellStands}
 use Rattle.telnet_shell.proofs.Standing.{own_is}

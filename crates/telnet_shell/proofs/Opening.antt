@@ -4,7 +4,7 @@ use Rattle.telnet_shell.specs.Reading.{Awaits, Token, tokens, told, next_awaits,
 use Rattle.telnet_shell.specs.Reading.Awaits.{Text}
 use Rattle.telnet_shell.specs.Reading.Token.{Byte, Answer}
 use Rattle.telnet_shell.specs.Hearing.{IsLine, IsOpen, awaited}
-use Rattle.telnet_shell.specs.Growing.{tokens_joined, commands_joined}
+use Rattle.telnet_shell.specs.Lemmas.Growing.{tokens_joined, commands_joined}
 
 pub awaits_one : (awaits : Awaits) (xs : List ℕ) (byte : ℕ) → awaits_after awaits (xs ++ byte ∷ []) ≡ next_awaits (awaits_after awaits xs) byte
 awaits_one awaits [] byte = refl

@@ -9,8 +9,8 @@ use Rattle.telnet_shell.specs.Reading.{all_commands, commands_in, commands, toke
 use Rattle.telnet_shell.specs.Reading.Awaits.{Text}
 use Rattle.telnet_shell.specs.Hearing.{IsOpen}
 use Rattle.telnet_shell.specs.Saying.{IsBehind, IsInFront}
-use Rattle.telnet_shell.specs.Growing.{until_quit_joined}
-use Rattle.telnet_shell.specs.Speaking.{waiting_is}
+use Rattle.telnet_shell.specs.Lemmas.Growing.{until_quit_joined}
+use Rattle.telnet_shell.specs.Lemmas.Speaking.{waiting_is}
 use Rattle.telnet_shell.specs.ShellMeaning.{waiting, with_byte, hear_byte}
 use Rattle.telnet_shell.specs.ShellStands.{ShellStands}
 use Rattle.telnet_shell.proofs.Opening.{commands_one}

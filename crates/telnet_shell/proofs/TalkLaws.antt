@@ -11,7 +11,7 @@ use Rattle.telnet_shell.specs.Reading.{Token, tokens, awaits_after, commands, li
 use Rattle.telnet_shell.specs.Reading.Awaits.{Text}
 use Rattle.telnet_shell.specs.Transcript.{needs_capture, said_plainly, said_at, transcript, unfinished}
 use Rattle.telnet_shell.specs.Saying.{needed}
-use Rattle.telnet_shell.specs.Growing.{tokens_joined, commands_joined, commands_grow, further, transcript_grows}
+use Rattle.telnet_shell.specs.Lemmas.Growing.{tokens_joined, commands_joined, commands_grow, further, transcript_grows}
 use Rattle.telnet_shell.specs.ShellMeaning.{talk, waiting, with_byte, hear_all, has_ended, is_settled, left_of}
 use Rattle.telnet_shell.specs.Talks.{talks, HearsFront, KeepsTalk}
 use Rattle.telnet_shell.proofs.Standing.{quit_joins}

@@ -11,7 +11,7 @@ use Rattle.telnet_shell.specs.declared.desk.Desk.TheVariants as desk
 use Rattle.telnet_shell.specs.ShellMeaning.{shell_meaning}
 use Rattle.telnet_shell.specs.DeskMeaning.{meaning_at, desk_meaning}
 use Rattle.telnet_shell.specs.DeskStands.{DeskStands, at_web, at_shell}
-use Rattle.telnet_shell.specs.DeskLaws.{KeepsPort, port_at}
+use Rattle.telnet_shell.specs.Lemmas.DeskLaws.{KeepsPort, port_at}
 use Rattle.telnet_shell.specs.DeskPorts.{DoesAs, IsAtWeb, IsAtShell, IsTwoApplications}
 
 is_web_port : (port : ℕ) → port ≡ WEB_PORT → (port == TELNET_PORT) ≡ false

@@ -17,7 +17,7 @@ use Rattle.telnet_shell.specs.ShellMeaning.{shell_meaning}
 use Rattle.telnet_shell.specs.ShellStands.{ShellStands}
 use Rattle.telnet_shell.specs.DeskMeaning.{desk_meaning}
 use Rattle.telnet_shell.specs.DeskStands.{DeskStands}
-use Rattle.telnet_shell.specs.DeskLaws.{KeepsPort}
+use Rattle.telnet_shell.specs.Lemmas.DeskLaws.{KeepsPort}
 
 -- at a part each call of m does what that of n does
 pub record DoesAs (m n : Meaning) (part : Part) : Type 0 where

@@ -6,14 +6,14 @@ use Rattle.file_tree.specs.Site.{SiteContent, files_of}
 use Rattle.web_pages.specs.WebMeaning.{web_meaning}
 use Rattle.httpd.specs.declared.httpd.Httpd.{Httpd}
 use Rattle.httpd.specs.HttpdStands.{HttpdStands}
-use Rattle.httpd.specs.SameLeft.{same_left as web_same_left}
+use Rattle.httpd.specs.Lemmas.SameLeft.{same_left as web_same_left}
 use Rattle.telnet_shell.specs.declared.shell.Shell.{Shell}
 use Rattle.telnet_shell.specs.declared.shell.TheConstants.{TELNET_PORT}
 use Rattle.telnet_shell.specs.declared.desk.Desk.{Desk}
 use Rattle.telnet_shell.specs.declared.desk.Desk.TheVariants as desk
 use Rattle.telnet_shell.specs.ShellMeaning.{shell_meaning}
 use Rattle.telnet_shell.specs.ShellStands.{ShellStands}
-use Rattle.telnet_shell.specs.SameLeft.{same_left as shell_same_left}
+use Rattle.telnet_shell.specs.Lemmas.SameLeft.{same_left as shell_same_left}
 use Rattle.telnet_shell.specs.DeskMeaning.{meaning_at, desk_meaning}
 
 pub record IsWebPart (a : Httpd) (site : SiteContent) (part : Part) : Type 0 where

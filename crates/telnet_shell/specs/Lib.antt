@@ -1,16 +1,12 @@
 pub mod Reading
 pub mod Transcript
 pub mod ShellMeaning
-pub mod Growing
-pub mod ShellLaws
 pub mod WorkedTalks
 pub mod Hearing
 pub mod Saying
-pub mod Speaking
 pub mod ShellStands
-pub mod SameLeft
 pub mod DeskMeaning
 pub mod DeskStands
-pub mod DeskLaws
 pub mod DeskPorts
 pub mod Talks
+pub mod Lemmas

@@ -17,7 +17,7 @@ pub enum Desk {
 impl App for Desk {
     ghost use Rattle.file_tree.specs.Site.{SiteContent, files_of};
     ghost use Rattle.telnet_shell.specs.DeskMeaning.{desk_meaning, is_served_at};
-    ghost use Rattle.telnet_shell.specs.DeskLaws.{desk_lawful, desk_starts};
+    ghost use Rattle.telnet_shell.specs.Lemmas.DeskLaws.{desk_lawful, desk_starts};
     ghost use Rattle.telnet_shell.specs.DeskStands.{DeskStands, desk_same_left};
 
     type Shared = Web;

@@ -116,9 +116,9 @@ impl App for Shell {
     ghost use Rattle.file_tree.specs.Site.{SiteContent};
     ghost use Rattle.telnet_shell.specs.declared.shell.TheConstants.{TELNET_PORT};
     ghost use Rattle.telnet_shell.specs.ShellMeaning.{shell_meaning};
-    ghost use Rattle.telnet_shell.specs.ShellLaws.{shell_lawful, shell_starts};
+    ghost use Rattle.telnet_shell.specs.Lemmas.ShellLaws.{shell_lawful, shell_starts};
     ghost use Rattle.telnet_shell.specs.ShellStands.{ShellStands};
-    ghost use Rattle.telnet_shell.specs.SameLeft.{same_left};
+    ghost use Rattle.telnet_shell.specs.Lemmas.SameLeft.{same_left};
 
     type Shared = Web;
 

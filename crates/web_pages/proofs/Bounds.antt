@@ -22,7 +22,7 @@ use Rattle.app_events.specs.Pages.{IsMoment, IsWord}
 use Rattle.web_pages.specs.Pieces.{Say, says, piece_bytes, body_of, found_reply, kind_line}
 use Rattle.web_pages.specs.Pieces.Say.{Plain, Made}
 use Rattle.web_pages.specs.Pages.{takes_capture, made_text, hits_of, number_at, place_of, page_text}
-use Rattle.web_pages.specs.Growing.{silent_text, stopped_text, made_first}
+use Rattle.web_pages.specs.Lemmas.Growing.{silent_text, stopped_text, made_first}
 
 -- the greatest length of what is said
 abbrev pub most_said : Say → ℕ
@@ -49,7 +49,8 @@ made_short files function argument moment is =
 
 -- ---- the pieces
 
-silent_none : (function : Function) → takes_capture function ≡ false → length_at_most function ≡ 0
+-- a call that takes no capture says nothing
+pub silent_none : (function : Function) → takes_capture function ≡ false → length_at_most function ≡ 0
 silent_none FileStats e = absurd cc
 silent_none TcpConnections e = absurd cc
 silent_none NetStats e = absurd cc

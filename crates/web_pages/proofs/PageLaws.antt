@@ -11,8 +11,8 @@ use Rattle.web_pages.specs.Requests.{Wanted, wanted}
 use Rattle.web_pages.specs.Requests.Wanted.{NotYet, Refused, Name}
 use Rattle.web_pages.specs.Pages.{place_of}
 use Rattle.web_pages.specs.WebMeaning.{hit_at, hits_by, is_acknowledged, waits_for_capture}
-use Rattle.web_pages.specs.Growing.{page_grows, page_stays}
-use Rattle.web_pages.specs.WebLaws.{with_capture, may_want}
+use Rattle.web_pages.specs.Lemmas.Growing.{page_grows, page_stays}
+use Rattle.web_pages.specs.Lemmas.WebLaws.{with_capture, may_want}
 use Rattle.web_pages.specs.Claims.{KeepsPageLaws}
 use Rattle.web_pages.proofs.Limits.{page_short}
 

@@ -10,12 +10,12 @@ use Rattle.std.proofs.lemmas.List.Sums.{take_while-cons}
 use Rattle.std.proofs.lemmas.Slice.Eq.{bytes_eq-Decides}
 use Rattle.protosocket.specs.declared.stops.Stops.TheVariants.{Space, SpaceOrLine}
 use Rattle.protosocket.specs.Line.{Line, is_query_mark, after, fresh, heard}
-use Rattle.protosocket.specs.Hearing.{none_at_all}
+use Rattle.protosocket.specs.Lemmas.Hearing.{none_at_all}
 use Rattle.protosocket.proofs.Pieces.{hears_in_pieces}
 use Rattle.web_pages.specs.Requests.{Wanted, wanted, wanted_by, has_ended, method_of, after_method, target_of, name_in}
 use Rattle.web_pages.specs.Requests.Wanted.{NotYet, Refused, Name}
 use Rattle.web_pages.specs.Words.{told_so_far, ToldInPieces, LongNames}
-use Rattle.web_pages.specs.Deciding.{by_tests}
+use Rattle.web_pages.specs.Lemmas.Deciding.{by_tests}
 
 -- ---- the method
 

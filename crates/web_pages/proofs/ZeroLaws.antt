@@ -9,7 +9,7 @@ use Rattle.generators.specs.Captures.{capture_of}
 use Rattle.generators.specs.Text.{capture_text}
 use Rattle.protosocket.specs.declared.stops.Stops.TheVariants.{SpaceOrLine}
 use Rattle.protosocket.specs.Line.{is_stop, word_of}
-use Rattle.protosocket.specs.Hearing.{one_before, none_before, none_at_all}
+use Rattle.protosocket.specs.Lemmas.Hearing.{one_before, none_before, none_at_all}
 use Rattle.site_image.specs.Files.{File, file_named}
 use Rattle.web_pages.specs.Requests.{Wanted, wanted, wanted_by, has_ended}
 use Rattle.web_pages.specs.Requests.Wanted.{NotYet, Refused, Name}
@@ -17,8 +17,8 @@ use Rattle.web_pages.specs.Pieces.{Say, reply_pieces}
 use Rattle.web_pages.specs.Pieces.Say.{Plain, Made}
 use Rattle.web_pages.specs.Pages.{takes_capture, number_at, place_of, made_text, page_text, page_for}
 use Rattle.web_pages.specs.ZeroPages.{zero_moment, zero_said, zero_reply, request_for, zero_page, most_captures}
-use Rattle.web_pages.specs.Growing.{silent_text, made_first}
-use Rattle.web_pages.specs.Deciding.{decided_by_target}
+use Rattle.web_pages.specs.Lemmas.Growing.{silent_text, made_first}
+use Rattle.web_pages.specs.Lemmas.Deciding.{decided_by_target}
 
 -- ---- the text
 

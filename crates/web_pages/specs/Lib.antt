@@ -4,10 +4,8 @@ pub mod Pages
 pub mod ZeroPages
 pub mod WebMeaning
 pub mod Words
-pub mod Deciding
-pub mod Growing
-pub mod WebLaws
 pub mod Claims
 pub mod WorkedRequests
 pub mod WorkedPages
 pub mod Serving
+pub mod Lemmas

@@ -1,5 +1,5 @@
 use Rattle.std.proofs.Common.{◌≤◌, length, sym, subst}
-use Rattle.protosocket.specs.Hearing.{takes_front}
+use Rattle.protosocket.specs.Lemmas.Hearing.{takes_front}
 use Rattle.httpd.proofs.hearing.feed.Goals as goal
 
 pub returns-clause-within : goal.returns-clause-within

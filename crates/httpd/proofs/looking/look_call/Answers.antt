@@ -2,7 +2,7 @@ use Rattle.std.proofs.Common.{◌∷◌, refl, sym, subst, ap}
 use Rattle.script_lang.specs.declared.function.Function.TheVariants.{Unknown}
 use Rattle.httpd.specs.declared.thread.Thread.TheVariants.{Body}
 use Rattle.web_pages.specs.Pieces.Say.{Made}
-use Rattle.web_pages.specs.Growing.{silent_text, silent_end}
+use Rattle.web_pages.specs.Lemmas.Growing.{silent_text, silent_end}
 use Rattle.httpd.specs.Reply.{body_from, left_from, reply_in}
 use Rattle.httpd.specs.Places.{Fits}
 use Rattle.httpd.specs.Looking.{Sees}

@@ -6,7 +6,7 @@ use Rattle.httpd.specs.Kept.{KeepsOn}
 use Rattle.httpd.specs.Looking.{IsPast}
 use Rattle.httpd.specs.Places.{Fits, IsFound}
 use Rattle.httpd.specs.HttpdStands.{HttpdStands}
-use Rattle.httpd.specs.SameLeft.{left_in}
+use Rattle.httpd.specs.Lemmas.SameLeft.{left_in}
 use Rattle.httpd.specs.declared.stage.Stage.TheVariants as stage
 use Rattle.httpd.proofs.Standing.{can_say, quiet_acked, reply_acked, reply_fits, reply_found, some_part}
 use Rattle.httpd.proofs.httpd.HttpdApp.acked.Goals as goal

@@ -3,7 +3,7 @@ use Rattle.file_tree.specs.Site.{files_of}
 use Rattle.httpd.specs.Web.{WebContent}
 use Rattle.httpd.specs.Reply.{reply_in}
 use Rattle.httpd.specs.Places.{Fits, IsFound}
-use Rattle.httpd.specs.SameLeft.{left_in}
+use Rattle.httpd.specs.Lemmas.SameLeft.{left_in}
 use Rattle.httpd.specs.declared.stage.Stage.TheVariants as stage
 use Rattle.httpd.proofs.Standing.{can_say, quiet_zero, reply_fits, reply_found, some_part}
 use Rattle.httpd.proofs.httpd.HttpdApp.fill.Goals as goal

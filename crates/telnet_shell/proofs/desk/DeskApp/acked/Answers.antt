@@ -2,7 +2,7 @@ use Rattle.std.proofs.Common.{◌≡◌, ℕ, ◌==◌, ap, ◌∙◌}
 use Rattle.app_events.specs.Part.{Meaning}
 use Rattle.file_tree.specs.Site.{files_of}
 use Rattle.telnet_shell.specs.DeskStands.{IsWebPart, IsShellPart}
-use Rattle.telnet_shell.specs.DeskLaws.{web_port, shell_port}
+use Rattle.telnet_shell.specs.Lemmas.DeskLaws.{web_port, shell_port}
 use Rattle.telnet_shell.proofs.DeskParts.{web_part, shell_part, web_can, shell_can, on_web, on_shell}
 use Rattle.telnet_shell.proofs.desk.DeskApp.acked.Goals as goal
 

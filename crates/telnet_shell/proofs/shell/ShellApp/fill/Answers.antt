@@ -1,7 +1,7 @@
 use Rattle.std.proofs.Common.{◌+◌, ◌≤◌, ℕ, List, length, take, drop, sym, ap, subst, ◌∙◌}
 use Rattle.telnet_shell.specs.declared.command.Command.{Command}
 use Rattle.telnet_shell.specs.Saying.{left_said, front_size}
-use Rattle.telnet_shell.specs.SameLeft.{left_of_value}
+use Rattle.telnet_shell.specs.Lemmas.SameLeft.{left_of_value}
 use Rattle.telnet_shell.proofs.Opened.{place_of, room}
 use Rattle.telnet_shell.proofs.shell.ShellApp.fill.Goals as goal
 

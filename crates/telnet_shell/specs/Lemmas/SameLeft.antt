@@ -5,7 +5,7 @@ use Rattle.app_events.specs.Part.{Part, text_left}
 use Rattle.telnet_shell.specs.declared.shell.Shell.{Shell}
 use Rattle.telnet_shell.specs.Transcript.{transcript}
 use Rattle.telnet_shell.specs.Saying.{left_said}
-use Rattle.telnet_shell.specs.Speaking.{talk_is}
+use Rattle.telnet_shell.specs.Lemmas.Speaking.{talk_is}
 use Rattle.telnet_shell.specs.ShellMeaning.{shell_meaning, talk}
 use Rattle.telnet_shell.specs.ShellStands.{ShellStands}
 

@@ -15,7 +15,7 @@ use Rattle.httpd.specs.declared.stage.Stage.TheVariants as stage
 use Rattle.httpd.specs.declared.httpd.Httpd.{Httpd}
 use Rattle.httpd.specs.Reply.{left_from, reply_in}
 use Rattle.httpd.specs.HttpdStands.{HttpdStands, StandsIn}
-use Rattle.web_pages.specs.Deciding.{method_open, target_open}
+use Rattle.web_pages.specs.Lemmas.Deciding.{method_open, target_open}
 
 -- what a value has left to say
 abbrev pub left_in : Httpd → SiteContent → Stage → List ℕ

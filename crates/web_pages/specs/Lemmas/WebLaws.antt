@@ -10,7 +10,7 @@ use Rattle.app_events.specs.declared.want.Want.TheVariants.{Nothing, Send, Close
 use Rattle.web_pages.specs.Requests.{wanted}
 use Rattle.web_pages.specs.Pages.{page, is_page_whole, pages_of}
 use Rattle.web_pages.specs.WebMeaning.{web_meaning, open_want, web_want, is_acknowledged, waits_for_capture, left_of}
-use Rattle.web_pages.specs.Growing.{page_grows, same_prefix}
+use Rattle.web_pages.specs.Lemmas.Growing.{page_grows, same_prefix}
 use Rattle.web_pages.specs.declared.TheConstants.{MOST_POLLS, LARGEST_SEGMENT}
 
 no_more : (xs : List ℕ) → xs ++ [] ≡ xs

@@ -6,11 +6,11 @@ use Rattle.app_events.specs.Laws.{IsLawful, StartsAnew, Grows}
 use Rattle.app_events.specs.declared.now.Now.{Now}
 use Rattle.web_pages.specs.Requests.{wanted}
 use Rattle.web_pages.specs.WebMeaning.{web_meaning, is_acknowledged, waits_for_capture}
-use Rattle.web_pages.specs.WebLaws.{web_lawful, web_starts}
+use Rattle.web_pages.specs.Lemmas.WebLaws.{web_lawful, web_starts}
 use Rattle.telnet_shell.specs.declared.TheConstants.{MOST_COMMANDS}
 use Rattle.telnet_shell.specs.declared.shell.TheConstants.{TELNET_PORT}
 use Rattle.telnet_shell.specs.ShellMeaning.{shell_meaning, waiting, with_byte, hear_byte, hear_all, is_stopped, take_capture}
-use Rattle.telnet_shell.specs.ShellLaws.{shell_lawful, shell_starts}
+use Rattle.telnet_shell.specs.Lemmas.ShellLaws.{shell_lawful, shell_starts}
 use Rattle.telnet_shell.specs.DeskMeaning.{meaning_at, desk_meaning}
 
 -- no call changes the port of a connection

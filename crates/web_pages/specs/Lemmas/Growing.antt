@@ -9,7 +9,7 @@ use Rattle.web_pages.specs.Requests.Wanted.{NotYet, Refused, Name}
 use Rattle.web_pages.specs.Pieces.{Say, reply_pieces}
 use Rattle.web_pages.specs.Pieces.Say.{Plain, Made}
 use Rattle.web_pages.specs.Pages.{takes_capture, made_text, page_text, reach_end, page_for, whole_for, page, is_page_whole}
-use Rattle.web_pages.specs.Deciding.{more_by}
+use Rattle.web_pages.specs.Lemmas.Deciding.{more_by}
 
 -- ---- a call, by whether it takes a capture
 

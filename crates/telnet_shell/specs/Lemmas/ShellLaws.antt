@@ -9,7 +9,7 @@ use Rattle.telnet_shell.specs.declared.command.Command.{Command}
 use Rattle.telnet_shell.specs.declared.TheConstants.{MOST_SILENT_POLLS, MOST_COMMANDS}
 use Rattle.telnet_shell.specs.Reading.{commands_in}
 use Rattle.telnet_shell.specs.Transcript.{transcript}
-use Rattle.telnet_shell.specs.Growing.{commands_grow, further, transcript_grows}
+use Rattle.telnet_shell.specs.Lemmas.Growing.{commands_grow, further, transcript_grows}
 use Rattle.telnet_shell.specs.ShellMeaning.{talk, waiting, with_byte, hear_byte, hear_all, is_stopped, has_ended, left_of, shell_want, shell_meaning}
 
 same_prefix : (xs : List ℕ) → IsPrefixOf xs xs

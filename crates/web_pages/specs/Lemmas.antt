@@ -1,0 +1,4 @@
+-- What is proved of the definitions beside: it need not be believed.
+pub mod Deciding
+pub mod Growing
+pub mod WebLaws
