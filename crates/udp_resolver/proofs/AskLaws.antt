@@ -10,7 +10,7 @@ use Rattle.udp_resolver.specs.Asked.{line_text}
 use Rattle.udp_resolver.specs.Fates.{Question}
 use Rattle.udp_resolver.specs.LineEvents.{events}
 use Rattle.udp_resolver.specs.Resolving.{IsOpen, LastAsked}
-use Rattle.udp_resolver.specs.Standing.{Asks, Adds, TurnsBy}
+use Rattle.udp_resolver.specs.Standing.{Asks, Adds, AskTurnsBy}
 use Rattle.udp_resolver.specs.declared.run.Run.{Run}
 use Rattle.udp_resolver.specs.declared.run.Turn.TheVariants.{Stopped}
 use Rattle.uip_edge.specs.Told.{IsCalm, LineTold}
@@ -39,7 +39,7 @@ kept_out a b c text same p = subst (λ (o : Option (List ℕ)). Appends a o text
 pub stopped : (asked : List Question) (n : ℕ) (taken more : List Item) (run : Run) (old mid new : LineTold) (room : ℕ) (end : ServeEnd)
     → IsOpen asked taken → Consumes old.link.coming mid.link.coming taken → Consumes mid.link.coming new.link.coming more → length taken < n → length more ≤ room → room + length taken ≤ n
     → IsCalm old mid → (taken ≡ []) ⊎ LastAsked asked taken → Appends old.sink.written mid.sink.written (line_text asked (events taken))
-    → TurnsBy asked taken more run mid new (Stopped end) → Asks asked n run old new end
+    → AskTurnsBy asked taken more run mid new (Stopped end) → Asks asked n run old new end
 stopped asked n taken more run old mid new room ends.End is_open c d few size fits calm needed wrote t = record {
   taken = taken;
   within = omega arith;

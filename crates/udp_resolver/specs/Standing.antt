@@ -55,21 +55,21 @@ pub record OutBroke (asked : List Question) (items more : List Item) (old new : 
   pub out : AppendsPrefix old.sink.written new.sink.written text
 
 -- what a turn tells
-abbrev pub TurnsBy : List Question → List Item → List Item → Run → LineTold → LineTold → Turn → Type 0
-TurnsBy asked items more run old new (turns.Went n) = (length more ≡ n) × Went asked items more run old new
-TurnsBy asked items more run old new (turns.Stopped ends.End) =
+abbrev pub AskTurnsBy : List Question → List Item → List Item → Run → LineTold → LineTold → Turn → Type 0
+AskTurnsBy asked items more run old new (turns.Went n) = (length more ≡ n) × Went asked items more run old new
+AskTurnsBy asked items more run old new (turns.Stopped ends.End) =
     Kept asked items more run old new × TookAll old.link.coming [] × (new.link.faults ≡ old.link.faults)
-TurnsBy asked items more run old new (turns.Stopped ends.LinkFault) =
+AskTurnsBy asked items more run old new (turns.Stopped ends.LinkFault) =
     Kept asked items more run old new × Rose old.link.faults new.link.faults
-TurnsBy asked items more run old new (turns.Stopped ends.WriteFault) = OutBroke asked items more old new
-TurnsBy asked items more run old new (turns.Stopped ends.Budget) = ⊥
+AskTurnsBy asked items more run old new (turns.Stopped ends.WriteFault) = OutBroke asked items more old new
+AskTurnsBy asked items more run old new (turns.Stopped ends.Budget) = ⊥
 
 -- a turn behind these items
 pub record Turns (asked : List Question) (items : List Item) (run : Run) (old new : LineTold) (room : ℕ) (turn : Turn) : Type 0 where
   pub more : List Item
   pub consumed : Consumes old.link.coming new.link.coming more
   pub within : length more ≤ room
-  pub by : TurnsBy asked items more run old new turn
+  pub by : AskTurnsBy asked items more run old new turn
 
 -- a turn takes at least one item and no more than there is room for
 abbrev pub AskFits : Turn → ℕ → Type 0
