@@ -22,7 +22,7 @@ use Rattle.httpd.specs.declared.thread.Thread.{Thread}
 use Rattle.httpd.specs.declared.saying.Due.{Due}
 use Rattle.httpd.specs.Reply.{body_from, calls_in, left_from, reply_in}
 use Rattle.httpd.specs.Places.{Fits, IsInner}
-use Rattle.httpd.specs.Kept.{Keeps}
+use Rattle.httpd.specs.Kept.{KeepsDirective}
 use Rattle.httpd.specs.Looking.{SeesCall}
 use Rattle.httpd.specs.Saying.{IsDueReply, IsNotDue, left_text, left_whole, want_left}
 use Rattle.httpd.specs.HttpdStands.{HttpdStands, IsLeft, IsReplying, SaysNothing, StandsIn}
@@ -210,10 +210,10 @@ due_left a site found p name due capture moment is_due is made =
 
 -- the record is that of the last capture
 taken_by : (site : SiteContent) (found : Option FileId) (old new : Capture) (pieces : List Say) (f : Function) (argument : List ℕ) (next : Thread) (captures : List Moment) (moment : Moment) → SeesCall (reply_in site found old) pieces f argument next
-    → new ≡ capture_of f (hits_of (files_of site) moment.numbers argument) moment.now → Keeps (reply_in site found new) (captures ++ moment ∷ []) next
+    → new ≡ capture_of f (hits_of (files_of site) moment.numbers argument) moment.now → KeepsDirective (reply_in site found new) (captures ++ moment ∷ []) next
 taken_by site found old new pieces f argument next captures moment sees made =
     let call = call_before (reply_in site found old) pieces f argument next sees in
-    subst (λ t. Keeps (reply_in site found new) (captures ++ moment ∷ []) t) (sym call.2) (record {
+    subst (λ t. KeepsDirective (reply_in site found new) (captures ++ moment ∷ []) t) (sym call.2) (record {
       function = f;
       argument = argument;
       earlier = captures;

@@ -12,7 +12,7 @@ use Rattle.httpd.specs.declared.thread.Thread.{Thread}
 use Rattle.httpd.specs.declared.thread.Thread.TheVariants.{Head, Kind, Body, Inside, Making, End}
 use Rattle.httpd.specs.Reply.{FileReply, calls_in, left_from}
 use Rattle.httpd.specs.Places.{Fits, moved, thread_place}
-use Rattle.httpd.specs.Kept.{Keeps, KeepsAll, KeepsOn}
+use Rattle.httpd.specs.Kept.{KeepsDirective, KeepsAll, KeepsOn}
 use Rattle.httpd.specs.Looking.{Leads, IsInPiece, IsSpan, IsText, Sees, SeesBy, SeesText, SpanFits, span_text}
 
 pub span_along : (s : Span) (xs ys : List ℕ) → xs ≡ ys → IsSpan s xs → IsSpan s ys
@@ -132,7 +132,7 @@ nothing_seen r piece more look is e next begins leads =
 
 -- of the same thread
 pub keeps_same : (r : FileReply) (thread other : Thread) → other ≡ thread → KeepsOn r thread other
-keeps_same r thread other e = λ captures keeps. Rattle.std.proofs.Common.subst (λ t. Keeps r captures t) (sym e) keeps
+keeps_same r thread other e = λ captures keeps. Rattle.std.proofs.Common.subst (λ t. KeepsDirective r captures t) (sym e) keeps
 
 -- of a thread of which nothing is asked
 pub keeps_all : (r : FileReply) (thread other : Thread) → other ≡ thread → KeepsAll r thread → KeepsAll r other

@@ -17,7 +17,7 @@ use Rattle.httpd.specs.declared.stage.Stage.TheVariants as stage
 use Rattle.httpd.specs.declared.thread.Thread.TheVariants.{Head}
 use Rattle.httpd.specs.Reply.{FileReply, calls_in, found_file, left_from, reply_in}
 use Rattle.httpd.specs.Places.{Fits, IsFound}
-use Rattle.httpd.specs.Kept.{Keeps}
+use Rattle.httpd.specs.Kept.{KeepsDirective}
 use Rattle.httpd.specs.Hearing.{HearsMethod, HearsTarget, IsDecided}
 use Rattle.httpd.specs.HttpdStands.{HttpdStands, IsLeft, IsReplying, SaysNothing, StandsIn}
 
@@ -49,7 +49,7 @@ begins a site p found name e none is there file = record {
   there = there;
   file = file;
   fits = subst (λ t. Fits (reply_in site found a.capture) t) (sym e) (front_fits (reply_in site found a.capture));
-  kept = subst (λ t. Keeps (reply_in site found a.capture) p.captures t) (sym e) tt;
+  kept = subst (λ t. KeepsDirective (reply_in site found a.capture) p.captures t) (sym e) tt;
   left = subst (λ t. IsLeft (reply_in site found a.capture) t name p) (sym e) (front_left (reply_in site found a.capture) name p file none);
 }
 

@@ -14,7 +14,7 @@ use Rattle.httpd.specs.declared.httpd.Httpd.{Httpd}
 use Rattle.httpd.specs.declared.thread.Thread.{Thread}
 use Rattle.httpd.specs.Reply.{FileReply, calls_in, found_file, left_from, reply_in}
 use Rattle.httpd.specs.Places.{IsFound, Fits}
-use Rattle.httpd.specs.Kept.{Keeps}
+use Rattle.httpd.specs.Kept.{KeepsDirective}
 use Rattle.httpd.specs.Hearing.{HearsMethod, HearsTarget}
 
 -- Whatever captures are still to come: what the thread has left to say with them is the page of the name past the acknowledged
@@ -33,7 +33,7 @@ pub record IsReplying (a : Httpd) (site : SiteContent) (name : List ℕ) (found 
   pub there : IsFound (files_of site) found
   pub file : found_file (files_of site) found ≡ file_named (files_of site) name
   pub fits : Fits (reply_in site found a.capture) a.thread
-  pub kept : Keeps (reply_in site found a.capture) part.captures a.thread
+  pub kept : KeepsDirective (reply_in site found a.capture) part.captures a.thread
   pub left : IsLeft (reply_in site found a.capture) a.thread name part
 
 -- nothing is said, captured or acknowledged

@@ -48,18 +48,18 @@ pub record IsTaken (reply : FileReply) (next : ℕ) (captures : List Moment) : T
   pub record_is : reply.capture ≡ capture_of function (hits_of reply.files last.numbers argument) last.now
 
 -- what the thread keeps is right
-abbrev pub Keeps : FileReply → List Moment → Thread → Type 0
-Keeps reply captures (Inside next file at) = Includes reply next file
-Keeps reply captures (Making next at) = IsTaken reply next captures
-Keeps reply captures (Head at) = Unit {0}
-Keeps reply captures (Kind at) = Unit {0}
-Keeps reply captures (Body at) = Unit {0}
-Keeps reply captures End = Unit {0}
+abbrev pub KeepsDirective : FileReply → List Moment → Thread → Type 0
+KeepsDirective reply captures (Inside next file at) = Includes reply next file
+KeepsDirective reply captures (Making next at) = IsTaken reply next captures
+KeepsDirective reply captures (Head at) = Unit {0}
+KeepsDirective reply captures (Kind at) = Unit {0}
+KeepsDirective reply captures (Body at) = Unit {0}
+KeepsDirective reply captures End = Unit {0}
 
 -- and that whatever was captured
 abbrev pub KeepsAll : FileReply → Thread → Type 0
-KeepsAll reply thread = (captures : List Moment) → Keeps reply captures thread
+KeepsAll reply thread = (captures : List Moment) → KeepsDirective reply captures thread
 
 -- where it is right at one thread, it is right at the other
 abbrev pub KeepsOn : FileReply → Thread → Thread → Type 0
-KeepsOn reply thread other = (captures : List Moment) → Keeps reply captures thread → Keeps reply captures other
+KeepsOn reply thread other = (captures : List Moment) → KeepsDirective reply captures thread → KeepsDirective reply captures other

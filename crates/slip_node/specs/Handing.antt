@@ -7,6 +7,6 @@ abbrev pub rest_text : List ℕ → List ℕ
 rest_text rest = escaped rest ++ 192 ∷ []
 
 -- behind so many bytes of a datagram; nothing where all was handed out
-abbrev pub left_text : List ℕ → Option ℕ → List ℕ
-left_text datagram None = []
-left_text datagram (Some at) = rest_text (drop at datagram)
+abbrev pub text_to_come : List ℕ → Option ℕ → List ℕ
+text_to_come datagram None = []
+text_to_come datagram (Some at) = rest_text (drop at datagram)

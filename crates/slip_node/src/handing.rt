@@ -8,7 +8,7 @@ ghost use Rattle.uip_node.specs.Events.{Reply};
 ghost use Rattle.uip_node.specs.Spoken.{IsSent};
 ghost use Rattle.uip_node.specs.StandsFor.{IsWhole};
 ghost use Rattle.serve_loop.specs.Running.{text_for};
-ghost use Rattle.slip_node.specs.Handing.{left_text};
+ghost use Rattle.slip_node.specs.Handing.{text_to_come};
 
 use app_events::App;
 use uip_node::Node;
@@ -72,7 +72,7 @@ pub(crate) fn write_on(out: &mut [u8], len: usize, datagram: &[u8], at: usize) -
     ensures left { IfSome result.left (λ k. k ≤ length datagram.now) }
     ensures more { len + 2 ≤ length out.old → len < result.wrote }
     ensures whole { len + 2 * (length datagram.now - at) < length out.old → result.left ≡ None }
-    ensures text { take result.wrote out.new ++ left_text datagram.now result.left ≡ take len out.old ++ left_text datagram.now (Some at) }
+    ensures text { take result.wrote out.new ++ text_to_come datagram.now result.left ≡ take len out.old ++ text_to_come datagram.now (Some at) }
 {
     let mut rest = &datagram[at..];
     let mut end = len;
@@ -101,8 +101,8 @@ pub fn hand_on<A: App>(node: &Node<A>, at: usize, out: &mut [u8]) -> Written
     ensures fits { result.wrote ≤ length out.new }
     ensures left { IfSome result.left (λ k. k ≤ length (datagram_in node.now.packet)) }
     ensures more { 2 ≤ length out.old → 0 < result.wrote }
-    ensures text { take result.wrote out.new ++ left_text (datagram_in node.now.packet) result.left
-        ≡ left_text (datagram_in node.now.packet) (Some at) }
+    ensures text { take result.wrote out.new ++ text_to_come (datagram_in node.now.packet) result.left
+        ≡ text_to_come (datagram_in node.now.packet) (Some at) }
 {
     write_on(out, 0, node.packet(), at)
 }
@@ -125,7 +125,7 @@ pub(crate) fn write_text<A: App>(node: &Node<A>, sent: Option<usize>, out: &mut 
     ensures left { IfSome result.left (λ k. k ≤ length (datagram_in node.now.packet)) }
     ensures whole { LARGEST_TEXT ≤ length out.old → result.left ≡ None }
     ensures text { (own : Address) (reply : Option Reply) → IsSent own reply sent node.now.packet
-        → take result.wrote out.new ++ left_text (datagram_in node.now.packet) result.left ≡ text_for own reply }
+        → take result.wrote out.new ++ text_to_come (datagram_in node.now.packet) result.left ≡ text_for own reply }
 {
     match sent {
         None => Written::nothing(),

@@ -8,7 +8,7 @@ ghost use Rattle.uip_node.specs.Edge.{event_of};
 ghost use Rattle.uip_node.specs.Events.Event.{Periodic};
 ghost use Rattle.uip_node.specs.StandsFor.{IsWhole};
 ghost use Rattle.serve_loop.specs.LineEvents.{events_behind};
-ghost use Rattle.slip_node.specs.Handing.{left_text};
+ghost use Rattle.slip_node.specs.Handing.{text_to_come};
 ghost use Rattle.slip_node.specs.Telling.{Tells};
 
 use crate::handing::{LARGEST_TEXT, Written, write_text};
@@ -38,7 +38,7 @@ fn answer<A: App>(node: &mut Node<A>, datagram: &[u8], out: &mut [u8]) -> Writte
     ensures left { IfSome result.left (λ k. k ≤ length (datagram_in node.new.packet)) }
     ensures all { LARGEST_TEXT ≤ length out.old → result.left ≡ None }
     ensures tells { Tells A.App (λ own. event_of own datagram.now ∷ []) node.old node.new
-        (take result.wrote out.new ++ left_text (datagram_in node.new.packet) result.left) }
+        (take result.wrote out.new ++ text_to_come (datagram_in node.new.packet) result.left) }
 {
     let sent = node.input(datagram);
     write_text(node, sent, out)
@@ -66,7 +66,7 @@ pub fn hear<A: App>(
         → WasFed (before ++ take result.taken bytes.now) decoder.new }
     ensures tells { (before : List ℕ) → WasFed before decoder.old
         → Tells A.App (λ own. events_behind own 0 before (map Byte (take result.taken bytes.now)))
-        node.old node.new (take result.wrote out.new ++ left_text (datagram_in node.new.packet) result.left) }
+        node.old node.new (take result.wrote out.new ++ text_to_come (datagram_in node.new.packet) result.left) }
 {
     let run = decoder.feed_run(bytes);
     let written = match run.fed {
@@ -96,7 +96,7 @@ pub fn call<A: App>(node: &mut Node<A>, slot: usize, out: &mut [u8]) -> Written
     ensures left { IfSome result.left (λ k. k ≤ length (datagram_in node.new.packet)) }
     ensures all { LARGEST_TEXT ≤ length out.old → result.left ≡ None }
     ensures tells { Tells A.App (λ own. Periodic slot ∷ []) node.old node.new
-        (take result.wrote out.new ++ left_text (datagram_in node.new.packet) result.left) }
+        (take result.wrote out.new ++ text_to_come (datagram_in node.new.packet) result.left) }
 {
     let sent = node.periodic(slot);
     write_text(node, sent, out)

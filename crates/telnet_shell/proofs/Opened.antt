@@ -10,10 +10,10 @@ use Rattle.telnet_shell.specs.declared.shell.Shell.{Shell}
 use Rattle.telnet_shell.specs.Transcript.{said_with, transcript}
 use Rattle.telnet_shell.specs.Saying.{IsBehind, IsInFront, left_said, front_size, stops_at}
 use Rattle.telnet_shell.specs.ShellMeaning.{shell_meaning}
-use Rattle.telnet_shell.specs.ShellStands.{ShellStands, opening}
+use Rattle.telnet_shell.specs.ShellStands.{ShellStands, fresh_part}
 use Rattle.telnet_shell.specs.Lemmas.SameLeft.{left_of_value}
 
-pub opened_behind : (q : List Command) (port : ℕ) → q ≡ [] → IsBehind q Empty 0 (opening port)
+pub opened_behind : (q : List Command) (port : ℕ) → q ≡ [] → IsBehind q Empty 0 (fresh_part port)
 opened_behind q port e = record { before = []; spoken = []; front = []; commands = sym e; captures = refl; took = refl; acked = refl; shows = refl }
 
 pub opened_place : (q : List Command) → q ≡ [] → IsInFront q Empty 0

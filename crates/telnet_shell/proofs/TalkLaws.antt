@@ -12,7 +12,7 @@ use Rattle.telnet_shell.specs.Reading.Awaits.{Text}
 use Rattle.telnet_shell.specs.Transcript.{needs_capture, said_plainly, said_at, transcript, unfinished}
 use Rattle.telnet_shell.specs.Saying.{needed}
 use Rattle.telnet_shell.specs.Lemmas.Growing.{tokens_joined, commands_joined, commands_grow, further, transcript_grows}
-use Rattle.telnet_shell.specs.ShellMeaning.{talk, waiting, with_byte, hear_all, has_ended, is_settled, left_of}
+use Rattle.telnet_shell.specs.ShellMeaning.{talk, waiting, with_byte, hear_all, talk_has_ended, is_settled, left_of_talk}
 use Rattle.telnet_shell.specs.Talks.{talks, HearsFront, KeepsTalk}
 use Rattle.telnet_shell.proofs.Standing.{quit_joins}
 
@@ -188,7 +188,7 @@ none_waits : (cs : List Command) → (length cs == 0) ≡ true → cs ≡ []
 none_waits [] e = refl
 none_waits (c ∷ cs) e = absurd (let z = eqb-true (length (c ∷ cs)) 0 e in omega (arith, z))
 
-may_close : (p : Part) → p.acked ≤ length (talk p) → has_ended p ≡ true → MayWant talks p Close
+may_close : (p : Part) → p.acked ≤ length (talk p) → talk_has_ended p ≡ true → MayWant talks p Close
 may_close p h e =
     let both = and_parts (has_quit (all_commands p.heard)) (is_settled p) e in
     let said : IsSaid (commands_in p.heard) p.captures p.acked = settled (commands_in p.heard) p.captures p.acked (none_waits (waiting p) both.1) in (
@@ -196,15 +196,15 @@ may_close p h e =
       omega (arith, h, said.within),
     )
 
-may_send : (p : Part) (b : Bool) → nat_lt 0 (left_of p) ≡ b → MayWant talks p (if b then Send (min 1460 (left_of p)) else Nothing)
-may_send p true e = let some = ltb-true 0 (left_of p) e in (omega arith, omega arith)
+may_send : (p : Part) (b : Bool) → nat_lt 0 (left_of_talk p) ≡ b → MayWant talks p (if b then Send (min 1460 (left_of_talk p)) else Nothing)
+may_send p true e = let some = ltb-true 0 (left_of_talk p) e in (omega arith, omega arith)
 may_send p false e = tt
 
-may_want : (p : Part) (gives_up ends : Bool) → p.acked ≤ length (talk p) → has_ended p ≡ ends
-    → MayWant talks p (if gives_up then Abort else if ends then Close else if nat_lt 0 (left_of p) then Send (min 1460 (left_of p)) else Nothing)
+may_want : (p : Part) (gives_up ends : Bool) → p.acked ≤ length (talk p) → talk_has_ended p ≡ ends
+    → MayWant talks p (if gives_up then Abort else if ends then Close else if nat_lt 0 (left_of_talk p) then Send (min 1460 (left_of_talk p)) else Nothing)
 may_want p true ends h e = tt
 may_want p false true h e = may_close p h e
-may_want p false false h e = may_send p (nat_lt 0 (left_of p)) refl
+may_want p false false h e = may_send p (nat_lt 0 (left_of_talk p)) refl
 
 pub keeps_talk : KeepsTalk
 keeps_talk = record {
@@ -213,8 +213,8 @@ keeps_talk = record {
   stays_whole = stays_whole;
   said = λ p. refl;
   hears = λ numbers p piece. unpolled p piece;
-  wants = λ numbers p h. may_want p ((p.own == 1) || (p.polls == 1200)) (has_ended p) h refl;
-  aborts = λ numbers p e. ap (λ (n : ℕ). if (n == 1) || (p.polls == 1200) then Abort else if has_ended p then Close else if nat_lt 0 (left_of p) then Send (min 1460 (left_of p)) else Nothing) e;
+  wants = λ numbers p h. may_want p ((p.own == 1) || (p.polls == 1200)) (talk_has_ended p) h refl;
+  aborts = λ numbers p e. ap (λ (n : ℕ). if (n == 1) || (p.polls == 1200) then Abort else if talk_has_ended p then Close else if nat_lt 0 (left_of_talk p) then Send (min 1460 (left_of_talk p)) else Nothing) e;
   hears_no_more = λ numbers p piece e. ap (λ (r : Part). r.heard) (lost_hears (record p { polls = 0 }) piece e);
   stays_lost = λ numbers p piece e. ap (λ (r : Part). r.own) (lost_hears (record p { polls = 0 }) piece e) ∙ e;
 }

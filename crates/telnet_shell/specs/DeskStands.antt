@@ -13,7 +13,7 @@ use Rattle.telnet_shell.specs.declared.desk.Desk.{Desk}
 use Rattle.telnet_shell.specs.declared.desk.Desk.TheVariants as desk
 use Rattle.telnet_shell.specs.ShellMeaning.{shell_meaning}
 use Rattle.telnet_shell.specs.ShellStands.{ShellStands}
-use Rattle.telnet_shell.specs.Lemmas.SameLeft.{same_left as shell_same_left}
+use Rattle.telnet_shell.specs.Lemmas.SameLeft.{same_talk_left as shell_same_left}
 use Rattle.telnet_shell.specs.DeskMeaning.{meaning_at, desk_meaning}
 
 pub record IsWebPart (a : Httpd) (site : SiteContent) (part : Part) : Type 0 where

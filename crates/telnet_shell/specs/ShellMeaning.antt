@@ -33,8 +33,8 @@ abbrev pub hear_all : Part → List ℕ → Part
 hear_all part [] = part
 hear_all part (byte ∷ more) = hear_all (hear_byte part byte) more
 
-abbrev pub is_acknowledged : Part → Bool
-is_acknowledged part = part.acked == length (talk part)
+abbrev pub is_talk_acknowledged : Part → Bool
+is_talk_acknowledged part = part.acked == length (talk part)
 
 -- every command is wholly acknowledged
 abbrev pub is_settled : Part → Bool
@@ -42,20 +42,20 @@ is_settled part = length (waiting part) == 0
 
 -- all that was said is acknowledged, and a command is left: it waits for its capture
 abbrev pub is_stopped : Part → Bool
-is_stopped part = is_acknowledged part && not (is_settled part)
+is_stopped part = is_talk_acknowledged part && not (is_settled part)
 
 -- the text has come to the end of that of `quit`, and all of it is acknowledged
-abbrev pub has_ended : Part → Bool
-has_ended part = has_quit (all_commands part.heard) && is_settled part
+abbrev pub talk_has_ended : Part → Bool
+talk_has_ended part = has_quit (all_commands part.heard) && is_settled part
 
-abbrev pub left_of : Part → ℕ
-left_of part = length (talk part) - part.acked
+abbrev pub left_of_talk : Part → ℕ
+left_of_talk part = length (talk part) - part.acked
 
 abbrev pub shell_want : Part → Want
 shell_want part =
     if (part.own == 1) || (part.polls == MOST_SILENT_POLLS) then Abort
-    else if has_ended part then Close
-    else if nat_lt 0 (left_of part) then Send (min LARGEST_SEGMENT (left_of part))
+    else if talk_has_ended part then Close
+    else if nat_lt 0 (left_of_talk part) then Send (min LARGEST_SEGMENT (left_of_talk part))
     else Nothing
 
 abbrev pub take_capture : List ℕ → Part → Now → Part

@@ -6,8 +6,8 @@ use Rattle.telnet_shell.specs.Reading.{all_commands, has_quit}
 use Rattle.telnet_shell.specs.Hearing.{IsOpen}
 use Rattle.telnet_shell.specs.Saying.{IsBehind, IsInFront}
 
-abbrev pub opening : ℕ → Part
-opening port = record { port = port; heard = []; captures = []; acked = 0; polls = 0; own = 0 }
+abbrev pub fresh_part : ℕ → Part
+fresh_part port = record { port = port; heard = []; captures = []; acked = 0; polls = 0; own = 0 }
 
 pub record ShellStands (a : Shell) (p : Part) : Type 0 where
   pub polls : a.polls ≡ p.polls

@@ -20,11 +20,11 @@ at_tick ticks = record { numbers = []; now = record { ticks = ticks; net = repli
 abbrev pub opened : Part
 opened = (shell_meaning.connected [] TELNET_PORT).part
 
-abbrev pub heard : List ℕ → Part
-heard piece = (shell_meaning.newdata [] opened piece).part
+abbrev pub after_hearing : List ℕ → Part
+after_hearing piece = (shell_meaning.newdata [] opened piece).part
 
-abbrev pub prepared : List ℕ → Part
-prepared piece = shell_meaning.prepare [] (heard piece) (at_tick 0).now
+abbrev pub after_preparing : List ℕ → Part
+after_preparing piece = shell_meaning.prepare [] (after_hearing piece) (at_tick 0).now
 
 abbrev pub acked : Part → ℕ → Part
 acked part count = (shell_meaning.acked [] part count).part
@@ -38,23 +38,23 @@ many_helps count = concat (replicate count (codes "help\n"))
 
 pub record AreWorkedTalks : Type 0 where
   -- a capture is taken where its text comes next
-  pub ticks : talk (prepared (codes "ticks\r\n")) ≡ codes "         0\r\n> "
-  pub ticks_before : talk (heard (codes "ticks\r\n")) ≡ []
-  pub ticks_length : length (talk (prepared (codes "ticks\r\n"))) ≡ 14
-  pub ticks_once : (shell_meaning.prepare [] (prepared (codes "ticks\r\n")) (at_tick 7).now).captures ≡ at_tick 0 ∷ []
+  pub ticks : talk (after_preparing (codes "ticks\r\n")) ≡ codes "         0\r\n> "
+  pub ticks_before : talk (after_hearing (codes "ticks\r\n")) ≡ []
+  pub ticks_length : length (talk (after_preparing (codes "ticks\r\n"))) ≡ 14
+  pub ticks_once : (shell_meaning.prepare [] (after_preparing (codes "ticks\r\n")) (at_tick 7).now).captures ≡ at_tick 0 ∷ []
   pub two_ticks : transcript (Ticks ∷ Ticks ∷ []) (at_tick 0 ∷ at_tick 7 ∷ []) ≡ codes "         0\r\n>          7\r\n> "
   -- an option is refused, and `quit` closes once its text is acknowledged
-  pub quit : talk (heard offer_and_quit) ≡ IAC ∷ DONT ∷ 1 ∷ codes "bye\r\n"
-  pub quit_length : length (talk (heard offer_and_quit)) ≡ 8
-  pub quit_sends : shell_meaning.want [] (heard offer_and_quit) ≡ Send 8
-  pub quit_waits : shell_meaning.want [] (acked (heard offer_and_quit) 7) ≡ Send 1
-  pub quit_closes : shell_meaning.want [] (acked (heard offer_and_quit) 8) ≡ Close
+  pub quit : talk (after_hearing offer_and_quit) ≡ IAC ∷ DONT ∷ 1 ∷ codes "bye\r\n"
+  pub quit_length : length (talk (after_hearing offer_and_quit)) ≡ 8
+  pub quit_sends : shell_meaning.want [] (after_hearing offer_and_quit) ≡ Send 8
+  pub quit_waits : shell_meaning.want [] (acked (after_hearing offer_and_quit) 7) ≡ Send 1
+  pub quit_closes : shell_meaning.want [] (acked (after_hearing offer_and_quit) 8) ≡ Close
   pub behind_quit : commands_in (codes "quit\nhelp\n") ≡ Quit ∷ []
   -- 32 commands are taken, and the next one ends the connection; what was said before stays
-  pub full : shell_meaning.want [] (heard (many_helps 32)) ≡ Send 992
-  pub lost : shell_meaning.want [] (heard (many_helps 33)) ≡ Abort
-  pub lost_keeps : talk (heard (many_helps 33)) ≡ talk (heard (many_helps 32))
-  pub room_again : (shell_meaning.newdata [] (acked (heard (many_helps 32)) 31) (codes "help\n")).part.own ≡ 0
+  pub full : shell_meaning.want [] (after_hearing (many_helps 32)) ≡ Send 992
+  pub lost : shell_meaning.want [] (after_hearing (many_helps 33)) ≡ Abort
+  pub lost_keeps : talk (after_hearing (many_helps 33)) ≡ talk (after_hearing (many_helps 32))
+  pub room_again : (shell_meaning.newdata [] (acked (after_hearing (many_helps 32)) 31) (codes "help\n")).part.own ≡ 0
   -- a silent connection is given up at 1200 ticks, and not before
   pub silent : shell_meaning.want [] (record opened { polls = 1199 }) ≡ Nothing
   pub too_silent : shell_meaning.want [] (shell_meaning.polled [] (record opened { polls = 1199 })).part ≡ Abort

@@ -54,11 +54,11 @@ fn is_quit(command: Command) -> bool
 }
 
 impl Shell {
-    ghost use Rattle.telnet_shell.specs.ShellStands.{ShellStands, opening};
+    ghost use Rattle.telnet_shell.specs.ShellStands.{ShellStands, fresh_part};
 
     /// A shell that has heard nothing.
     fn new() -> Shell
-        ensures { (port : ℕ) → ShellStands result (opening port) }
+        ensures { (port : ℕ) → ShellStands result (fresh_part port) }
     {
         Shell {
             line: ArrayVec::new(),
@@ -118,7 +118,7 @@ impl App for Shell {
     ghost use Rattle.telnet_shell.specs.ShellMeaning.{shell_meaning};
     ghost use Rattle.telnet_shell.specs.Lemmas.ShellLaws.{shell_lawful, shell_starts};
     ghost use Rattle.telnet_shell.specs.ShellStands.{ShellStands};
-    ghost use Rattle.telnet_shell.specs.Lemmas.SameLeft.{same_left};
+    ghost use Rattle.telnet_shell.specs.Lemmas.SameLeft.{same_talk_left};
 
     type Shared = Web;
 
@@ -197,5 +197,5 @@ impl App for Shell {
 
     ghost starts = { λ _. shell_starts };
 
-    ghost same_left = { λ a _ p q. same_left a p q };
+    ghost same_left = { λ a _ p q. same_talk_left a p q };
 }

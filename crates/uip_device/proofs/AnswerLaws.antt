@@ -13,7 +13,7 @@ use Rattle.slip_node.specs.Calls.{Bring, Call, bytes_of_call, events_by, events_
 use Rattle.slip_node.specs.DatagramCalls.{DatagramCall, event_by_call}
 use Rattle.slip_node.specs.Telling.{Tells, datagram_for, datagrams_at}
 use Rattle.packet_buffer.specs.Buffer.{datagram_in}
-use Rattle.slip_node.specs.Handing.{left_text}
+use Rattle.slip_node.specs.Handing.{text_to_come}
 use Rattle.slip_node.proofs.CallLaws.{line_brought}
 use Rattle.slip_node.proofs.TellLaws.{tells_none, tells_then}
 use Rattle.uip_device.specs.declared.device.Device.{Device}
@@ -27,7 +27,7 @@ pub answers_by : (call : Call) (old new : Device) (text : List ℕ) → old.left
     → Answers call old new text
 answers_by call old new text none heard tells = record {
   heard = heard;
-  tells = λ before fed. (text ++ left_text_of new, tells before fed, ap (λ l. left_text (datagram_in old.node.packet) l ++ (text ++ left_text_of new)) none);
+  tells = λ before fed. (text ++ left_text_of new, tells before fed, ap (λ l. text_to_come (datagram_in old.node.packet) l ++ (text ++ left_text_of new)) none);
 }
 
 -- what is handed out in turn, and what is left at last, is what is sent for all that the calls bring
@@ -60,13 +60,13 @@ pub all_told : (files : List File) (own : Addr) (calls : List Call) (old new : D
     → concat texts ++ left_text_of new ≡ text_of own (run (web_meaning files) is_served (events_of_calls [] calls own) (opening own (no_hits files))).sent
 all_told files own calls old new texts fresh all =
     let it = tells_all [] calls old new texts fresh.heard all in
-    let left : left_text_of old ≡ [] = ap (λ l. left_text (datagram_in old.node.packet) l) fresh.none in
+    let left : left_text_of old ≡ [] = ap (λ l. text_to_come (datagram_in old.node.packet) l) fresh.none in
     sym it.2 ∙ ap (λ l. l ++ it.0) left ∙ (it.1.each (web_meaning files) own (opening own (no_hits files)) fresh.stands).1
 
 pub line_served : (files : List File) (own : Addr) (pace : ℕ) (items : List Item) (calls : List Call) (old new : Device) (texts : List (List ℕ)) → IsFreshDevice files own old → Bring pace items calls
     → AnswersAll calls old new texts → new.left ≡ None → concat texts ≡ web_output files own pace items
 line_served files own pace items calls old new texts fresh bring all none =
-    let left : left_text_of new ≡ [] = ap (λ l. left_text (datagram_in new.node.packet) l) none in
+    let left : left_text_of new ≡ [] = ap (λ l. text_to_come (datagram_in new.node.packet) l) none in
     sym (append-nil (concat texts)) ∙ ap (λ l. concat texts ++ l) (sym left)
     ∙ all_told files own calls old new texts fresh all
     ∙ ap (λ l. text_of own (run (web_meaning files) is_served l (opening own (no_hits files))).sent) (line_brought own pace items calls bring)

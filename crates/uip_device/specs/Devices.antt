@@ -15,7 +15,7 @@ use Rattle.uip_slip.specs.Decoding.{WasFed}
 use Rattle.serve_loop.specs.Turns.{IsNode}
 use Rattle.slip_node.specs.Calls.{Call, bytes_of_call, events_by}
 use Rattle.slip_node.specs.DatagramCalls.{DatagramCall, event_by_call}
-use Rattle.slip_node.specs.Handing.{left_text}
+use Rattle.slip_node.specs.Handing.{text_to_come}
 use Rattle.slip_node.specs.Telling.{Replies, Tells}
 use Rattle.uip_device.specs.declared.device.Device.{Device}
 use Rattle.uip_device.specs.declared.open_fault.OpenFault.{OpenFault}
@@ -28,7 +28,7 @@ pub record IsSoundDevice (d : Device) : Type 0 where
 
 -- the text that is left to be handed out
 abbrev pub left_text_of : Device → List ℕ
-left_text_of d = left_text (datagram_in d.node.packet) d.left
+left_text_of d = text_to_come (datagram_in d.node.packet) d.left
 
 -- the device was fed these bytes
 abbrev pub HasHeard : List ℕ → Device → Type 0

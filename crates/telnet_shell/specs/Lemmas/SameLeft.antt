@@ -16,5 +16,5 @@ left_of_value a p s =
     (talk_is a.queue.items a.capture a.at p s.behind)
     ∙ drop-append-add (transcript s.behind.before s.behind.spoken) (left_said a.queue.items a.capture) a.at
 
-pub same_left : (a : Shell) (p q : Part) → ShellStands a p → ShellStands a q → text_left shell_meaning p ≡ text_left shell_meaning q
-same_left a p q s t = left_of_value a p s ∙ sym (left_of_value a q t)
+pub same_talk_left : (a : Shell) (p q : Part) → ShellStands a p → ShellStands a q → text_left shell_meaning p ≡ text_left shell_meaning q
+same_talk_left a p q s t = left_of_value a p s ∙ sym (left_of_value a q t)

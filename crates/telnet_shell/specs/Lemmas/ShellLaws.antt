@@ -10,7 +10,7 @@ use Rattle.telnet_shell.specs.declared.TheConstants.{MOST_SILENT_POLLS, MOST_COM
 use Rattle.telnet_shell.specs.Reading.{commands_in}
 use Rattle.telnet_shell.specs.Transcript.{transcript}
 use Rattle.telnet_shell.specs.Lemmas.Growing.{commands_grow, further, transcript_grows}
-use Rattle.telnet_shell.specs.ShellMeaning.{talk, waiting, with_byte, hear_byte, hear_all, is_stopped, has_ended, left_of, shell_want, shell_meaning}
+use Rattle.telnet_shell.specs.ShellMeaning.{talk, waiting, with_byte, hear_byte, hear_all, is_stopped, talk_has_ended, left_of_talk, shell_want, shell_meaning}
 
 same_prefix : (xs : List ℕ) → IsPrefixOf xs xs
 same_prefix xs = record { rest = []; joined = append-nil xs }
@@ -98,7 +98,7 @@ sends_by left false false = sends_left left (nat_lt 0 left) refl
 pub can_send : (p : Part) → CanSend (shell_want p) (length (drop p.acked (talk p)))
 can_send p =
     subst (λ (left : ℕ). CanSend (shell_want p) left) (sym (length-drop p.acked (talk p)))
-    (sends_by (left_of p) ((p.own == 1) || (p.polls == MOST_SILENT_POLLS)) (has_ended p))
+    (sends_by (left_of_talk p) ((p.own == 1) || (p.polls == MOST_SILENT_POLLS)) (talk_has_ended p))
 
 -- ---- the laws
 

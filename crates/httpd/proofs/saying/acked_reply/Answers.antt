@@ -1,6 +1,6 @@
 use Rattle.std.proofs.Common.{arith, ◌-◌, sym, subst}
 use Rattle.httpd.specs.Reply.{reply_in}
-use Rattle.httpd.specs.Kept.{Keeps}
+use Rattle.httpd.specs.Kept.{KeepsDirective}
 use Rattle.httpd.proofs.Seeing.{keeps_in}
 use Rattle.httpd.proofs.Walking.{acked_on, less_by, nearer}
 use Rattle.httpd.proofs.saying.acked_reply.Goals as goal
@@ -22,5 +22,5 @@ loop-left-smaller c =
 pub returns-then-left-len-clause-kept : goal.returns-then-left-len-clause-kept
 returns-then-left-len-clause-kept c =
     let r = reply_in c.args.site.now c.args.found c.args.capture.now in
-    λ captures keeps. subst (λ t. Keeps r captures t) (sym c.moved.ensures)
+    λ captures keeps. subst (λ t. KeepsDirective r captures t) (sym c.moved.ensures)
     (keeps_in r c.look-seen.result.here _ captures (c.look-seen.ensures.kept captures (c.loop-left.invariant.0.kept captures keeps)))
