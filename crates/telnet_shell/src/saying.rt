@@ -177,7 +177,7 @@ fn fill_front(front: Command, capture: &Capture, rest: &[Command], at: usize, ou
 }
 
 /// Writes what a queue says from a place in its front on.
-#[tactic(auto, using(crate::specs::Speaking::from_front))]
+#[tactic(auto, using(crate::specs::Lemmas::Speaking::from_front))]
 pub(crate) fn fill_left(queue: &[Command], capture: &Capture, at: usize, out: &mut [u8])
     requires place { at ≤ front_size queue.now capture.now }
     requires enough { at + length out.old ≤ length (left_said queue.now capture.now) }

@@ -31,7 +31,7 @@ pub fn pages_within_greatest()
 {}
 
 /// What is decided of a request stays, whatever bytes follow.
-#[tactic(auto, using(crate::specs::Deciding::stays_wanted))]
+#[tactic(auto, using(crate::specs::Lemmas::Deciding::stays_wanted))]
 pub fn decisions_stay()
     ensures { DecisionStays }
 {}
