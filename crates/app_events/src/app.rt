@@ -50,13 +50,16 @@ pub trait App: Drop {
     fn newdata(&mut self, shared: &mut Self::Shared, piece: &[u8])
         requires { HasPart stands_for self.old (kept shared.old) }
         ensures same { kept shared.new ≡ kept shared.old }
-        ensures part { (p : Part) → stands_for self.old (kept shared.old) p → stands_for self.new (kept shared.old) ((meaning (kept shared.old)).newdata (numbers shared.old) p piece.now).part }
-        ensures numbers { (p : Part) → stands_for self.old (kept shared.old) p → numbers shared.new ≡ ((meaning (kept shared.old)).newdata (numbers shared.old) p piece.now).numbers };
+        ensures part { (p : Part) → stands_for self.old (kept shared.old) p
+            → stands_for self.new (kept shared.old) ((meaning (kept shared.old)).newdata (numbers shared.old) p piece.now).part }
+        ensures numbers { (p : Part) → stands_for self.old (kept shared.old) p
+            → numbers shared.new ≡ ((meaning (kept shared.old)).newdata (numbers shared.old) p piece.now).numbers };
 
     /// It is about to be asked what it wants: the time to take a capture, where the text that comes next needs one.
     fn prepare(&mut self, shared: &Self::Shared, now: &Now)
         requires { HasPart stands_for self.old (kept shared.now) }
-        ensures { (p : Part) → stands_for self.old (kept shared.now) p → stands_for self.new (kept shared.now) ((meaning (kept shared.now)).prepare (numbers shared.now) p now.now) };
+        ensures { (p : Part) → stands_for self.old (kept shared.now) p
+            → stands_for self.new (kept shared.now) ((meaning (kept shared.now)).prepare (numbers shared.now) p now.now) };
 
     /// What it wants next. Nothing is outstanding.
     fn want(&self, shared: &Self::Shared) -> Want
@@ -66,27 +69,33 @@ pub trait App: Drop {
     /// Writes its text from the acknowledged offset on, as much as `out` holds.
     fn fill(&self, shared: &Self::Shared, out: &mut [u8])
         requires { CanSay meaning stands_for self.now (kept shared.now) (length out.old) }
-        ensures { (p : Part) → stands_for self.now (kept shared.now) p → out.new ≡ take (length out.old) (text_left (meaning (kept shared.now)) p) };
+        ensures { (p : Part) → stands_for self.now (kept shared.now) p
+            → out.new ≡ take (length out.old) (text_left (meaning (kept shared.now)) p) };
 
     /// So many bytes of its text are acknowledged.
     fn acked(&mut self, shared: &mut Self::Shared, count: usize)
         requires { CanSay meaning stands_for self.old (kept shared.old) count }
         ensures same { kept shared.new ≡ kept shared.old }
-        ensures part { (p : Part) → stands_for self.old (kept shared.old) p → stands_for self.new (kept shared.old) ((meaning (kept shared.old)).acked (numbers shared.old) p count).part }
-        ensures numbers { (p : Part) → stands_for self.old (kept shared.old) p → numbers shared.new ≡ ((meaning (kept shared.old)).acked (numbers shared.old) p count).numbers };
+        ensures part { (p : Part) → stands_for self.old (kept shared.old) p
+            → stands_for self.new (kept shared.old) ((meaning (kept shared.old)).acked (numbers shared.old) p count).part }
+        ensures numbers { (p : Part) → stands_for self.old (kept shared.old) p
+            → numbers shared.new ≡ ((meaning (kept shared.old)).acked (numbers shared.old) p count).numbers };
 
     /// A tick came with nothing outstanding.
     fn polled(&mut self, shared: &mut Self::Shared)
         requires { HasPart stands_for self.old (kept shared.old) }
         ensures same { kept shared.new ≡ kept shared.old }
-        ensures part { (p : Part) → stands_for self.old (kept shared.old) p → stands_for self.new (kept shared.old) ((meaning (kept shared.old)).polled (numbers shared.old) p).part }
-        ensures numbers { (p : Part) → stands_for self.old (kept shared.old) p → numbers shared.new ≡ ((meaning (kept shared.old)).polled (numbers shared.old) p).numbers };
+        ensures part { (p : Part) → stands_for self.old (kept shared.old) p
+            → stands_for self.new (kept shared.old) ((meaning (kept shared.old)).polled (numbers shared.old) p).part }
+        ensures numbers { (p : Part) → stands_for self.old (kept shared.old) p
+            → numbers shared.new ≡ ((meaning (kept shared.old)).polled (numbers shared.old) p).numbers };
 
     /// The connection ended while the application might still have spoken. Nothing is claimed of the value that is left.
     fn ended(&mut self, shared: &mut Self::Shared, how: Ending)
         requires { HasPart stands_for self.old (kept shared.old) }
         ensures same { kept shared.new ≡ kept shared.old }
-        ensures numbers { (p : Part) → stands_for self.old (kept shared.old) p → numbers shared.new ≡ (meaning (kept shared.old)).ended (numbers shared.old) p how };
+        ensures numbers { (p : Part) → stands_for self.old (kept shared.old) p
+            → numbers shared.new ≡ (meaning (kept shared.old)).ended (numbers shared.old) p how };
 
     /// The definitions keep the laws of an application.
     ghost lawful: { (a : Self) (k : Self.Kept) → IsLawful (meaning k) (stands_for a k) };
@@ -94,5 +103,6 @@ pub trait App: Drop {
     ghost starts: { (k : Self.Kept) → StartsAnew (meaning k) };
 
     /// What is said past the offset is the same in all parts of a value.
-    ghost same_left: { (a : Self) (k : Self.Kept) (p q : Part) → stands_for a k p → stands_for a k q → text_left (meaning k) p ≡ text_left (meaning k) q };
+    ghost same_left: { (a : Self) (k : Self.Kept) (p q : Part) → stands_for a k p → stands_for a k q
+        → text_left (meaning k) p ≡ text_left (meaning k) q };
 }

@@ -14,6 +14,7 @@ use itoa::Buffer;
 const FIXED_LEN: usize = 8 + 5 * 9 + 3 + 1 + 1 + 12;
 
 /// The name of a state as it is shown.
+#[inline(always)]
 fn name_of(state: State) -> &'static [u8]
     ensures text { result.now ≡ state_name state }
     ensures short { length result.now ≤ 20 }
@@ -120,6 +121,7 @@ impl Written for Row {
 
     ghost longest = { 420 };
 
+    #[inline(always)]
     fn len(&self) -> usize {
         let peer = self.peer.0;
         FIXED_LEN

@@ -15,6 +15,7 @@ pub(crate) const PLACES: usize = 10;
 const LINE_LEN: usize = PLACES + 1;
 
 /// How many digits a number has.
+#[inline(always)]
 pub(crate) fn decimal_len(number: u32) -> usize
     ensures length { result ≡ length (decimal number) }
     ensures bound { result ≤ 10 }
@@ -41,6 +42,7 @@ pub(crate) fn in_ten_places_len(_number: u32) -> usize
 }
 
 /// A number in ten places, right, filled with spaces.
+#[inline(always)]
 fn in_ten(number: u32) -> [u8; PLACES]
     ensures { result ≡ in_ten_places number }
 {
@@ -52,6 +54,7 @@ fn in_ten(number: u32) -> [u8; PLACES]
 }
 
 /// The text goes on with a number in ten places.
+#[inline(always)]
 pub(crate) fn put_in_ten_places(place: Place, out: &mut [u8], number: u32) -> Place
     requires { place.so_far < 2 ^ 63 - 10 }
     ensures at { result.at ≡ place.at }

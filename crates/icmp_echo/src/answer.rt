@@ -11,6 +11,7 @@ const REQUEST: u16 = 0x0800;
 const AMBIGUOUS: u16 = 65535 - REQUEST;
 
 /// Makes the echo request at the front of an area its reply.
+#[inline(always)]
 pub(crate) fn answer(area: &mut [u8], total: usize)
     requires least { 28 ≤ total }
     requires most { total ≤ length area.old }
@@ -21,6 +22,7 @@ pub(crate) fn answer(area: &mut [u8], total: usize)
 }
 
 /// Makes a whole echo request its reply.
+#[inline(always)]
 fn answer_whole(datagram: &mut [u8])
     requires long { 28 ≤ length datagram.old }
     requires asks { echo_fate (drop 20 datagram.old) ≡ None }
@@ -31,9 +33,11 @@ fn answer_whole(datagram: &mut [u8])
 }
 
 /// Exchanges the two addresses of a header, which leaves the sum of its words.
+#[inline(always)]
 fn exchange(datagram: &mut [u8])
     requires { 20 ≤ length datagram.old }
-    ensures { datagram.new ≡ take 12 datagram.old ++ slice_range datagram.old 16 20 ++ slice_range datagram.old 12 16 ++ drop 20 datagram.old }
+    ensures { datagram.new ≡ take 12 datagram.old ++ slice_range datagram.old 16 20 ++ slice_range datagram.old 12 16
+        ++ drop 20 datagram.old }
 {
     let source = Addr::get(datagram, 12);
     let target = Addr::get(datagram, 16);
@@ -42,6 +46,7 @@ fn exchange(datagram: &mut [u8])
 }
 
 /// Makes an echo request its reply.
+#[inline(always)]
 fn answer_message(message: &mut [u8])
     requires { echo_fate message.old ≡ None }
     ensures { message.new ≡ echo_message (drop 4 message.old) }
@@ -51,8 +56,9 @@ fn answer_message(message: &mut [u8])
     put16(message, 2, sum);
 }
 
-/// The checksum of the reply to a request whose own is right: the request's, and the word that is taken away (RFC 1624). Only where that is a
-/// zero it does not say which of the two zeros, and the sum is made anew.
+/// The checksum of the reply to a request whose own is right: the request's, and the word that is taken away (RFC 1624). Only where that is
+/// a zero it does not say which of the two zeros, and the sum is made anew.
+#[inline(always)]
 fn reply_sum(message: &[u8]) -> u16
     requires { echo_fate message.now ≡ None }
     ensures { result ≡ checksum_of (0 ∷ 0 ∷ 0 ∷ 0 ∷ drop 4 message.now) }

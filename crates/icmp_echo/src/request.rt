@@ -10,6 +10,7 @@ use uip_ipv4::IpHead;
 use uip_wire::checksum;
 
 /// Makes the echo request in the packet its reply, of the datagram's total length; bytes behind that are cut off.
+#[inline(always)]
 pub fn reply(packet: &mut Packet, head: &IpHead) -> Result<(), IcmpFate>
     requires { IsHeadOf head.now (datagram_in packet.old) }
     ensures fate { MatchResult result (λ _. fate_in head.now packet.old ≡ None) (λ fate. fate_in head.now packet.old ≡ Some fate) }
@@ -27,6 +28,7 @@ pub fn reply(packet: &mut Packet, head: &IpHead) -> Result<(), IcmpFate>
 }
 
 /// The first check that a message fails.
+#[inline(always)]
 fn fate_of(message: &[u8]) -> Option<IcmpFate>
     ensures { result ≡ echo_fate message.now }
 {

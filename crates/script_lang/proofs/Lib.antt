@@ -1,4 +1,5 @@
 pub mod PlaceLemmas
+pub mod LaneLemmas
 pub mod OpenLemmas
 pub mod StartLemmas
 pub mod PieceLemmas

@@ -83,3 +83,24 @@ past-front test a n b r s within some one other = elim (cases_eq r (n + 1)) [
     | inr first ↦ le-ltb n s (omega (arith, first, one.high, apart))
   ])
 ]
+
+-- a front in which no place passes is passed over
+pub first_place-behind : (test : ℕ → Bool) (a m b : ℕ) → a ≤ m → m ≤ b → ((k : ℕ) → a ≤ k → k < m → test k ≡ false) → first_place test m b ≡ first_place test a b
+first_place-behind test a m b low high none =
+    let rest = first_place-is test m b high in
+    same-first test a b (first_place test m b) (first_place test a b)
+    (record {
+      low = omega (arith, rest.low);
+      high = rest.high;
+      before = λ k from below. elim (cases_lt k m) [ inl early ↦ none k from early | inr late ↦ rest.before k late below ];
+      here = rest.here;
+    })
+    (first_place-is test a b (omega arith))
+
+-- a place that passes in the front is the first of all
+pub first_place-front : (test : ℕ → Bool) (a m b : ℕ) → a ≤ m → m ≤ b → first_place test a m < m → first_place test a m ≡ first_place test a b
+first_place-front test a m b low high lt =
+    let front = first_place-is test a m low in
+    same-first test a b (first_place test a m) (first_place test a b)
+    (record { low = front.low; high = omega arith; before = front.before; here = λ _. front.here lt })
+    (first_place-is test a b (omega arith))

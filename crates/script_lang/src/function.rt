@@ -17,6 +17,7 @@ pub enum Function {
 }
 
 /// The function of that name.
+#[inline(always)]
 pub(crate) fn function_of(name: &[u8]) -> Function
     ensures { result ≡ function_named name.now }
 {
@@ -38,6 +39,7 @@ pub(crate) fn function_of(name: &[u8]) -> Function
 }
 
 /// The greatest length of the text that the function gives, in bytes.
+#[inline(always)]
 pub fn greatest_len(function: Function) -> usize
     ensures { result ≡ length_at_most function }
 {

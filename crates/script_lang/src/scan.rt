@@ -9,6 +9,7 @@ use crate::words::word_in;
 
 /// The piece from `at` on, and `None` at the text's end. `at` is a place at or inside a text run, at the start of a
 /// directive, or the text's length; inside a text run the piece is the rest of that run.
+#[inline(always)]
 pub fn next_piece(text: &[u8], at: usize) -> Option<Found>
     requires { IsPlace text.now at }
     ensures none { IsNone result ↔ (at ≡ length text.now) }
@@ -26,6 +27,7 @@ pub fn next_piece(text: &[u8], at: usize) -> Option<Found>
 }
 
 /// Whether a text run goes on for more than `count` bytes from `at` on. It looks at no byte that is further away.
+#[inline(always)]
 pub fn runs_past(text: &[u8], at: usize, count: usize) -> bool
     requires { at < length text.now }
     ensures { result ≡ nat_lt (at + count) (run_end text.now at) }
@@ -38,6 +40,7 @@ pub fn runs_past(text: &[u8], at: usize, count: usize) -> bool
 }
 
 /// The piece from `at` on.
+#[inline(always)]
 fn piece_from(text: &[u8], at: usize) -> Found
     requires { at < length text.now }
     ensures piece { result ≡ piece_at text.now at }
@@ -52,6 +55,7 @@ fn piece_from(text: &[u8], at: usize) -> Found
 }
 
 /// The directive that begins at `at`.
+#[inline(always)]
 fn directive_from(text: &[u8], at: usize) -> Found
     requires mark { IsTrue (is_directive_mark text.now at) }
     requires inside { at + 2 ≤ length text.now }
@@ -67,6 +71,7 @@ fn directive_from(text: &[u8], at: usize) -> Found
 }
 
 /// Where the inner part from `from` on ends, if its line ends at `stop`: there, or at the CR before.
+#[inline(always)]
 fn without_cr(text: &[u8], from: usize, stop: usize) -> usize
     requires ordered { from ≤ stop }
     requires inside { stop ≤ length text.now }
@@ -81,6 +86,7 @@ fn without_cr(text: &[u8], from: usize, stop: usize) -> usize
 }
 
 /// The directive whose inner part goes from `from` up to before `to`.
+#[inline(always)]
 fn directive_in(text: &[u8], from: usize, to: usize) -> Piece
     requires ordered { from ≤ to }
     requires inside { to ≤ length text.now }

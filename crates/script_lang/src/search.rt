@@ -2,8 +2,48 @@ ghost use Rattle.std.specs.Prelude.{◌≡◌, ℕ, ◌+◌, ◌<◌, ◌≤◌,
 ghost use Rattle.script_lang.specs.Places.{is_byte, first_place};
 ghost use Rattle.script_lang.specs.Directives.{is_directive_mark};
 
+use std::simd::prelude::*;
+
+/// So many bytes are looked at together.
+const LANES: usize = 32;
+
 /// The first place from `from` up to before `to` where `byte` stands, else `to`.
+#[inline(always)]
 pub(crate) fn byte_from(text: &[u8], byte: u8, from: usize, to: usize) -> usize
+    requires ordered { from ≤ to }
+    requires inside { to ≤ length text.now }
+    ensures place { result ≡ first_place (is_byte text.now byte) from to }
+    ensures low { from ≤ result }
+    ensures high { result ≤ to }
+{
+    let mut at = from;
+    while to - at >= LANES {
+        let place = byte_in_lanes(text, byte, at);
+        if place < at + LANES {
+            return place;
+        }
+        at += LANES;
+    }
+    byte_one_by_one(text, byte, at, to)
+}
+
+/// The same of the lanes from a place on.
+#[inline(always)]
+fn byte_in_lanes(text: &[u8], byte: u8, at: usize) -> usize
+    requires { at + LANES ≤ length text.now }
+    ensures { result ≡ first_place (is_byte text.now byte) at (at + LANES) }
+{
+    let lanes = u8x32::from_slice(&text[at..]);
+    let mask = lanes.simd_eq(u8x32::splat(byte)).to_bitmask();
+    if mask == 0 {
+        return at + LANES;
+    }
+    at + mask.trailing_zeros() as usize
+}
+
+/// The same of a few bytes, one by one.
+#[inline(always)]
+fn byte_one_by_one(text: &[u8], byte: u8, from: usize, to: usize) -> usize
     requires ordered { from ≤ to }
     requires inside { to ≤ length text.now }
     ensures place { result ≡ first_place (is_byte text.now byte) from to }
@@ -19,6 +59,7 @@ pub(crate) fn byte_from(text: &[u8], byte: u8, from: usize, to: usize) -> usize
 }
 
 /// The first place from `from` up to before `to` where another byte than `byte` stands, else `to`.
+#[inline(always)]
 pub(crate) fn other_from(text: &[u8], byte: u8, from: usize, to: usize) -> usize
     requires ordered { from ≤ to }
     requires inside { to ≤ length text.now }
@@ -35,6 +76,7 @@ pub(crate) fn other_from(text: &[u8], byte: u8, from: usize, to: usize) -> usize
 }
 
 /// Whether `%!` stands at the place.
+#[inline(always)]
 pub(crate) fn is_mark_at(text: &[u8], at: usize) -> bool
     requires { at < length text.now }
     ensures { result ≡ is_directive_mark text.now at }
@@ -43,6 +85,7 @@ pub(crate) fn is_mark_at(text: &[u8], at: usize) -> bool
 }
 
 /// The first place from `from` up to before `to` where `%!` stands, else `to`.
+#[inline(always)]
 pub(crate) fn mark_from(text: &[u8], from: usize, to: usize) -> usize
     requires ordered { from ≤ to }
     requires inside { to ≤ length text.now }
@@ -50,10 +93,13 @@ pub(crate) fn mark_from(text: &[u8], from: usize, to: usize) -> usize
     ensures low { from ≤ result }
     ensures high { result ≤ to }
 {
-    for at in from..to {
-        if is_mark_at(text, at) {
+    let mut at = from;
+    while at < to {
+        at = byte_from(text, b'%', at, to);
+        if at == to || is_mark_at(text, at) {
             return at;
         }
+        at += 1;
     }
     to
 }

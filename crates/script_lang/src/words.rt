@@ -11,6 +11,7 @@ pub(crate) struct Span {
 }
 
 /// The first word of the part from `from` up to before `to`; words are parted by spaces.
+#[inline(always)]
 pub(crate) fn word_in(text: &[u8], from: usize, to: usize) -> Span
     requires ordered { from ≤ to }
     requires inside { to ≤ length text.now }

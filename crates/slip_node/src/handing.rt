@@ -72,7 +72,8 @@ pub(crate) fn write_on(out: &mut [u8], len: usize, datagram: &[u8], at: usize) -
     ensures left { IfSome result.left (λ k. k ≤ length datagram.now) }
     ensures more { len + 2 ≤ length out.old → len < result.wrote }
     ensures whole { len + 2 * (length datagram.now - at) < length out.old → result.left ≡ None }
-    ensures text { take result.wrote out.new ++ text_to_come datagram.now result.left ≡ take len out.old ++ text_to_come datagram.now (Some at) }
+    ensures text { take result.wrote out.new ++ text_to_come datagram.now result.left
+        ≡ take len out.old ++ text_to_come datagram.now (Some at) }
 {
     let mut rest = &datagram[at..];
     let mut end = len;

@@ -68,7 +68,13 @@ impl Model for MemLink {
 
     ghost Value = { LinkContent };
 
-    ghost view = { λ link. record { left = drop link.at link.items.items; most = link.most; fails = link.fails.items; calls = link.calls; faults = link.faults } };
+    ghost view = { λ link. record {
+      left = drop link.at link.items.items;
+      most = link.most;
+      fails = link.fails.items;
+      calls = link.calls;
+      faults = link.faults;
+    } };
 
     ghost invariant = { λ link. (0 < link.most) × (link.at ≤ length link.items.items) };
 }

@@ -78,8 +78,10 @@ impl Shelf for MemShelf {
         // A call fails exactly where its number is planned, which raises the count, or where the file is missing.
         ensures numbered { self.new.calls ≡ counted_on self.old.calls }
         ensures planned { Contains self.old.fails self.new.calls → IsErr result × (self.new.faults ≡ counted_on self.old.faults) }
-        ensures unplanned { ¬ (Contains self.old.fails self.new.calls) → (IsErr result ↔ (told_files self.old.files name.now ≡ None)) × (self.new.faults ≡ self.old.faults) }
-        ensures given { IfOk result (λ n. IfSome (told_files self.old.files name.now) (λ content. n ≡ min (length buf.old) (length content - at))) }
+        ensures unplanned { ¬ (Contains self.old.fails self.new.calls)
+            → (IsErr result ↔ (told_files self.old.files name.now ≡ None)) × (self.new.faults ≡ self.old.faults) }
+        ensures given { IfOk result
+            (λ n. IfSome (told_files self.old.files name.now) (λ content. n ≡ min (length buf.old) (length content - at))) }
     {
         self.calls = self.calls.saturating_add(1);
         if self.fails.contains(&self.calls) {

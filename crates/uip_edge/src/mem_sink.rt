@@ -25,7 +25,13 @@ impl Model for MemSink {
 
     ghost Value = { SinkContent };
 
-    ghost view = { λ sink. record { text = sink.text.items; room = sink.room; fails = sink.fails.items; calls = sink.calls; faults = sink.faults } };
+    ghost view = { λ sink. record {
+      text = sink.text.items;
+      room = sink.room;
+      fails = sink.fails.items;
+      calls = sink.calls;
+      faults = sink.faults;
+    } };
 
     // The room was taken at the start, so that no write takes memory.
     ghost invariant = { λ sink. (length sink.text.items ≤ sink.room) × (sink.room ≤ vec_capacity sink.text) };
@@ -69,7 +75,8 @@ impl Sink for MemSink {
 
         // A call fails exactly where its number is planned, or where a piece comes and no room is left.
         ensures numbered { self.new.calls ≡ counted_on self.old.calls }
-        ensures planned { IsErr result ↔ (Contains self.old.fails self.new.calls ⊎ ((0 < length piece.now) × (self.old.room ≤ length self.old.text))) }
+        ensures planned { IsErr result
+            ↔ (Contains self.old.fails self.new.calls ⊎ ((0 < length piece.now) × (self.old.room ≤ length self.old.text))) }
         ensures counted { OnErr result (self.new.faults ≡ counted_on self.old.faults) }
         ensures taken { IfOk result (λ n. n ≡ min (length piece.now) (self.old.room - length self.old.text)) }
         ensures kept { (self.new.room ≡ self.old.room) × (self.new.fails ≡ self.old.fails) }

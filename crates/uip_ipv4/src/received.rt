@@ -8,6 +8,7 @@ use uip_wire::{Addr, checksum, get16};
 
 /// The header of a datagram to the address `own`, or the first check that fails.
 #[tactic(auto, unfolding(crate::specs::Head::head_or_fate))]
+#[inline(always)]
 pub fn check(bytes: &[u8], own: Addr) -> Result<IpHead, IpFate>
     ensures exact { result ≡ head_or_fate bytes.now own.0 }
     ensures checked { IfOk result (λ head. IsHeadOf head bytes.now) }

@@ -118,7 +118,8 @@ abbrev pub step : Meaning → (ℕ → Bool) → AbstractNode → Event → Node
 step m served n (IpRefused fate) = passes n (IpRefused fate) Silent
 step m served n (IcmpRefused fate) = passes n (IcmpRefused fate) Silent
 step m served n (TcpRefused fate) = passes n (TcpRefused fate) Silent
-step m served n (EchoAsked datagram) = record { node = remembers n (EchoAsked datagram) EchoReplied; sent = Some (Echo datagram); gone = None }
+step m served n (EchoAsked datagram) =
+    record { node = remembers n (EchoAsked datagram) EchoReplied; sent = Some (Echo datagram); gone = None }
 step m served n (Arrived sockets s) = arrives m served n sockets s
 step m served n Overlong = passes n Overlong Silent
 step m served n (Periodic slot) = periodic m n slot

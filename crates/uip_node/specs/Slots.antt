@@ -61,7 +61,8 @@ pub record IsNamed {A : Type 0} (c : Conn A) (a : Connection) : Type 0 where
   pub snd_nxt : c.snd_nxt.0 ≡ snd_nxt a
 
 -- what the connection in a slot did is what the outcome says, and all others stay
-pub record MeetsAt {A S : Type 0} (g : Ghosts A S) (k : g.Kept) (cs : List (Conn A)) (numbers : List ℕ) (step : Step) (abstracts : List Connection) (slot : ℕ) (o : Outcome) : Type 0 where
+pub record MeetsAt {A S : Type 0} (g : Ghosts A S) (k : g.Kept) (cs : List (Conn A)) (numbers : List ℕ) (step : Step)
+    (abstracts : List Connection) (slot : ℕ) (o : Outcome) : Type 0 where
   pub slots : SlotsStand g k cs (slice_set abstracts slot o.connection)
   pub counted : numbers ≡ o.numbers
   pub asked : step ≡ o.step

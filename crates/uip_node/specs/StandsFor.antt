@@ -30,7 +30,8 @@ pub record Steps {A S : Type 0} (g : Ghosts A S) (node : Node A S) (result : Opt
   pub sent : IsSent node.addr s.sent result node.packet
 
 -- The node takes this step: it stands for what the definition leaves, sends what it says, and stays whole.
-pub record Takes {A S : Type 0} (g : Ghosts A S) (f : Meaning → (ℕ → Bool) → AbstractNode → NodeStep) (old new : Node A S) (result : Option ℕ) : Type 0 where
+pub record Takes {A S : Type 0} (g : Ghosts A S) (f : Meaning → (ℕ → Bool) → AbstractNode → NodeStep) (old new : Node A S)
+    (result : Option ℕ) : Type 0 where
   pub whole : IsWhole g new
   pub same : g.kept new.shared ≡ g.kept old.shared
   pub step : (n : AbstractNode) → Stands g old n n.past → Steps g new result (f (g.meaning (g.kept old.shared)) g.served n)

@@ -103,7 +103,8 @@ impl Counts {
 
     /// An echo was asked for and replied to.
     pub(crate) fn echo(&mut self)
-        ensures { (past : List Past) (request : List ℕ) → CountsStand self.old past → CountsStand self.new (record { event = EchoAsked request; answer = EchoReplied } ∷ past) }
+        ensures { (past : List Past) (request : List ℕ) → CountsStand self.old past
+            → CountsStand self.new (record { event = EchoAsked request; answer = EchoReplied } ∷ past) }
     {
         let net = raised(self.net, 0, 10, NONE);
         self.net = raised(net, 1, 11, NONE);
@@ -111,7 +112,8 @@ impl Counts {
 
     /// A segment arrived.
     pub(crate) fn arrive(&mut self)
-        ensures { (past : List Past) (sockets : Sockets) (segment : PlainSegment) → CountsStand self.old past → CountsStand self.new (seen (Arrived sockets segment) past) }
+        ensures { (past : List Past) (sockets : Sockets) (segment : PlainSegment) → CountsStand self.old past
+            → CountsStand self.new (seen (Arrived sockets segment) past) }
     {
         self.net = raised(self.net, 0, 14, NONE);
     }
@@ -134,7 +136,8 @@ impl Counts {
 
     /// A TCP datagram is sent as the answer to the last event, maybe again.
     pub(crate) fn speak(&mut self, again: bool)
-        ensures { (past : List Past) (event : Event) → CountsStand self.old (seen event past) → CountsStand self.new (record { event = event; answer = Spoke again } ∷ past) }
+        ensures { (past : List Past) (event : Event) → CountsStand self.old (seen event past)
+            → CountsStand self.new (record { event = event; answer = Spoke again } ∷ past) }
     {
         self.net = raised(self.net, 1, 15, again_place(again));
         self.ident = self.ident.wrapping_add(1);
@@ -142,7 +145,8 @@ impl Counts {
 
     /// The last event, a plain SYN, found no slot.
     pub(crate) fn turn_away(&mut self)
-        ensures { (past : List Past) (event : Event) → CountsStand self.old (seen event past) → CountsStand self.new (record { event = event; answer = NoSlot } ∷ past) }
+        ensures { (past : List Past) (event : Event) → CountsStand self.old (seen event past)
+            → CountsStand self.new (record { event = event; answer = NoSlot } ∷ past) }
     {
         self.net = raised(self.net, 19, NONE, NONE);
     }

@@ -39,8 +39,10 @@ pub(crate) fn take_segment<A: App>(
     ensures sound { AllSound A.App (A.kept shared.old) table.new.conns }
     ensures fits { IsIn table.new.conns slot (λ c. StepFits c result) }
     ensures others { OthersStay slot table.old.conns table.new.conns }
-    ensures meets { (abstracts : List Connection) (a : Connection) → SlotsStand A.App (A.kept shared.old) table.old.conns abstracts → slice_get abstracts slot ≡ Some a
-        → MeetsAt A.App (A.kept shared.old) table.new.conns (A.numbers shared.new) result abstracts slot (on_segment (A.meaning (A.kept shared.old)) a (A.numbers shared.old) (plain seg.now piece.now)) }
+    ensures meets { (abstracts : List Connection) (a : Connection) → SlotsStand A.App (A.kept shared.old) table.old.conns abstracts
+        → slice_get abstracts slot ≡ Some a
+        → MeetsAt A.App (A.kept shared.old) table.new.conns (A.numbers shared.new) result abstracts slot
+        (on_segment (A.meaning (A.kept shared.old)) a (A.numbers shared.old) (plain seg.now piece.now)) }
 {
     let conn = &mut table.conns[slot];
     on_segment(conn, shared, seg, piece)
@@ -57,8 +59,10 @@ pub(crate) fn take_tick<A: App>(table: &mut Table<A>, shared: &mut A::Shared, sl
     ensures sound { AllSound A.App (A.kept shared.old) table.new.conns }
     ensures fits { IsIn table.new.conns slot (λ c. StepFits c result) }
     ensures others { OthersStay slot table.old.conns table.new.conns }
-    ensures meets { (abstracts : List Connection) (a : Connection) → SlotsStand A.App (A.kept shared.old) table.old.conns abstracts → slice_get abstracts slot ≡ Some a
-        → MeetsAt A.App (A.kept shared.old) table.new.conns (A.numbers shared.new) result abstracts slot (on_tick (A.meaning (A.kept shared.old)) a (A.numbers shared.old)) }
+    ensures meets { (abstracts : List Connection) (a : Connection) → SlotsStand A.App (A.kept shared.old) table.old.conns abstracts
+        → slice_get abstracts slot ≡ Some a
+        → MeetsAt A.App (A.kept shared.old) table.new.conns (A.numbers shared.new) result abstracts slot
+        (on_tick (A.meaning (A.kept shared.old)) a (A.numbers shared.old)) }
 {
     let conn = &mut table.conns[slot];
     on_tick(conn, shared)
@@ -81,8 +85,10 @@ fn ask_in<A: App>(
     ensures kept { AllKept A.App (A.kept shared.now) table.new.conns }
     ensures answer { IsAnswer result }
     ensures text { IsIn table.new.conns slot (λ c. StepFits c result) }
-    ensures meets { (abstracts : List Connection) (a : Connection) → SlotsStand A.App (A.kept shared.now) table.old.conns abstracts → slice_get abstracts slot ≡ Some a
-        → MeetsAt A.App (A.kept shared.now) table.new.conns (A.numbers shared.now) result abstracts slot (ask (A.meaning (A.kept shared.now)) now.now fresh a (A.numbers shared.now)) }
+    ensures meets { (abstracts : List Connection) (a : Connection) → SlotsStand A.App (A.kept shared.now) table.old.conns abstracts
+        → slice_get abstracts slot ≡ Some a
+        → MeetsAt A.App (A.kept shared.now) table.new.conns (A.numbers shared.now) result abstracts slot
+        (ask (A.meaning (A.kept shared.now)) now.now fresh a (A.numbers shared.now)) }
 {
     let conn = &mut table.conns[slot];
     ask(conn, shared, now, fresh)
@@ -107,8 +113,10 @@ pub(crate) fn settle<A: App>(
     ensures kept { AllKept A.App (A.kept shared.now) table.new.conns }
     ensures answer { IsAnswer result }
     ensures text { IsIn table.new.conns slot (λ c. StepFits c result) }
-    ensures meets { (abstracts : List Connection) (o : Outcome) → slot < length abstracts → MeetsAt A.App (A.kept shared.now) table.old.conns (A.numbers shared.now) step abstracts slot o
-        → MeetsAt A.App (A.kept shared.now) table.new.conns (A.numbers shared.now) result abstracts slot (asked (A.meaning (A.kept shared.now)) (moment_at ticks net abstracts slot) o) }
+    ensures meets { (abstracts : List Connection) (o : Outcome) → slot < length abstracts
+        → MeetsAt A.App (A.kept shared.now) table.old.conns (A.numbers shared.now) step abstracts slot o
+        → MeetsAt A.App (A.kept shared.now) table.new.conns (A.numbers shared.now) result abstracts slot
+        (asked (A.meaning (A.kept shared.now)) (moment_at ticks net abstracts slot) o) }
 {
     match step {
         Step::Ask { fresh } => {
@@ -137,7 +145,9 @@ pub(crate) fn open_in<A: App>(table: &mut Table<A>, slot: usize, peer: Addr, seg
     ensures step { result ≡ Step.SynAck false }
     ensures kept { (k : A.Kept) → AllKept A.App k table.old.conns → AllKept A.App k table.new.conns }
     ensures stands { (k : A.Kept) (abstracts : List Connection) (text : List ℕ) → SlotsStand A.App k table.old.conns abstracts
-        → SlotsStand A.App k table.new.conns (slice_set abstracts slot (accepted table.old.iss (record { peer = peer; peer_port = seg.now.from; own_port = seg.now.to }) (plain seg.now text))) }
+        → SlotsStand A.App k table.new.conns
+        (slice_set abstracts slot
+        (accepted table.old.iss (record { peer = peer; peer_port = seg.now.from; own_port = seg.now.to }) (plain seg.now text))) }
 {
     let iss = table.iss;
     let conn = &mut table.conns[slot];
@@ -160,7 +170,8 @@ pub(crate) fn speak_in<A: App>(
     requires fits { IsIn table.now.conns slot (λ c. StepFits c step) }
     requires answer { IsAnswer step }
     ensures size { length packet.new.area ≡ LARGEST_DATAGRAM }
-    ensures spoken { (abstracts : List Connection) (ns : List ℕ) (o : Outcome) → slot < length abstracts → MeetsAt A.App (A.kept shared.now) table.now.conns ns step abstracts slot o
+    ensures spoken { (abstracts : List Connection) (ns : List ℕ) (o : Outcome) → slot < length abstracts
+        → MeetsAt A.App (A.kept shared.now) table.now.conns ns step abstracts slot o
         → IsSpoken own o.connection.sockets id (segment_of (A.meaning (A.kept shared.now)) o.connection step) result packet.new }
 {
     let conn = &table.conns[slot];

@@ -111,7 +111,8 @@ impl<A: App> Node<A> {
 
     /// The ticks, the counters and the rows of the connections that are not CLOSED.
     pub fn now(&self) -> Now
-        ensures { (n : AbstractNode) → Stands A.App self.now n n.past → result ≡ record { ticks = ticks_of n.past; net = counters n.past; rows = rows_from 0 n.connections } }
+        ensures { (n : AbstractNode) → Stands A.App self.now n n.past
+            → result ≡ record { ticks = ticks_of n.past; net = counters n.past; rows = rows_from 0 n.connections } }
     {
         Now {
             ticks: self.counts.ticks,
@@ -140,7 +141,9 @@ impl<A: App> Node<A> {
         requires fits { IsIn self.old.table.conns slot (λ c. StepFits c step) }
         ensures whole { IsWhole A.App self.new }
         ensures same { A.kept self.new.shared ≡ A.kept self.old.shared }
-        ensures step { (n : AbstractNode) (event : Event) (old : Connection) (o : Outcome) → self.old.addr ≡ n.addr → slot < length n.connections → self.old.table.iss ≡ initial_number (seen event n.past) → CountsStand self.old.counts (seen event n.past)
+        ensures step { (n : AbstractNode) (event : Event) (old : Connection) (o : Outcome) → self.old.addr ≡ n.addr
+            → slot < length n.connections → self.old.table.iss ≡ initial_number (seen event n.past)
+            → CountsStand self.old.counts (seen event n.past)
             → MeetsAt A.App (A.kept self.old.shared) self.old.table.conns (A.numbers self.old.shared) step n.connections slot o
             → Steps A.App self.new result (happened (A.meaning (A.kept self.old.shared)) n event slot old o) }
     {
@@ -171,9 +174,13 @@ impl<A: App> Node<A> {
         requires others { OthersRest slot self.old.table.conns }
         ensures whole { IsWhole A.App self.new }
         ensures same { A.kept self.new.shared ≡ A.kept self.old.shared }
-        ensures step { (n : AbstractNode) (event : Event) (old : Connection) (o : Outcome) → self.old.addr ≡ n.addr → slot < length n.connections → self.old.table.iss ≡ initial_number (seen event n.past) → CountsStand self.old.counts (seen event n.past)
+        ensures step { (n : AbstractNode) (event : Event) (old : Connection) (o : Outcome) → self.old.addr ≡ n.addr
+            → slot < length n.connections → self.old.table.iss ≡ initial_number (seen event n.past)
+            → CountsStand self.old.counts (seen event n.past)
             → MeetsAt A.App (A.kept self.old.shared) self.old.table.conns (A.numbers self.old.shared) step n.connections slot o
-            → Steps A.App self.new result (happened (A.meaning (A.kept self.old.shared)) n event slot old (asked (A.meaning (A.kept self.old.shared)) (moment n event slot) o)) }
+            → Steps A.App self.new result
+            (happened (A.meaning (A.kept self.old.shared)) n event slot old
+            (asked (A.meaning (A.kept self.old.shared)) (moment n event slot) o)) }
     {
         let step = settle(
             &mut self.table,
@@ -195,7 +202,11 @@ impl<A: App> Node<A> {
         ensures whole { IsWhole A.App self.new }
         ensures same { A.kept self.new.shared ≡ A.kept self.old.shared }
         ensures step { (n : AbstractNode) (event : Event) → Stands A.App self.old n (seen event n.past) → slot < length n.connections
-            → Steps A.App self.new result (happened (A.meaning (A.kept self.old.shared)) n event slot (connection_in slot n) (asked (A.meaning (A.kept self.old.shared)) (moment n event slot) (on_segment (A.meaning (A.kept self.old.shared)) (connection_in slot n) n.numbers (plain_of seg.now (datagram_in self.old.packet))))) }
+            → Steps A.App self.new result
+            (happened (A.meaning (A.kept self.old.shared)) n event slot (connection_in slot n)
+            (asked (A.meaning (A.kept self.old.shared)) (moment n event slot)
+            (on_segment (A.meaning (A.kept self.old.shared)) (connection_in slot n) n.numbers
+            (plain_of seg.now (datagram_in self.old.packet))))) }
     {
         let piece = seg.text(self.packet.bytes());
         let step = take_segment(&mut self.table, &mut self.shared, slot, seg, piece);
@@ -209,8 +220,11 @@ impl<A: App> Node<A> {
         requires free { NoneAt peer seg.now.from seg.now.to self.old.table.conns }
         ensures whole { IsWhole A.App self.new }
         ensures same { A.kept self.new.shared ≡ A.kept self.old.shared }
-        ensures step { (n : AbstractNode) (event : Event) (old : Connection) (text : List ℕ) → Stands A.App self.old n (seen event n.past) → slot < length n.connections
-            → Steps A.App self.new result (happened (A.meaning (A.kept self.old.shared)) n event slot old (accept (initial_number (seen event n.past)) (sockets_of peer seg.now) (plain seg.now text) n.numbers)) }
+        ensures step { (n : AbstractNode) (event : Event) (old : Connection) (text : List ℕ) → Stands A.App self.old n (seen event n.past)
+            → slot < length n.connections
+            → Steps A.App self.new result
+            (happened (A.meaning (A.kept self.old.shared)) n event slot old
+            (accept (initial_number (seen event n.past)) (sockets_of peer seg.now) (plain seg.now text) n.numbers)) }
     {
         let step = open_in(&mut self.table, slot, peer, seg);
         self.say(slot, step)
@@ -221,7 +235,8 @@ impl<A: App> Node<A> {
         requires whole { IsWhole A.App self.old }
         ensures whole { IsWhole A.App self.new }
         ensures same { A.kept self.new.shared ≡ A.kept self.old.shared }
-        ensures step { (n : AbstractNode) (text : List ℕ) → Stands A.App self.old n (seen (Arrived (sockets_of peer seg.now) (plain seg.now text)) n.past)
+        ensures step { (n : AbstractNode) (text : List ℕ)
+            → Stands A.App self.old n (seen (Arrived (sockets_of peer seg.now) (plain seg.now text)) n.past)
             → Steps A.App self.new result (refuses n (sockets_of peer seg.now) (plain seg.now text)) }
     {
         let id = self.counts.ident.wrapping_add(1);
@@ -236,8 +251,10 @@ impl<A: App> Node<A> {
         requires free { NoneAt peer seg.now.from seg.now.to self.old.table.conns }
         ensures whole { IsWhole A.App self.new }
         ensures same { A.kept self.new.shared ≡ A.kept self.old.shared }
-        ensures step { (n : AbstractNode) (text : List ℕ) → Stands A.App self.old n (seen (Arrived (sockets_of peer seg.now) (plain seg.now text)) n.past)
-            → Steps A.App self.new result (opens (A.meaning (A.kept self.old.shared)) n (sockets_of peer seg.now) (plain seg.now text) (slot_for_syn n.connections)) }
+        ensures step { (n : AbstractNode) (text : List ℕ)
+            → Stands A.App self.old n (seen (Arrived (sockets_of peer seg.now) (plain seg.now text)) n.past)
+            → Steps A.App self.new result
+            (opens (A.meaning (A.kept self.old.shared)) n (sockets_of peer seg.now) (plain seg.now text) (slot_for_syn n.connections)) }
     {
         match self.table.slot_for_syn() {
             Some(slot) => self.open(slot, peer, seg),
@@ -254,8 +271,10 @@ impl<A: App> Node<A> {
         requires free { NoneAt peer seg.now.from seg.now.to self.old.table.conns }
         ensures whole { IsWhole A.App self.new }
         ensures same { A.kept self.new.shared ≡ A.kept self.old.shared }
-        ensures step { (n : AbstractNode) (text : List ℕ) → Stands A.App self.old n (seen (Arrived (sockets_of peer seg.now) (plain seg.now text)) n.past)
-            → Steps A.App self.new result (from_stranger (A.meaning (A.kept self.old.shared)) A.served n (sockets_of peer seg.now) (plain seg.now text)) }
+        ensures step { (n : AbstractNode) (text : List ℕ)
+            → Stands A.App self.old n (seen (Arrived (sockets_of peer seg.now) (plain seg.now text)) n.past)
+            → Steps A.App self.new result
+            (from_stranger (A.meaning (A.kept self.old.shared)) A.served n (sockets_of peer seg.now) (plain seg.now text)) }
     {
         if opens_here::<A>(seg) {
             self.welcome(peer, seg)
@@ -270,7 +289,9 @@ impl<A: App> Node<A> {
     fn arrive(&mut self, peer: Addr, seg: &Segment) -> Option<usize>
         requires whole { IsWhole A.App self.old }
         requires inside { seg.now.text_at + seg.now.text_len ≤ length (datagram_in self.old.packet) }
-        ensures { Takes A.App (λ m served n. arrives m served n (sockets_of peer seg.now) (plain_of seg.now (datagram_in self.old.packet))) self.old self.new result }
+        ensures { Takes A.App
+            (λ m served n. arrives m served n (sockets_of peer seg.now)
+            (plain_of seg.now (datagram_in self.old.packet))) self.old self.new result }
     {
         self.counts.arrive();
         match self.table.find(peer, seg.from, seg.to) {
@@ -284,7 +305,10 @@ impl<A: App> Node<A> {
         requires whole { IsWhole A.App self.old }
         requires head { IsHeadOf head.now (datagram_in self.old.packet) }
         requires most { head.now.total ≤ length (datagram_in self.old.packet) }
-        ensures { Takes A.App (λ m served n. step m served n (by_segment head.now (datagram_in self.old.packet) (segment_or_fate head.now (datagram_in self.old.packet)))) self.old self.new result }
+        ensures { Takes A.App
+            (λ m served n. step m served n
+            (by_segment head.now (datagram_in self.old.packet)
+            (segment_or_fate head.now (datagram_in self.old.packet)))) self.old self.new result }
     {
         match check_segment(self.packet.bytes(), head) {
             Err(fate) => {
@@ -300,7 +324,10 @@ impl<A: App> Node<A> {
         requires whole { IsWhole A.App self.old }
         requires head { IsHeadOf head.now (datagram_in self.old.packet) }
         requires most { head.now.total ≤ length (datagram_in self.old.packet) }
-        ensures { Takes A.App (λ m served n. step m served n (by_echo head.now (datagram_in self.old.packet) (echo_fate (payload_of head.now (datagram_in self.old.packet))))) self.old self.new result }
+        ensures { Takes A.App
+            (λ m served n. step m served n
+            (by_echo head.now (datagram_in self.old.packet)
+            (echo_fate (payload_of head.now (datagram_in self.old.packet))))) self.old self.new result }
     {
         match reply(&mut self.packet, head) {
             Err(fate) => {

@@ -73,7 +73,9 @@ fn send<A>(packet: &mut Packet, conn: &Conn<A>, heading: Heading, own: Addr, id:
     requires no_text { IsSome heading.mss → heading.len ≡ 0 }
     ensures size { length packet.new.area ≡ LARGEST_DATAGRAM }
     ensures length { result ≡ length (datagram_in packet.new) }
-    ensures bytes { (a : Connection) → IsNamed conn.now a → datagram_in packet.new ≡ datagram_bytes (datagram_to own a.sockets id (headed heading a (slice_range packet.old.area 40 (40 + heading.len)))) }
+    ensures bytes { (a : Connection) → IsNamed conn.now a
+        → datagram_in packet.new ≡ datagram_bytes
+        (datagram_to own a.sockets id (headed heading a (slice_range packet.old.area 40 (40 + heading.len)))) }
 {
     let out = Out {
         source: own,
@@ -96,7 +98,8 @@ fn fill_at_40<A: App>(app: &A, shared: &A::Shared, area: &mut [u8], len: usize)
     requires fits { 40 + len ≤ length area.old }
     requires says { CanSay A.meaning A.stands_for app.now (A.kept shared.now) len }
     ensures size { length area.new ≡ length area.old }
-    ensures text { (p : Part) → A.stands_for app.now (A.kept shared.now) p → slice_range area.new 40 (40 + len) ≡ take len (text_left (A.meaning (A.kept shared.now)) p) }
+    ensures text { (p : Part) → A.stands_for app.now (A.kept shared.now) p
+        → slice_range area.new 40 (40 + len) ≡ take len (text_left (A.meaning (A.kept shared.now)) p) }
 {
     app.fill(shared, &mut area[40..40 + len]);
 }
@@ -107,7 +110,8 @@ fn fill_text<A: App>(packet: &mut Packet, conn: &Conn<A>, shared: &A::Shared)
     requires says { CanSay A.meaning A.stands_for conn.now.app (A.kept shared.now) conn.now.len }
     requires len { conn.now.len ≤ OWN_MSS }
     ensures size { length packet.new.area ≡ LARGEST_DATAGRAM }
-    ensures text { (p : Part) → A.stands_for conn.now.app (A.kept shared.now) p → slice_range packet.new.area 40 (40 + conn.now.len) ≡ take conn.now.len (text_left (A.meaning (A.kept shared.now)) p) }
+    ensures text { (p : Part) → A.stands_for conn.now.app (A.kept shared.now) p
+        → slice_range packet.new.area 40 (40 + conn.now.len) ≡ take conn.now.len (text_left (A.meaning (A.kept shared.now)) p) }
 {
     fill_at_40(&conn.app, shared, packet.area_mut(), conn.len as usize);
 }
@@ -125,7 +129,11 @@ fn send_text<A: App>(
     requires len { conn.now.len ≤ OWN_MSS }
     ensures size { length packet.new.area ≡ LARGEST_DATAGRAM }
     ensures length { result ≡ length (datagram_in packet.new) }
-    ensures bytes { (a : Connection) → IsNamed conn.now a → A.stands_for conn.now.app (A.kept shared.now) a.part → datagram_in packet.new ≡ datagram_bytes (datagram_to own a.sockets id (headed (record { flags = ACK + PSH; window = OWN_MSS; mss = None; len = conn.now.len }) a (take conn.now.len (text_left (A.meaning (A.kept shared.now)) a.part)))) }
+    ensures bytes { (a : Connection) → IsNamed conn.now a → A.stands_for conn.now.app (A.kept shared.now) a.part
+        → datagram_in packet.new ≡ datagram_bytes
+        (datagram_to own a.sockets id
+        (headed (record { flags = ACK + PSH; window = OWN_MSS; mss = None; len = conn.now.len }) a
+        (take conn.now.len (text_left (A.meaning (A.kept shared.now)) a.part)))) }
 {
     fill_text(packet, conn, shared);
     let heading = Heading {
@@ -149,7 +157,8 @@ pub(crate) fn speak<A: App>(
     requires fits { StepFits conn.now step }
     requires answer { IsAnswer step }
     ensures size { length packet.new.area ≡ LARGEST_DATAGRAM }
-    ensures spoken { (a : Connection) → ConnStands A.App (A.kept shared.now) conn.now a → ((step ≡ Drop → ⊥) → IsNamed conn.now a) → IsSpoken own a.sockets id (segment_of (A.meaning (A.kept shared.now)) a step) result packet.new }
+    ensures spoken { (a : Connection) → ConnStands A.App (A.kept shared.now) conn.now a → ((step ≡ Drop → ⊥) → IsNamed conn.now a)
+        → IsSpoken own a.sockets id (segment_of (A.meaning (A.kept shared.now)) a step) result packet.new }
 {
     match step {
         Step::Drop | Step::Ask { .. } => None,
@@ -179,7 +188,8 @@ pub(crate) fn put_reset(packet: &mut Packet, own: Addr, peer: Addr, seg: &Segmen
     requires size { length packet.old.area ≡ LARGEST_DATAGRAM }
     ensures size { length packet.new.area ≡ LARGEST_DATAGRAM }
     ensures length { result ≡ length (datagram_in packet.new) }
-    ensures bytes { (text : List ℕ) → datagram_in packet.new ≡ datagram_bytes (datagram_to own (sockets_of peer seg.now) id (reset_to_none (plain seg.now text))) }
+    ensures bytes { (text : List ℕ)
+        → datagram_in packet.new ≡ datagram_bytes (datagram_to own (sockets_of peer seg.now) id (reset_to_none (plain seg.now text))) }
 {
     let out = Out {
         source: own,

@@ -73,5 +73,6 @@ ghost use Rattle.uip_slip.specs.Frames.{frames, Datagram};
 
 /// The text of a datagram is read back as just that datagram.
 pub fn text_is_one_frame()
-    ensures { (datagram : List ℕ) → 0 < length datagram → length datagram ≤ LARGEST_DATAGRAM → frames (slip_text datagram) ≡ Datagram datagram ∷ [] }
+    ensures { (datagram : List ℕ) → 0 < length datagram → length datagram ≤ LARGEST_DATAGRAM
+        → frames (slip_text datagram) ≡ Datagram datagram ∷ [] }
 {}

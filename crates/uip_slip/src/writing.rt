@@ -1,5 +1,5 @@
-//! The text of a datagram, written into an area of the caller's. Short runs between marks go byte by byte, and a long one is searched for its
-//! end and copied as a whole, so that no line is much dearer than another.
+//! The text of a datagram, written into an area of the caller's. Short runs between marks go byte by byte, and a long one is searched
+//! for its end and copied as a whole, so that no line is much dearer than another.
 
 ghost use Rattle.std.specs.Prelude.{◌≡◌, ◌≤◌, ◌<◌, ◌+◌, ◌*◌, ◌/◌, ◌%◌, ◌++◌, [], ◌∷◌, length, take};
 ghost use Rattle.uip_slip.specs.Text.{escaped, escaped_byte, slip_text};

@@ -40,8 +40,8 @@ pub(crate) fn ones_add(one: u16, other: u16) -> u16
     }
 }
 
-/// The sum of the words with their bytes exchanged, whose carries are still to be added back: eight bytes are added as one number, since 2^16,
-/// 2^32 and 2^48 leave 1 when divided by 65535 (RFC 1071, section 2). A long piece goes by 32 bytes.
+/// The sum of the words with their bytes exchanged, whose carries are still to be added back: eight bytes are added as one number, since
+/// 2^16, 2^32 and 2^48 leave 1 when divided by 65535 (RFC 1071, section 2). A long piece goes by 32 bytes.
 #[inline(always)]
 fn wide_sum(bytes: &[u8]) -> u128
     ensures fits { result ≤ 2 ^ 61 * length bytes.now }

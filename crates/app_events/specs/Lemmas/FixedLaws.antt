@@ -16,7 +16,8 @@ can_send : (xs : List ℕ) (acked : ℕ) → CanSend (fixed_want (length (fixed_
 can_send [] acked = tt
 can_send (x ∷ xs) acked =
     elim (nat_lt acked 6) as (λ b. nat_lt acked 6 ≡ b → CanSend (if b then Send (6 - acked) else Close) (length (drop acked hello))) [
-      | true ↦ λ e. (let l : acked < 6 = ltb-true acked 6 e in (omega arith, omega (arith, Rattle.std.proofs.Common.length-drop acked hello)))
+      | true ↦ λ e. (let l : acked < 6 = ltb-true acked 6 e in
+          (omega arith, omega (arith, Rattle.std.proofs.Common.length-drop acked hello)))
       | false ↦ λ e. tt
     ] refl
 

@@ -53,9 +53,11 @@ stop_fits p (x ∷ xs) =
 name_parts : (query : Bool) (a b : List ℕ) → name_part query (a ++ b) ≡ name_part query a ++ name_part (query || list_any is_query_mark a) b
 name_parts true a b = refl
 name_parts false a b =
-    elim (list_any is_query_mark a) as (λ m. list_any is_query_mark a ≡ m → before_first is_query_mark (a ++ b) ≡ before_first is_query_mark a ++ name_part m b) [
+    elim (list_any is_query_mark a) as
+    (λ m. list_any is_query_mark a ≡ m → before_first is_query_mark (a ++ b) ≡ before_first is_query_mark a ++ name_part m b) [
       | true ↦ λ h. one_before is_query_mark a b h ∙ sym (append-nil (before_first is_query_mark a))
-      | false ↦ λ h. none_before is_query_mark a b h ∙ ap (λ front. front ++ before_first is_query_mark b) (sym (none_at_all is_query_mark a h))
+      | false ↦ λ h. none_before is_query_mark a b h ∙ ap (λ front. front ++ before_first is_query_mark b)
+          (sym (none_at_all is_query_mark a h))
     ] refl
 
 kept_in_turn : (n : ℕ) (a b : List ℕ) → take n (take n a ++ b) ≡ take n (a ++ b)
@@ -103,7 +105,8 @@ open_after line piece = record (with_word line (word_of line.stops piece)) { don
 
 pub takes_front : (line : Line) (piece : List ℕ) → part_taken line piece ≤ length piece
 takes_front line piece =
-    elim line.done as (λ d. (if d then 0 else length (word_of line.stops piece) + (if list_any (is_stop line.stops) piece then 1 else 0)) ≤ length piece) [
+    elim line.done as (λ d.
+    (if d then 0 else length (word_of line.stops piece) + (if list_any (is_stop line.stops) piece then 1 else 0)) ≤ length piece) [
       | true ↦ omega arith
       | false ↦ stop_fits (is_stop line.stops) piece
     ]
@@ -137,7 +140,8 @@ takes_all line piece e =
 
 -- the two equations of hearing joined pieces
 abbrev Joins : Line → List ℕ → List ℕ → Type 0
-Joins line xs ys = (after line (xs ++ ys) ≡ after (after line xs) ys) × (part_taken line (xs ++ ys) ≡ part_taken line xs + part_taken (after line xs) ys)
+Joins line xs ys = (after line (xs ++ ys) ≡ after (after line xs) ys)
+    × (part_taken line (xs ++ ys) ≡ part_taken line xs + part_taken (after line xs) ys)
 
 stopped : (line : Line) (xs ys : List ℕ) → line.done ≡ false → list_any (is_stop line.stops) xs ≡ true → Joins line xs ys
 stopped line xs ys h m =
@@ -160,12 +164,15 @@ goes_on line xs ys h m =
     let stop : list_any (is_stop line.stops) (xs ++ ys) ≡ list_any (is_stop line.stops) ys =
     list_any-append (is_stop line.stops) xs ys ∙ ap (λ d. d || list_any (is_stop line.stops) ys) m in
     let first : after line xs ≡ open_after line xs = opened line xs h in
-    let words : with_word line (word_of line.stops (xs ++ ys)) ≡ with_word (with_word line (word_of line.stops xs)) (word_of line.stops ys) =
+    let words : with_word line (word_of line.stops (xs ++ ys))
+    ≡ with_word (with_word line (word_of line.stops xs)) (word_of line.stops ys) =
     ap (λ w. with_word line w) word ∙ with_words line (word_of line.stops xs) (word_of line.stops ys) in
     let both : open_after line (xs ++ ys) ≡ open_after (open_after line xs) ys = λ i. record (words i) { done = stop i } in
-    let all : open_taken line (xs ++ ys) ≡ length (word_of line.stops xs ++ word_of line.stops ys) + (if list_any (is_stop line.stops) ys then 1 else 0) =
+    let all : open_taken line (xs ++ ys) ≡ length (word_of line.stops xs ++ word_of line.stops ys)
+    + (if list_any (is_stop line.stops) ys then 1 else 0) =
     λ i. length (word i) + (if stop i then 1 else 0) in
-    let front : open_taken line xs ≡ length (word_of line.stops xs) + 0 = ap (λ d. length (word_of line.stops xs) + (if d then 1 else 0)) m in (
+    let front : open_taken line xs ≡ length (word_of line.stops xs) + 0 =
+    ap (λ d. length (word_of line.stops xs) + (if d then 1 else 0)) m in (
       opened line (xs ++ ys) h ∙ both ∙ sym (opened (open_after line xs) ys m) ∙ ap (λ l. after l ys) (sym first),
       omega (
         arith,
@@ -185,7 +192,13 @@ hears_joined line xs ys =
       | true ↦ λ h.
           let first : after line xs ≡ line = (takes_nothing line xs h).1 in (
             (takes_nothing line (xs ++ ys) h).1 ∙ sym ((takes_nothing line ys h).1) ∙ ap (λ l. after l ys) (sym first),
-            omega (arith, (takes_nothing line (xs ++ ys) h).0, (takes_nothing line xs h).0, (takes_nothing line ys h).0, ap (λ l. part_taken l ys) first),
+            omega (
+              arith,
+              (takes_nothing line (xs ++ ys) h).0,
+              (takes_nothing line xs h).0,
+              (takes_nothing line ys h).0,
+              ap (λ l. part_taken l ys) first,
+            ),
           )
       | false ↦ λ h.
           elim (list_any (is_stop line.stops) xs) as (λ m. list_any (is_stop line.stops) xs ≡ m → Joins line xs ys) [
