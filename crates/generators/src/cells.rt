@@ -121,7 +121,6 @@ impl Written for Row {
 
     ghost longest = { 420 };
 
-    #[inline(always)]
     fn len(&self) -> usize {
         let peer = self.peer.0;
         FIXED_LEN

@@ -106,7 +106,6 @@ fn look_kind<'a>(site: &'a Site, found: Option<FileId>, capture: &'a Capture, at
 }
 
 /// In the body.
-#[inline(always)]
 fn look_body<'a>(site: &'a Site, found: Option<FileId>, capture: &'a Capture, at: u32) -> Look<'a>
     requires found { IsFound (files_of site.now) found }
     requires fits { Fits (reply_in site.now found capture.now) (Thread.Body at) }
@@ -124,7 +123,6 @@ fn look_body<'a>(site: &'a Site, found: Option<FileId>, capture: &'a Capture, at
 }
 
 /// In a script.
-#[inline(always)]
 fn look_script<'a>(site: &'a Site, found: Option<FileId>, capture: &'a Capture, at: u32) -> Look<'a>
     requires found { IsFound (files_of site.now) found }
     requires script { is_scripted (found_file (files_of site.now) found) ≡ true }
@@ -219,7 +217,6 @@ fn look_include<'a>(
 }
 
 /// At a piece that says nothing.
-#[inline(always)]
 fn look_nothing<'a>(next: u32) -> Look<'a>
     ensures nothing { IsSpan result.span [] }
     ensures here { result.here ≡ Thread.Body next }
@@ -233,7 +230,6 @@ fn look_nothing<'a>(next: u32) -> Look<'a>
 }
 
 /// In the bytes of an included file.
-#[inline(always)]
 fn look_inside<'a>(
     site: &'a Site,
     found: Option<FileId>,
@@ -283,7 +279,6 @@ fn look_call<'a>(
 }
 
 /// In the text of a record.
-#[inline(always)]
 fn look_making<'a>(
     site: &'a Site,
     found: Option<FileId>,

@@ -8,7 +8,7 @@ use std::simd::prelude::*;
 const LANES: usize = 32;
 
 /// The first place from `from` up to before `to` where `byte` stands, else `to`.
-#[inline(always)]
+#[inline(never)]
 pub(crate) fn byte_from(text: &[u8], byte: u8, from: usize, to: usize) -> usize
     requires ordered { from ≤ to }
     requires inside { to ≤ length text.now }

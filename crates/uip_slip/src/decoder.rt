@@ -70,6 +70,7 @@ impl Decoder {
     }
 
     /// Takes one byte. The bytes of a datagram that it completes stay until the next call.
+    #[inline(always)]
     pub fn feed(&mut self, byte: u8) -> Fed
         // Whatever was fed before, the answers tell its frames.
         ensures frames { (bytes : List ℕ) → WasFed bytes self.old → WasFed (bytes ++ byte ∷ []) self.new
@@ -139,6 +140,7 @@ impl Decoder {
     }
 
     /// Takes a front of the bytes: where marks stand close together one byte, and else a run with the mark behind it.
+    #[inline(always)]
     fn feed_part(&mut self, bytes: &[u8], is_dense: bool) -> FedRun
         requires { 0 < length bytes.now }
         ensures some { 0 < result.count }
@@ -155,6 +157,7 @@ impl Decoder {
     }
 
     /// Takes the bytes in front of the next END or ESC, and the byte behind them if there is one.
+    #[inline(always)]
     fn feed_front(&mut self, bytes: &[u8]) -> FedRun
         requires { 0 < length bytes.now }
         ensures some { 0 < result.count }
@@ -179,6 +182,7 @@ impl Decoder {
     }
 
     /// Takes a byte, and the one behind it where the first completes nothing: an ESC goes with the byte that it escapes.
+    #[inline(always)]
     fn feed_mark(&mut self, bytes: &[u8]) -> FedRun
         requires { 0 < length bytes.now }
         ensures some { 0 < result.count }
@@ -197,6 +201,7 @@ impl Decoder {
     }
 
     /// Forgets a datagram that was told.
+    #[inline(always)]
     fn reopen(&mut self)
         ensures { self.new ≡ reopened self.old }
     {
@@ -207,6 +212,7 @@ impl Decoder {
     }
 
     /// Takes an END.
+    #[inline(always)]
     fn close(&mut self) -> Fed
         ensures { Closes self.old result self.new }
     {
@@ -224,6 +230,7 @@ impl Decoder {
     }
 
     /// Takes a byte of the part.
+    #[inline(always)]
     fn take(&mut self, byte: u8)
         ensures { self.new ≡ taken self.old byte }
     {
@@ -238,6 +245,7 @@ impl Decoder {
     }
 
     /// Adds a byte to the frame.
+    #[inline(always)]
     fn push(&mut self, byte: u8)
         ensures { self.new ≡ pushed self.old byte }
     {
@@ -252,6 +260,7 @@ impl Decoder {
     }
 
     /// Adds the bytes in front of the next END or ESC to the frame, and says how many these are.
+    #[inline(always)]
     fn join_plain(&mut self, bytes: &[u8]) -> usize
         ensures within { result ≤ length bytes.now }
         ensures plain { list_all is_plain (take result bytes.now) ≡ true }
@@ -267,6 +276,7 @@ impl Decoder {
     }
 
     /// Adds bytes to the frame, as far as there is room.
+    #[inline(always)]
     fn join(&mut self, bytes: &[u8])
         ensures { self.new ≡ joined_parts self.old bytes.now }
     {
@@ -277,6 +287,7 @@ impl Decoder {
     }
 
     /// Adds bytes to the frame.
+    #[inline(always)]
     fn append(&mut self, bytes: &[u8])
         requires { length self.old.bytes + length bytes.now ≤ LARGEST_DATAGRAM }
         ensures { self.new ≡ record self.old { bytes = self.old.bytes ++ bytes.now } }

@@ -35,6 +35,7 @@ impl Encoder {
 
     /// Writes the text of a datagram: in one piece, unless the datagram is longer than the largest. A failed call has
     /// written a front of the text.
+    #[inline(always)]
     pub fn encode<K: Sink>(&mut self, datagram: &[u8], sink: &mut K) -> Result<(), Failed>
         ensures { Writes (sink_told K.Sink sink.old) (sink_told K.Sink sink.new) result (slip_text datagram.now) }
     {
@@ -43,6 +44,7 @@ impl Encoder {
 }
 
 /// Writes the text of one datagram, as an encoder does.
+#[inline(always)]
 pub fn encode<K: Sink>(datagram: &[u8], sink: &mut K) -> Result<(), Failed>
     ensures { Writes (sink_told K.Sink sink.old) (sink_told K.Sink sink.new) result (slip_text datagram.now) }
 {
@@ -50,6 +52,7 @@ pub fn encode<K: Sink>(datagram: &[u8], sink: &mut K) -> Result<(), Failed>
 }
 
 /// Writes the text of a datagram over a text area.
+#[inline(always)]
 fn encode_over<K: Sink>(text: &mut TextArea, datagram: &[u8], sink: &mut K) -> Result<(), Failed>
     ensures { Writes (sink_told K.Sink sink.old) (sink_told K.Sink sink.new) result (slip_text datagram.now) }
 {

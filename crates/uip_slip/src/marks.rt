@@ -92,6 +92,7 @@ fn plain_behind(bytes: &[u8]) -> usize
 }
 
 /// The same of a few bytes, one by one.
+#[inline(never)]
 fn plain_of_few(bytes: &[u8]) -> usize
     ensures within { result ≤ length bytes.now }
     ensures plain { list_all is_plain (take result bytes.now) ≡ true }
