@@ -48,6 +48,7 @@ stopped n taken old mid new stage stage' number number' part part' want room end
       read = t.by.read;
       ends = ends_by n taken t.items old mid new t.by.reading c below (omega arith) l k fresh end t.by.cause;
       wrote = t.by.wrote;
+      some = t.by.some;
     }
 
 -- and one that took all that it might
@@ -63,4 +64,5 @@ spent n taken old new stage number part want c all l k at is =
       read = s.read;
       ends = (all, record { link = l; sink = k }, s.sound);
       wrote = s.written;
+      some = λ is. absurd (cc is);
     }

@@ -108,17 +108,23 @@ module _ (start old new : Option (List ℕ)) (bytes : List ℕ) (number : ℕ) (
     written = appends_by _ _ _ _ text (Appends-then start old new _ _ at.written w);
   }
 
+  -- which is not empty
+  text_some : 0 < length (lines_of (at.records ++ captured ∷ []))
+  text_some = omega (arith, ap (λ l. length l) text, length-append (lines_of at.records) (slip_text (drop 16 part)))
+
   -- the writing of its line broke off
   pub body_broke : (more : List ℕ) → AppendsPrefix old new (slip_text (drop 16 part)) → BrokeOff start new (bytes ++ more)
   body_broke more w =
       let on = reads_on (length more + 1) order (at.records ++ captured ∷ []) more (bytes ++ more) (omega arith)
       (more_rest order (at.records ++ captured ∷ []) [] bytes more whole) in
+      let lines = ap (λ l. lines_of l) on.first ∙ flat_map-append captured_line (at.records ++ captured ∷ []) on.more in
       record {
         reading = on.reading;
         read = on.read;
         written = prefix_more start new (lines_of (at.records ++ captured ∷ [])) (lines_of on.more) (lines_of (captured_in on.reading))
-            (sym (ap (λ l. lines_of l) on.first ∙ flat_map-append captured_line (at.records ++ captured ∷ []) on.more))
+            (sym lines)
             (prefix_by start new _ _ text (prefix_then start old new _ _ at.written w));
+        some = omega (arith, text_some, ap (λ l. length l) lines, length-append (lines_of (at.records ++ captured ∷ [])) (lines_of on.more));
       }
 
 -- the writing of its line broke off, whatever was read before

@@ -83,6 +83,7 @@ module _ (start : Option (List ℕ)) (before : List Item) (old new : LineTold) (
     read = none_more before s.reading s.read;
     cause = (refl, rose, calm, s.sound);
     wrote = subst (λ (o : Option (List ℕ)). Appends start o (lines_of (captured_in s.reading))) (sym same) s.written;
+    some = λ is. absurd (cc is);
   }
 
   -- it answered its end
@@ -92,12 +93,14 @@ module _ (start : Option (List ℕ)) (before : List Item) (old new : LineTold) (
     read = none_more before s.reading s.read;
     cause = (refl, dry, calm, s.sound, s.cut);
     wrote = subst (λ (o : Option (List ℕ)). Appends start o (lines_of (captured_in s.reading))) (sym same) s.written;
+    some = λ is. absurd (cc is);
   }
   link_ended (ends.Bad number whys.Cut) s dry calm = record {
     reading = s.reading;
     read = none_more before s.reading s.read;
     cause = (refl, dry, calm, s.sound, s.cut);
     wrote = subst (λ (o : Option (List ℕ)). Appends start o (lines_of (captured_in s.reading))) (sym same) s.written;
+    some = λ is. absurd (cc is);
   }
   link_ended ends.LinkFault s dry calm = absurd s.cut
   link_ended ends.WriteFault s dry calm = absurd s.cut
@@ -130,6 +133,7 @@ write_failed start before bytes old new b calm rose = record {
   read = subst (λ (l : List ℕ). IsReadAs l b.reading) (bytes_on before bytes) b.read;
   cause = (calm, rose);
   wrote = b.written;
+  some = λ is. b.some;
 }
 
 why_of : Option (ℕ × CaptureWhy) → CaptureWhy
@@ -157,11 +161,13 @@ file_fault whys.Head start before bytes old new number f calm = record {
   read = subst (λ (l : List ℕ). IsReadAs l f.reading) (bytes_on before bytes) f.read;
   cause = (calm, f.fault);
   wrote = f.written;
+  some = λ is. absurd (cc is);
 }
 file_fault whys.Length start before bytes old new number f calm = record {
   reading = f.reading;
   read = subst (λ (l : List ℕ). IsReadAs l f.reading) (bytes_on before bytes) f.read;
   cause = (calm, f.fault);
   wrote = f.written;
+  some = λ is. absurd (cc is);
 }
 file_fault whys.Cut start before bytes old new number f calm = absurd (never_cut f.reading number f.fault)

@@ -45,12 +45,13 @@ WroteLine ends.WriteFault old new text = AppendsPrefix old new text
 WroteLine _ old new text = Appends old new text
 
 -- A capture file was made a serial line, up to n items: there are items that the link told and lost, their bytes are read in
--- one way, the end has its cause, and the line of the whole records was written.
+-- one way, the end has its cause, and the line of the whole records was written. A write fails only where there is a record.
 pub record Converts (n : ℕ) (old new : LineTold) (result : SlipEnd) : Type 0 where
   pub taken : List Item
   pub consumed : Consumes old.link.coming new.link.coming taken
   pub reading : Reading
   pub read : IsReadAs (bytes_among taken) reading
+  pub some : result ≡ ends.WriteFault → 0 < length (lines_of (captured_in reading))
   pub ends : SlipEndsBy n old new taken reading result
   pub wrote : WroteLine result old.sink.written new.sink.written (lines_of (captured_in reading))
 

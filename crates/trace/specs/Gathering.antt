@@ -60,11 +60,12 @@ IsFullIn reader = IsFull reader.stage reader.part reader.want
 abbrev pub HasReadTo : Option (List ℕ) → Option (List ℕ) → List ℕ → Reader → Type 0
 HasReadTo start now bytes reader = IsReadTo start now bytes reader.stage reader.number reader.part
 
--- the writing of a line broke off: these bytes are read so, and a front of their records' line was written
+-- the writing of a line broke off: these bytes are read so, and a front of their records' line was written, which is not empty
 pub record BrokeOff (start now : Option (List ℕ)) (bytes : List ℕ) : Type 0 where
   pub reading : Reading
   pub read : IsReadAs bytes reading
   pub written : AppendsPrefix start now (lines_of (captured_in reading))
+  pub some : 0 < length (lines_of (captured_in reading))
 
 -- the file is at fault: these bytes are read so, and the line of the records before the fault was written
 pub record IsAtFault (why : CaptureWhy) (start now : Option (List ℕ)) (bytes : List ℕ) (number : ℕ) : Type 0 where
@@ -120,6 +121,7 @@ pub record EndsIn (start : Option (List ℕ)) (before items : List Item) (old ne
   pub read : IsReadAs (bytes_among (before ++ items)) reading
   pub cause : StopsBy old new items reading end
   pub wrote : WroteLine end start new.sink.written (lines_of (captured_in reading))
+  pub some : end ≡ ends.WriteFault → 0 < length (lines_of (captured_in reading))
 
 abbrev pub ReadBy : Option (List ℕ) → List Item → List Item → LineTold → LineTold → Stage → ℕ → List ℕ → Turn → Type 0
 ReadBy start before items old new stage number part (turns.Went n) =

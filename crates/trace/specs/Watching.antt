@@ -52,12 +52,17 @@ abbrev pub ReadsOn : Turn → List Item → State → ℕ → ℕ → Type 0
 ReadsOn (turns.Went n) items decoder frames silences = HasSeen items decoder frames silences
 ReadsOn (turns.Stopped end) items decoder frames silences = ⊤
 
+-- writing broke off: there was something to write, and a front of it was written
+pub record BreaksIn (old new : Option (List ℕ)) (text : List ℕ) : Type 0 where
+  pub some : 0 < length text
+  pub front : AppendsPrefix old new text
+
 -- what a turn wrote of this text
 abbrev pub TellsOn : Turn → Option (List ℕ) → Option (List ℕ) → List ℕ → Type 0
 TellsOn (turns.Went n) old new text = Appends old new text
 TellsOn (turns.Stopped ends.End) old new text = Appends old new text
 TellsOn (turns.Stopped ends.LinkFault) old new text = Appends old new text
-TellsOn (turns.Stopped ends.WriteFault) old new text = AppendsPrefix old new text
+TellsOn (turns.Stopped ends.WriteFault) old new text = BreaksIn old new text
 TellsOn (turns.Stopped ends.Budget) old new text = ⊥
 
 -- a turn, behind the items before it

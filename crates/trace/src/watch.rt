@@ -1,13 +1,12 @@
 ghost use Rattle.std.specs.Prelude.{◌≡◌, ◌<◌, ◌≤◌, ◌+◌, ◌^◌, ◌++◌, ◌∷◌, [], List, ℕ, length, map, take, true, OnOk, OnErr, IfOk};
 ghost use Rattle.std.specs.Io.KnownBytes.{Appends};
 ghost use Rattle.uip_edge.specs.Causes.{HasCause};
-ghost use Rattle.uip_edge.specs.Writing.{AppendsPrefix};
 ghost use Rattle.uip_edge.specs.declared.item.Item.{Item};
 ghost use Rattle.uip_edge.specs.declared.item.Item.TheVariants.{Byte};
 ghost use Rattle.uip_slip.specs.Decoding.{Leaves, told_by};
 ghost use Rattle.uip_slip.specs.Frames.{Datagram, Overlong};
 ghost use Rattle.trace.specs.Seen.{seen_at};
-ghost use Rattle.trace.specs.Watching.{WatchFits, Saw, Watches, frame_text, text_after, texts_from};
+ghost use Rattle.trace.specs.Watching.{BreaksIn, WatchFits, Saw, Watches, frame_text, text_after, texts_from};
 ghost use Rattle.uip_edge.specs.Telling.{line_told};
 
 use crate::area::Area;
@@ -85,7 +84,7 @@ impl Watch {
         ensures ok { OnOk result ((before : List Item) → Saw before self.old
             → Appends (K.written sink.old) (K.written sink.new) (text_after self.old.form before (map Byte bytes.now))) }
         ensures err { OnErr result ((before : List Item) → Saw before self.old
-            → AppendsPrefix (K.written sink.old) (K.written sink.new) (text_after self.old.form before (map Byte bytes.now))) }
+            → BreaksIn (K.written sink.old) (K.written sink.new) (text_after self.old.form before (map Byte bytes.now))) }
         ensures cause { HasCause (K.faults sink.old) (K.faults sink.new) result }
     {
         let mut rest = bytes;
@@ -109,14 +108,27 @@ impl Watch {
         ensures ok { IfOk result (λ n. (before : List Item) → Saw before self.old
             → Appends (K.written sink.old) (K.written sink.new) (text_after self.old.form before (map Byte (take n bytes.now)))) }
         ensures err { OnErr result ((before : List Item) → Saw before self.old
-            → AppendsPrefix (K.written sink.old) (K.written sink.new) (text_after self.old.form before (map Byte bytes.now))) }
+            → BreaksIn (K.written sink.old) (K.written sink.new) (text_after self.old.form before (map Byte bytes.now))) }
         ensures cause { HasCause (K.faults sink.old) (K.faults sink.new) result }
     {
         let run = self.decoder.feed_run(bytes);
         self.area.clear();
         self.put_frame(run.fed);
-        sink.write_whole(self.area.bytes())?;
+        self.write_area(sink)?;
         Ok(run.count)
+    }
+
+    /// Writes what the area has, where it has something.
+    fn write_area<K: Sink>(&self, sink: &mut K) -> Result<(), Failed>
+        ensures whole { OnOk result (Appends (K.written sink.old) (K.written sink.new) self.now.area) }
+        ensures broke { OnErr result (BreaksIn (K.written sink.old) (K.written sink.new) self.now.area) }
+        ensures cause { HasCause (K.faults sink.old) (K.faults sink.new) result }
+    {
+        let text = self.area.bytes();
+        if text.is_empty() {
+            return Ok(());
+        }
+        sink.write_whole(text)
     }
 
     /// The area gets what is written of the frame that was told, if one was.

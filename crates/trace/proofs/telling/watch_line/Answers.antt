@@ -60,4 +60,5 @@ returns g c =
       consumed = inv.consumed;
       ends = (omega (arith, inv.number, c.loop-left-test.false), inv.link_same, inv.sink_same);
       wrote = inv.wrote;
+      some = λ is. absurd (cc is);
     }
