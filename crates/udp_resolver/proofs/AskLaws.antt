@@ -1,5 +1,5 @@
 -- The turns of a run, put together.
-use Rattle.std.proofs.Common.{◌≡◌, ℕ, ◌+◌, ◌<◌, ◌≤◌, ◌⊎◌, inr, Bool, true, false, not, List, [], ◌++◌, Option, length, refl, sym, ◌∙◌, arith, length-append, subst}
+use Rattle.std.proofs.Common.{◌≡◌, ℕ, ◌+◌, ◌<◌, ◌≤◌, ◌⊎◌, inr, Bool, true, false, not, List, [], ◌++◌, Option, length, refl, sym, ap, ◌∙◌, arith, length-append, subst}
 use Rattle.std.specs.Io.KnownBytes.{Appends}
 use Rattle.uip_edge.specs.declared.item.Item.{Item}
 use Rattle.uip_edge.specs.declared.serve_end.ServeEnd.{ServeEnd}
@@ -69,6 +69,7 @@ stopped asked n taken more run old mid new room ends.WriteFault is_open c d few 
     rw calm.sink at t.rose,
     prefix_by old.sink.written new.sink.written (line_text asked (events taken) ++ t.text) (line_text asked (events (taken ++ more))) t.adds
         (prefix_then old.sink.written mid.sink.written new.sink.written (line_text asked (events taken)) t.text wrote t.out),
+    (let some = t.some in omega (arith, some, length-append (line_text asked (events taken)) t.text, ap (λ l. length l) t.adds)),
   );
 }
 stopped asked n taken more run old mid new room ends.Budget is_open c d few size fits calm needed wrote t = absurd t

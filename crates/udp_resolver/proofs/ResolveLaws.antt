@@ -1,5 +1,5 @@
 -- How the asking and the telling make a whole.
-use Rattle.std.proofs.Common.{◌≡◌, ℕ, List, Option, map, refl, ap, ◌∙◌, inr}
+use Rattle.std.proofs.Common.{◌≡◌, ◌<◌, ℕ, length, List, Option, map, refl, ap, ◌∙◌, inr}
 use Rattle.std.specs.Io.KnownBytes.{Appends}
 use Rattle.dns_message.specs.declared.answer.Answer.{Answer}
 use Rattle.dns_message.specs.declared.asking.Asking.{Asking}
@@ -53,19 +53,20 @@ module _ (asked : List Question) (n : ℕ) (run : Run) (old new : Streams) where
   -- the telling failed
   part : (end : ServeEnd) (taken : List Item) → Done asked n taken run old.line new.line end → Rose old.tell.faults new.tell.faults
       → ((taken : List Item) → Knows asked taken run → AppendsPrefix old.tell.written new.tell.written (lines asked (events taken)))
-      → TellFailed asked n old new taken
-  part end taken d rose told = record {
+      → ((taken : List Item) → Knows asked taken run → 0 < length (lines asked (events taken))) → TellFailed asked n old new taken
+  part end taken d rose told some = record {
     end = end;
     done = d.done;
     link_same = d.calm.link;
     out = record { whole = d.out; same = d.calm.sink };
+    some = some taken d.knows;
     told = record { front = told taken d.knows; rose = rose };
   }
 
   pub told_part : (end : ServeEnd) → (end ≡ ends.LinkFault → ⊥) → (end ≡ ends.WriteFault → ⊥) → Asks asked n run old.line new.line end
       → Rose old.tell.faults new.tell.faults → ((taken : List Item) → Knows asked taken run → AppendsPrefix old.tell.written new.tell.written (lines asked (events taken)))
-      → Resolves asked n old new ends.WriteFault
-  told_part ends.End l w a rose told = resolves ends.End ends.WriteFault a (inr (part ends.End a.taken a.by rose told))
-  told_part ends.Budget l w a rose told = resolves ends.Budget ends.WriteFault a (inr (part ends.Budget a.taken a.by rose told))
-  told_part ends.LinkFault l w a rose told = absurd (l refl)
-  told_part ends.WriteFault l w a rose told = absurd (w refl)
+      → ((taken : List Item) → Knows asked taken run → 0 < length (lines asked (events taken))) → Resolves asked n old new ends.WriteFault
+  told_part ends.End l w a rose told some = resolves ends.End ends.WriteFault a (inr (part ends.End a.taken a.by rose told some))
+  told_part ends.Budget l w a rose told some = resolves ends.Budget ends.WriteFault a (inr (part ends.Budget a.taken a.by rose told some))
+  told_part ends.LinkFault l w a rose told some = absurd (l refl)
+  told_part ends.WriteFault l w a rose told some = absurd (w refl)

@@ -1,5 +1,5 @@
 -- The loops over names and answers, one step at a time.
-use Rattle.std.proofs.Common.{◌≡◌, ℕ, ◌+◌, ◌<◌, Bool, List, [], ◌∷◌, ◌++◌, length, drop, get_or, refl, sym, ap, ◌∙◌, append_assoc, arith, None, Option, Result, Ok, Err, OnErr}
+use Rattle.std.proofs.Common.{◌≡◌, ℕ, ◌+◌, ◌<◌, Bool, List, [], ◌∷◌, ◌++◌, length, drop, get_or, refl, sym, ap, ◌∙◌, append_assoc, arith, length-append, None, Option, Result, Ok, Err, OnErr}
 use Rattle.std.proofs.Math.ListN.{set}
 use Rattle.std.proofs.Math.Seq.{set-append_seam}
 use Rattle.std.proofs.lemmas.List.{drop_more}
@@ -11,9 +11,11 @@ use Rattle.dns_message.specs.declared.answer.Answer.{Answer}
 use Rattle.dns_message.specs.declared.asking.Asking.{Asking}
 use Rattle.udp_resolver.specs.Asked.{last_ident, next_ident, query_texts}
 use Rattle.udp_resolver.specs.Fates.{Question, fate_by, next_asking, questions}
-use Rattle.udp_resolver.specs.Lines.{line_of}
+use Rattle.udp_resolver.specs.Lines.{fate_text, line_of}
+use Rattle.udp_resolver.specs.declared.fate.Fate.{Fate}
 use Rattle.udp_resolver.specs.Steps.{heard_now, lines_by, unanswered, unless_answered}
 use Rattle.std.specs.Option.{option_or}
+use Rattle.std.specs.Prelude.{codes}
 
 pub query_texts-append : (ident : ℕ) (xs ys : List Question) → query_texts ident (xs ++ ys) ≡ query_texts ident xs ++ query_texts (last_ident ident xs) ys
 query_texts-append ident [] ys = refl
@@ -111,3 +113,15 @@ lines_none names olds is_over e = ap (λ l. lines_by l olds is_over) e
 pub err_by : {T E : Type 0} (r : Result T E) (a b : Option (List ℕ)) (xs ys : List ℕ) → ys ≡ xs → OnErr r (AppendsPrefix a b xs) → OnErr r (AppendsPrefix a b ys)
 err_by (Ok x) a b xs ys e p = tt
 err_by (Err x) a b xs ys e p = prefix_by a b xs ys e p
+
+-- what has something in its middle has something
+pub some_moves : (front one later whole : List ℕ) → whole ≡ (front ++ one) ++ later → 0 < length one → 0 < length whole
+some_moves front one later whole e some =
+    omega (arith, some, ap (λ l. length l) e, length-append (front ++ one) later, length-append front one)
+
+some_behind : (xs ys : List ℕ) → 0 < length ys → 0 < length (xs ++ ys)
+some_behind xs ys some = omega (arith, some, length-append xs ys)
+
+-- no line is empty
+pub line_some : (text : List ℕ) (fate : Fate) → 0 < length (line_of text fate)
+line_some text fate = some_behind (text ++ codes " " ++ fate_text fate) (codes "\n") (omega arith)

@@ -49,19 +49,21 @@ pub record LinkFailed (asked : List Question) (n : ℕ) (old new : Streams) (tak
   pub told : new.tell.written ≡ old.tell.written
   pub tell_same : new.tell.faults ≡ old.tell.faults
 
--- the line out failed, and nothing was told
+-- the line out failed where there was something to write, and nothing was told
 pub record OutFailed (asked : List Question) (old new : Streams) (taken : List Item) : Type 0 where
   pub link_same : new.line.link.faults ≡ old.line.link.faults
+  pub some : 0 < length (line_text asked (events taken))
   pub out : WritesFront old.line.sink new.line.sink (line_text asked (events taken))
   pub told : new.tell.written ≡ old.tell.written
   pub tell_same : new.tell.faults ≡ old.tell.faults
 
--- all was asked, and the telling failed
+-- all was asked, and the telling failed where there was something to tell
 pub record TellFailed (asked : List Question) (n : ℕ) (old new : Streams) (taken : List Item) : Type 0 where
   pub end : ServeEnd
   pub done : IsDone asked n old.line.link.coming taken end
   pub link_same : new.line.link.faults ≡ old.line.link.faults
   pub out : WritesAll old.line.sink new.line.sink (line_text asked (events taken))
+  pub some : 0 < length (lines asked (events taken))
   pub told : WritesFront old.tell new.tell (lines asked (events taken))
 
 abbrev pub ResolvesBy : List Question → ℕ → Streams → Streams → List Item → ServeEnd → Type 0

@@ -52,6 +52,7 @@ pub record OutBroke (asked : List Question) (items more : List Item) (old new : 
   pub once : IsOneAnswer more
   pub text : List ℕ
   pub adds : Adds asked items more text
+  pub some : 0 < length text
   pub out : AppendsPrefix old.sink.written new.sink.written text
 
 -- what a turn tells
@@ -91,7 +92,7 @@ AsksBy asked n taken run old new ends.LinkFault =
     × Appends old.sink.written new.sink.written (line_text asked (events taken))
 AsksBy asked n taken run old new ends.WriteFault =
     (new.link.faults ≡ old.link.faults) × Rose old.sink.faults new.sink.faults
-    × AppendsPrefix old.sink.written new.sink.written (line_text asked (events taken))
+    × AppendsPrefix old.sink.written new.sink.written (line_text asked (events taken)) × (0 < length (line_text asked (events taken)))
 
 -- the names were asked for, up to n items
 pub record Asks (asked : List Question) (n : ℕ) (run : Run) (old new : LineTold) (end : ServeEnd) : Type 0 where

@@ -1,4 +1,4 @@
-ghost use Rattle.std.specs.Prelude.{◌≡◌, ◌≤◌, ◌+◌, ◌++◌, codes, decimal, length, OnOk, OnErr};
+ghost use Rattle.std.specs.Prelude.{◌≡◌, ◌<◌, ◌≤◌, ◌+◌, ◌++◌, codes, decimal, length, OnOk, OnErr};
 ghost use Rattle.uip_edge.specs.Telling.{sink_told};
 ghost use Rattle.uip_edge.specs.Writing.{Writes};
 ghost use Rattle.udp_resolver.specs.Fates.{fate_by};
@@ -120,7 +120,8 @@ pub(crate) fn tell_all<T: Sink>(
     tell: &mut T,
 ) -> Result<(), Failed>
     requires { length answers.now ≡ length names.now }
-    ensures { Writes (sink_told T.Sink tell.old) (sink_told T.Sink tell.new) result (lines_by names.now answers.now is_over) }
+    ensures writes { Writes (sink_told T.Sink tell.old) (sink_told T.Sink tell.new) result (lines_by names.now answers.now is_over) }
+    ensures some { OnErr result (0 < length (lines_by names.now answers.now is_over)) }
 {
     for at in 0..names.len() {
         tell.write_whole(&line_of(&names[at], fate_by(answers[at], is_over)))?;

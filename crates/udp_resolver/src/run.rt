@@ -78,6 +78,7 @@ impl Run {
         ensures knows { OnOk result (Knows (questions asking names.now) [] self.new) }
         ensures writes { Writes (sink_told K.Sink out.old) (sink_told K.Sink out.new) result
             (line_text (questions asking names.now) []) }
+        ensures some { OnErr result (0 < length (line_text (questions asking names.now) [])) }
     {
         self.sender
             .send_open(packet, asking, names, self.answers.as_slice(), out)
@@ -147,6 +148,9 @@ impl Run {
             → Knows (questions asking names.now) items self.old
             → AppendsPrefix (K.written out.old) (K.written out.new)
             (query_texts self.old.sender.ident (asked_next (questions asking names.now) (events items)))) }
+        ensures some { OnErr result ((items : List Item) → is_given_up (events items) ≡ false
+            → Knows (questions asking names.now) items self.old
+            → 0 < length (query_texts self.old.sender.ident (asked_next (questions asking names.now) (events items)))) }
         ensures cause { HasCause (K.faults out.old) (K.faults out.new) result }
     {
         if !self.clock.tick() {

@@ -1,4 +1,4 @@
-ghost use Rattle.std.specs.Prelude.{◌≡◌, ◌≤◌, length, OnOk, OnErr, [], ◌∷◌};
+ghost use Rattle.std.specs.Prelude.{◌≡◌, ◌<◌, ◌≤◌, length, OnOk, OnErr, [], ◌∷◌};
 ghost use Rattle.uip_edge.specs.Telling.{sink_told};
 ghost use Rattle.uip_edge.specs.Writing.{Writes};
 ghost use Rattle.uip_slip.specs.Text.{slip_text};
@@ -66,6 +66,8 @@ impl Sender {
             ≡ last_ident self.old.ident (unless_answered (record { asking = asking; text = name.now }) answer) }
         ensures writes { Writes (sink_told K.Sink out.old) (sink_told K.Sink out.new) result
             (query_texts self.old.ident (unless_answered (record { asking = asking; text = name.now }) answer)) }
+        ensures some { OnErr result (0 < length
+            (query_texts self.old.ident (unless_answered (record { asking = asking; text = name.now }) answer))) }
     {
         if answer.is_some() {
             return Ok(());
@@ -89,6 +91,7 @@ impl Sender {
             ≡ last_ident self.old.ident (unanswered (questions asking names.now) answers.now)) }
         ensures writes { Writes (sink_told K.Sink out.old) (sink_told K.Sink out.new) result
             (query_texts self.old.ident (unanswered (questions asking names.now) answers.now)) }
+        ensures some { OnErr result (0 < length (query_texts self.old.ident (unanswered (questions asking names.now) answers.now))) }
     {
         let mut asking = asking;
         for at in 0..names.len() {

@@ -1,11 +1,11 @@
 use Rattle.std.proofs.Common.{◌≡◌, ◌+◌, ◌++◌, ◌∙◌, None, sym, ap, drop, get_or}
-use Rattle.uip_edge.proofs.Told.{Appends-then, appends_by}
+use Rattle.uip_edge.proofs.Told.{Appends-then, appends_by, on_err}
 use Rattle.uip_edge.specs.Telling.{sink_told}
 use Rattle.uip_edge.proofs.Writes.{writes_broken, writes_by}
 use Rattle.udp_resolver.specs.Fates.{fate_by}
 use Rattle.udp_resolver.specs.Lines.{line_of}
 use Rattle.udp_resolver.specs.Steps.{lines_by}
-use Rattle.udp_resolver.proofs.StepLaws.{line_moves}
+use Rattle.udp_resolver.proofs.StepLaws.{line_moves, line_some, some_moves}
 use Rattle.udp_resolver.proofs.lines.tell_all.Goals as goal
 
 pub loop-at-preserved : goal.loop-at-preserved
@@ -21,8 +21,8 @@ loop-at-preserved g c =
       calm = c.in_ok-write_whole.ensures.cause.same ∙ inv.calm;
     }
 
-pub returns-in_err-write_whole : goal.returns-in_err-write_whole
-returns-in_err-write_whole g c =
+pub returns-in_err-write_whole-clause-writes : goal.returns-in_err-write_whole-clause-writes
+returns-in_err-write_whole-clause-writes g c =
     let inv = c.loop-at.invariant in
     let at = c.loop-at.at in
     let name = c.index-names-at.result in
@@ -34,3 +34,13 @@ returns-in_err-write_whole g c =
     (lines_by c.args.names.now c.args.answers.now c.args.is_over)
     (sym (line_moves _ _ name at _ _ inv.front c.requires c.loop-at-test.true c.index-names-at.is inv.whole))
     inv.wrote inv.calm (writes_by _ _ _ c.deref.result.now one (sym text) c.in_err-write_whole.ensures)
+
+pub returns-in_err-write_whole-clause-some : goal.returns-in_err-write_whole-clause-some
+returns-in_err-write_whole-clause-some g c =
+    let inv = c.loop-at.invariant in
+    let at = c.loop-at.at in
+    let name = c.index-names-at.result in
+    let one = line_of name (fate_by (get_or c.args.answers.now at None) c.args.is_over) in
+    let later = lines_by (drop (at + 1) c.args.names.now) (drop (at + 1) c.args.answers.now) c.args.is_over in
+    let whole = line_moves _ _ name at _ _ inv.front c.requires c.loop-at-test.true c.index-names-at.is inv.whole in
+    on_err _ (some_moves inv.front one later (lines_by c.args.names.now c.args.answers.now c.args.is_over) whole (line_some name (fate_by (get_or c.args.answers.now at None) c.args.is_over)))

@@ -1,4 +1,4 @@
-use Rattle.std.proofs.Common.{List, ℕ, sym, subst}
+use Rattle.std.proofs.Common.{◌<◌, List, length, ℕ, sym, subst}
 use Rattle.dns_message.specs.declared.asking.Asking.{Asking}
 use Rattle.uip_edge.proofs.Told.{appends_by, prefix_by}
 use Rattle.udp_resolver.specs.Fates.{questions}
@@ -16,8 +16,8 @@ returns-in-Ok-clause-resolves g c =
     let new = streams g.L.Link g.K.Sink g.T.Sink c.ask-end.new.link c.ask-end.new.out c.tell_all.new.tell in
     subst (λ (l : List (List ℕ)). Resolves (questions asking l) c.args.items old new c.ask-end.result) c.as_slice-names.ensures.value
     (told_all (questions asking names) c.args.items run old new c.ask-end.result c.in_default.not-LinkFault c.in_default.not-WriteFault c.ask-end.ensures.asks
-    c.in-Ok.ensures.cause.same
-    (λ taken k. appends_by _ _ _ _ (sym (lines_known asking names taken run c.as_slice.result.now c.as_slice.ensures.value k)) c.in-Ok.ensures.whole))
+    c.in-Ok.ensures.writes.cause.same
+    (λ taken k. appends_by _ _ _ _ (sym (lines_known asking names taken run c.as_slice.result.now c.as_slice.ensures.value k)) c.in-Ok.ensures.writes.whole))
 
 pub returns-in-Err-clause-resolves : goal.returns-in-Err-clause-resolves
 returns-in-Err-clause-resolves g c =
@@ -28,5 +28,6 @@ returns-in-Err-clause-resolves g c =
     let new = streams g.L.Link g.K.Sink g.T.Sink c.ask-end.new.link c.ask-end.new.out c.tell_all.new.tell in
     subst (λ (l : List (List ℕ)). Resolves (questions asking l) c.args.items old new _) c.as_slice-names.ensures.value
     (told_part (questions asking names) c.args.items run old new c.ask-end.result c.in_default.not-LinkFault c.in_default.not-WriteFault c.ask-end.ensures.asks
-    c.in-Err.ensures.cause.failed
-    (λ taken k. prefix_by _ _ _ _ (sym (lines_known asking names taken run c.as_slice.result.now c.as_slice.ensures.value k)) c.in-Err.ensures.front))
+    c.in-Err.ensures.writes.cause.failed
+    (λ taken k. prefix_by _ _ _ _ (sym (lines_known asking names taken run c.as_slice.result.now c.as_slice.ensures.value k)) c.in-Err.ensures.writes.front)
+    (λ taken k. subst (λ (l : List ℕ). 0 < length l) (lines_known asking names taken run c.as_slice.result.now c.as_slice.ensures.value k) c.in-Err.ensures.some))

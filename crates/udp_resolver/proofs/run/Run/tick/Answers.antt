@@ -1,4 +1,4 @@
-use Rattle.std.proofs.Common.{◌∙◌, refl, ap, sym}
+use Rattle.std.proofs.Common.{◌<◌, ℕ, List, length, ◌∙◌, refl, ap, sym, subst}
 use Rattle.std.proofs.lemmas.Result.{on_err_weaker, on_ok_weaker}
 use Rattle.udp_resolver.specs.Asked.{last_ident, query_texts}
 use Rattle.udp_resolver.specs.Fates.{questions}
@@ -40,3 +40,13 @@ returns-clause-err g c =
     let due = sym (c.tick.ensures.again (events items) e k.at) ∙ c.if-not-tick.false in
     prefix_by _ _ _ _ (ap (λ l. query_texts c.args.self.now.sender.ident l) (next_by asked items c.args.self.now c.as_slice.result.now e k c.as_slice.ensures.value due)) wrote)
     c.send_open.ensures.writes.front
+
+pub returns-clause-some : goal.returns-clause-some
+returns-clause-some g c =
+    on_err_weaker c.send_open.result
+    (λ some items e k.
+    let asked = questions c.args.asking c.args.names.now in
+    let due = sym (c.tick.ensures.again (events items) e k.at) ∙ c.if-not-tick.false in
+    subst (λ (l : List ℕ). 0 < length l)
+    (sym (ap (λ l. query_texts c.args.self.now.sender.ident l) (next_by asked items c.args.self.now c.as_slice.result.now e k c.as_slice.ensures.value due))) some)
+    c.send_open.ensures.some

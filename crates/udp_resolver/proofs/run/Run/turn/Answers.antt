@@ -48,6 +48,7 @@ returns-in-Err-tick-clause-turns g c = λ items is_open k.
         once = inl refl;
         text = query_texts c.args.self.now.sender.ident (asked_next asked (events items));
         adds = adds_quiet asked items c.args.self.now k;
+        some = failed.some items e k;
         out = failed.err items e k;
       };
     }

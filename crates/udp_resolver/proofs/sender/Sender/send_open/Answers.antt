@@ -1,11 +1,11 @@
-use Rattle.std.proofs.Common.{◌≡◌, ◌+◌, ◌++◌, ◌∙◌, None, refl, sym, ap, drop, get_or}
-use Rattle.uip_edge.proofs.Told.{Appends-then, appends_by}
+use Rattle.std.proofs.Common.{◌+◌, ◌++◌, ◌∙◌, None, refl, sym, ap, drop, get_or}
+use Rattle.uip_edge.proofs.Told.{Appends-then, appends_by, on_err}
 use Rattle.uip_edge.specs.Telling.{sink_told}
 use Rattle.uip_edge.proofs.Writes.{writes_broken}
 use Rattle.udp_resolver.specs.Asked.{last_ident, query_texts}
 use Rattle.udp_resolver.specs.Fates.{next_asking, questions}
 use Rattle.udp_resolver.specs.Steps.{unanswered, unless_answered}
-use Rattle.udp_resolver.proofs.StepLaws.{last_ident-append, query_texts-append, query_texts-moves, question_moves}
+use Rattle.udp_resolver.proofs.StepLaws.{last_ident-append, query_texts-append, query_texts-moves, question_moves, some_moves}
 use Rattle.udp_resolver.proofs.sender.Sender.send_open.Goals as goal
 
 pub loop-at-preserved : goal.loop-at-preserved
@@ -39,3 +39,17 @@ returns-in_err-send_unless-clause-writes g c =
     (sym (ap (λ l. query_texts start l) whole ∙ query_texts-append start (inv.front ++ one) later
     ∙ ap (λ l. l ++ query_texts (last_ident start (inv.front ++ one)) later) (query_texts-moves start c.loop-at.self.ident inv.front one inv.ident)))
     inv.wrote inv.calm c.in_err-send_unless.ensures.writes
+
+pub returns-in_err-send_unless-clause-some : goal.returns-in_err-send_unless-clause-some
+returns-in_err-send_unless-clause-some g c =
+    let inv = c.loop-at.invariant in
+    let at = c.loop-at.at in
+    let one = unless_answered (record { asking = c.loop-at.asking; text = c.index-names-at.result }) (get_or c.args.answers.now at None) in
+    let start = c.args.self.now.ident in
+    let later = unanswered (questions (next_asking c.loop-at.asking) (drop (at + 1) c.args.names.now)) (drop (at + 1) c.args.answers.now) in
+    let whole = question_moves _ (next_asking c.loop-at.asking) _ _ c.index-names-at.result at _ inv.front c.requires.each c.loop-at-test.true c.index-names-at.is refl inv.whole in
+    on_err _ (some_moves (query_texts start inv.front) (query_texts c.loop-at.self.ident one) (query_texts (last_ident start (inv.front ++ one)) later)
+    (query_texts start (unanswered (questions c.args.asking c.args.names.now) c.args.answers.now))
+    (ap (λ l. query_texts start l) whole ∙ query_texts-append start (inv.front ++ one) later
+    ∙ ap (λ l. l ++ query_texts (last_ident start (inv.front ++ one)) later) (query_texts-moves start c.loop-at.self.ident inv.front one inv.ident))
+    c.in_err-send_unless.ensures.some)
