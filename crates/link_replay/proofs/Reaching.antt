@@ -4,13 +4,14 @@ use Rattle.std.proofs.Common.{◌≡◌, ℕ, List, [], ◌∷◌, ◌++◌, sym
 use Rattle.std.proofs.lemmas.List.Elements.{All-append}
 use Rattle.app_events.specs.Part.{Meaning}
 use Rattle.link_world.specs.World.{World}
-use Rattle.link_world.specs.Acts.{acts, runs, and_then}
-use Rattle.link_world.specs.Schedule.{with_mark}
+use Rattle.link_schedule.specs.Numbers.{◌>>=◌}
+use Rattle.link_world.specs.Acts.{acts, runs}
 use Rattle.link_world.specs.History.{started}
 use Rattle.link_world.specs.declared.act.Act.{Act}
 use Rattle.link_world.specs.declared.step_fault.StepFault.{StepFault}
 use Rattle.link_world.specs.Headline.{IsAct, IsReached}
 use Rattle.link_world.proofs.DamageThere.{there}
+use Rattle.link_world.proofs.Doing.{with_mark}
 use Rattle.link_world.proofs.Lines.{runs_mark, runs_joined}
 use Rattle.link_world.proofs.Runs.{reached_sound}
 use Rattle.link_world.proofs.SoundWorlds.{sound_marked}
@@ -33,7 +34,7 @@ module _ (m : Meaning) (served : ℕ → Bool) where
     schedule = h.schedule ++ more;
     are_acts = All-append IsAct h.schedule more h.are_acts a;
     accepted = runs_joined m served h.schedule more (started h.start)
-        ∙ ap (λ (r : Result World StepFault). and_then (runs m served more) r) h.accepted
+        ∙ ap (λ (r : Result World StepFault). r >>= runs m served more) h.accepted
         ∙ runs_mark m served 0 more w
         ∙ ap (λ (r : Result World StepFault). with_mark 0 r) e;
   }
@@ -75,8 +76,8 @@ module _ (m : Meaning) (served : ℕ → Bool) where
       let s = f h.world h.at h.now in
       record {
         world = s.0;
-        rest = sym (ap (λ (r : Result World StepFault). and_then (runs m served left) r) s.1) ∙ h.rest;
-        at = at_run h.world s.0 (act ∷ []) h.at (all_cons IsAct act [] a (all_nil IsAct)) (ap (λ (r : Result World StepFault). and_then (runs m served []) r) s.1);
+        rest = sym (ap (λ (r : Result World StepFault). r >>= runs m served left) s.1) ∙ h.rest;
+        at = at_run h.world s.0 (act ∷ []) h.at (all_cons IsAct act [] a (all_nil IsAct)) (ap (λ (r : Result World StepFault). r >>= runs m served []) s.1);
         now = s.2;
       }
 
@@ -97,12 +98,12 @@ module _ (m : Meaning) (served : ℕ → Bool) where
       ((v : World) → IsAt m served v → Before v → ActSteps Now v (Ok done) (acts m served v act)) → Gone Before w all (act ∷ left) → Gone Now w all left
   gone_on Before Now w act left all done a f h =
       let s = f h.world h.at h.now in
-      let one : runs m served (act ∷ []) h.world ≡ Ok s.0 = ap (λ (r : Result World StepFault). and_then (runs m served []) r) s.1 in
+      let one : runs m served (act ∷ []) h.world ≡ Ok s.0 = ap (λ (r : Result World StepFault). r >>= runs m served []) s.1 in
       record {
         before = h.before ++ act ∷ [];
         joined = joined_on h.before act left ∙ h.joined;
         world = s.0;
-        reached = runs_joined m served h.before (act ∷ []) w ∙ ap (λ (r : Result World StepFault). and_then (runs m served (act ∷ [])) r) h.reached ∙ one;
+        reached = runs_joined m served h.before (act ∷ []) w ∙ ap (λ (r : Result World StepFault). r >>= runs m served (act ∷ [])) h.reached ∙ one;
         at = at_run h.world s.0 (act ∷ []) h.at (all_cons IsAct act [] a (all_nil IsAct)) one;
         now = s.2;
       }
@@ -119,11 +120,11 @@ module _ (m : Meaning) (served : ℕ → Bool) where
   pub ended : (Before Now : World → Type 0) (act : Act) (left : List Act) (end : Result World StepFault) (fault : StepFault) →
       ((v : World) → IsAt m served v → Before v → ActSteps Now v (Err fault) (acts m served v act)) → Amid Before (act ∷ left) end → ActsEnd Now (Err fault) end
   ended Before Now act left end NoMemory f h = tt
-  ended Before Now act left end NoDatagram f h = let t = f h.world h.at h.now in sym h.rest ∙ ap (λ (r : Result World StepFault). and_then (runs m served left) r) t.0
-  ended Before Now act left end NoByte f h = let t = f h.world h.at h.now in sym h.rest ∙ ap (λ (r : Result World StepFault). and_then (runs m served left) r) t.0
-  ended Before Now act left end AlreadyOpen f h = let t = f h.world h.at h.now in sym h.rest ∙ ap (λ (r : Result World StepFault). and_then (runs m served left) r) t.0
-  ended Before Now act left end NotOpen f h = let t = f h.world h.at h.now in sym h.rest ∙ ap (λ (r : Result World StepFault). and_then (runs m served left) r) t.0
-  ended Before Now act left end Full f h = let t = f h.world h.at h.now in sym h.rest ∙ ap (λ (r : Result World StepFault). and_then (runs m served left) r) t.0
+  ended Before Now act left end NoDatagram f h = let t = f h.world h.at h.now in sym h.rest ∙ ap (λ (r : Result World StepFault). r >>= runs m served left) t.0
+  ended Before Now act left end NoByte f h = let t = f h.world h.at h.now in sym h.rest ∙ ap (λ (r : Result World StepFault). r >>= runs m served left) t.0
+  ended Before Now act left end AlreadyOpen f h = let t = f h.world h.at h.now in sym h.rest ∙ ap (λ (r : Result World StepFault). r >>= runs m served left) t.0
+  ended Before Now act left end NotOpen f h = let t = f h.world h.at h.now in sym h.rest ∙ ap (λ (r : Result World StepFault). r >>= runs m served left) t.0
+  ended Before Now act left end Full f h = let t = f h.world h.at h.now in sym h.rest ∙ ap (λ (r : Result World StepFault). r >>= runs m served left) t.0
 
 pub damage_loses : DamageLoses
 damage_loses m served w h k at mask e x l a b =
