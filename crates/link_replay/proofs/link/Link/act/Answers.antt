@@ -32,10 +32,9 @@ returns-in_err-post_front-clause-kept c = λ addr h.
 pub returns-clause-acted : goal.returns-clause-acted
 returns-clause-acted c = λ w h t.
     let n : ℕ = c.from-place.result - 1 in
-    let number : ℕ = c.args.number in
-    let is : number ≡ suc n = omega arith in
+    let is : c.args.number ≡ suc n = omega arith in
     let old : CodeSide = c.index_mut.result.now in
     let p = partner SideStands c.args.self.now.sides.items w.sides n old h.sides (there_is c.args.self.now.sides.items n old c.index_mut.ensures.value (omega arith)) in
-    subst (λ (x : Option Side). LinkStands c.post_front.new.self (option_map_or (λ o. client_stepped w number o (own_step c.args.own o.client)) x w)) (sym (ap (numbered w.sides) is ∙ p.get))
-    (Sending.step_posted c.args.self.now w number n old c.act-sent.new.self p.other is h p.get p.pair c.act-sent.ensures.setup (own_step c.args.own p.other.client) c.act-sent.result c.act-sent.new.area
+    subst (λ (x : Option Side). LinkStands c.post_front.new.self (option_map_or (λ o. client_stepped w c.args.number o (own_step c.args.own o.client)) x w)) (sym (ap (numbered w.sides) is ∙ p.get))
+    (Sending.step_posted c.args.self.now w c.args.number n old c.act-sent.new.self p.other is h p.get p.pair c.act-sent.ensures.setup (own_step c.args.own p.other.client) c.act-sent.result c.act-sent.new.area
     _ c.post_front.new.self c.args.tick (c.act-sent.ensures.step p.other p.pair) refl refl (Sending.area_is c.act-sent.new.area c.args.self.now.area.items c.args.self.now.area.len (c.act-sent.ensures.room ∙ ap length c.as_mut_slice.ensures.value) (sym c.as_mut_slice.ensures.len ∙ ap length c.as_mut_slice.ensures.value)) c.in_ok-post_front.ensures.posted t)

@@ -33,11 +33,10 @@ returns-in_err-post_front-clause-kept c = λ addr h.
 pub returns-clause-heard : goal.returns-clause-heard
 returns-clause-heard c = λ w h t.
     let n : ℕ = c.from-place.result - 1 in
-    let number : ℕ = c.args.number in
-    let is : number ≡ suc n = omega arith in
+    let is : c.args.number ≡ suc n = omega arith in
     let old : CodeSide = c.index_mut.result.now in
     let p = partner SideStands c.args.self.now.sides.items w.sides n old h.sides (there_is c.args.self.now.sides.items n old c.index_mut.ensures.value (omega arith)) in
-    subst (λ (x : Option Side). LinkStands c.post_front.new.self (option_map_or (handed w number c.args.datagram.now) x w)) (sym (ap (numbered w.sides) is ∙ p.get))
-    (subst (λ (x : World). LinkStands c.post_front.new.self x) (Sending.heard_handed w number n p.other c.args.datagram.now is p.get)
-    (Sending.step_posted c.args.self.now w number n old c.hear.new.self p.other is h p.get p.pair c.hear.ensures.setup (client_hands p.other.client (client_hears p.other.client.setup c.args.datagram.now)) c.in_ok-sent.sent c.hear.new.area
+    subst (λ (x : Option Side). LinkStands c.post_front.new.self (option_map_or (handed w c.args.number c.args.datagram.now) x w)) (sym (ap (numbered w.sides) is ∙ p.get))
+    (subst (λ (x : World). LinkStands c.post_front.new.self x) (Sending.heard_handed w c.args.number n p.other c.args.datagram.now is p.get)
+    (Sending.step_posted c.args.self.now w c.args.number n old c.hear.new.self p.other is h p.get p.pair c.hear.ensures.setup (client_hands p.other.client (client_hears p.other.client.setup c.args.datagram.now)) c.in_ok-sent.sent c.hear.new.area
     _ c.post_front.new.self c.args.tick (c.in_ok-sent.ensures.step p.other p.pair) refl refl (Sending.area_is c.hear.new.area c.args.self.now.area.items c.args.self.now.area.len (c.hear.ensures.room ∙ ap length c.as_mut_slice.ensures.value) (sym c.as_mut_slice.ensures.len ∙ ap length c.as_mut_slice.ensures.value)) c.in_ok-post_front.ensures.posted t))
