@@ -112,6 +112,4 @@ has_more_to_send c =
 -- it can still be given up: the server's FIN is not yet taken
 abbrev pub can_abort : ClientState → Bool
 can_abort Opening = true
-can_abort Opened = true
-can_abort Closing = true
-can_abort _ = false
+can_abort state = is_receiving state

@@ -60,19 +60,15 @@ is_receiving _ = false
 -- it has nothing more to ask for
 abbrev pub may_finish : ClientState → Bool
 may_finish Closing = true
-may_finish Closed = true
-may_finish Ended = true
-may_finish _ = false
+may_finish state = has_closed state
 
 abbrev pub fin_sent : FinAt → Bool
 fin_sent FinAt.NotSent = false
-fin_sent FinAt.Out = true
-fin_sent FinAt.Acked = true
+fin_sent _ = true
 
 abbrev pub fin_out : FinAt → Bool
 fin_out FinAt.Out = true
-fin_out FinAt.NotSent = false
-fin_out FinAt.Acked = false
+fin_out _ = false
 
 abbrev pub one_if : Bool → ℕ
 one_if true = 1
@@ -100,27 +96,14 @@ abbrev pub ack_of : AbstractClient → PlainSegment
 ack_of c = record { seq = next_own c; ack = c.expected; flags = ACK; window = c.window; mss = None; text = [] }
 
 abbrev pub own_request : AbstractClient → PlainSegment
-own_request c = record {
-  seq = wrap (own_first c + 1 + c.acked);
-  ack = c.expected;
-  flags = ACK + PSH;
-  window = c.window;
-  mss = None;
-  text = take c.out (drop c.acked c.request);
-}
+own_request c =
+    record (ack_of c) { seq = wrap (own_first c + 1 + c.acked); flags = ACK + PSH; text = take c.out (drop c.acked c.request) }
 
 abbrev pub own_fin : AbstractClient → PlainSegment
-own_fin c = record {
-  seq = wrap (own_first c + 1 + c.acked + c.out);
-  ack = c.expected;
-  flags = FIN + ACK;
-  window = c.window;
-  mss = None;
-  text = [];
-}
+own_fin c = record (ack_of c) { seq = wrap (own_first c + 1 + c.acked + c.out); flags = FIN + ACK }
 
 abbrev pub own_reset : AbstractClient → PlainSegment
-own_reset c = record { seq = next_own c; ack = c.expected; flags = RST + ACK; window = c.window; mss = None; text = [] }
+own_reset c = record (ack_of c) { flags = RST + ACK }
 
 -- What it sends next: request bytes, its FIN, or a bare ACK where one is owed. One thing is outstanding at a time.
 unfoldable pub sends_next : Bool → AbstractClient → ClientStep
@@ -171,9 +154,7 @@ opened_by c s = record c { state = Opened; expected = wrap (s.seq + 1) }
 -- a RST counts where it answers the SYN, and afterwards at the expected number
 abbrev pub is_reset_by : ClientState → AbstractClient → PlainSegment → Bool
 is_reset_by Opening c s = has_ack s.flags && (s.ack == wrap (own_first c + 1))
-is_reset_by Opened c s = s.seq == c.expected
-is_reset_by Closing c s = s.seq == c.expected
-is_reset_by _ c s = false
+is_reset_by state c s = is_receiving state && (s.seq == c.expected)
 
 unfoldable pub takes_by : ClientState → AbstractClient → PlainSegment → ClientStep
 takes_by Idle c s = keeps c

@@ -4,13 +4,14 @@ use Rattle.app_events.specs.Part.{Meaning}
 use Rattle.uip_node.specs.Edge.{event_of}
 use Rattle.uip_node.specs.Events.{Reply}
 use Rattle.uip_node.specs.Node.{step}
-use Rattle.link_world.specs.Acts.{damages_at, fault_of, hands_over}
+use Rattle.link_world.specs.Acts.{fault_of, hands_over}
 use Rattle.link_world.specs.Bytes.{sent_bytes, changed}
 use Rattle.link_world.specs.World.{World, Sent, numbered}
 use Rattle.link_world.specs.declared.act.Act.{Act}
 use Rattle.link_world.specs.declared.who.Who.{Who}
 use Rattle.link_world.specs.declared.who.Who.TheVariants.{FromClient, FromNode, Pinger}
 use Rattle.link_world.proofs.Damages.{act_harmless}
+use Rattle.link_world.proofs.Doing.{damaged}
 use Rattle.link_replay.specs.Reaching.{IsAt}
 use Rattle.link_replay.specs.Telling.{AnswersTo, AreTo, pair_at_side}
 use Rattle.link_replay.proofs.Handling.{silent}
@@ -28,4 +29,4 @@ module _ (m : Meaning) (served : ℕ → Bool) (w : World) where
       AnswersTo w e.who (step m served w.node (event_of w.node.addr (changed (sent_bytes w e) at mask))).sent
   damage_answers number at mask e h low high f g =
       let loss = act_harmless m served w (Act.Damage number at mask) (low, high) f (sound_at m served w h) in
-      loss_answers (changed (sent_bytes w e) at mask) e.who (subst (λ (x : Option Sent). (damages_at m served w at mask x).sent ≡ w.sent) g loss.sent)
+      loss_answers (changed (sent_bytes w e) at mask) e.who (subst (λ (x : Option Sent). (damaged m served w at mask x).sent ≡ w.sent) g loss.sent)

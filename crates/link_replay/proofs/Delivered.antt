@@ -1,5 +1,6 @@
 -- A delivery hands over the bytes of a datagram, once its client has seen it.
 use Rattle.std.proofs.Common.{◌≡◌, ℕ, zero, suc, ◌<◌, Bool, List, [], ◌∷◌, length, set, refl, sym, ap, ◌∙◌, subst, arith, Option, Some, None, slice_get}
+use Rattle.std.specs.Option.{option_map_or}
 use Rattle.app_events.specs.Part.{Meaning}
 use Rattle.app_events.specs.declared.app.App.{Ghosts}
 use Rattle.tcp_segment.specs.Segments.{PlainSegment}
@@ -8,9 +9,9 @@ use Rattle.uip_node.specs.Events.{Event}
 use Rattle.uip_node.specs.Events.Event.{Arrived}
 use Rattle.uip_node.specs.Node.{AbstractNode, step}
 use Rattle.link_client.specs.Client.{AbstractClient, ClientStep, client_takes}
-use Rattle.link_world.specs.Acts.{client_handed, handed, hands_over}
+use Rattle.link_world.specs.Acts.{handed, hands_over}
 use Rattle.link_world.specs.Bytes.{hears_datagram}
-use Rattle.link_world.specs.World.{World, Side, Sent, Content, numbered, client_sockets, with_client, with_side, posts_of_client, marked, gives_node, gives_client, delivers, node_handles}
+use Rattle.link_world.specs.World.{World, Side, Sent, Content, numbered, client_sockets, client_stepped, with_client, with_side, posts_of_client, marked, delivers, node_handles}
 use Rattle.link_world.specs.World.Content.{OfSegment, OfPing, OfEcho}
 use Rattle.link_world.specs.declared.who.Who.{Who}
 use Rattle.link_world.specs.declared.who.Who.TheVariants.{FromClient, FromNode, Pinger}
@@ -63,7 +64,7 @@ module _ (m : Meaning) (served : ℕ → Bool) (w : World) (k : ℕ) (e : Sent) 
       record {
         same = ap (λ (x : Option Side). hands_over m served (sees w number k e x) bytes (FromClient number)) g
             ∙ ap (λ (event : Event). node_handles m served v event) r
-            ∙ sym (ap (λ (x : Option Side). gives_node m served w number k e s x) g);
+            ∙ sym (ap (λ (x : Option Side). option_map_or (λ o. node_handles m served (with_side w number (marked o k e)) (Arrived (client_sockets o) s)) x w) g);
         answers = subst (λ (x : Option Side). AnswersTo (sees w number k e x) (FromClient number) (step m served w.node (event_of w.node.addr bytes)).sent) (sym g)
             (subst (λ (x : Option Side). AreTo (pair_at_side x) (step m served w.node (event_of w.node.addr bytes)).sent) (sym (number_put w number side (marked side k e) g))
             (subst (λ (event : Event). AreTo (Some (pair_at (client_sockets side))) (step m served w.node event).sent) (sym r) (arrived_to m served w.node (client_sockets side) s (Some (pair_at (client_sockets side))) refl)));
@@ -76,10 +77,10 @@ module _ (m : Meaning) (served : ℕ → Bool) (w : World) (k : ℕ) (e : Sent) 
       let took : ClientStep = client_takes side.client s in
       record {
         same = ap (λ (o : Option Side). hands_over m served (sees w number k e o) bytes (FromNode number)) g
-            ∙ ap (λ (o : Option Side). handed v number bytes o) (number_put w number side x g)
-            ∙ ap (λ o. client_handed v number x o) r
+            ∙ ap (λ (o : Option Side). option_map_or (handed v number bytes) o v) (number_put w number side x g)
+            ∙ ap (λ (o : Option PlainSegment). option_map_or (λ t. client_stepped v number x (client_takes x.client t)) o v) r
             ∙ ap (λ (u : World). posts_of_client u number took.sent) (put_twice w number x (with_client x took.client))
-            ∙ sym (ap (λ (o : Option Side). gives_client w number k e s o) g);
+            ∙ sym (ap (λ (o : Option Side). option_map_or (λ y. client_stepped w number (marked y k e) (client_takes y.client s)) o w) g);
         answers = tt;
       }
 

@@ -11,9 +11,12 @@ use Rattle.uip_node.specs.Events.Reply.{Echo, Tcp}
 use Rattle.uip_node.specs.Node.{AbstractNode, NodeStep, step, connection_in}
 use Rattle.uip_node.specs.StandsFor.{IsWhole, Stands}
 use Rattle.link_client.specs.Client.{AbstractClient, ClientStep, client_takes}
-use Rattle.link_world.specs.Acts.{client_acts, client_handed, handed}
+use Rattle.link_world.specs.Acts.{client_acts, handed}
 use Rattle.link_world.specs.Bytes.{hears_datagram}
-use Rattle.link_world.specs.World.{World, Side, with_client, with_side, posts_of_client, posts_reply, node_stepped, node_handles, buries}
+use Rattle.link_world.specs.World.{World, Side, at_side, buries, client_stepped, node_handles, node_stepped, numbered, posts, posts_reply, with_client, with_side}
+use Rattle.link_world.specs.World.Content.{OfSegment}
+use Rattle.link_world.specs.declared.who.Who.TheVariants.{FromClient}
+use Rattle.link_world.proofs.Doing.{where_there}
 use Rattle.link_replay.specs.Noting.{owner, pair_at}
 use Rattle.link_replay.specs.Stands.{WorldStands, LinkStands, IsKept, IsLink}
 use Rattle.link_replay.specs.Telling.{AreTo, IsTo}
@@ -82,21 +85,28 @@ silent w r h = go r.sent h
     go (Some (Echo request)) e = absurd (longer w.sent _ e)
     go (Some (Tcp sockets id again s)) e = absurd (longer w.sent _ e)
 
-acts_node : (w : World) (number : ℕ) (act : AbstractClient → ClientStep) (side : Option Side) → (client_acts w number act side).node ≡ w.node
-acts_node w number act None = refl
-acts_node w number act (Some side) = posted_node (with_side w number (with_client side (act side.client).client)) number (act side.client).sent
-  where
-    posted_node : (w : World) (number : ℕ) (s : Option PlainSegment) → (posts_of_client w number s).node ≡ w.node
-    posted_node w number None = refl
-    posted_node w number (Some s) = refl
+-- a world with the node and the mark of another
+record StaysAt (w v : World) : Type 0 where
+  node : v.node ≡ w.node
+  mark : v.mark ≡ w.mark
 
-acts_mark : (w : World) (number : ℕ) (act : AbstractClient → ClientStep) (side : Option Side) → (client_acts w number act side).mark ≡ w.mark
-acts_mark w number act None = refl
-acts_mark w number act (Some side) = posted_mark (with_side w number (with_client side (act side.client).client)) number (act side.client).sent
-  where
-    posted_mark : (w : World) (number : ℕ) (s : Option PlainSegment) → (posts_of_client w number s).mark ≡ w.mark
-    posted_mark w number None = refl
-    posted_mark w number (Some s) = refl
+stays : (w : World) → StaysAt w w
+stays w = record { node = refl; mark = refl }
+
+stepped_stays : (w : World) (number : ℕ) (side : Side) (took : ClientStep) → StaysAt w (client_stepped w number side took)
+stepped_stays w number side took =
+    let v : World = with_side w number (with_client side took.client) in
+    where_there (StaysAt w) (λ s. posts v (FromClient number) false (OfSegment 0 s)) took.sent v record { node = refl; mark = refl } (λ s e. record { node = refl; mark = refl })
+
+acts_stay : (w : World) (number : ℕ) (act : AbstractClient → ClientStep) → StaysAt w (client_acts w number act)
+acts_stay w number act =
+    where_there (StaysAt w) (λ side. client_stepped w number side (act side.client)) (numbered w.sides number) w (stays w) (λ side e. stepped_stays w number side (act side.client))
+
+handed_stays : (w : World) (number : ℕ) (bytes : List ℕ) → StaysAt w (at_side w number (handed w number bytes))
+handed_stays w number bytes =
+    where_there (StaysAt w) (handed w number bytes) (numbered w.sides number) w (stays w)
+    (λ side e. where_there (StaysAt w) (λ s. client_stepped w number side (client_takes side.client s)) (hears_datagram side.client.setup bytes) w (stays w)
+    (λ s f. stepped_stays w number side (client_takes side.client s)))
 
 module _ {A S : Type 0} (g : Ghosts A S) where
   -- what a world keeps, with another link
@@ -114,19 +124,13 @@ module _ {A S : Type 0} (g : Ghosts A S) where
     fresh = s.fresh;
   }
 
-  pub own_done : (world : CodeWorld A S) (link : Link) (w : World) (number : ℕ) (act : AbstractClient → ClientStep) (side : Option Side) → WorldStands g world w → LinkStands link (client_acts w number act side) → IsLink w.node.addr link
-      → WorldStands g (record world { link = link }) (client_acts w number act side)
-  own_done world link w number act side s l i = linked world link w (client_acts w number act side) s (acts_node w number act side) (acts_mark w number act side) l i
+  pub own_done : (world : CodeWorld A S) (link : Link) (w : World) (number : ℕ) (act : AbstractClient → ClientStep) → WorldStands g world w → LinkStands link (client_acts w number act) → IsLink w.node.addr link
+      → WorldStands g (record world { link = link }) (client_acts w number act)
+  own_done world link w number act s l i = let k = acts_stay w number act in linked world link w (client_acts w number act) s k.node k.mark l i
 
-  client_handed_done : (world : CodeWorld A S) (link : Link) (w : World) (number : ℕ) (side : Side) (o : Option PlainSegment) → WorldStands g world w → LinkStands link (client_handed w number side o) → IsLink w.node.addr link
-      → WorldStands g (record world { link = link }) (client_handed w number side o)
-  client_handed_done world link w number side None s l i = linked world link w w s refl refl l i
-  client_handed_done world link w number side (Some x) s l i = own_done world link w number (λ c. client_takes c x) (Some side) s l i
-
-  pub handed_done : (world : CodeWorld A S) (link : Link) (w : World) (number : ℕ) (bytes : List ℕ) (side : Option Side) → WorldStands g world w → LinkStands link (handed w number bytes side) → IsLink w.node.addr link
-      → WorldStands g (record world { link = link }) (handed w number bytes side)
-  handed_done world link w number bytes None s l i = linked world link w w s refl refl l i
-  handed_done world link w number bytes (Some side) s l i = client_handed_done world link w number side (hears_datagram side.client.setup bytes) s l i
+  pub handed_done : (world : CodeWorld A S) (link : Link) (w : World) (number : ℕ) (bytes : List ℕ) → WorldStands g world w → LinkStands link (at_side w number (handed w number bytes)) → IsLink w.node.addr link
+      → WorldStands g (record world { link = link }) (at_side w number (handed w number bytes))
+  handed_done world link w number bytes s l i = let k = handed_stays w number bytes in linked world link w (at_side w number (handed w number bytes)) s k.node k.mark l i
 
 -- the periodic calls that are left of a tick
 slot_is : (slot : ℕ) → slot < 10 → get_or tick slot (Periodic 0) ≡ Periodic slot

@@ -33,12 +33,7 @@ if_heard false s t e = absurd cc
 -- what a client hears arrived at its address
 pub heard_arrived : (setup : Setup) (event : Event) (s : PlainSegment) → heard_by setup event ≡ Some s → (sockets : Sockets) × (event ≡ Arrived sockets s)
 heard_arrived setup (Arrived sockets t) s e = (sockets, ap (λ x. Arrived sockets x) (if_heard (same_sockets sockets (server_of setup)) t s e))
-heard_arrived setup (IpRefused fate) s e = absurd cc
-heard_arrived setup (IcmpRefused fate) s e = absurd cc
-heard_arrived setup (TcpRefused fate) s e = absurd cc
-heard_arrived setup (EchoAsked datagram) s e = absurd cc
-heard_arrived setup Overlong s e = absurd cc
-heard_arrived setup (Periodic place) s e = absurd cc
+heard_arrived setup _ s e = absurd cc
 
 -- a datagram of a client
 pub client_kind : (w : World) (number : ℕ) (content : Content) (bytes : List ℕ) (kind : Kind)

@@ -6,7 +6,8 @@ use Rattle.app_events.specs.declared.app.App.{Ghosts}
 use Rattle.uip_node.specs.Node.{opening}
 use Rattle.link_world.specs.World.{World}
 use Rattle.link_world.specs.World.Content.{OfPing}
-use Rattle.link_world.specs.Schedule.{acts_of, mark_after, plays_line, with_mark}
+use Rattle.link_world.specs.Schedule.{acts_of, mark_after, plays_line}
+use Rattle.link_world.proofs.Doing.{with_mark}
 use Rattle.link_world.specs.Acts.{runs}
 use Rattle.link_world.specs.declared.act.Act.{Act}
 use Rattle.link_schedule.specs.declared.event.Event.{Event}

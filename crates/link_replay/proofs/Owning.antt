@@ -11,22 +11,12 @@ use Rattle.link_replay.specs.Owning.{Stepped}
 
 pub idle_is : (st : ClientState) → is_idle st ≡ true → st ≡ Idle
 idle_is Idle h = refl
-idle_is Opening h = absurd (cc)
-idle_is Opened h = absurd (cc)
-idle_is Closing h = absurd (cc)
-idle_is Closed h = absurd (cc)
-idle_is Ended h = absurd (cc)
-idle_is Reset h = absurd (cc)
+idle_is _ h = absurd (cc)
 
 rests : (st : ClientState) (c : AbstractClient) → is_idle st ≡ false → opens_by st c ≡ keeps c
 unfolding opens_by
 rests Idle c h = absurd (cc)
-rests Opening c h = refl
-rests Opened c h = refl
-rests Closing c h = refl
-rests Closed c h = refl
-rests Ended c h = refl
-rests Reset c h = refl
+rests _ c h = refl
 
 pub not_opened : (s : Side) (side : CodeSide) (area : List ℕ) → is_idle side.client.state ≡ false → SideStands side s → Stepped (client_opens s.client) s side None area
 not_opened s side area i h =

@@ -1,5 +1,6 @@
 -- The bytes of a datagram stay while its world's addresses and ports do.
 use Rattle.std.proofs.Common.{◌≡◌, ℕ, zero, suc, Bool, List, [], ◌∷◌, ◌++◌, refl, sym, ap, ◌∙◌, subst, Option, Some, None, slice_get, set, length-set, ◌≤◌}
+use Rattle.std.specs.Option.{option_map_or}
 use Rattle.uip_wire.specs.declared.addr.Addr.{Addr}
 use Rattle.uip_node.specs.Counters.{ticks_of}
 use Rattle.tcp_segment.specs.Segments.{PlainSegment}
@@ -31,15 +32,15 @@ Sames (Some x) None = ⊥
 pub record SamePlaces (xs ys : List Side) : Type 0 where
   pub each : (i : ℕ) → Sames (slice_get xs i) (slice_get ys i)
 
-client_same : (id : ℕ) (s : PlainSegment) (x y : Option Side) → Sames x y → client_bytes id s x ≡ client_bytes id s y
+client_same : (id : ℕ) (s : PlainSegment) (x y : Option Side) → Sames x y → option_map_or (client_bytes id s) x [] ≡ option_map_or (client_bytes id s) y []
 client_same id s None None h = refl
-client_same id s (Some x) (Some y) h = ap (λ (z : Setup). client_bytes id s (Some (record x { client = record x.client { setup = z } }))) h
+client_same id s (Some x) (Some y) h = ap (λ (z : Setup). client_bytes id s (record x { client = record x.client { setup = z } })) h
 client_same id s None (Some y) h = absurd h
 client_same id s (Some x) None h = absurd h
 
-node_same : (a b : Addr) (id : ℕ) (s : PlainSegment) (x y : Option Side) → a ≡ b → Sames x y → node_bytes a id s x ≡ node_bytes b id s y
+node_same : (a b : Addr) (id : ℕ) (s : PlainSegment) (x y : Option Side) → a ≡ b → Sames x y → option_map_or (node_bytes a id s) x [] ≡ option_map_or (node_bytes b id s) y []
 node_same a b id s None None e h = refl
-node_same a b id s (Some x) (Some y) e h = ap (λ z. node_bytes z id s (Some x)) e ∙ ap (λ (z : Setup). node_bytes b id s (Some (record x { client = record x.client { setup = z } }))) h
+node_same a b id s (Some x) (Some y) e h = ap (λ z. node_bytes z id s x) e ∙ ap (λ (z : Setup). node_bytes b id s (record x { client = record x.client { setup = z } })) h
 node_same a b id s None (Some y) e h = absurd h
 node_same a b id s (Some x) None e h = absurd h
 

@@ -17,7 +17,8 @@ use Rattle.link_schedule.specs.declared.why.Why.{Why}
 use Rattle.link_world.specs.World.{World}
 use Rattle.link_world.specs.Acts.{runs}
 use Rattle.link_world.specs.History.{IsPlan, IsPlanned, Planned}
-use Rattle.link_world.specs.Schedule.{BadLine, acts_of, goes_on_with, mark_after, plays, plays_from, plays_line, with_mark}
+use Rattle.link_world.specs.Schedule.{BadLine, acts_of, mark_after, plays, plays_from, plays_line}
+use Rattle.link_world.proofs.Doing.{goes_on_with, with_mark}
 use Rattle.link_schedule.specs.declared.event.Event.{Event}
 use Rattle.link_world.specs.declared.step_fault.StepFault.{StepFault}
 use Rattle.link_world.specs.declared.step_fault.StepFault.TheVariants.{NoDatagram, NoByte, AlreadyOpen, NotOpen, Full, NoMemory}

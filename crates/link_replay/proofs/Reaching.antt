@@ -1,21 +1,22 @@
 -- Where accepted acts lead from a world of a replay.
 use Rattle.std.specs.List.{All}
-use Rattle.std.proofs.Common.{◌≡◌, ℕ, List, [], ◌∷◌, ◌++◌, sym, ap, ◌∙◌, inl, refl, Bool, Result, Ok, Err, IsErr, IsErrAnd}
+use Rattle.std.proofs.Common.{◌≡◌, ℕ, List, [], ◌∷◌, ◌++◌, sym, ap, ◌∙◌, inl, refl, subst, Bool, Result, Ok, Err, IsErr, IsErrAnd}
 use Rattle.std.proofs.lemmas.List.Elements.{All-append}
 use Rattle.app_events.specs.Part.{Meaning}
 use Rattle.link_world.specs.World.{World}
-use Rattle.link_world.specs.Acts.{acts, runs, and_then}
-use Rattle.link_world.specs.Schedule.{with_mark}
+use Rattle.link_schedule.specs.Numbers.{◌>>=◌}
+use Rattle.link_world.specs.Acts.{acts, runs}
 use Rattle.link_world.specs.History.{started}
 use Rattle.link_world.specs.declared.act.Act.{Act}
 use Rattle.link_world.specs.declared.step_fault.StepFault.{StepFault}
 use Rattle.link_world.specs.Headline.{IsAct, IsReached}
 use Rattle.link_world.proofs.DamageThere.{there}
+use Rattle.link_world.proofs.Doing.{with_mark}
 use Rattle.link_world.proofs.Lines.{runs_mark, runs_joined}
 use Rattle.link_world.proofs.Runs.{reached_sound}
 use Rattle.link_world.proofs.SoundWorlds.{sound_marked}
 use Rattle.link_world.proofs.Fits.{all_nil, all_cons}
-use Rattle.link_replay.specs.Reaching.{IsAt, ActsEnd, ActSteps, DamageLoses, Stops}
+use Rattle.link_replay.specs.Reaching.{IsAt, ActsEnd, ActSteps, DamageLoses, Stops, StopsAt}
 use Rattle.link_world.specs.declared.step_fault.StepFault.TheVariants.{NoDatagram, NoByte, AlreadyOpen, NotOpen, Full, NoMemory}
 
 pub handed : (r : Result (Unit {0}) StepFault) (e : StepFault) → IsErr r → IsErrAnd r (λ f. f ≡ e) → r ≡ Err e
@@ -33,7 +34,7 @@ module _ (m : Meaning) (served : ℕ → Bool) where
     schedule = h.schedule ++ more;
     are_acts = All-append IsAct h.schedule more h.are_acts a;
     accepted = runs_joined m served h.schedule more (started h.start)
-        ∙ ap (λ (r : Result World StepFault). and_then (runs m served more) r) h.accepted
+        ∙ ap (λ (r : Result World StepFault). r >>= runs m served more) h.accepted
         ∙ runs_mark m served 0 more w
         ∙ ap (λ (r : Result World StepFault). with_mark 0 r) e;
   }
@@ -61,25 +62,6 @@ module _ (m : Meaning) (served : ℕ → Bool) where
     accepted = h.accepted;
   }
 
-  -- what holds in the midst of acts in turn
-  pub record Amid (Now : World → Type 0) (left : List Act) (end : Result World StepFault) : Type 0 where
-    pub world : World
-    pub rest : runs m served left world ≡ end
-    pub at : IsAt m served world
-    pub now : Now world
-
-  -- one act further
-  pub further : (Before Now : World → Type 0) (act : Act) (left : List Act) (end : Result World StepFault) (done : Unit {0}) → IsAct act →
-      ((w : World) → IsAt m served w → Before w → ActSteps Now w (Ok done) (acts m served w act)) → Amid Before (act ∷ left) end → Amid Now left end
-  further Before Now act left end done a f h =
-      let s = f h.world h.at h.now in
-      record {
-        world = s.0;
-        rest = sym (ap (λ (r : Result World StepFault). and_then (runs m served left) r) s.1) ∙ h.rest;
-        at = at_run h.world s.0 (act ∷ []) h.at (all_cons IsAct act [] a (all_nil IsAct)) (ap (λ (r : Result World StepFault). and_then (runs m served []) r) s.1);
-        now = s.2;
-      }
-
   -- the acts that were done, and the world that they reach
   pub record Gone (Now : World → Type 0) (w : World) (all left : List Act) : Type 0 where
     pub before : List Act
@@ -97,12 +79,12 @@ module _ (m : Meaning) (served : ℕ → Bool) where
       ((v : World) → IsAt m served v → Before v → ActSteps Now v (Ok done) (acts m served v act)) → Gone Before w all (act ∷ left) → Gone Now w all left
   gone_on Before Now w act left all done a f h =
       let s = f h.world h.at h.now in
-      let one : runs m served (act ∷ []) h.world ≡ Ok s.0 = ap (λ (r : Result World StepFault). and_then (runs m served []) r) s.1 in
+      let one : runs m served (act ∷ []) h.world ≡ Ok s.0 = ap (λ (r : Result World StepFault). r >>= runs m served []) s.1 in
       record {
         before = h.before ++ act ∷ [];
         joined = joined_on h.before act left ∙ h.joined;
         world = s.0;
-        reached = runs_joined m served h.before (act ∷ []) w ∙ ap (λ (r : Result World StepFault). and_then (runs m served (act ∷ [])) r) h.reached ∙ one;
+        reached = runs_joined m served h.before (act ∷ []) w ∙ ap (λ (r : Result World StepFault). r >>= runs m served (act ∷ [])) h.reached ∙ one;
         at = at_run h.world s.0 (act ∷ []) h.at (all_cons IsAct act [] a (all_nil IsAct)) one;
         now = s.2;
       }
@@ -116,14 +98,32 @@ module _ (m : Meaning) (served : ℕ → Bool) where
   stopped Before Now w act left all NotOpen f h = let s = f h.world h.at h.now in record { before = h.before; act = act; after = left; joined = h.joined; world = h.world; reached = h.reached; refused = s.0; now = s.1 }
   stopped Before Now w act left all Full f h = let s = f h.world h.at h.now in record { before = h.before; act = act; after = left; joined = h.joined; world = h.world; reached = h.reached; refused = s.0; now = s.1 }
 
-  pub ended : (Before Now : World → Type 0) (act : Act) (left : List Act) (end : Result World StepFault) (fault : StepFault) →
-      ((v : World) → IsAt m served v → Before v → ActSteps Now v (Err fault) (acts m served v act)) → Amid Before (act ∷ left) end → ActsEnd Now (Err fault) end
-  ended Before Now act left end NoMemory f h = tt
-  ended Before Now act left end NoDatagram f h = let t = f h.world h.at h.now in sym h.rest ∙ ap (λ (r : Result World StepFault). and_then (runs m served left) r) t.0
-  ended Before Now act left end NoByte f h = let t = f h.world h.at h.now in sym h.rest ∙ ap (λ (r : Result World StepFault). and_then (runs m served left) r) t.0
-  ended Before Now act left end AlreadyOpen f h = let t = f h.world h.at h.now in sym h.rest ∙ ap (λ (r : Result World StepFault). and_then (runs m served left) r) t.0
-  ended Before Now act left end NotOpen f h = let t = f h.world h.at h.now in sym h.rest ∙ ap (λ (r : Result World StepFault). and_then (runs m served left) r) t.0
-  ended Before Now act left end Full f h = let t = f h.world h.at h.now in sym h.rest ∙ ap (λ (r : Result World StepFault). and_then (runs m served left) r) t.0
+  -- what all acts reach, those that are left reach
+  runs_left : (Now : World → Type 0) (w : World) (all left : List Act) (h : Gone Now w all left) → runs m served all w ≡ runs m served left h.world
+  runs_left Now w all left h =
+      ap (λ (xs : List Act). runs m served xs w) (sym h.joined) ∙ runs_joined m served h.before left w
+      ∙ ap (λ (r : Result World StepFault). r >>= runs m served left) h.reached
+
+  pub all_gone : (Now : World → Type 0) (w : World) (all left : List Act) → left ≡ [] → Gone Now w all left → (v : World) × (runs m served all w ≡ Ok v) × Now v
+  all_gone Now w all left none h = (h.world, runs_left Now w all left h ∙ ap (λ (xs : List Act). runs m served xs h.world) none, h.now)
+
+  stop_ends : (Now : World → Type 0) (all : List Act) (w : World) (fault : StepFault) → StopsAt m served Now all w fault → runs m served all w ≡ Err fault
+  stop_ends Now all w fault h =
+      ap (λ (xs : List Act). runs m served xs w) (sym h.joined) ∙ runs_joined m served h.before (h.act ∷ h.after) w
+      ∙ ap (λ (r : Result World StepFault). r >>= runs m served (h.act ∷ h.after)) h.reached
+      ∙ ap (λ (r : Result World StepFault). r >>= runs m served h.after) h.refused
+
+  -- acts that stopped before one of them end there
+  pub ends_stopped : (Now : World → Type 0) (all : List Act) (w : World) (r : Result (Unit {0}) StepFault) (e : StepFault) → r ≡ Err e → Stops m served Now all w r → ActsEnd Now r (runs m served all w)
+  ends_stopped Now all w r e q h = subst (λ (x : Result (Unit {0}) StepFault). ActsEnd Now x (runs m served all w)) (sym q) (by_fault e (subst (λ (x : Result (Unit {0}) StepFault). Stops m served Now all w x) q h))
+    where
+      by_fault : (fault : StepFault) → Stops m served Now all w (Err fault) → ActsEnd Now (Err fault) (runs m served all w)
+      by_fault NoMemory h = tt
+      by_fault NoDatagram h = stop_ends Now all w NoDatagram h
+      by_fault NoByte h = stop_ends Now all w NoByte h
+      by_fault AlreadyOpen h = stop_ends Now all w AlreadyOpen h
+      by_fault NotOpen h = stop_ends Now all w NotOpen h
+      by_fault Full h = stop_ends Now all w Full h
 
 pub damage_loses : DamageLoses
 damage_loses m served w h k at mask e x l a b =

@@ -3,18 +3,20 @@ use Rattle.std.proofs.Common.{◌≡◌, ℕ, zero, suc, ◌<◌, ◌≤◌, ◌
 use Rattle.std.specs.Global.{Vec}
 use Rattle.std.specs.Vec.{with_item}
 use Rattle.tcp_segment.specs.Segments.{PlainSegment, datagram_bytes}
-use Rattle.link_world.specs.History.{no_era}
+use Rattle.std.specs.Option.{option_map_or}
+use Rattle.tcp_machine.specs.Connection.{closed}
 use Rattle.std.proofs.lemmas.List.{drop_all, take_all}
 use Rattle.link_world.proofs.Basics.{append_nothing}
 use Rattle.link_client.specs.Calls.{standing, Sends, client_datagram, client_hands, client_hears}
-use Rattle.link_client.specs.Client.{AbstractClient, ClientStep}
+use Rattle.link_client.specs.Client.{AbstractClient, ClientStep, client_takes}
 use Rattle.link_client.specs.declared.client_state.ClientState.{ClientState}
 use Rattle.link_client.specs.declared.client_state.ClientState.TheVariants.{Idle, Opening, Opened, Closing, Closed, Ended, Reset}
 use Rattle.link_client.specs.declared.setup.Setup.{Setup}
 use Rattle.link_world.proofs.Hearing.{same_hearing}
-use Rattle.link_world.specs.Acts.{client_handed, handed}
+use Rattle.uip_node.specs.Counters.{ticks_of}
+use Rattle.link_world.specs.Acts.{handed}
 use Rattle.link_world.specs.Bytes.{bytes_by, client_bytes}
-use Rattle.link_world.specs.World.{World, Side, numbered, epoch, becomes_opened, with_client, with_side, client_stepped}
+use Rattle.link_world.specs.World.{World, Side, numbered, epoch, era_of, becomes_opened, client_stepped, posts_of_client, with_client, with_side}
 use Rattle.link_world.specs.World.Content.{OfSegment}
 use Rattle.link_world.specs.declared.who.Who.TheVariants.{FromClient}
 use Rattle.link_world.proofs.Tables.{get_set_same, set_same}
@@ -27,7 +29,7 @@ use Rattle.link_replay.specs.declared.sent.Sent.{Sent as CodeSent}
 use Rattle.link_replay.specs.Stands.{LinkStands, SideStands, SentStands, IsLink}
 use Rattle.link_replay.specs.declared.link.Link.{Link}
 use Rattle.link_replay.specs.declared.side.Side.{Side as CodeSide}
-use Rattle.link_replay.proofs.Places.{side_put}
+use Rattle.link_replay.proofs.Places.{link_put, side_put}
 
 -- nothing is sent
 pub sends_none : (setup : Setup) (s : Option PlainSegment) (area : List ℕ) → Sends setup s None area → s ≡ None
@@ -55,7 +57,7 @@ sends_some setup (Some x) len area h =
 
 -- the bytes of a client's segment in its world
 pub front_bytes : (w : World) (number : ℕ) (side : Side) (x : PlainSegment) → numbered w.sides number ≡ Some side → bytes_by w (FromClient number) (OfSegment 0 x) ≡ datagram_bytes (client_datagram side.client.setup x)
-front_bytes w number side x h = ap (client_bytes 0 x) h
+front_bytes w number side x h = ap (λ (o : Option Side). option_map_or (client_bytes 0 x) o []) h
 
 -- no client has a number that is 0 or past the last
 pub none_numbered : {X : Type 0} (xs : List X) (n : ℕ) → (n ≡ 0) ⊎ (length xs < n) → numbered xs n ≡ None
@@ -84,8 +86,8 @@ pub record SomeSide (side : CodeSide) : Type 0 where
 
 pub some_side : (side : CodeSide) → SomeSide side
 some_side side = record {
-  plain = record { client = standing side.client side.request.items side.received.items; past = replicate side.epoch no_era; opened = None; first_stale = side.first_stale };
-  stands = record { client = refl; epoch = sym (length_same side.epoch no_era); first_stale = refl };
+  plain = record { client = standing side.client side.request.items side.received.items; past = replicate side.epoch (era_of closed); opened = None; first_stale = side.first_stale };
+  stands = record { client = refl; epoch = sym (length_same side.epoch (era_of closed)); first_stale = refl };
 }
   where
     length_same : {X : Type 0} (n : ℕ) (x : X) → length (replicate n x) ≡ n
@@ -113,41 +115,52 @@ kept_too addr link other a b c h = record {
   sizes = subst (λ (xs : Vec CodeSent). (i : ℕ) (sent : CodeSent) → slice_get xs.items i ≡ Some sent → length sent.bytes.items ≤ LARGEST_DATAGRAM) (sym b) h.sizes;
 }
 
+-- a client took a step, and wrote as much as there was
+pub kept_put : (addr : Addr) (link other : Link) (n : ℕ) (old new : CodeSide) → other.sides ≡ with_item link.sides n new → other.sent ≡ link.sent → length other.area.items ≡ length link.area.items
+    → slice_get link.sides.items n ≡ Some old → IsClient new.client new.request.items → new.client.setup ≡ old.client.setup → IsLink addr link → IsLink addr other
+kept_put addr link other n old new a b l at client setup h =
+    kept_too addr (record link { sides = with_item link.sides n new }) other a b (l ∙ h.area)
+    (link_put addr link n new h client (ap (λ (x : Setup). x.server) setup ∙ h.servers n old at))
+
 -- the client at a place took a step
 module _ (link : Link) (w : World) (number n : ℕ) (old new : CodeSide) (s : Side) (is : number ≡ suc n) (h : LinkStands link w) (g : slice_get w.sides n ≡ Some s) (o : SideStands old s) (q : new.client.setup ≡ old.client.setup) where
-  pub numbered_there : numbered w.sides number ≡ Some s
-  numbered_there = ap (numbered w.sides) is ∙ g
-
-  pub numbered_new : (t : Side) → numbered (with_side w number t).sides number ≡ Some t
+  numbered_new : (t : Side) → numbered (with_side w number t).sides number ≡ Some t
   numbered_new t = subst (λ k. numbered (with_side w k t).sides k ≡ Some t) (sym is) (get_set_same w.sides n s t g)
 
-  pub step_put : (step : ClientStep) (answer : Option ℕ) (area : List ℕ) → Stepped step s new answer area → LinkStands (record link { sides = with_item link.sides n new }) (with_side w number (with_client s step.client))
+  step_put : (step : ClientStep) (answer : Option ℕ) (area : List ℕ) → Stepped step s new answer area → LinkStands (record link { sides = with_item link.sides n new }) (with_side w number (with_client s step.client))
   step_put step answer area p =
       subst (λ k. LinkStands (record link { sides = with_item link.sides n new }) (with_side w k (with_client s step.client))) (sym is) (stepped_put link w n old new s step answer area h g o q p)
 
-  pub setup_stays : (step : ClientStep) (answer : Option ℕ) (area : List ℕ) → Stepped step s new answer area → (with_client s step.client).client.setup ≡ s.client.setup
+  setup_stays : (step : ClientStep) (answer : Option ℕ) (area : List ℕ) → Stepped step s new answer area → (with_client s step.client).client.setup ≡ s.client.setup
   setup_stays step answer area p = ap (λ (k : AbstractClient). k.setup) (sym p.stands.client) ∙ q ∙ ap (λ (k : AbstractClient). k.setup) o.client
+
+  -- what it sent is posted where it stands at the front of the area
+  pub step_posted : (step : ClientStep) (answer : Option ℕ) (area : List ℕ) (other after : Link) (tick : ℕ) → Stepped step s new answer area → other.sides ≡ with_item link.sides n new → other.sent ≡ link.sent → other.area.items ≡ area
+      → ((v : World) (side : Side) (t : Option PlainSegment) → LinkStands other v → numbered v.sides number ≡ Some side → Sends side.client.setup t answer other.area.items → tick ≡ ticks_of v.node.past → LinkStands after (posts_of_client v number t))
+      → tick ≡ ticks_of w.node.past → LinkStands after (client_stepped w number s step)
+  step_posted step answer area other after tick p a b c posted t =
+      let new_side : Side = with_client s step.client in
+      let sends : Sends new_side.client.setup step.sent answer other.area.items
+      = subst (λ (xs : List ℕ). Sends new_side.client.setup step.sent answer xs) (sym c)
+      (subst (λ (x : Setup). Sends x step.sent answer area) (sym (setup_stays step answer area p)) p.sent) in
+      posted (with_side w number new_side) new_side step.sent
+      (stands_too (record link { sides = with_item link.sides n new }) other (with_side w number new_side) a b (step_put step answer area p)) (numbered_new new_side) sends t
 
 stays : (st : ClientState) → becomes_opened st st ≡ false
 stays Idle = refl
-stays Opening = refl
-stays Opened = refl
-stays Closing = refl
-stays Closed = refl
-stays Ended = refl
-stays Reset = refl
+stays _ = refl
 
 -- a client that keeps everything
 same_client : (s : Side) → with_client s s.client ≡ s
 same_client s = ap (λ b. record s { opened = (if b then Some (epoch s) else s.opened) }) (stays s.client.state)
 
-stepped_handed : (w : World) (n : ℕ) (s : Side) (o : Option PlainSegment) → slice_get w.sides n ≡ Some s → client_stepped w (suc n) s (client_hands s.client o) ≡ client_handed w (suc n) s o
+stepped_handed : (w : World) (n : ℕ) (s : Side) (o : Option PlainSegment) → slice_get w.sides n ≡ Some s → client_stepped w (suc n) s (client_hands s.client o) ≡ option_map_or (λ x. client_stepped w (suc n) s (client_takes s.client x)) o w
 stepped_handed w n s None g = ap (λ (xs : List Side). record w { sides = xs }) (ap (set w.sides n) (same_client s) ∙ set_same w.sides n s g)
 stepped_handed w n s (Some x) g = refl
 
 -- what a client does with the bytes that it is handed
 pub heard_handed : (w : World) (number n : ℕ) (s : Side) (bytes : List ℕ) → number ≡ suc n → slice_get w.sides n ≡ Some s →
-    client_stepped w number s (client_hands s.client (client_hears s.client.setup bytes)) ≡ handed w number bytes (Some s)
+    client_stepped w number s (client_hands s.client (client_hears s.client.setup bytes)) ≡ handed w number bytes s
 heard_handed w number n s bytes is g =
-    subst (λ k. client_stepped w k s (client_hands s.client (client_hears s.client.setup bytes)) ≡ handed w k bytes (Some s)) (sym is)
-    (stepped_handed w n s (client_hears s.client.setup bytes) g ∙ ap (λ o. client_handed w (suc n) s o) (same_hearing s.client.setup bytes))
+    subst (λ k. client_stepped w k s (client_hands s.client (client_hears s.client.setup bytes)) ≡ handed w k bytes s) (sym is)
+    (stepped_handed w n s (client_hears s.client.setup bytes) g ∙ ap (λ (o : Option PlainSegment). option_map_or (λ x. client_stepped w (suc n) s (client_takes s.client x)) o w) (same_hearing s.client.setup bytes))

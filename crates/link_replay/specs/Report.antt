@@ -1,4 +1,5 @@
 -- The text of a report.
+use Rattle.std.specs.Option.{option_map_or}
 use Rattle.std.specs.Prelude.{ℕ, ◌+◌, Bool, List, [], ◌∷◌, ◌++◌, length, if◌then◌else◌, Option, Some, None, codes, decimal}
 use Rattle.hex.specs.Hex.{encode_lower}
 use Rattle.tcp_segment.specs.Segments.{PlainSegment, has_syn, has_ack, has_psh, has_fin, has_rst}
@@ -63,8 +64,7 @@ state_word Reset = codes "reset"
 
 -- whether a stale datagram was delivered, and where all is shown the number of the first
 abbrev pub clean_words : Bool → Option ℕ → List ℕ
-clean_words show None = codes "clean"
-clean_words show (Some number) = codes "stale" ++ word_if show (codes " " ++ decimal number)
+clean_words show first = option_map_or (λ number. codes "stale" ++ word_if show (codes " " ++ decimal number)) first (codes "clean")
 
 abbrev pub client_line : Bool → ℕ → ClientState → ℕ → Option ℕ → List ℕ
 client_line show number state len first_stale =

@@ -53,3 +53,9 @@ pub record WorldStands {A S : Type 0} (g : Ghosts A S) (world : CodeWorld A S) (
 pub record IsKept {A S : Type 0} (g : Ghosts A S) (world : CodeWorld A S) : Type 0 where
   pub node : IsWhole g world.node
   pub link : (addr : Addr) × IsLink addr world.link
+
+-- A world of the code that keeps what it has to; what its application keeps, and the mark, are those of an older one.
+pub record Follows {A S : Type 0} (g : Ghosts A S) (old new : CodeWorld A S) : Type 0 where
+  pub kept : IsKept g new
+  pub same : g.kept new.node.shared ≡ g.kept old.node.shared
+  pub mark : new.mark ≡ old.mark

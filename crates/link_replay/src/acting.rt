@@ -7,7 +7,7 @@ ghost use Rattle.uip_wire.specs.declared.addr.Addr.{Addr as Address};
 ghost use Rattle.link_client.specs.Calls.{Sends};
 ghost use Rattle.link_client.specs.Client.{tells_window};
 ghost use Rattle.link_world.specs.Acts.{client_acts, handed};
-ghost use Rattle.link_world.specs.World.{Side as PlainSide, World as PlainWorld, numbered, posts_of_client};
+ghost use Rattle.link_world.specs.World.{Side as PlainSide, World as PlainWorld, at_side, numbered, posts_of_client};
 ghost use Rattle.link_replay.specs.Owning.{own_step};
 ghost use Rattle.link_replay.specs.Stands.{IsLink, LinkStands};
 
@@ -43,7 +43,7 @@ impl Link {
         requires kept { (addr : Address) × IsLink addr self.old }
         ensures kept { (addr : Address) → IsLink addr self.old → IsLink addr self.new }
         ensures acted { OnOk result ((w : PlainWorld) → LinkStands self.old w → tick ≡ ticks_of w.node.past
-            → LinkStands self.new (client_acts w number (own_step own) (numbered w.sides number))) }
+            → LinkStands self.new (client_acts w number (own_step own))) }
     {
         let place = usize::from(number);
         if place == 0 || place > self.sides.len() {
@@ -58,7 +58,7 @@ impl Link {
     pub(crate) fn tell_window(&mut self, number: u8, window: u16)
         ensures kept { (addr : Address) → IsLink addr self.old → IsLink addr self.new }
         ensures told { (w : PlainWorld) → LinkStands self.old w
-            → LinkStands self.new (client_acts w number (tells_window window) (numbered w.sides number)) }
+            → LinkStands self.new (client_acts w number (tells_window window)) }
     {
         let place = usize::from(number);
         if place == 0 || place > self.sides.len() {
@@ -73,7 +73,7 @@ impl Link {
         requires most { length datagram.now ≤ LARGEST_DATAGRAM }
         ensures kept { (addr : Address) → IsLink addr self.old → IsLink addr self.new }
         ensures heard { OnOk result ((w : PlainWorld) → LinkStands self.old w → tick ≡ ticks_of w.node.past
-            → LinkStands self.new (handed w number datagram.now (numbered w.sides number))) }
+            → LinkStands self.new (at_side w number (handed w number datagram.now))) }
     {
         let place = usize::from(number);
         if place == 0 || place > self.sides.len() {

@@ -1,8 +1,9 @@
 //! The acts of a line.
 
 ghost use Rattle.std.specs.Prelude.{◌≡◌, ◌==◌, ◌+◌, ◌-◌, ◌%◌, ◌≤◌, IfOk, [], ◌∷◌, filter, flat_map, length, map};
+ghost use Rattle.std.specs.List.{range_with_len};
 ghost use Rattle.link_world.specs.Acts.{needs};
-ghost use Rattle.link_world.specs.Schedule.{acts_of, mark_after, numbers_from};
+ghost use Rattle.link_world.specs.Schedule.{acts_of, mark_after};
 ghost use Rattle.link_world.specs.World.{World as PlainWorld};
 
 use link_schedule::Event;
@@ -28,7 +29,7 @@ pub(crate) fn needs(act: &Act) -> usize
 
 /// The numbers above the mark that are sent, in order.
 fn past_mark(alloc: Global, mark: u32, sent: u32) -> Result<Vec<u32>, AllocError>
-    ensures { IfOk result (λ numbers. numbers.items ≡ numbers_from (mark + 1) (sent - mark)) }
+    ensures { IfOk result (λ numbers. numbers.items ≡ range_with_len (mark + 1) (sent - mark)) }
 {
     let mut numbers = Vec::new(alloc);
     for number in mark..sent {

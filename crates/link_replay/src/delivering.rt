@@ -5,9 +5,9 @@ ghost use Rattle.uip_node.specs.Edge.{event_of};
 ghost use Rattle.uip_node.specs.Events.{tick};
 ghost use Rattle.uip_node.specs.Events.Event.{Periodic};
 ghost use Rattle.uip_node.specs.Node.{step};
-ghost use Rattle.link_world.specs.Acts.{client_acts, damages_at, does, fault_of, handles_all, hands_over};
+ghost use Rattle.link_world.specs.Acts.{client_acts, does, fault_of, handles_all, hands_over};
 ghost use Rattle.link_world.specs.Bytes.{changed, ping_from};
-ghost use Rattle.link_world.specs.World.{World as PlainWorld, hands_to, node_handles, numbered, posts};
+ghost use Rattle.link_world.specs.World.{World as PlainWorld, node_handles, posts};
 ghost use Rattle.link_world.specs.World.Content.{OfPing};
 ghost use Rattle.link_world.specs.declared.who.Who.TheVariants.{Pinger};
 ghost use Rattle.link_replay.specs.Owning.{own_step};
@@ -84,7 +84,7 @@ impl<A: App> World<A> {
         ensures same { A.kept self.new.node.shared ≡ A.kept self.old.node.shared }
         ensures mark { self.new.mark ≡ self.old.mark }
         ensures acted { OnOk result ((w : PlainWorld) → WorldStands A.App self.old w
-            → WorldStands A.App self.new (client_acts w number (own_step own) (numbered w.sides number))) }
+            → WorldStands A.App self.new (client_acts w number (own_step own))) }
     {
         self.link.act(number, own, self.node.counts.ticks)?;
         Ok(())
@@ -146,7 +146,7 @@ impl<A: App> World<A> {
         ensures mark { self.new.mark ≡ self.old.mark }
         ensures given { OnOk result ((w : PlainWorld) → IsAt (A.meaning (A.kept self.old.node.shared)) A.served w
             → WorldStands A.App self.old w
-            → WorldStands A.App self.new (hands_to (A.meaning (A.kept self.old.node.shared)) A.served w number (numbered w.sent number))) }
+            → WorldStands A.App self.new (does (A.meaning (A.kept self.old.node.shared)) A.served w (Act.Give number))) }
     {
         let place = number as usize;
         if place == 0 || place > self.link.sent.len() {
@@ -173,8 +173,8 @@ impl<A: App> World<A> {
         ensures damaged { OnOk result ((w : PlainWorld) → IsAt (A.meaning (A.kept self.old.node.shared)) A.served w
             → fault_of w (Act.Damage number at mask) ≡ None
             → WorldStands A.App self.old w
-            → WorldStands A.App self.new (damages_at (A.meaning (A.kept self.old.node.shared)) A.served w at mask
-            (numbered w.sent number))) }
+            → WorldStands A.App self.new (does (A.meaning (A.kept self.old.node.shared)) A.served w
+            (Act.Damage number at mask))) }
     {
         let place = number as usize;
         if place == 0 || place > self.link.sent.len() {

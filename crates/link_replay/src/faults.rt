@@ -1,7 +1,7 @@
 //! Why an act is refused.
 
 ghost use Rattle.std.specs.Prelude.{◌≡◌, ◌≤◌, ℕ, List, IfSome, None, length};
-ghost use Rattle.link_world.specs.Acts.{fault_of, if_idle, is_idle, named_fault, no_byte, no_datagram, or_full, state_at};
+ghost use Rattle.link_world.specs.Acts.{fault_of, if_idle, is_idle, named_fault, state_at};
 ghost use Rattle.link_world.specs.World.{Side as PlainSide, World as PlainWorld, numbered};
 ghost use Rattle.link_replay.specs.Matched.{Matched};
 ghost use Rattle.link_replay.specs.Reaching.{IsNamed};
@@ -57,7 +57,7 @@ fn if_idle(sides: &[Side], number: u8) -> Option<StepFault>
 impl Link {
     /// The datagram with a number is not yet sent.
     fn no_datagram(&self, number: u32) -> Option<StepFault>
-        ensures exact { (w : PlainWorld) → LinkStands self.now w → result ≡ no_datagram (numbered w.sent number) }
+        ensures exact { (w : PlainWorld) → LinkStands self.now w → result ≡ named_fault w (Act.Give number) }
         ensures named { IfSome result IsNamed }
     {
         if number == 0 || number as usize > self.sent.len() {
@@ -69,7 +69,7 @@ impl Link {
 
     /// The datagram with a number is not yet sent, or has no byte at this place.
     fn no_byte(&self, number: u32, at: u16) -> Option<StepFault>
-        ensures exact { (w : PlainWorld) → LinkStands self.now w → result ≡ no_byte w at (numbered w.sent number) }
+        ensures exact { (w : PlainWorld) (mask : ℕ) → LinkStands self.now w → result ≡ named_fault w (Act.Damage number at mask) }
         ensures named { IfSome result IsNamed }
     {
         if number == 0 || number as usize > self.sent.len() {

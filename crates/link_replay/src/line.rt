@@ -61,9 +61,8 @@ impl Line {
         ensures text { self.new.text.items ≡ self.old.text.items ++ name.now ++ decimal count }
         ensures len { length self.new.text.items ≤ length self.old.text.items + length name.now + 20 }
     {
-        let mut digits = Buffer::new();
         self.put(name);
-        self.put(digits.format(count).as_bytes());
+        self.put_number(count as u64);
     }
 
     /// The line goes on with a name and a total, without leading zeros.

@@ -1,10 +1,11 @@
 //! What is beside the node in a replay.
 
 ghost use Rattle.std.specs.Prelude.{◌≡◌, ◌≤◌, OnOk, ℕ, List, length};
+ghost use Rattle.std.specs.Option.{option_map_or};
 ghost use Rattle.uip_wire.specs.declared.addr.Addr.{Addr as Address};
 ghost use Rattle.uip_node.specs.Counters.{ticks_of};
 ghost use Rattle.link_world.specs.Bytes.{bytes_by};
-ghost use Rattle.link_world.specs.World.{Content, Side as PlainSide, World as PlainWorld, epoch_at, epoch_of, numbered, posts};
+ghost use Rattle.link_world.specs.World.{Content, Side as PlainSide, World as PlainWorld, epoch, epoch_of, numbered, posts};
 ghost use Rattle.link_replay.specs.Matched.{Matched};
 ghost use Rattle.link_replay.specs.Stands.{IsLink, LinkStands, SideStands};
 
@@ -41,7 +42,7 @@ fn epoch_of(sides: &[Side], who: Who) -> u32
 
 /// The epoch of the client with a number, counted from 1; 0 where there is none.
 fn epoch_at(sides: &[Side], number: u8) -> u32
-    ensures { (ss : List PlainSide) → Matched SideStands sides.now ss → result ≡ epoch_at (numbered ss number) }
+    ensures { (ss : List PlainSide) → Matched SideStands sides.now ss → result ≡ option_map_or epoch (numbered ss number) 0 }
 {
     let place = usize::from(number);
     if place == 0 || place > sides.len() {

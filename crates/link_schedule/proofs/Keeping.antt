@@ -16,8 +16,8 @@ use Rattle.link_schedule.specs.declared.why.Why.{Why}
 use Rattle.link_schedule.specs.declared.why.Why.TheVariants.{Form, Clients, Ports}
 use Rattle.link_schedule.specs.Numbers.{◌>>=◌, address, within}
 use Rattle.link_schedule.specs.Events.{event_of_words}
-use Rattle.link_schedule.specs.Clients.{got, is_target, Plan, plan_of, plan_with, raw, request_of, side_of, is_seen}
-use Rattle.link_schedule.specs.Reading.{BadText, SchedulePlan, reads_on, is_passed_over, meets, nothing_yet, read_client, read_line, read_lines, read_words, with_plan, with_event, with_line}
+use Rattle.link_schedule.specs.Clients.{got, is_target, Plan, plan_of, plan_with, raw, request_of, side_of}
+use Rattle.link_schedule.specs.Reading.{BadText, SchedulePlan, reads_on, is_passed_over, meets, nothing_yet, read_line, read_lines, read_words, with_plan, with_event, with_line}
 use Rattle.link_schedule.specs.Kept.{are_apart, client_in_range, event_in_range, is_between, Keeps}
 use Rattle.link_schedule.proofs.Kept.{anything, behind, either, event_fine, tested, within_range}
 
@@ -51,7 +51,7 @@ got_fine : (target : List ℕ) → IfOk (got target) RequestFine
 got_fine target =
     tested RequestFine (is_target target) (Ok (codes "GET " ++ target ++ codes " HTTP/1.0\r\n\r\n")) (Err Form)
     (λ e.
-    let parts = and_parts (is_between 1 4079 (length target)) (list_all is_seen target) e in
+    let parts = and_parts (is_between 1 4079 (length target)) (list_all (λ c. leb 33 c && leb c 126) target) e in
     let sizes = and_parts (leb 1 (length target)) (leb (length target) 4079) parts.0 in
     let most = leb-true (length target) 4079 sizes.1 in
     let size = length_got target in
@@ -79,15 +79,19 @@ with_fine addr port mss seg how what =
     (λ request good. and_from (is_between 1 65535 side.port.0 && is_between 1 1460 side.seg) (is_between 1 4096 (length request))
     (and_from (is_between 1 65535 side.port.0) (is_between 1 1460 side.seg) fine.0 fine.1) good))
 
+-- what six words keep, the words of every client's line keep
+pub of_words : (P : Plan → Type 0) → ((addr port mss seg how what : List ℕ) → IfOk (plan_with addr port mss seg how what) P) → (words : List (List ℕ)) → IfOk (plan_of words) P
+of_words P six [] = tt
+of_words P six (a ∷ []) = tt
+of_words P six (a ∷ b ∷ []) = tt
+of_words P six (a ∷ b ∷ c ∷ []) = tt
+of_words P six (a ∷ b ∷ c ∷ d ∷ []) = tt
+of_words P six (a ∷ b ∷ c ∷ d ∷ e ∷ []) = tt
+of_words P six (a ∷ b ∷ c ∷ d ∷ e ∷ f ∷ []) = six a b c d e f
+of_words P six (a ∷ b ∷ c ∷ d ∷ e ∷ f ∷ g ∷ words) = tt
+
 plan_fine : (words : List (List ℕ)) → IfOk (plan_of words) PlanFine
-plan_fine [] = tt
-plan_fine (a ∷ []) = tt
-plan_fine (a ∷ b ∷ []) = tt
-plan_fine (a ∷ b ∷ c ∷ []) = tt
-plan_fine (a ∷ b ∷ c ∷ d ∷ []) = tt
-plan_fine (a ∷ b ∷ c ∷ d ∷ e ∷ []) = tt
-plan_fine (a ∷ b ∷ c ∷ d ∷ e ∷ f ∷ []) = with_fine a b c d e f
-plan_fine (a ∷ b ∷ c ∷ d ∷ e ∷ f ∷ g ∷ words) = tt
+plan_fine words = of_words PlanFine with_fine words
 
 -- more clients leave each line good
 wider : (n m c : ℕ) → n ≤ m → is_between 1 n c ≡ true → is_between 1 m c ≡ true
@@ -102,15 +106,7 @@ wider_event n m le (Again c) e = wider n m c le e
 wider_event n m le (Closes c) e = wider n m c le e
 wider_event n m le (Aborts c) e = wider n m c le e
 wider_event n m le (Window c w) e = wider n m c le e
-wider_event n m le (Ping source) e = e
-wider_event n m le (Give k) e = e
-wider_event n m le (Damage k i x) e = e
-wider_event n m le (Tick ticks) e = e
-wider_event n m le Round e = e
-wider_event n m le Twice e = e
-wider_event n m le Reverse e = e
-wider_event n m le Half e = e
-wider_event n m le Lose e = e
+wider_event n m le _ e = e
 
 wider_lines : (n m : ℕ) → n ≤ m → (lines : List Line) → list_all (λ line. event_in_range n line.event) lines ≡ true
     → list_all (λ line. event_in_range m line.event) lines ≡ true
@@ -178,28 +174,36 @@ kept_event number above words keeps =
           (and_from (event_in_range (length above.clients) event) true fine refl);
     })
 
-kept_words : (number : ℕ) (above : SchedulePlan) (words : List (List ℕ)) → Keeps above → IfOk (read_words number above words) Keeps
-kept_words number above [] keeps = tt
-kept_words number above (verb ∷ words) keeps =
-    either Keeps (bytes_eq verb (codes "client")) (read_client words above) (with_event number above (verb ∷ words))
-    (behind PlanFine Keeps (plan_of words) (with_plan above) (plan_fine words) (λ plan fine. kept_client above plan keeps fine))
-    (kept_event number above (verb ∷ words) keeps)
+-- What each client's line and each other line keeps, all lines in turn keep.
+module _ (P : SchedulePlan → Type 0) (client : (above : SchedulePlan) (words : List (List ℕ)) → P above → IfOk (plan_of words >>= with_plan above) P)
+    (event : (number : ℕ) (above : SchedulePlan) (words : List (List ℕ)) → P above → IfOk (with_event number above words) P) where
+  words_keep : (number : ℕ) (above : SchedulePlan) (words : List (List ℕ)) → P above → IfOk (read_words number above words) P
+  words_keep number above [] p = tt
+  words_keep number above (verb ∷ words) p =
+      either P (bytes_eq verb (codes "client")) (plan_of words >>= with_plan above) (with_event number above (verb ∷ words)) (client above words p)
+      (event number above (verb ∷ words) p)
 
-kept_line : (number : ℕ) (above : SchedulePlan) (line : List ℕ) → Keeps above → IfOk (read_line number above line) Keeps
-kept_line number above line keeps =
-    either Keeps (is_passed_over line) (Ok above) (read_words number above (slice_split (λ c. eqb c 32) line)) keeps
-    (kept_words number above (slice_split (λ c. eqb c 32) line) keeps)
+  line_keeps : (number : ℕ) (above : SchedulePlan) (line : List ℕ) → P above → IfOk (read_line number above line) P
+  line_keeps number above line p =
+      either P (is_passed_over line) (Ok above) (read_words number above (slice_split (λ c. eqb c 32) line)) p
+      (words_keep number above (slice_split (λ c. eqb c 32) line) p)
 
-goes_kept : (number : ℕ) (next : SchedulePlan → Result SchedulePlan BadText) (r : Result SchedulePlan Why) → IfOk r Keeps
-    → ((content : SchedulePlan) → Keeps content → IfOk (next content) Keeps) → IfOk (reads_on number next r) Keeps
-goes_kept number next (Ok content) keeps f = f content keeps
-goes_kept number next (Err why) keeps f = tt
+  goes_on : (number : ℕ) (next : SchedulePlan → Result SchedulePlan BadText) (r : Result SchedulePlan Why) → IfOk r P
+      → ((content : SchedulePlan) → P content → IfOk (next content) P) → IfOk (reads_on number next r) P
+  goes_on number next (Ok content) p f = f content p
+  goes_on number next (Err why) p f = tt
+
+  pub lines_keep : (number : ℕ) (above : SchedulePlan) (lines : List (List ℕ)) → P above → IfOk (read_lines number above lines) P
+  lines_keep number above [] p = p
+  lines_keep number above (line ∷ lines) p =
+      goes_on number (λ content. read_lines (number + 1) content lines) (read_line number above line) (line_keeps number above line p)
+      (λ content q. lines_keep (number + 1) content lines q)
 
 kept_lines : (number : ℕ) (above : SchedulePlan) (lines : List (List ℕ)) → Keeps above → IfOk (read_lines number above lines) Keeps
-kept_lines number above [] keeps = keeps
-kept_lines number above (line ∷ lines) keeps =
-    goes_kept number (λ content. read_lines (number + 1) content lines) (read_line number above line) (kept_line number above line keeps)
-    (λ content kept. kept_lines (number + 1) content lines kept)
+kept_lines number above lines keeps =
+    lines_keep Keeps
+    (λ above words keeps. behind PlanFine Keeps (plan_of words) (with_plan above) (plan_fine words) (λ plan fine. kept_client above plan keeps fine))
+    kept_event number above lines keeps
 
 kept_at_first : Keeps nothing_yet
 kept_at_first = record { few = omega arith; apart = refl; clients_in_range = refl; lines_in_range = refl }

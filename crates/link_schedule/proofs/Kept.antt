@@ -8,7 +8,7 @@ use Rattle.link_schedule.specs.declared.why.Why.{Why}
 use Rattle.link_schedule.specs.declared.why.Why.TheVariants.{Form, NoClient}
 use Rattle.uip_wire.specs.Numerals.{is_numeral, numeral}
 use Rattle.link_schedule.specs.Numbers.{◌>>=◌, address, in_range, named, within}
-use Rattle.link_schedule.specs.Events.{bare, bare_forms, by_verb, event_of_words, forms_with_one, with_one, with_two, with_three, window, damage}
+use Rattle.link_schedule.specs.Events.{bare, bare_forms, by_verb, event_of_words, forms_with_one, with_one, window, damage}
 use Rattle.link_schedule.specs.Kept.{event_in_range, is_between}
 
 -- either answer of a choice
@@ -92,14 +92,14 @@ with_one_fine clients verb word =
       ),
     )
 
-with_two_fine : (clients : ℕ) (verb one two : List ℕ) → IfOk (with_two clients verb one two) (Fine clients)
+with_two_fine : (clients : ℕ) (verb one two : List ℕ) → IfOk (event_of_words clients (verb ∷ one ∷ two ∷ [])) (Fine clients)
 with_two_fine clients verb one two =
     either (Fine clients) (bytes_eq verb (codes "window")) (window clients one two) (Err Form)
     (behind (λ w. Unit {0}) (Fine clients) (within 0 65535 two) (λ w. named clients one >>= λ c. Ok (Window c w)) (anything (within 0 65535 two))
     (λ w u. of_client clients one (λ c. Window c w) (λ c e. e)))
     tt
 
-with_three_fine : (clients : ℕ) (verb one two three : List ℕ) → IfOk (with_three verb one two three) (Fine clients)
+with_three_fine : (clients : ℕ) (verb one two three : List ℕ) → IfOk (event_of_words clients (verb ∷ one ∷ two ∷ three ∷ [])) (Fine clients)
 with_three_fine clients verb one two three =
     either (Fine clients) (bytes_eq verb (codes "damage")) (damage one two three) (Err Form)
     (behind (λ k. Unit {0}) (Fine clients) (within 0 4294967295 one)

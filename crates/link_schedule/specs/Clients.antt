@@ -23,13 +23,9 @@ side_of addr port mss seg = do
   seg' ← within 1 1460 seg
   Ok (record { addr = addr'; port = record { 0 = port' }; mss = mss'; seg = seg' })
 
--- a byte that is seen
-abbrev pub is_seen : ℕ → Bool
-is_seen c = nat_le 33 c && nat_le c 126
-
--- one word of such bytes, so that the request has 4096 bytes at most
+-- one word of bytes that are seen, so that the request has 4096 bytes at most
 abbrev pub is_target : List ℕ → Bool
-is_target word = nat_le 1 (length word) && nat_le (length word) 4079 && list_all is_seen word
+is_target word = nat_le 1 (length word) && nat_le (length word) 4079 && list_all (λ c. nat_le 33 c && nat_le c 126) word
 
 -- `get TARGET`
 abbrev pub got : List ℕ → Result (List ℕ) Why

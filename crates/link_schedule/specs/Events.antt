@@ -37,16 +37,14 @@ forms_with_one clients word =
 unfoldable pub with_one : ℕ → List ℕ → List ℕ → Result Event Why
 with_one clients verb word = by_verb verb (forms_with_one clients word)
 
+-- `window C W`
 abbrev pub window : ℕ → List ℕ → List ℕ → Result Event Why
 window clients client size = do
   w ← within 0 65535 size
   c ← named clients client
   Ok (Window c w)
 
--- `window C W`
-abbrev pub with_two : ℕ → List ℕ → List ℕ → List ℕ → Result Event Why
-with_two clients verb one two = if bytes_eq verb (codes "window") then window clients one two else Err Form
-
+-- `damage K I X`
 abbrev pub damage : List ℕ → List ℕ → List ℕ → Result Event Why
 damage number place change = do
   k ← within 0 4294967295 number
@@ -54,14 +52,10 @@ damage number place change = do
   x ← within 1 255 change
   Ok (Damage k i x)
 
--- `damage K I X`
-abbrev pub with_three : List ℕ → List ℕ → List ℕ → List ℕ → Result Event Why
-with_three verb one two three = if bytes_eq verb (codes "damage") then damage one two three else Err Form
-
 -- the words of a line, where so many clients stand above it
 abbrev pub event_of_words : ℕ → List (List ℕ) → Result Event Why
 event_of_words clients (verb ∷ []) = bare verb
 event_of_words clients (verb ∷ one ∷ []) = with_one clients verb one
-event_of_words clients (verb ∷ one ∷ two ∷ []) = with_two clients verb one two
-event_of_words clients (verb ∷ one ∷ two ∷ three ∷ []) = with_three verb one two three
+event_of_words clients (verb ∷ one ∷ two ∷ []) = by_verb verb ((codes "window", window clients one two) ∷ [])
+event_of_words clients (verb ∷ one ∷ two ∷ three ∷ []) = by_verb verb ((codes "damage", damage one two three) ∷ [])
 event_of_words clients words = Err Form

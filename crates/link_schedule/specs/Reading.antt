@@ -38,15 +38,11 @@ with_line above number event = record { clients = above.clients; lines = above.l
 abbrev pub with_event : ℕ → SchedulePlan → List (List ℕ) → Result SchedulePlan Why
 with_event number above words = event_of_words (length above.clients) words >>= λ event. Ok (with_line above number event)
 
--- the words behind `client`
-abbrev pub read_client : List (List ℕ) → SchedulePlan → Result SchedulePlan Why
-read_client words above = plan_of words >>= with_plan above
-
 -- the words of a line under the lines above it: `client` and what makes one, or what happens
 abbrev pub read_words : ℕ → SchedulePlan → List (List ℕ) → Result SchedulePlan Why
 read_words number above [] = Err Form
 read_words number above (verb ∷ words) =
-    if bytes_eq verb (codes "client") then read_client words above else with_event number above (verb ∷ words)
+    if bytes_eq verb (codes "client") then plan_of words >>= with_plan above else with_event number above (verb ∷ words)
 
 -- an empty line, or a remark
 abbrev pub is_passed_over : List ℕ → Bool

@@ -8,8 +8,9 @@ use Rattle.link_schedule.specs.declared.refusal.Refusal.{Refusal}
 use Rattle.link_schedule.specs.declared.refusal.Refusal.TheVariants.{Faulty, NoMemory}
 use Rattle.link_schedule.specs.declared.read_schedule.ReadSchedule.{ReadSchedule}
 use Rattle.link_schedule.specs.declared.read_schedule.ReadSchedule.TheVariants.{Bad, NoMemory as NoRoom}
-use Rattle.link_schedule.specs.Clients.{Plan}
-use Rattle.link_schedule.specs.Reading.{SchedulePlan}
+use Rattle.link_schedule.specs.Numbers.{◌>>=◌}
+use Rattle.link_schedule.specs.Clients.{Plan, plan_of}
+use Rattle.link_schedule.specs.Reading.{SchedulePlan, with_plan}
 
 abbrev pub request_at : Vec ℕ → List ℕ
 request_at request = request.items
@@ -44,6 +45,10 @@ ClientGives result after meant before =
 abbrev pub EventGives : Result (Unit {0}) Refusal → ℕ → List Line → (SchedulePlan → Result SchedulePlan Why) → List Line → Type 0
 EventGives result count after meant before =
     (clients : List ClientPlan) → length clients ≡ count → LineGives result (content_of clients after) (meant (content_of clients before))
+
+-- the words behind `client`
+abbrev pub read_client : List (List ℕ) → SchedulePlan → Result SchedulePlan Why
+read_client words above = plan_of words >>= with_plan above
 
 -- a line's refusal, with its number
 abbrev pub told : ℕ → Refusal → ReadSchedule

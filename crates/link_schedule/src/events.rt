@@ -1,7 +1,7 @@
-ghost use Rattle.std.specs.Prelude.{◌≡◌, ◌<◌, map};
+ghost use Rattle.std.specs.Prelude.{◌≡◌, ◌<◌, [], ◌∷◌, map};
 ghost use Rattle.std.specs.Str.{bytes_eq};
 ghost use Rattle.link_schedule.specs.Events.{bare as bare_meant, damage as damage_meant, event_of_words as event_meant};
-ghost use Rattle.link_schedule.specs.Events.{window as window_meant, with_one as one_meant, with_three as three_meant, with_two as two_meant};
+ghost use Rattle.link_schedule.specs.Events.{window as window_meant, with_one as one_meant};
 
 use crate::event::Event;
 use crate::numbers::{addressed, named, within};
@@ -87,7 +87,7 @@ fn with_one(clients: usize, verb: &[u8], word: &[u8]) -> Result<Event, Why>
 /// A verb and two words.
 fn with_two(clients: usize, verb: &[u8], one: &[u8], two: &[u8]) -> Result<Event, Why>
     requires { clients < 256 }
-    ensures { result ≡ two_meant clients verb.now one.now two.now }
+    ensures { result ≡ event_meant clients (verb.now ∷ one.now ∷ two.now ∷ []) }
 {
     if is_word(verb, "window") {
         return window(clients, one, two);
@@ -107,7 +107,7 @@ fn window(clients: usize, client: &[u8], size: &[u8]) -> Result<Event, Why>
 
 /// A verb and three words.
 fn with_three(verb: &[u8], one: &[u8], two: &[u8], three: &[u8]) -> Result<Event, Why>
-    ensures { result ≡ three_meant verb.now one.now two.now three.now }
+    ensures { result ≡ event_meant 0 (verb.now ∷ one.now ∷ two.now ∷ three.now ∷ []) }
 {
     if is_word(verb, "damage") {
         return damage(one, two, three);

@@ -1,9 +1,9 @@
 ghost use Rattle.std.specs.Prelude.{◌≡◌, ◌<◌, ◌≤◌, ◌+◌, ◌==◌, length, map, vec_len};
 ghost use Rattle.std.specs.List.{list_any, slice_split};
 ghost use Rattle.link_schedule.specs.Clients.{Plan};
-ghost use Rattle.link_schedule.specs.Reading.{is_passed_over as passed_over, meets as meeting, read_line as line_meant, read_client as client_read, read_words as words_meant};
+ghost use Rattle.link_schedule.specs.Reading.{is_passed_over as passed_over, meets as meeting, read_line as line_meant, read_words as words_meant};
 ghost use Rattle.link_schedule.specs.Reading.{with_plan as client_meant, with_event as event_meant};
-ghost use Rattle.link_schedule.specs.Stands.{ClientGives, EventGives, LineGives, content_of, plan_at};
+ghost use Rattle.link_schedule.specs.Stands.{ClientGives, EventGives, LineGives, content_of, plan_at, read_client as client_read};
 
 use crate::client_plan::ClientPlan;
 use crate::events::{event_of, is_word};

@@ -1,7 +1,7 @@
-ghost use Rattle.std.specs.Prelude.{◌≡◌, ◌++◌, codes, map};
+ghost use Rattle.std.specs.Prelude.{◌≡◌, ◌++◌, ◌&&◌, codes, map, nat_le};
 ghost use Rattle.std.specs.List.{list_all};
 ghost use Rattle.hex.specs.Hex.{decode_of};
-ghost use Rattle.link_schedule.specs.Clients.{got as got_meant, is_seen as seen_meant, is_target as target_meant, plan_of as plan_meant, plan_with as parts_meant};
+ghost use Rattle.link_schedule.specs.Clients.{got as got_meant, is_target as target_meant, plan_of as plan_meant, plan_with as parts_meant};
 ghost use Rattle.link_schedule.specs.Clients.{raw as raw_meant, request_of as request_meant};
 ghost use Rattle.link_schedule.specs.Stands.{GivesAs, plan_at, request_at};
 
@@ -90,7 +90,7 @@ fn is_target(word: &[u8]) -> bool
 }
 
 fn all_seen(word: &[u8]) -> bool
-    ensures { result ≡ list_all seen_meant word.now }
+    ensures { result ≡ list_all (λ c. nat_le 33 c && nat_le c 126) word.now }
 {
     word.iter().all(|byte| *byte >= 33 && *byte <= 126)
 }

@@ -1,6 +1,8 @@
 -- Lines that are refused for want of numbers alone, and what they leave.
 use Rattle.std.specs.List.{All, range_with_len}
 use Rattle.std.proofs.Common.{◌≡◌, ℕ, zero, suc, ◌+◌, ◌-◌, ◌<◌, ◌≤◌, ◌%◌, Bool, true, false, List, [], ◌∷◌, ◌++◌, length, map, set, filter, replicate, reverse, Option, Some, None, Result, Ok, Err, slice_get, refl, sym, ap, subst, ◌∙◌, arith, inl, inr, eqb}
+use Rattle.std.specs.Option.{option_map_or, option_or}
+use Rattle.link_schedule.specs.Numbers.{◌>>=◌}
 use Rattle.std.specs.Prelude.{if◌then◌else◌, flat_map, nat_lt, option_map, ⊤}
 use Rattle.std.proofs.lemmas.Option.{slice_get-map}
 use Rattle.uip_wire.specs.declared.addr.Addr.{Addr}
@@ -15,13 +17,14 @@ use Rattle.tcp_segment.specs.Segments.{PlainSegment}
 use Rattle.link_client.specs.Client.{AbstractClient, ClientStep, client_opens, opens_by}
 use Rattle.link_client.specs.declared.client_state.ClientState.TheVariants as Is
 use Rattle.link_world.specs.History.{Planned, fresh_side, opening_world}
-use Rattle.link_world.specs.Acts.{and_then, client_acts, does, done_or, is_idle, most_datagrams, named_fault, needs, no_datagram, or_full, runs, state_at}
-use Rattle.link_world.specs.Schedule.{BadLine, acts_of, goes_on_with, mark_after, numbers_from, past_mark, plays_from, plays_line, with_mark}
-use Rattle.link_world.specs.World.{Side, World, posts_of_client, with_client, with_side}
+use Rattle.link_world.specs.Acts.{does, is_idle, named_fault, needs, runs, state_at}
+use Rattle.link_world.specs.Schedule.{BadLine, acts_of, mark_after, past_mark, plays_from, plays_line}
+use Rattle.link_world.specs.World.{Sent, Side, World, client_stepped, posts_of_client, with_client, with_side}
 use Rattle.link_world.specs.declared.act.Act.{Act}
 use Rattle.link_world.specs.declared.step_fault.StepFault.{StepFault}
-use Rattle.link_world.specs.declared.step_fault.StepFault.TheVariants.{AlreadyOpen, Full, NotOpen}
+use Rattle.link_world.specs.declared.step_fault.StepFault.TheVariants.{AlreadyOpen, Full, NoDatagram, NotOpen}
 use Rattle.link_world.proofs.Basics.{choose}
+use Rattle.link_world.proofs.Doing.{goes_on_with, with_mark}
 use Rattle.link_world.proofs.Fits.{all_cons, all_nil}
 use Rattle.link_world.proofs.Tables.{get_set_other, get_set_same}
 use Rattle.link_world.proofs.Growing.{Grows, Spoken, does_grows, grows_not, grows_on}
@@ -60,8 +63,8 @@ module _ (m : Meaning) (served : ℕ → Bool) where
   runs_fine : (all : List Act) (w v : World) → Grows w v → AreFree w all → Fine (Grows w) (runs m served all v)
   runs_fine [] w v g free = g
   runs_fine (act ∷ more) w v g free =
-      subst (λ (o : Option StepFault). Fine (Grows w) (and_then (runs m served more) (done_or (does m served v act) (or_full v act o)))) (sym (free.0 v g))
-      (choose (λ (o : Option StepFault). Fine (Grows w) (and_then (runs m served more) (done_or (does m served v act) o))) (nat_lt most_datagrams (length v.sent + needs act)) (Some Full) None
+      subst (λ (o : Option StepFault). Fine (Grows w) (option_map_or Err (option_or o (if nat_lt 65535 (length v.sent + needs act) then Some Full else None)) (Ok (does m served v act)) >>= runs m served more)) (sym (free.0 v g))
+      (choose (λ (o : Option StepFault). Fine (Grows w) (option_map_or Err o (Ok (does m served v act)) >>= runs m served more)) (nat_lt 65535 (length v.sent + needs act)) (Some Full) None
       (λ e. refl)
       (λ e. runs_fine more w (does m served v act) (grows_on w v (does m served v act) g (does_grows m served v act)) free.1))
 
@@ -92,7 +95,7 @@ give_free w zero is = λ v g. absurd (omega (arith, is.0))
 give_free w (suc k) is = λ v g.
     let le = is.1 in
     let there = there_is v.sent k (omega (arith, le, g.sent)) in
-    ap no_datagram there.1
+    ap (λ (o : Option Sent). option_map_or {T = Sent} (λ e. None) o (Some NoDatagram)) there.1
 
 gives_free : (w : World) (ks : List ℕ) → All (IsWithin (length w.sent)) ks → AreFree w (map Act.Give ks)
 gives_free w [] all = tt
@@ -110,10 +113,10 @@ again_free w k spoken = λ v g. choose (λ (o : Option StepFault). o ≡ None) (
 
 -- ---- the lines of a workload
 
-numbers_within : (n start count : ℕ) → 1 ≤ start → count ≤ n + 1 - start → All (IsWithin n) (numbers_from start count)
+numbers_within : (n start count : ℕ) → 1 ≤ start → count ≤ n + 1 - start → All (IsWithin n) (range_with_len start count)
 numbers_within n start zero least most = all_nil (IsWithin n)
 numbers_within n start (suc count) least most =
-    all_cons (IsWithin n) start (numbers_from (start + 1) count) (least, omega (arith, most)) (numbers_within n (start + 1) count (omega arith) (omega (arith, most)))
+    all_cons (IsWithin n) start (range_with_len (start + 1) count) (least, omega (arith, most)) (numbers_within n (start + 1) count (omega arith) (omega (arith, most)))
 
 past_within : (w : World) → All (IsWithin (length w.sent)) (past_mark w)
 past_within w = numbers_within (length w.sent) (w.mark + 1) (length w.sent - w.mark) (omega arith) (omega arith)
@@ -224,11 +227,12 @@ module _ (m : Meaning) (served : ℕ → Bool) (n : ℕ) where
       let free : named_fault w (Act.Opens (suc j)) ≡ None =
       ap (λ (o : Option Side). if is_idle (state_at o) then None else Some AlreadyOpen) was.1 ∙ ap (λ st. if is_idle st then None else Some AlreadyOpen) was.2 in
       let sides : (does m served w (Act.Opens (suc j))).sides ≡ set w.sides j (with_client side took.client) =
-      ap (λ (o : Option Side). (client_acts w (suc j) client_opens o).sides) was.1 ∙ same_sides (with_side w (suc j) (with_client side took.client)) (suc j) took.sent in
+      ap (λ (o : Option Side). (option_map_or (λ s. client_stepped w (suc j) s (client_opens s.client)) o w).sides) was.1 ∙ same_sides (with_side w (suc j) (with_client side took.client)) (suc j) took.sent in
       fine_mark P w.mark (runs m served (Act.Opens (suc j) ∷ []) w)
-      (subst (λ (o : Option StepFault). Fine (λ v. P (record v { mark = w.mark })) (and_then (runs m served []) (done_or (does m served w (Act.Opens (suc j))) (or_full w (Act.Opens (suc j)) o)))) (sym free)
-      (choose (λ (o : Option StepFault). Fine (λ v. P (record v { mark = w.mark })) (and_then (runs m served []) (done_or (does m served w (Act.Opens (suc j))) o)))
-      (nat_lt most_datagrams (length w.sent + needs (Act.Opens (suc j)))) (Some Full) None
+      (subst (λ (o : Option StepFault). Fine (λ v. P (record v { mark = w.mark })) (option_map_or Err (option_or o (if nat_lt 65535 (length w.sent + 1) then Some Full else None)) (Ok (does m served w (Act.Opens (suc j)))) >>= runs m served []))
+      (sym free)
+      (choose (λ (o : Option StepFault). Fine (λ v. P (record v { mark = w.mark })) (option_map_or Err o (Ok (does m served w (Act.Opens (suc j)))) >>= runs m served []))
+      (nat_lt 65535 (length w.sent + 1)) (Some Full) None
       (λ e. refl)
       (λ e. opened_one n j w side took was.1 (opens_spoken side.client was.2) is (record (does m served w (Act.Opens (suc j))) { mark = w.mark }) sides)))
 

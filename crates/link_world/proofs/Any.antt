@@ -1,4 +1,5 @@
 -- The world's acts, for any fact G about one client: what the acts do to the sides, the table and the list is done once.
+use Rattle.std.specs.Option.{option_map_or}
 use Rattle.std.specs.List.{All}
 use Rattle.std.proofs.Common.{◌≡◌, ℕ, zero, suc, Bool, true, false, not, ◌&&◌, List, [], ◌∷◌, ◌++◌, length, map, set, refl, sym, ap, ◌∙◌, subst, arith, Option, Some, None, slice_get, slice_index_or, position, eqb, if◌then◌else◌}
 use Rattle.tcp_segment.specs.Segments.{PlainSegment, has_syn, has_fin, has_rst}
@@ -20,15 +21,16 @@ use Rattle.uip_node.specs.Counters.{initial_number, ticks_of}
 use Rattle.uip_node.specs.Node.{AbstractNode, NodeStep, reply_of, gone_by, moment, happened, slot_for_syn, opens_in, opens, refuses, from_stranger, arrives_at, step, passes}
 use Rattle.link_client.specs.declared.setup.Setup.{Setup}
 use Rattle.link_client.specs.Client.{AbstractClient, ClientStep, client_takes, client_opens, client_again, client_closes, client_aborts, tells_window}
-use Rattle.link_world.specs.World.{World, Side, Sent, Content, numbered, client_sockets, buries, buries_in, addressed, epoch_at, epoch_of, posts, posts_reply, node_stepped, node_handles, with_client, with_side, posts_of_client, client_stepped, marked, gives_node, gives_client, delivers, hands_to, is_clean}
+use Rattle.link_world.specs.World.{World, Side, Sent, Content, numbered, client_sockets, buries, buries_in, addressed, epoch, epoch_of, posts, posts_reply, node_stepped, node_handles, with_client, with_side, posts_of_client, client_stepped, marked, delivers, is_clean, era_of}
 use Rattle.link_world.specs.World.Content.{OfSegment, OfPing, OfEcho}
 use Rattle.link_world.specs.Acts.{client_acts, handles_all, does}
 use Rattle.link_world.specs.declared.act.Act.{Act}
 use Rattle.link_world.specs.declared.who.Who.{Who}
 use Rattle.link_world.specs.declared.who.Who.TheVariants.{FromClient, FromNode, Pinger}
-use Rattle.link_world.specs.History.{era, era_of, serving}
+use Rattle.link_world.specs.History.{era, serving}
 use Rattle.link_world.specs.Headline.{IsLoss}
 use Rattle.link_world.proofs.Basics.{both_ways, choose, and_true, only_some}
+use Rattle.link_world.proofs.Doing.{at_number, where_there}
 use Rattle.link_world.proofs.Good.{seg, segment_in, from, to}
 use Rattle.link_world.proofs.SocketPairs.{same_is, flip, apart, serves_not, serves_dead, serves_yes, not_peer}
 use Rattle.link_world.proofs.Tables.{find_is, get_set_same, set_same, set_past, index_of, index_none, Single, Free, get_set, single_set, serving_is, serving_free, serving_new, serving_gone, serving_other}
@@ -147,7 +149,7 @@ module _ (m : Meaning) (G : ℕ → Side → Connection → List Sent → Type 0
               both_ways (same_sockets peer (client_sockets side))
               (λ b. let p : peer ≡ client_sockets side = same_is peer (client_sockets side) b in
               let t : addressed 1 peer sides ≡ suc k = addressed_finds peer k side sides set_apart y p in
-              let stamp : epoch_of (FromNode (addressed 1 peer sides)) sides ≡ length side.past = ap (λ n. epoch_at (numbered sides n)) t ∙ ap epoch_at y in
+              let stamp : epoch_of (FromNode (addressed 1 peer sides)) sides ≡ length side.past = ap (λ n. option_map_or epoch (numbered sides n) 0) t ∙ ap (λ o. option_map_or epoch o 0) y in
               let h : G k side (serving (client_sockets side) table) (w.sent ++ entry (to k) side (ticks_of r.node.past) id speech ∷ []) =
               subst (λ u. G k side (serving (client_sockets side) table) (w.sent ++ entry (to k) u (ticks_of r.node.past) id speech ∷ [])) bu.is
               (at (w.sent ++ entry (to k) (buried r.gone bu.from) (ticks_of r.node.past) id speech ∷ []) k side bu.from bu.is ((e.each k bu.from bu.get).says speech said (same ∙ sym p) (ticks_of r.node.past) id)) in
@@ -343,7 +345,7 @@ module _ (m : Meaning) (G : ℕ → Side → Connection → List Sent → Type 0
   client_framed w n side base took g at q setup t =
       let new : Side = with_client base took.client in
       let keeps : client_sockets new ≡ client_sockets side = ap (λ (z : Setup). let x : Sockets = record { peer = z.addr; peer_port = z.port; own_port = z.server_port } in x) setup ∙ q in
-      let stamp : epoch_of (FromClient (suc n)) (set w.sides n new) ≡ length base.past = ap epoch_at (get_set_same w.sides n side new at) in
+      let stamp : epoch_of (FromClient (suc n)) (set w.sides n new) ≡ length base.past = ap (λ o. option_map_or epoch o 0) (get_set_same w.sides n side new at) in
       sent_framed w n side new took.sent g at keeps t.quiet
       (λ s e. let it : List Sent = w.sent ++ entry (FromClient (suc n)) new (ticks_of w.node.past) 0 (speech false s) ∷ [] in
       subst (λ l. Framed (record (with_side w (suc n) new) { sent = w.sent ++ record { who = FromClient (suc n); tick = ticks_of w.node.past; epoch = l; again = false; content = OfSegment 0 s } ∷ [] })) (sym stamp)
@@ -459,9 +461,9 @@ module _ (m : Meaning) (G : ℕ → Side → Connection → List Sent → Type 0
             | finds_none f free ↦ subst (λ x. Framed (node_stepped w (arrives_at m served w.node (client_sockets side) (seg e) x))) (sym f) (stranger_framed free)
           ]
 
-    to_node : (w : World) (n k j : ℕ) (e : Sent) (s : PlainSegment) (side : Option Side) → Framed w → FitWorld w → slice_get w.sides n ≡ side → slice_get w.sent j ≡ Some e → e.who ≡ from n → seg e ≡ s → Framed (gives_node m served w (suc n) k e s side)
-    to_node w n k j e s None g fw at sent who q = g
-    to_node w n k j e s (Some side) g fw at sent who q =
+    to_node : (w : World) (n k j : ℕ) (e : Sent) (s : PlainSegment) (side : Side) → Framed w → FitWorld w → slice_get w.sides n ≡ Some side → slice_get w.sent j ≡ Some e → e.who ≡ from n → seg e ≡ s
+        → Framed (node_handles m served (with_side w (suc n) (marked side k e)) (Arrived (client_sockets side) s))
+    to_node w n k j e s side g fw at sent who q =
         let v : World = with_side w (suc n) (marked side k e) in
         let vg : Framed v = marked_framed w n side k e g at in
         subst (λ x. Framed (node_handles m served v (Arrived (client_sockets side) x))) q
@@ -470,9 +472,9 @@ module _ (m : Meaning) (G : ℕ → Side → Connection → List Sent → Type 0
     eras_fit : (w : World) (n : ℕ) (side : Side) → FitWorld w → slice_get w.sides n ≡ Some side → (o : ℕ) → All IsMoment (era side.past (serving (client_sockets side) w.node.connections) o).captures
     eras_fit w n side f at o = era_fits side.past (serving (client_sockets side) w.node.connections) (f.sides n side at).eras (serving_fits (client_sockets side) w.node.connections f.node.conns) o
 
-    to_client : (w : World) (n k j : ℕ) (e : Sent) (s : PlainSegment) (side : Option Side) → Framed w → FitWorld w → slice_get w.sides n ≡ side → slice_get w.sent j ≡ Some e → e.who ≡ to n → seg e ≡ s → Framed (gives_client w (suc n) k e s side)
-    to_client w n k j e s None g fw at sent who q = g
-    to_client w n k j e s (Some side) g fw at sent who q =
+    to_client : (w : World) (n k j : ℕ) (e : Sent) (s : PlainSegment) (side : Side) → Framed w → FitWorld w → slice_get w.sides n ≡ Some side → slice_get w.sent j ≡ Some e → e.who ≡ to n → seg e ≡ s
+        → Framed (client_stepped w (suc n) (marked side k e) (client_takes side.client s))
+    to_client w n k j e s side g fw at sent who q =
         subst (λ x. Framed (client_stepped w (suc n) (marked side k e) (client_takes side.client x))) q
         (client_framed w n side (marked side k e) (client_takes side.client (seg e)) g at refl (takes_setup side.client (seg e)) (clients.took w n j side (serving (client_sockets side) w.node.connections) k e (eras_fit w n side fw at) sent who (g.each n side at)))
 
@@ -481,9 +483,13 @@ module _ (m : Meaning) (G : ℕ → Side → Connection → List Sent → Type 0
 
     delivers_framed : (w : World) (k j : ℕ) (e : Sent) (who : Who) (content : Content) → Framed w → FitWorld w → slice_get w.sent j ≡ Some e → e.who ≡ who → e.content ≡ content → Framed (delivers m served w k e who content)
     delivers_framed w k j e (FromClient zero) (OfSegment id s) g fw sent q r = g
-    delivers_framed w k j e (FromClient (suc n)) (OfSegment id s) g fw sent q r = to_node w n k j e s (slice_get w.sides n) g fw refl sent q (ap segment_in r)
+    delivers_framed w k j e (FromClient (suc n)) (OfSegment id s) g fw sent q r =
+        where_there Framed (λ side. node_handles m served (with_side w (suc n) (marked side k e)) (Arrived (client_sockets side) s)) (slice_get w.sides n) w g
+        (λ side at. to_node w n k j e s side g fw at sent q (ap segment_in r))
     delivers_framed w k j e (FromNode zero) (OfSegment id s) g fw sent q r = g
-    delivers_framed w k j e (FromNode (suc n)) (OfSegment id s) g fw sent q r = to_client w n k j e s (slice_get w.sides n) g fw refl sent q (ap segment_in r)
+    delivers_framed w k j e (FromNode (suc n)) (OfSegment id s) g fw sent q r =
+        where_there Framed (λ side. client_stepped w (suc n) (marked side k e) (client_takes side.client s)) (slice_get w.sides n) w g
+        (λ side at. to_client w n k j e s side g fw at sent q (ap segment_in r))
     delivers_framed w k j e Pinger (OfPing datagram) g fw sent q r = echo_framed w datagram g
     delivers_framed w k j e (FromClient n) (OfPing datagram) g fw sent q r = g
     delivers_framed w k j e (FromClient n) (OfEcho request) g fw sent q r = g
@@ -492,21 +498,10 @@ module _ (m : Meaning) (G : ℕ → Side → Connection → List Sent → Type 0
     delivers_framed w k j e Pinger (OfSegment id s) g fw sent q r = g
     delivers_framed w k j e Pinger (OfEcho request) g fw sent q r = g
 
-    gives_framed : (w : World) (k j : ℕ) (e : Option Sent) → Framed w → FitWorld w → slice_get w.sent j ≡ e → Framed (hands_to m served w k e)
-    gives_framed w k j None g fw sent = g
-    gives_framed w k j (Some e) g fw sent = delivers_framed w k j e e.who e.content g fw sent refl refl
-
-    number_framed : (w : World) (k : ℕ) → Framed w → FitWorld w → Framed (hands_to m served w k (numbered w.sent k))
-    number_framed w zero g fw = g
-    number_framed w (suc j) g fw = gives_framed w (suc j) j (slice_get w.sent j) g fw refl
-
-    own_framed : (w : World) (n : ℕ) (act : AbstractClient → ClientStep) (side : Option Side) → Own act → ((c : AbstractClient) → SameSetup c (act c)) → Framed w → FitWorld w → slice_get w.sides n ≡ side → Framed (client_acts w (suc n) act side)
-    own_framed w n act None own s g fw at = g
-    own_framed w n act (Some side) own s g fw at = client_framed w n side side (act side.client) g at refl (s side.client) (own w n side (serving (client_sockets side) w.node.connections) (eras_fit w n side fw at) (g.each n side at))
-
-    act_framed : (w : World) (number : ℕ) (act : AbstractClient → ClientStep) → Own act → ((c : AbstractClient) → SameSetup c (act c)) → Framed w → FitWorld w → Framed (client_acts w number act (numbered w.sides number))
-    act_framed w zero act own s g fw = g
-    act_framed w (suc n) act own s g fw = own_framed w n act (slice_get w.sides n) own s g fw refl
+    act_framed : (w : World) (number : ℕ) (act : AbstractClient → ClientStep) → Own act → ((c : AbstractClient) → SameSetup c (act c)) → Framed w → FitWorld w → Framed (client_acts w number act)
+    act_framed w number act own s g fw =
+        at_number Framed (λ i side. client_stepped w i side (act side.client)) w.sides number w g
+        (λ n side at. client_framed w n side side (act side.client) g at refl (s side.client) (own w n side (serving (client_sockets side) w.node.connections) (eras_fit w n side fw at) (g.each n side at)))
 
     -- the periodic call of a slot
     idle_slot : (w : World) (i : ℕ) (c : Connection) → set w.node.connections i c ≡ w.node.connections → is_live c.state ≡ false → Framed w → Framed (node_stepped w (happened m w.node (Periodic i) i c (leaves c w.node.numbers Step.Drop)))
@@ -551,6 +546,7 @@ module _ (m : Meaning) (G : ℕ → Side → Connection → List Sent → Type 0
     does_framed w (Act.Aborts n) pl g fw = act_framed w n client_aborts clients.aborts aborts_setup g fw
     does_framed w (Act.Window n x) pl g fw = act_framed w n (tells_window x) (clients.windows x) (λ c. refl) g fw
     does_framed w (Act.Ping source) pl g fw = posts_aside w Pinger false _ g (λ k z. absurd (cc)) (λ k z. absurd (cc))
-    does_framed w (Act.Give k) pl g fw = number_framed w k g fw
+    does_framed w (Act.Give k) pl g fw =
+        at_number Framed (λ i e. delivers m served w i e e.who e.content) w.sent k w g (λ n e at. delivers_framed w (suc n) n e e.who e.content g fw at refl refl)
     does_framed w (Act.Damage k at mask) pl g fw = loss_framed w (does m served w (Act.Damage k at mask)) pl g
     does_framed w Act.Tick pl g fw = slots_framed (0 ∷ 1 ∷ 2 ∷ 3 ∷ 4 ∷ 5 ∷ 6 ∷ 7 ∷ 8 ∷ 9 ∷ []) w g fw

@@ -85,21 +85,11 @@ nothing_waits c e = none (ltb 0 c.out) (fin_out c.fin) refl (not-true (has_outst
 
 receiving_late : (st : ClientState) → is_receiving st ≡ true → is_early st ≡ true → ⊥
 receiving_late Is.Idle r e = absurd (cc)
-receiving_late Is.Opening r e = absurd (cc)
-receiving_late Is.Opened r e = absurd (cc)
-receiving_late Is.Closing r e = absurd (cc)
-receiving_late Is.Closed r e = absurd (cc)
-receiving_late Is.Ended r e = absurd (cc)
-receiving_late Is.Reset r e = absurd (cc)
+receiving_late _ r e = absurd (cc)
 
 finishing_late : (st : ClientState) → may_finish st ≡ true → is_early st ≡ true → ⊥
 finishing_late Is.Idle r e = absurd (cc)
-finishing_late Is.Opening r e = absurd (cc)
-finishing_late Is.Opened r e = absurd (cc)
-finishing_late Is.Closing r e = absurd (cc)
-finishing_late Is.Closed r e = absurd (cc)
-finishing_late Is.Ended r e = absurd (cc)
-finishing_late Is.Reset r e = absurd (cc)
+finishing_late _ r e = absurd (cc)
 
 quiet_asks : (c d : AbstractClient) → used d ≡ used c → asked_bytes d ≡ asked_bytes c → d.acked ≡ c.acked → own_first d ≡ own_first c → Asks c (keeps d)
 quiet_asks c d u b a f = record { more = omega (arith, u); further = omega (arith, b); acked = a; first = f; early = λ y. u; ends = λ st x p. absurd (cc) }

@@ -1,6 +1,7 @@
 -- The mark, the bytes of each datagram, and what a client sends only after it opened.
 use Rattle.std.proofs.Common.{◌≡◌, ℕ, zero, suc, ◌+◌, ◌<◌, ◌≤◌, Bool, true, false, inl, inr, List, [], ◌∷◌, ◌++◌, length, map, refl, sym, ap, ◌∙◌, subst, arith, Option, Some, None, Result, Ok, Err, slice_get, is_some, length-append, length-take, length-drop}
 use Rattle.std.proofs.lemmas.Bool.{cases_lt}
+use Rattle.std.specs.Option.{option_map_or}
 use Rattle.uip_wire.specs.declared.addr.Addr.{Addr}
 use Rattle.app_events.specs.Part.{Meaning}
 use Rattle.app_events.specs.Pages.{Pages, IsPaged, IsAddr}
@@ -15,7 +16,7 @@ use Rattle.link_world.specs.World.{World, Side, Sent, marked}
 use Rattle.link_world.specs.World.Content.{OfSegment}
 use Rattle.link_world.specs.Bytes.{client_bytes, node_bytes, bytes_by}
 use Rattle.link_world.specs.Acts.{does, runs}
-use Rattle.link_world.specs.Schedule.{BadLine, acts_of, goes_on_with, mark_after, plays_from, with_mark}
+use Rattle.link_world.specs.Schedule.{BadLine, acts_of, mark_after, plays_from}
 use Rattle.link_schedule.specs.declared.event.Event.{Event}
 use Rattle.link_schedule.specs.declared.event.Event.TheVariants.{Opens, Again, Closes, Aborts, Window, Ping, Give, Damage, Tick, Round, Twice, Reverse, Half, Lose}
 use Rattle.link_world.specs.declared.act.Act.{Act}
@@ -25,6 +26,7 @@ use Rattle.link_world.specs.declared.who.Who.TheVariants.{FromClient, FromNode, 
 use Rattle.link_world.specs.History.{Planned, fresh_side, opening_world, planned_of, started}
 use Rattle.link_world.specs.Reading.{IsSentBy}
 use Rattle.link_world.specs.Times.{IsLater, AcknowledgedLater, MarkIsLow, NoneIsEmpty, SidesAsPlanned}
+use Rattle.link_world.proofs.Doing.{goes_on_with, with_mark}
 use Rattle.link_world.proofs.Steadiness.{steady_of}
 use Rattle.link_world.proofs.Good.{seg, from, to}
 use Rattle.link_world.proofs.Any.{Framed, Steps, Takes, any_step, older, does_framed}
@@ -53,15 +55,7 @@ module _ (m : Meaning) (served : ℕ → Bool) where
   low_after w Reverse h = omega arith
   low_after w Half h = omega arith
   low_after w Lose h = omega arith
-  low_after w (Opens n) h = h
-  low_after w (Again n) h = h
-  low_after w (Closes n) h = h
-  low_after w (Aborts n) h = h
-  low_after w (Window n x) h = h
-  low_after w (Ping source) h = h
-  low_after w (Give k) h = h
-  low_after w (Damage k at mask) h = h
-  low_after w (Tick n) h = h
+  low_after w _ h = h
 
   -- a line only adds, and leaves the mark low
   record Onward (w v : World) : Type 0 where
@@ -105,11 +99,11 @@ sides_as_planned m served addr numbers plan w = record {
 abbrev HasByte : List ℕ → Type 0
 HasByte bytes = 1 ≤ length bytes
 
-client_has : (id : ℕ) (s : PlainSegment) (at : Option Side) → id < 65536 → ((x : Side) → at ≡ Some x → IsSoundClient x.client) → (x : Side) → at ≡ Some x → HasByte (client_bytes id s at)
+client_has : (id : ℕ) (s : PlainSegment) (at : Option Side) → id < 65536 → ((x : Side) → at ≡ Some x → IsSoundClient x.client) → (x : Side) → at ≡ Some x → HasByte (option_map_or (client_bytes id s) at [])
 client_has id s None l h x e = absurd (cc)
 client_has id s (Some side) l h x e = let n = whole_length (to_node side id s) (to_node_place side id s l (h side refl)) in omega (arith, n)
 
-node_has : (addr : Addr) (id : ℕ) (s : PlainSegment) (at : Option Side) → IsAddr addr → id < 65536 → ((x : Side) → at ≡ Some x → IsSoundClient x.client) → (x : Side) → at ≡ Some x → HasByte (node_bytes addr id s at)
+node_has : (addr : Addr) (id : ℕ) (s : PlainSegment) (at : Option Side) → IsAddr addr → id < 65536 → ((x : Side) → at ≡ Some x → IsSoundClient x.client) → (x : Side) → at ≡ Some x → HasByte (option_map_or (node_bytes addr id s) at [])
 node_has addr id s None a l h x e = absurd (cc)
 node_has addr id s (Some side) a l h x e = let n = whole_length (to_client addr side id s) (to_client_place addr side id s a l (h side refl)) in omega (arith, n)
 

@@ -54,12 +54,7 @@ open_live st o = by_open (λ x. is_live x ≡ true) refl refl st o
 
 abbrev pub is_ask : Step → Bool
 is_ask (Step.Ask fresh) = true
-is_ask Step.Drop = false
-is_ask Step.Ack = false
-is_ask (Step.SynAck again) = false
-is_ask (Step.Text again) = false
-is_ask (Step.Fin again) = false
-is_ask Step.Reset = false
+is_ask _ = false
 
 -- what an application that is asked leaves as it was
 pub record Unmoved (c d : Connection) : Type 0 where
@@ -99,14 +94,7 @@ module _ (m : Meaning) where
   -- what is outstanding is no question
   pub no_ask_again : (st : State) → is_ask (outstanding true st) ≡ false
   no_ask_again Closed = refl
-  no_ask_again SynRcvd = refl
-  no_ask_again Established = refl
-  no_ask_again CloseWait = refl
-  no_ask_again FinWait1 = refl
-  no_ask_again FinWait2 = refl
-  no_ask_again Closing = refl
-  no_ask_again TimeWait = refl
-  no_ask_again LastAck = refl
+  no_ask_again _ = refl
 
   -- a fact about a tick: nothing is there, the timer of what is outstanding beats, a rest goes on or ends, or the application hears of it
   pub record OfTick (P : Outcome → Type 0) (c : Connection) (numbers : List ℕ) : Type 0 where

@@ -37,10 +37,7 @@ module _ (P : ClientStep → Type 0) (c : AbstractClient) where
   by_takes Is.Idle s e kept opens hears = kept
   by_takes Is.Reset s e kept opens hears = kept
   by_takes Is.Opening s e kept opens hears = choose P (has_syn s.flags && (has_ack s.flags && eqb s.ack (wrap (own_first c + 1)))) _ _ (λ f. opens e f) (λ f. kept)
-  by_takes Is.Opened s e kept opens hears = hears
-  by_takes Is.Closing s e kept opens hears = hears
-  by_takes Is.Closed s e kept opens hears = hears
-  by_takes Is.Ended s e kept opens hears = hears
+  by_takes _ s e kept opens hears = hears
 
   -- a segment: it is reset, or it opens, or it hears what comes
   pub of_takes : (s : PlainSegment) → P (keeps c) → (is_reset_by c.state c s ≡ true → P (keeps (record c { state = Is.Reset })))
@@ -56,12 +53,7 @@ module _ (P : ClientStep → Type 0) (c : AbstractClient) where
   by_opens : (st : ClientState) → c.state ≡ st → P (keeps c) → (c.state ≡ Is.Idle → (let d : AbstractClient = record c { state = Is.Opening } in P (steps_with d (syn_of d)))) → P (opens_by st c)
   unfolding opens_by
   by_opens Is.Idle e kept syn = syn e
-  by_opens Is.Opening e kept syn = kept
-  by_opens Is.Opened e kept syn = kept
-  by_opens Is.Closing e kept syn = kept
-  by_opens Is.Closed e kept syn = kept
-  by_opens Is.Ended e kept syn = kept
-  by_opens Is.Reset e kept syn = kept
+  by_opens _ e kept syn = kept
 
   pub of_opens : P (keeps c) → (c.state ≡ Is.Idle → (let d : AbstractClient = record c { state = Is.Opening } in P (steps_with d (syn_of d)))) → P (client_opens c)
   of_opens kept syn = by_opens c.state refl kept syn
@@ -75,10 +67,7 @@ module _ (P : ClientStep → Type 0) (c : AbstractClient) where
   by_again Is.Idle kept syn more = kept
   by_again Is.Reset kept syn more = kept
   by_again Is.Opening kept syn more = syn
-  by_again Is.Opened kept syn more = more
-  by_again Is.Closing kept syn more = more
-  by_again Is.Closed kept syn more = more
-  by_again Is.Ended kept syn more = more
+  by_again _ kept syn more = more
 
   pub of_again : P (keeps c) → P (steps_with c (syn_of c)) → P (steps_with c (own_request c)) → (fin_out c.fin ≡ true → P (steps_with c (own_fin c))) → P (steps_with c (ack_of c)) → P (client_again c)
   of_again kept syn request fin ack = by_again c.state kept syn (data_again request fin ack)
@@ -86,12 +75,7 @@ module _ (P : ClientStep → Type 0) (c : AbstractClient) where
   by_closes : (st : ClientState) → c.state ≡ st → P (keeps c) → (c.state ≡ Is.Opened → P (sends_next false (record c { state = Is.Closing }))) → P (closes_by st c)
   unfolding closes_by
   by_closes Is.Opened e kept next = next e
-  by_closes Is.Idle e kept next = kept
-  by_closes Is.Opening e kept next = kept
-  by_closes Is.Closing e kept next = kept
-  by_closes Is.Closed e kept next = kept
-  by_closes Is.Ended e kept next = kept
-  by_closes Is.Reset e kept next = kept
+  by_closes _ e kept next = kept
 
   pub of_closes : P (keeps c) → (c.state ≡ Is.Opened → P (sends_next false (record c { state = Is.Closing }))) → P (client_closes c)
   of_closes kept next = by_closes c.state refl kept next
@@ -101,10 +85,7 @@ module _ (P : ClientStep → Type 0) (c : AbstractClient) where
   by_aborts Is.Opening e kept reset = reset (ap has_closed e)
   by_aborts Is.Opened e kept reset = reset (ap has_closed e)
   by_aborts Is.Closing e kept reset = reset (ap has_closed e)
-  by_aborts Is.Idle e kept reset = kept
-  by_aborts Is.Closed e kept reset = kept
-  by_aborts Is.Ended e kept reset = kept
-  by_aborts Is.Reset e kept reset = kept
+  by_aborts _ e kept reset = kept
 
   pub of_aborts : P (keeps c) → (has_closed c.state ≡ false → P (steps_with (record c { state = Is.Reset }) (own_reset c))) → P (client_aborts c)
   of_aborts kept reset = by_aborts c.state refl kept reset

@@ -42,49 +42,35 @@ ack_data d c opened i = record { no_syn = refl; opened_is = i; at = 0; part = re
 fin_data : (d c : AbstractClient) (opened : Option ℕ) → is_some opened ≡ true → IsData d opened (own_fin c)
 fin_data d c opened i = record { no_syn = refl; opened_is = i; at = 0; part = record { fits = omega arith; same = refl }; seq = λ x. absurd (omega arith) }
 
+-- something is sent, with other numbers of the request
+good_with : (c : AbstractClient) (acked out : ℕ) (fin : FinAt) (s : PlainSegment) → acked + out ≤ length c.request
+    → ((opened : Option ℕ) → is_some opened ≡ true → IsData (recounted c acked out fin) opened s) → SendsGood c (steps_with (recounted c acked out fin) s)
+good_with c acked out fin s fits says = record {
+  acked = acked;
+  out = out;
+  fin = fin;
+  client = refl;
+  fits = fits;
+  said = λ opened t i p. only_some (λ x. IsData (recounted c acked out fin) opened x) s t p (says opened i);
+}
+
 sends_next_good : (owed : Bool) (c : AbstractClient) → c.acked + c.out ≤ length c.request → SendsGood c (sends_next owed c)
 unfolding sends_next
 sends_next_good owed c fits =
     choose (λ x. SendsGood c x) (not (has_outstanding c) && (is_receiving c.state && ltb c.acked (length c.request))) _ _
     (λ e. let d : AbstractClient = record c { out = min c.setup.seg (length c.request - c.acked) } in
     let room : d.acked + d.out ≤ length c.request = omega (arith, fits) in
-    record {
-      acked = c.acked;
-      out = min c.setup.seg (length c.request - c.acked);
-      fin = c.fin;
-      client = refl;
-      fits = room;
-      said = λ opened s i p. only_some (λ x. IsData d opened x) (own_request d) s p (request_data d opened i room);
-    })
+    good_with c c.acked d.out c.fin (own_request d) room (λ opened i. request_data d opened i room))
     (λ e. choose (λ x. SendsGood c x) (not (has_outstanding c) && (may_finish c.state && not (fin_sent c.fin))) _ _
-    (λ f. let d : AbstractClient = record c { fin = FinAt.Out } in
-    record {
-      acked = c.acked;
-      out = c.out;
-      fin = FinAt.Out;
-      client = refl;
-      fits = fits;
-      said = λ opened s i p. only_some (λ x. IsData d opened x) (own_fin c) s p (fin_data d c opened i);
-    })
+    (λ f. good_with c c.acked c.out FinAt.Out (own_fin c) fits (λ opened i. fin_data (record c { fin = FinAt.Out }) c opened i))
     (λ f. choose (λ x. SendsGood c x) owed _ _
-    (λ g. record {
-      acked = c.acked;
-      out = c.out;
-      fin = c.fin;
-      client = refl;
-      fits = fits;
-      said = λ opened s i p. only_some (λ x. IsData c opened x) (ack_of c) s p (ack_data c c opened i);
-    })
+    (λ g. good_with c c.acked c.out c.fin (ack_of c) fits (λ opened i. ack_data c c opened i))
     (λ g. record { acked = c.acked; out = c.out; fin = c.fin; client = refl; fits = fits; said = λ opened s i p. absurd (cc) })))
 
 pub not_opening : (past : List Era) (st x : ClientState) (o : ℕ) → is_unasked st ≡ false → Some o ≡ (if becomes_opened st x then Some (length past) else Some o)
 not_opening past Is.Idle x o h = absurd (cc)
 not_opening past Is.Opening x o h = absurd (cc)
-not_opening past Is.Opened x o h = refl
-not_opening past Is.Closing x o h = refl
-not_opening past Is.Closed x o h = refl
-not_opening past Is.Ended x o h = refl
-not_opening past Is.Reset x o h = refl
+not_opening past _ x o h = refl
 
 module _ (m : Meaning) (pages : Pages) (lawful : IsPaged m pages) (past : List Era) (conn : Connection) (fit : (o : ℕ) → All IsMoment (era past conn o).captures) where
   -- its own counts and its window do not matter to what it received
@@ -137,9 +123,7 @@ module _ (m : Meaning) (pages : Pages) (lawful : IsPaged m pages) (past : List E
   same_state Is.Opening h = absurd (cc)
   same_state Is.Opened h = inl refl
   same_state Is.Closing h = inr refl
-  same_state Is.Closed h = absurd (cc)
-  same_state Is.Ended h = absurd (cc)
-  same_state Is.Reset h = absurd (cc)
+  same_state _ h = absurd (cc)
 
   -- the client after text and maybe a FIN
   abbrev took : AbstractClient → Bool → List ℕ → AbstractClient
@@ -147,30 +131,18 @@ module _ (m : Meaning) (pages : Pages) (lawful : IsPaged m pages) (past : List E
 
   not_closed : (st : ClientState) → is_receiving st ≡ true → has_closed st ≡ true → ⊥
   not_closed Is.Idle h e = cc
-  not_closed Is.Opening h e = cc
-  not_closed Is.Opened h e = cc
-  not_closed Is.Closing h e = cc
-  not_closed Is.Closed h e = cc
-  not_closed Is.Ended h e = cc
-  not_closed Is.Reset h e = cc
+  not_closed _ h e = cc
 
   after_unasked : (st : ClientState) → is_receiving st ≡ true → is_unasked (after_fin st) ≡ false
   after_unasked Is.Idle h = absurd (cc)
   after_unasked Is.Opening h = absurd (cc)
   after_unasked Is.Opened h = refl
   after_unasked Is.Closing h = refl
-  after_unasked Is.Closed h = absurd (cc)
-  after_unasked Is.Ended h = absurd (cc)
-  after_unasked Is.Reset h = absurd (cc)
+  after_unasked _ h = absurd (cc)
 
   after_deaf : (st : ClientState) → is_receiving st ≡ true → is_receiving (after_fin st) ≡ true → ⊥
   after_deaf Is.Idle h e = cc
-  after_deaf Is.Opening h e = cc
-  after_deaf Is.Opened h e = cc
-  after_deaf Is.Closing h e = cc
-  after_deaf Is.Closed h e = cc
-  after_deaf Is.Ended h e = cc
-  after_deaf Is.Reset h e = cc
+  after_deaf _ h e = cc
 
   next_place : (c : AbstractClient) (o at : ℕ) (s : PlainSegment) → HasOpened pages c past conn o → is_receiving c.state ≡ true → s.seq ≡ c.expected →
       s.seq ≡ wrap ((era past conn o).first + 1 + at) → at ≤ length (pages.text c.request (era past conn o).captures) → at ≡ length c.received
@@ -377,11 +349,7 @@ module _ (m : Meaning) (pages : Pages) (lawful : IsPaged m pages) (past : List E
             record { early = refl; nothing = h.nothing } (says_syn d d refl);
       }
   opens_by_good Is.Opening client opened st steady h = record { next = opened; good = stays client opened steady h }
-  opens_by_good Is.Opened client opened st steady h = record { next = opened; good = stays client opened steady h }
-  opens_by_good Is.Closing client opened st steady h = record { next = opened; good = stays client opened steady h }
-  opens_by_good Is.Closed client opened st steady h = record { next = opened; good = stays client opened steady h }
-  opens_by_good Is.Ended client opened st steady h = record { next = opened; good = stays client opened steady h }
-  opens_by_good Is.Reset client opened st steady h = record { next = opened; good = stays client opened steady h }
+  opens_by_good _ client opened st steady h = record { next = opened; good = stays client opened steady h }
 
   speaks_again : (client : AbstractClient) (o : ℕ) (s : PlainSegment) → Steady client → HasOpened pages client past conn o → IsData client (Some o) s → Took_it client (Some o) (steps_with client s)
   speaks_again client o s steady h d = record { next = Some o; good = speaks client client (Some o) s (same_becomes client.state) refl refl steady h (said_data d) }
@@ -429,11 +397,7 @@ module _ (m : Meaning) (pages : Pages) (lawful : IsPaged m pages) (past : List E
         good = goes_on client c o false (Some o) (not_opening past client.state c.state o h.asked) refl refl record { short = steady.short; low = steady.low; out_fits = steady.out_fits } g;
       }
   closes_by_good Is.Idle client opened st steady h = record { next = opened; good = stays client opened steady h }
-  closes_by_good Is.Opening client opened st steady h = record { next = opened; good = stays client opened steady h }
-  closes_by_good Is.Closing client opened st steady h = record { next = opened; good = stays client opened steady h }
-  closes_by_good Is.Closed client opened st steady h = record { next = opened; good = stays client opened steady h }
-  closes_by_good Is.Ended client opened st steady h = record { next = opened; good = stays client opened steady h }
-  closes_by_good Is.Reset client opened st steady h = record { next = opened; good = stays client opened steady h }
+  closes_by_good _ client opened st steady h = record { next = opened; good = stays client opened steady h }
 
   goes_reset : (client : AbstractClient) (opened : Option ℕ) → Steady client → OpenedGood pages client past conn opened → Took_it client opened (steps_with (record client { state = Is.Reset }) (own_reset client))
   goes_reset client opened steady h =
@@ -448,10 +412,7 @@ module _ (m : Meaning) (pages : Pages) (lawful : IsPaged m pages) (past : List E
   aborts_by_good Is.Opening client opened st steady h = goes_reset client opened steady h
   aborts_by_good Is.Opened client opened st steady h = goes_reset client opened steady h
   aborts_by_good Is.Closing client opened st steady h = goes_reset client opened steady h
-  aborts_by_good Is.Idle client opened st steady h = record { next = opened; good = stays client opened steady h }
-  aborts_by_good Is.Closed client opened st steady h = record { next = opened; good = stays client opened steady h }
-  aborts_by_good Is.Ended client opened st steady h = record { next = opened; good = stays client opened steady h }
-  aborts_by_good Is.Reset client opened st steady h = record { next = opened; good = stays client opened steady h }
+  aborts_by_good _ client opened st steady h = record { next = opened; good = stays client opened steady h }
 
   window_opened : (client : AbstractClient) (w : ℕ) (opened : Option ℕ) → OpenedGood pages client past conn opened → OpenedGood pages (record client { window = w }) past conn opened
   window_opened client w None h = record { early = h.early; nothing = h.nothing }

@@ -32,21 +32,11 @@ sends_counts owed c =
 
 pub same_becomes : (st : ClientState) → becomes_opened st st ≡ false
 same_becomes Is.Idle = refl
-same_becomes Is.Opening = refl
-same_becomes Is.Opened = refl
-same_becomes Is.Closing = refl
-same_becomes Is.Closed = refl
-same_becomes Is.Ended = refl
-same_becomes Is.Reset = refl
+same_becomes _ = refl
 
 pub reset_becomes : (st : ClientState) → becomes_opened st Is.Reset ≡ false
 reset_becomes Is.Idle = refl
-reset_becomes Is.Opening = refl
-reset_becomes Is.Opened = refl
-reset_becomes Is.Closing = refl
-reset_becomes Is.Closed = refl
-reset_becomes Is.Ended = refl
-reset_becomes Is.Reset = refl
+reset_becomes _ = refl
 
 -- what a segment does to the counts
 pub data Kind (client : AbstractClient) (s : PlainSegment) (d : AbstractClient) : Type 0 where
@@ -66,9 +56,7 @@ done_after Is.Opened true h = refl
 done_after Is.Opened false h = refl
 done_after Is.Closing true h = refl
 done_after Is.Closing false h = refl
-done_after Is.Closed fin h = absurd (cc)
-done_after Is.Ended fin h = absurd (cc)
-done_after Is.Reset fin h = absurd (cc)
+done_after _ fin h = absurd (cc)
 
 keeps_counted : (client d : AbstractClient) (s : PlainSegment) → d.received ≡ client.received → d.expected ≡ client.expected → has_closed d.state ≡ has_closed client.state → becomes_opened client.state d.state ≡ false → Counted client s (keeps d)
 keeps_counted client d s r e k b = record { kind = kept r e k b; acks = λ x p n a. absurd (cc) }
@@ -115,9 +103,7 @@ takes_counted Is.Opening client s st nr =
     (λ e. on_counted true client (opened_by client s) s (took_open st nr (and_true (has_syn s.flags) (has_ack s.flags && eqb s.ack (wrap (own_first client + 1))) e).0 refl refl refl))
     (λ e. keeps_counted client client s refl refl refl (same_becomes client.state))
 takes_counted Is.Opened client s st nr = in_order_counted client s nr
-takes_counted Is.Closing client s st nr = in_order_counted client s nr
-takes_counted Is.Closed client s st nr = in_order_counted client s nr
-takes_counted Is.Ended client s st nr = in_order_counted client s nr
+takes_counted _ client s st nr = in_order_counted client s nr
 
 reset_done : (c : AbstractClient) (s : PlainSegment) (st : ClientState) → is_reset_by st c s ≡ true → false ≡ has_closed st
 reset_done c s Is.Idle h = refl

@@ -3,11 +3,12 @@ use Rattle.std.proofs.Common.{◌≡◌, ℕ, zero, suc, ◌<◌, ◌≤◌, Boo
 use Rattle.app_events.specs.Part.{Meaning}
 use Rattle.link_world.specs.World.{World, Sent, numbered}
 use Rattle.link_world.specs.Bytes.{sent_bytes, changed}
-use Rattle.link_world.specs.Acts.{does, hands_over, damages_at}
+use Rattle.link_world.specs.Acts.{does, hands_over}
 use Rattle.link_world.specs.declared.act.Act.{Act}
 use Rattle.link_world.specs.declared.who.Who.{Who}
 use Rattle.link_world.specs.declared.who.Who.TheVariants.{FromNode}
 use Rattle.link_world.specs.Headline.{IsLoss, CountsBy, DamageIsLossThere}
+use Rattle.link_world.proofs.Doing.{damaged}
 use Rattle.link_world.proofs.Loss.{same_world, damage_is_loss}
 use Rattle.link_world.proofs.Runs.{reached_sound}
 use Rattle.link_world.proofs.SoundWorlds.{SoundWorld}
@@ -15,7 +16,7 @@ use Rattle.link_world.proofs.Damages.{bytes_are, not_in_nothing}
 use Rattle.link_world.proofs.Damages.Bytes.{wholly, nothing, nobody}
 
 abbrev Lost : Meaning → (ℕ → Bool) → World → ℕ → ℕ → Who → Option Sent → Type 0
-Lost m served w at mask who o = IsLoss w (damages_at m served w at mask o) × CountsBy who w (damages_at m served w at mask o)
+Lost m served w at mask who o = IsLoss w (damaged m served w at mask o) × CountsBy who w (damaged m served w at mask o)
 
 by_nobody : (m : Meaning) (served : ℕ → Bool) (w : World) (bytes : List ℕ) (who : Who) → who ≡ FromNode 0
     → IsLoss w (hands_over m served w bytes who) × CountsBy who w (hands_over m served w bytes who)

@@ -1,5 +1,6 @@
 -- Where every datagram is sound, damage is a loss.
 use Rattle.std.proofs.Common.{◌≡◌, ℕ, zero, suc, ◌<◌, ◌≤◌, ◌⊎◌, inl, inr, Bool, true, false, List, [], length, refl, sym, ap, subst, arith, Option, Some, None, slice_get, ltb, if◌then◌else◌}
+use Rattle.std.specs.Option.{option_map_or, option_or}
 use Rattle.uip_wire.specs.declared.addr.Addr.{Addr}
 use Rattle.tcp_segment.specs.Segments.{PlainSegment}
 use Rattle.app_events.specs.Part.{Meaning}
@@ -8,13 +9,15 @@ use Rattle.uip_node.specs.Edge.{datagram_to}
 use Rattle.link_world.specs.World.{World, Side, Sent, Content, client_sockets}
 use Rattle.link_world.specs.World.Content.{OfSegment}
 use Rattle.link_world.specs.Bytes.{server_of, client_bytes, node_bytes, bytes_by, sent_bytes, changed}
-use Rattle.link_world.specs.Acts.{does, hands_over, damages_at, no_byte, or_full, fault_of}
+use Rattle.link_world.specs.Acts.{does, hands_over, fault_of}
 use Rattle.link_world.specs.declared.act.Act.{Act}
-use Rattle.link_world.specs.declared.step_fault.StepFault.TheVariants.{NoByte}
+use Rattle.link_world.specs.declared.step_fault.StepFault.{StepFault}
+use Rattle.link_world.specs.declared.step_fault.StepFault.TheVariants.{NoByte, NoDatagram}
 use Rattle.link_world.specs.declared.who.Who.{Who}
 use Rattle.link_world.specs.declared.who.Who.TheVariants.{FromClient, FromNode, Pinger}
 use Rattle.link_world.specs.Headline.{IsAct, IsLoss, IsWholeDatagram}
 use Rattle.link_world.proofs.Basics.{ltb-lt}
+use Rattle.link_world.proofs.Doing.{damaged}
 use Rattle.link_world.proofs.Harmless.{Harmless}
 use Rattle.link_world.proofs.Loss.{same_world, loses}
 use Rattle.link_world.proofs.Sound.{IsSoundSegment, IsSoundClient}
@@ -28,14 +31,14 @@ pub data Bytes (w : World) (who : Who) (content : Content) : Type 0 where
   nothing : bytes_by w who content ≡ [] → Bytes w who content
   nobody : who ≡ FromNode 0 → Bytes w who content
 
-client_whole : (id : ℕ) (s : PlainSegment) (side : Option Side) → id < 65536 → IsSoundSegment s → ((x : Side) → side ≡ Some x → IsSoundClient x.client) → IsWholeDatagram (client_bytes id s side) ⊎ (client_bytes id s side ≡ [])
+client_whole : (id : ℕ) (s : PlainSegment) (side : Option Side) → id < 65536 → IsSoundSegment s → ((x : Side) → side ≡ Some x → IsSoundClient x.client) → IsWholeDatagram (option_map_or (client_bytes id s) side []) ⊎ (option_map_or (client_bytes id s) side [] ≡ [])
 client_whole id s None l g h = inr refl
 client_whole id s (Some side) l g h =
     let c : IsSoundClient side.client = h side refl in
     inl (datagram_whole (datagram_to side.client.setup.addr (server_of side.client.setup) id s)
     record { source = c.addr.four; target = c.server.four; source_bytes = c.addr.all_bytes; target_bytes = c.server.all_bytes; from = c.port; to = c.server_port; id = l } g)
 
-node_whole : (addr : Addr) (id : ℕ) (s : PlainSegment) (side : Option Side) → IsAddr addr → id < 65536 → IsSoundSegment s → ((x : Side) → side ≡ Some x → IsSoundClient x.client) → IsWholeDatagram (node_bytes addr id s side) ⊎ (node_bytes addr id s side ≡ [])
+node_whole : (addr : Addr) (id : ℕ) (s : PlainSegment) (side : Option Side) → IsAddr addr → id < 65536 → IsSoundSegment s → ((x : Side) → side ≡ Some x → IsSoundClient x.client) → IsWholeDatagram (option_map_or (node_bytes addr id s) side []) ⊎ (option_map_or (node_bytes addr id s) side [] ≡ [])
 node_whole addr id s None a l g h = inr refl
 node_whole addr id s (Some side) a l g h =
     let c : IsSoundClient side.client = h side refl in
@@ -60,9 +63,9 @@ bytes_are w who content h s = elim s [
 ]
 
 -- an accepted act names a byte that is there
-byte_there : (w : World) (act : Act) (b : Bool) → or_full w act (if b then None else Some NoByte) ≡ None → b ≡ true
-byte_there w act true h = refl
-byte_there w act false h = absurd (cc)
+byte_there : (full : Option StepFault) (b : Bool) → option_or (if b then None else Some NoByte) full ≡ None → b ≡ true
+byte_there full true h = refl
+byte_there full false h = absurd (cc)
 
 pub not_in_nothing : (at : ℕ) (bytes : List ℕ) → bytes ≡ [] → at < length bytes → ⊥
 not_in_nothing at bytes e h = let z : length bytes ≡ 0 = ap (λ (x : List ℕ). length x) e in omega (arith, z, h)
@@ -75,22 +78,16 @@ module _ (m : Meaning) (served : ℕ → Bool) where
     | nobody x ↦ subst (λ who. IsLoss w (hands_over m served w (changed (sent_bytes w e) at mask) who)) (sym x) (same_world w)
   ]
 
-  damaged : (w : World) (act : Act) (j at mask : ℕ) (e : Option Sent) → slice_get w.sent j ≡ e → or_full w act (no_byte w at e) ≡ None → 1 ≤ mask → mask < 256 → SoundWorld w → IsLoss w (damages_at m served w at mask e)
-  damaged w act j at mask None x f a b h = same_world w
-  damaged w act j at mask (Some e) x f a b h =
-      handed_over w e at mask (ltb-lt at (length (sent_bytes w e)) (byte_there w act (ltb at (length (sent_bytes w e))) f)) a b (bytes_are w e.who e.content h (h.sent j e x))
+  damage_loses : (w : World) (full : Option StepFault) (j at mask : ℕ) (e : Option Sent) → slice_get w.sent j ≡ e → option_or (option_map_or (λ d. if ltb at (length (sent_bytes w d)) then None else Some NoByte) e (Some NoDatagram)) full ≡ None
+      → 1 ≤ mask → mask < 256 → SoundWorld w → IsLoss w (damaged m served w at mask e)
+  damage_loses w full j at mask None x f a b h = same_world w
+  damage_loses w full j at mask (Some e) x f a b h =
+      handed_over w e at mask (ltb-lt at (length (sent_bytes w e)) (byte_there full (ltb at (length (sent_bytes w e))) f)) a b (bytes_are w e.who e.content h (h.sent j e x))
 
   damage_harmless : (w : World) (k at mask : ℕ) → fault_of w (Act.Damage k at mask) ≡ None → 1 ≤ mask → mask < 256 → SoundWorld w → IsLoss w (does m served w (Act.Damage k at mask))
   damage_harmless w zero at mask f a b h = same_world w
-  damage_harmless w (suc j) at mask f a b h = damaged w (Act.Damage (suc j) at mask) j at mask (slice_get w.sent j) refl f a b h
+  damage_harmless w (suc j) at mask f a b h = damage_loses w _ j at mask (slice_get w.sent j) refl f a b h
 
   pub act_harmless : (w : World) (act : Act) → IsAct act → fault_of w act ≡ None → SoundWorld w → Harmless m served w act
   act_harmless w (Act.Damage k at mask) is f h = damage_harmless w k at mask f is.0 is.1 h
-  act_harmless w (Act.Opens number) is f h = tt
-  act_harmless w (Act.Again number) is f h = tt
-  act_harmless w (Act.Closes number) is f h = tt
-  act_harmless w (Act.Aborts number) is f h = tt
-  act_harmless w (Act.Window number window) is f h = tt
-  act_harmless w (Act.Ping source) is f h = tt
-  act_harmless w (Act.Give number) is f h = tt
-  act_harmless w Act.Tick is f h = tt
+  act_harmless w _ is f h = tt

@@ -12,8 +12,8 @@ use Rattle.tcp_machine.specs.Ask.{Outcome, asked}
 use Rattle.tcp_machine.specs.OnSegment.{accepted, on_segment}
 use Rattle.tcp_machine.specs.OnTick.{on_tick}
 use Rattle.link_client.specs.Client.{ClientStep, one_if}
-use Rattle.link_world.specs.World.{World, Side, Sent, Era, client_sockets, is_clean, marked}
-use Rattle.link_world.specs.History.{Planned, IsPlan, era_of, fresh_side, serving, opening_world}
+use Rattle.link_world.specs.World.{World, Side, Sent, Era, client_sockets, is_clean, marked, era_of}
+use Rattle.link_world.specs.History.{Planned, IsPlan, fresh_side, serving, opening_world}
 use Rattle.link_world.specs.Headline.{IsReached, server_side}
 use Rattle.link_world.specs.Times.{IsLater, OneConnection, EpochsAreFew}
 use Rattle.link_world.proofs.Steadiness.{steady_of}

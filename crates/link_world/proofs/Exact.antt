@@ -17,8 +17,8 @@ use Rattle.tcp_machine.specs.OnTick.{on_tick}
 use Rattle.link_client.specs.Client.{AbstractClient, ClientStep, has_closed, is_receiving, one_if, client_takes, client_opens, client_again, client_closes, client_aborts, tells_window}
 use Rattle.link_client.specs.declared.client_state.ClientState.{ClientState}
 use Rattle.link_client.specs.declared.client_state.ClientState.TheVariants as Is
-use Rattle.link_world.specs.World.{World, Side, Sent, Era, becomes_opened, with_client, marked, is_clean}
-use Rattle.link_world.specs.History.{era, era_of, serving, Planned, IsPlan, opening_world}
+use Rattle.link_world.specs.World.{World, Side, Sent, Era, becomes_opened, with_client, marked, is_clean, era_of}
+use Rattle.link_world.specs.History.{era, serving, Planned, IsPlan, opening_world}
 use Rattle.link_world.specs.Headline.{IsReached, IsInStep, OneSegment}
 use Rattle.link_world.proofs.Steadiness.{steady_of, IsShort, short_said}
 use Rattle.link_world.proofs.Basics.{and_true, eqb-eq, same_place, wrap_wrap, get_push, nothing_placed, not-true}
@@ -119,18 +119,14 @@ receiving_not_done Is.Idle h = absurd (cc)
 receiving_not_done Is.Opening h = absurd (cc)
 receiving_not_done Is.Opened h = refl
 receiving_not_done Is.Closing h = refl
-receiving_not_done Is.Closed h = absurd (cc)
-receiving_not_done Is.Ended h = absurd (cc)
-receiving_not_done Is.Reset h = absurd (cc)
+receiving_not_done _ h = absurd (cc)
 
 receiving_stays : (st x : ClientState) → is_receiving st ≡ true → becomes_opened st x ≡ false
 receiving_stays Is.Idle x h = absurd (cc)
 receiving_stays Is.Opening x h = absurd (cc)
 receiving_stays Is.Opened x h = refl
 receiving_stays Is.Closing x h = refl
-receiving_stays Is.Closed x h = absurd (cc)
-receiving_stays Is.Ended x h = absurd (cc)
-receiving_stays Is.Reset x h = absurd (cc)
+receiving_stays _ x h = absurd (cc)
 
 module _ (m : Meaning) (pages : Pages) (lawful : IsPaged m pages) where
   -- what is outstanding is no longer than it says
@@ -150,11 +146,7 @@ module _ (m : Meaning) (pages : Pages) (lawful : IsPaged m pages) where
   top_low c SynRcvd f h = omega (arith, h.len, h.acked)
   top_low c Established f h = (let s : length (m.said c.part) < 1073741824 = short_said m pages lawful c.part f.captures in omega (arith, h.fits, h.count, s))
   top_low c CloseWait f h = (let s : length (m.said c.part) < 1073741824 = short_said m pages lawful c.part f.captures in let a = h.text.fits in let b = h.text.count in omega (arith, a, b, s))
-  top_low c FinWait1 f h = (let low : h.low.at < 1073741824 = h.low.low in omega (arith, h.len, low, h.low.near))
-  top_low c FinWait2 f h = (let low : h.low.at < 1073741824 = h.low.low in omega (arith, h.len, low, h.low.near))
-  top_low c Closing f h = (let low : h.low.at < 1073741824 = h.low.low in omega (arith, h.len, low, h.low.near))
-  top_low c TimeWait f h = (let low : h.low.at < 1073741824 = h.low.low in omega (arith, h.len, low, h.low.near))
-  top_low c LastAck f h = (let low : h.low.at < 1073741824 = h.low.low in omega (arith, h.len, low, h.low.near))
+  top_low c _ f h = (let low : h.low.at < 1073741824 = h.low.low in omega (arith, h.len, low, h.low.near))
 
   -- what the connection just said ends where it says
   new_ends : (d : Connection) (s : PlainSegment) → FitConn d → Safe m (steady_of m pages lawful) IsShort (short_said m pages lawful) d → (has_place s ≡ true → IsDue m (steady_of m pages lawful) IsShort (short_said m pages lawful) d s) → EndsBy d s

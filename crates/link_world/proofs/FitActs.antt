@@ -6,18 +6,19 @@ use Rattle.app_events.specs.Part.{Meaning}
 use Rattle.link_world.specs.Steady.{IsSteady}
 use Rattle.app_events.specs.Pages.{IsWord}
 use Rattle.tcp_machine.specs.Connection.{Connection}
-use Rattle.uip_node.specs.Events.Event.{EchoAsked, Periodic}
+use Rattle.uip_node.specs.Events.Event.{Arrived, EchoAsked, Periodic}
 use Rattle.uip_node.specs.Events.Answer.{EchoReplied}
 use Rattle.uip_node.specs.Events.Reply.{Echo}
 use Rattle.uip_node.specs.Node.{remembers}
 use Rattle.link_client.specs.Client.{AbstractClient, ClientStep, client_takes, client_opens, client_again, client_closes, client_aborts, tells_window}
-use Rattle.link_world.specs.World.{World, Side, Sent, Content, numbered, client_sockets, with_side, marked, gives_node, gives_client, delivers, hands_to, node_handles}
+use Rattle.link_world.specs.World.{World, Side, Sent, Content, client_sockets, client_stepped, delivers, marked, node_handles, with_side}
 use Rattle.link_world.specs.World.Content.{OfSegment, OfPing, OfEcho}
 use Rattle.link_world.specs.Acts.{client_acts, handles_all, does}
 use Rattle.link_world.specs.declared.act.Act.{Act}
 use Rattle.link_world.specs.declared.who.Who.{Who}
 use Rattle.link_world.specs.declared.who.Who.TheVariants.{FromClient, FromNode, Pinger}
 use Rattle.link_world.specs.Headline.{IsLoss}
+use Rattle.link_world.proofs.Doing.{at_number}
 use Rattle.link_world.proofs.Harmless.{Harmless}
 use Rattle.link_world.proofs.Setups.{SameSetup, takes_setup, opens_setup, again_setup, closes_setup, aborts_setup}
 use Rattle.link_world.proofs.FitWorlds.{FitWorld, FitConns, FitSides, put_fits, client_fits, arrival_fits, periodic_fits, still_world}
@@ -33,20 +34,13 @@ loss_fits w v l f = record {
 }
 
 module _ (m : Meaning) (steady : IsSteady m) (served : ℕ → Bool) where
-  gives_node_fit : (w : World) (n k : ℕ) (e : Sent) (s : PlainSegment) (side : Option Side) → slice_get w.sides n ≡ side → FitWorld w → FitWorld (gives_node m served w (suc n) k e s side)
-  gives_node_fit w n k e s None at f = f
-  gives_node_fit w n k e s (Some side) at f =
-      arrival_fits m steady served (with_side w (suc n) (marked side k e)) (client_sockets side) s (f.sides n side at).addr (f.sides n side at).port (put_fits w n side (marked side k e) at refl refl f)
-
-  gives_client_fit : (w : World) (n k : ℕ) (e : Sent) (s : PlainSegment) (side : Option Side) → slice_get w.sides n ≡ side → FitWorld w → FitWorld (gives_client w (suc n) k e s side)
-  gives_client_fit w n k e s None at f = f
-  gives_client_fit w n k e s (Some side) at f = client_fits w n side (marked side k e) (client_takes side.client s) at refl refl (takes_setup side.client s) f
-
   delivers_fit : (w : World) (k : ℕ) (e : Sent) (who : Who) (content : Content) → FitWorld w → FitWorld (delivers m served w k e who content)
-  delivers_fit w k e (FromClient zero) (OfSegment id s) f = f
-  delivers_fit w k e (FromClient (suc n)) (OfSegment id s) f = gives_node_fit w n k e s (slice_get w.sides n) refl f
-  delivers_fit w k e (FromNode zero) (OfSegment id s) f = f
-  delivers_fit w k e (FromNode (suc n)) (OfSegment id s) f = gives_client_fit w n k e s (slice_get w.sides n) refl f
+  delivers_fit w k e (FromClient number) (OfSegment id s) f =
+      at_number FitWorld (λ i side. node_handles m served (with_side w i (marked side k e)) (Arrived (client_sockets side) s)) w.sides number w f
+      (λ n side at. arrival_fits m steady served (with_side w (suc n) (marked side k e)) (client_sockets side) s (f.sides n side at).addr (f.sides n side at).port (put_fits w n side (marked side k e) at refl refl f))
+  delivers_fit w k e (FromNode number) (OfSegment id s) f =
+      at_number FitWorld (λ i side. client_stepped w i (marked side k e) (client_takes side.client s)) w.sides number w f
+      (λ n side at. client_fits w n side (marked side k e) (client_takes side.client s) at refl refl (takes_setup side.client s) f)
   delivers_fit w k e Pinger (OfPing datagram) f = still_world m steady served w (remembers w.node (EchoAsked datagram) EchoReplied) (Some (Echo datagram)) refl refl f
   delivers_fit w k e (FromClient n) (OfPing datagram) f = f
   delivers_fit w k e (FromClient n) (OfEcho request) f = f
@@ -55,17 +49,10 @@ module _ (m : Meaning) (steady : IsSteady m) (served : ℕ → Bool) where
   delivers_fit w k e Pinger (OfSegment id s) f = f
   delivers_fit w k e Pinger (OfEcho request) f = f
 
-  pub gives_fit : (w : World) (k : ℕ) (e : Option Sent) → FitWorld w → FitWorld (hands_to m served w k e)
-  gives_fit w k None f = f
-  gives_fit w k (Some e) f = delivers_fit w k e e.who e.content f
-
-  own_fit : (w : World) (n : ℕ) (act : AbstractClient → ClientStep) (side : Option Side) → slice_get w.sides n ≡ side → ((c : AbstractClient) → SameSetup c (act c)) → FitWorld w → FitWorld (client_acts w (suc n) act side)
-  own_fit w n act None at s f = f
-  own_fit w n act (Some side) at s f = client_fits w n side side (act side.client) at refl refl (s side.client) f
-
-  numbered_fit : (w : World) (number : ℕ) (act : AbstractClient → ClientStep) → ((c : AbstractClient) → SameSetup c (act c)) → FitWorld w → FitWorld (client_acts w number act (numbered w.sides number))
-  numbered_fit w zero act s f = f
-  numbered_fit w (suc n) act s f = own_fit w n act (slice_get w.sides n) refl s f
+  numbered_fit : (w : World) (number : ℕ) (act : AbstractClient → ClientStep) → ((c : AbstractClient) → SameSetup c (act c)) → FitWorld w → FitWorld (client_acts w number act)
+  numbered_fit w number act s f =
+      at_number FitWorld (λ i side. client_stepped w i side (act side.client)) w.sides number w f
+      (λ n side at. client_fits w n side side (act side.client) at refl refl (s side.client) f)
 
   pub slots_fit : (slots : List ℕ) (w : World) → FitWorld w → FitWorld (handles_all m served (map Periodic slots) w)
   slots_fit [] w f = f
@@ -78,6 +65,6 @@ module _ (m : Meaning) (steady : IsSteady m) (served : ℕ → Bool) where
   does_fit w (Act.Aborts n) pl f = numbered_fit w n client_aborts aborts_setup f
   does_fit w (Act.Window n x) pl f = numbered_fit w n (tells_window x) (λ c. refl) f
   does_fit w (Act.Ping source) pl f = record { node = f.node; sides = f.sides }
-  does_fit w (Act.Give k) pl f = gives_fit w k (numbered w.sent k) f
+  does_fit w (Act.Give k) pl f = at_number FitWorld (λ i e. delivers m served w i e e.who e.content) w.sent k w f (λ n e at. delivers_fit w (suc n) e e.who e.content f)
   does_fit w (Act.Damage k at mask) pl f = loss_fits w (does m served w (Act.Damage k at mask)) pl f
   does_fit w Act.Tick pl f = slots_fit (0 ∷ 1 ∷ 2 ∷ 3 ∷ 4 ∷ 5 ∷ 6 ∷ 7 ∷ 8 ∷ 9 ∷ []) w f

@@ -20,10 +20,10 @@ use Rattle.uip_node.specs.Node.{AbstractNode, NodeStep, moment, happened, connec
 use Rattle.uip_node.proofs.Finding.{syn_slot_within}
 use Rattle.uip_node.proofs.Stepping.{slice_get-element}
 use Rattle.link_client.specs.Client.{ClientStep}
-use Rattle.link_world.specs.World.{World, Side, Era, Content, client_sockets, buries, buries_in, addressed, posts, posts_reply, node_stepped, node_handles, with_client, with_side, posts_of_client, client_stepped}
+use Rattle.link_world.specs.World.{World, Side, Era, Content, client_sockets, buries, buries_in, addressed, posts, posts_reply, node_stepped, node_handles, with_client, with_side, posts_of_client, client_stepped, era_of}
 use Rattle.link_world.specs.declared.who.Who.{Who}
 use Rattle.link_world.specs.declared.who.Who.TheVariants.{FromNode}
-use Rattle.link_world.specs.History.{no_era, era, serving}
+use Rattle.link_world.specs.History.{era, serving}
 use Rattle.link_world.specs.Nodes.{IsEvent}
 use Rattle.link_world.proofs.Basics.{choose, only_some}
 use Rattle.link_world.proofs.Tables.{get_map, get_set}
@@ -31,7 +31,7 @@ use Rattle.link_world.proofs.Tables.Written.{here, there}
 use Rattle.link_world.proofs.Fits.{FitConn, FitOut, all_nil, all_cons, set_conns, moment_fits, asked_fits, accepted_fits, on_segment_fits, on_tick_fits}
 
 abbrev pub FitPast : List Era → Type 0
-FitPast past = (n : ℕ) → All IsMoment (get_or past n no_era).captures
+FitPast past = (n : ℕ) → All IsMoment (get_or past n (era_of closed)).captures
 
 abbrev pub FitConns : List Connection → Type 0
 FitConns table = (i : ℕ) (c : Connection) → slice_get table i ≡ Some c → FitConn c

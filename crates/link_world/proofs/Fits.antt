@@ -122,13 +122,7 @@ module _ (m : Meaning) (steady : IsSteady m) where
   told_numbers : (how : Ending) (st : State) (p : Part) (numbers : List ℕ) → All IsWord numbers → All IsWord (told_end m how st p numbers)
   told_numbers how Established p numbers h = steady.ended_numbers numbers p how h
   told_numbers how CloseWait p numbers h = steady.ended_numbers numbers p how h
-  told_numbers how Closed p numbers h = h
-  told_numbers how SynRcvd p numbers h = h
-  told_numbers how FinWait1 p numbers h = h
-  told_numbers how FinWait2 p numbers h = h
-  told_numbers how Closing p numbers h = h
-  told_numbers how TimeWait p numbers h = h
-  told_numbers how LastAck p numbers h = h
+  told_numbers how _ p numbers h = h
 
   fin_rest : (st : State) → is_resting (after_own_fin st) ≡ true → ⊥
   fin_rest st h = by_own_fin (λ x. is_resting x ≡ true → ⊥) (λ q. (let z : false ≡ true = q in cc)) (λ q. (let z : false ≡ true = q in cc)) st h

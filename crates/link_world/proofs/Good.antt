@@ -104,12 +104,7 @@ pub unopened : (pages : Pages) (client : AbstractClient) (c : Connection) (st : 
 unopened pages client c Closed l g = absurd (cc)
 unopened pages client c SynRcvd l g = (refl, g)
 unopened pages client c Established l g = absurd (let z : false ≡ true = g.text.opened_is in cc)
-unopened pages client c CloseWait l g = absurd (let z : false ≡ true = g.opened_is in cc)
-unopened pages client c FinWait1 l g = absurd (let z : false ≡ true = g.opened_is in cc)
-unopened pages client c FinWait2 l g = absurd (let z : false ≡ true = g.opened_is in cc)
-unopened pages client c Closing l g = absurd (let z : false ≡ true = g.opened_is in cc)
-unopened pages client c TimeWait l g = absurd (let z : false ≡ true = g.opened_is in cc)
-unopened pages client c LastAck l g = absurd (let z : false ≡ true = g.opened_is in cc)
+unopened pages client c _ l g = absurd (let z : false ≡ true = g.opened_is in cc)
 
 -- What a client has said.
 pub record IsSyn (client : AbstractClient) (opened : Option ℕ) (at_epoch : ℕ) (s : PlainSegment) : Type 0 where
@@ -194,20 +189,13 @@ abbrev pub is_early : ClientState → Bool
 is_early Is.Idle = true
 is_early Is.Opening = true
 is_early Is.Reset = true
-is_early Is.Opened = false
-is_early Is.Closing = false
-is_early Is.Closed = false
-is_early Is.Ended = false
+is_early _ = false
 
 -- it may still open
 abbrev pub is_unasked : ClientState → Bool
 is_unasked Is.Idle = true
 is_unasked Is.Opening = true
-is_unasked Is.Opened = false
-is_unasked Is.Closing = false
-is_unasked Is.Closed = false
-is_unasked Is.Ended = false
-is_unasked Is.Reset = false
+is_unasked _ = false
 
 pub record NotOpened (client : AbstractClient) : Type 0 where
   pub early : is_early client.state ≡ true

@@ -12,15 +12,16 @@ use Rattle.uip_node.specs.Events.Event.{Arrived, EchoAsked}
 use Rattle.uip_node.specs.Events.Reply.{Echo, Tcp}
 use Rattle.uip_node.specs.Node.{NodeStep, step}
 use Rattle.link_client.specs.Client.{AbstractClient, ClientStep, client_takes, keeps, tells_window, client_opens, client_again, client_closes, client_aborts}
-use Rattle.link_world.specs.Acts.{client_acts, client_handed, damages_at, does, handed, handles_all, hands_over, is_idle, state_at}
+use Rattle.link_world.specs.Acts.{client_acts, does, handed, handles_all, hands_over, is_idle, state_at}
 use Rattle.link_world.specs.Bytes.{changed, hears_datagram, ping_from, sent_bytes}
-use Rattle.link_world.specs.World.{Content, Sent, Side, World, buries, buries_in, client_sockets, client_stepped, delivers, epoch_of, gives_client, gives_node, hands_to, marked, node_handles, node_stepped, numbered, posts, posts_of_client, posts_reply, with_client, with_side}
+use Rattle.link_world.specs.World.{Content, Sent, Side, World, buries, buries_in, client_sockets, client_stepped, delivers, epoch_of, marked, node_handles, node_stepped, posts, posts_of_client, posts_reply, with_client, with_side}
 use Rattle.link_world.specs.World.Content.{OfSegment, OfPing, OfEcho}
 use Rattle.link_world.specs.History.{planned_of}
 use Rattle.link_world.specs.declared.act.Act.{Act}
 use Rattle.link_world.specs.declared.who.Who.{Who}
 use Rattle.link_world.specs.declared.who.Who.TheVariants.{FromClient, FromNode, Pinger}
 use Rattle.link_world.proofs.Basics.{choose}
+use Rattle.link_world.proofs.Doing.{at_number, where_there}
 use Rattle.link_world.proofs.Rounds.{one_longer}
 use Rattle.link_world.proofs.Setups.{Keeps, again_keeps, aborts_keeps, closes_keeps, opens_keeps, planned_by, takes_keeps}
 
@@ -93,8 +94,8 @@ put_grows : (w : World) (n : ℕ) (side new : Side) → slice_get w.sides n ≡ 
 put_grows w n side new at stays same = record { sent = omega arith; spoken = put_spoken w.sides n side new at stays; planned = put_planned w.sides n side new at same }
 
 posted_grows : (w : World) (number : ℕ) (x : Option PlainSegment) → Grows w (posts_of_client w number x)
-posted_grows w number None = grows_not w
-posted_grows w number (Some s) = posts_grows w (FromClient number) false (OfSegment 0 s)
+posted_grows w number x =
+    where_there (Grows w) (λ s. posts w (FromClient number) false (OfSegment 0 s)) x w (grows_not w) (λ s e. posts_grows w (FromClient number) false (OfSegment 0 s))
 
 client_grows : (w : World) (n : ℕ) (side base : Side) (took : ClientStep) → slice_get w.sides n ≡ Some side → base.client ≡ side.client → Keeps base.client took → Grows w (client_stepped w (suc n) base took)
 client_grows w n side base took at same keeps =
@@ -109,21 +110,18 @@ module _ (m : Meaning) (served : ℕ → Bool) where
   all_grows [] w = grows_not w
   all_grows (e ∷ events) w = grows_on w (node_handles m served w e) (handles_all m served events (node_handles m served w e)) (handles_grows w e) (all_grows events (node_handles m served w e))
 
-  node_grows : (w : World) (n k : ℕ) (e : Sent) (s : PlainSegment) (side : Option Side) → slice_get w.sides n ≡ side → Grows w (gives_node m served w (suc n) k e s side)
-  node_grows w n k e s None at = grows_not w
-  node_grows w n k e s (Some side) at =
+  node_grows : (w : World) (n k : ℕ) (e : Sent) (s : PlainSegment) (side : Side) → slice_get w.sides n ≡ Some side → Grows w (node_handles m served (with_side w (suc n) (marked side k e)) (Arrived (client_sockets side) s))
+  node_grows w n k e s side at =
       let v = with_side w (suc n) (marked side k e) in
       grows_on w v (node_handles m served v (Arrived (client_sockets side) s)) (put_grows w n side (marked side k e) at (λ h. h) refl) (handles_grows v (Arrived (client_sockets side) s))
 
-  to_client_grows : (w : World) (n k : ℕ) (e : Sent) (s : PlainSegment) (side : Option Side) → slice_get w.sides n ≡ side → Grows w (gives_client w (suc n) k e s side)
-  to_client_grows w n k e s None at = grows_not w
-  to_client_grows w n k e s (Some side) at = client_grows w n side (marked side k e) (client_takes side.client s) at refl (takes_keeps side.client s)
-
   delivers_grows : (w : World) (k : ℕ) (e : Sent) (who : Who) (content : Content) → Grows w (delivers m served w k e who content)
-  delivers_grows w k e (FromClient zero) (OfSegment id s) = grows_not w
-  delivers_grows w k e (FromClient (suc n)) (OfSegment id s) = node_grows w n k e s (slice_get w.sides n) refl
-  delivers_grows w k e (FromNode zero) (OfSegment id s) = grows_not w
-  delivers_grows w k e (FromNode (suc n)) (OfSegment id s) = to_client_grows w n k e s (slice_get w.sides n) refl
+  delivers_grows w k e (FromClient number) (OfSegment id s) =
+      at_number (Grows w) (λ i side. node_handles m served (with_side w i (marked side k e)) (Arrived (client_sockets side) s)) w.sides number w (grows_not w)
+      (λ n side at. node_grows w n k e s side at)
+  delivers_grows w k e (FromNode number) (OfSegment id s) =
+      at_number (Grows w) (λ i side. client_stepped w i (marked side k e) (client_takes side.client s)) w.sides number w (grows_not w)
+      (λ n side at. client_grows w n side (marked side k e) (client_takes side.client s) at refl (takes_keeps side.client s))
   delivers_grows w k e Pinger (OfPing datagram) = handles_grows w (EchoAsked datagram)
   delivers_grows w k e (FromClient n) (OfPing datagram) = grows_not w
   delivers_grows w k e (FromClient n) (OfEcho request) = grows_not w
@@ -132,35 +130,20 @@ module _ (m : Meaning) (served : ℕ → Bool) where
   delivers_grows w k e Pinger (OfSegment id s) = grows_not w
   delivers_grows w k e Pinger (OfEcho request) = grows_not w
 
-  hands_grows : (w : World) (k : ℕ) (e : Option Sent) → Grows w (hands_to m served w k e)
-  hands_grows w k None = grows_not w
-  hands_grows w k (Some e) = delivers_grows w k e e.who e.content
+  acts_grows : (w : World) (number : ℕ) (act : AbstractClient → ClientStep) → ((c : AbstractClient) → Keeps c (act c)) → Grows w (client_acts w number act)
+  acts_grows w number act keeps =
+      at_number (Grows w) (λ i side. client_stepped w i side (act side.client)) w.sides number w (grows_not w)
+      (λ n side at. client_grows w n side side (act side.client) at refl (keeps side.client))
 
-  own_grows : (w : World) (n : ℕ) (act : AbstractClient → ClientStep) (side : Option Side) → slice_get w.sides n ≡ side → ((c : AbstractClient) → Keeps c (act c)) → Grows w (client_acts w (suc n) act side)
-  own_grows w n act None at keeps = grows_not w
-  own_grows w n act (Some side) at keeps = client_grows w n side side (act side.client) at refl (keeps side.client)
-
-  acts_grows : (w : World) (number : ℕ) (act : AbstractClient → ClientStep) → ((c : AbstractClient) → Keeps c (act c)) → Grows w (client_acts w number act (numbered w.sides number))
-  acts_grows w zero act keeps = grows_not w
-  acts_grows w (suc n) act keeps = own_grows w n act (slice_get w.sides n) refl keeps
-
-  heard_grows : (w : World) (n : ℕ) (side : Side) (s : Option PlainSegment) → slice_get w.sides n ≡ Some side → Grows w (client_handed w (suc n) side s)
-  heard_grows w n side None at = grows_not w
-  heard_grows w n side (Some s) at = client_grows w n side side (client_takes side.client s) at refl (takes_keeps side.client s)
-
-  handed_grows : (w : World) (n : ℕ) (bytes : List ℕ) (side : Option Side) → slice_get w.sides n ≡ side → Grows w (handed w (suc n) bytes side)
-  handed_grows w n bytes None at = grows_not w
-  handed_grows w n bytes (Some side) at = heard_grows w n side (hears_datagram side.client.setup bytes) at
+  handed_grows : (w : World) (n : ℕ) (bytes : List ℕ) (side : Side) → slice_get w.sides n ≡ Some side → Grows w (handed w (suc n) bytes side)
+  handed_grows w n bytes side at =
+      where_there (Grows w) (λ s. client_stepped w (suc n) side (client_takes side.client s)) (hears_datagram side.client.setup bytes) w (grows_not w)
+      (λ s e. client_grows w n side side (client_takes side.client s) at refl (takes_keeps side.client s))
 
   over_grows : (w : World) (bytes : List ℕ) (who : Who) → Grows w (hands_over m served w bytes who)
   over_grows w bytes (FromClient number) = handles_grows w (event_of w.node.addr bytes)
   over_grows w bytes Pinger = handles_grows w (event_of w.node.addr bytes)
-  over_grows w bytes (FromNode zero) = grows_not w
-  over_grows w bytes (FromNode (suc n)) = handed_grows w n bytes (slice_get w.sides n) refl
-
-  damages_grows : (w : World) (at mask : ℕ) (e : Option Sent) → Grows w (damages_at m served w at mask e)
-  damages_grows w at mask None = grows_not w
-  damages_grows w at mask (Some e) = over_grows w (changed (sent_bytes w e) at mask) e.who
+  over_grows w bytes (FromNode number) = at_number (Grows w) (λ i side. handed w i bytes side) w.sides number w (grows_not w) (λ n side at. handed_grows w n bytes side at)
 
   pub does_grows : (w : World) (act : Act) → Grows w (does m served w act)
   does_grows w (Act.Opens n) = acts_grows w n client_opens opens_keeps
@@ -169,6 +152,7 @@ module _ (m : Meaning) (served : ℕ → Bool) where
   does_grows w (Act.Aborts n) = acts_grows w n client_aborts aborts_keeps
   does_grows w (Act.Window n x) = acts_grows w n (tells_window x) (λ c. record { stays = λ h. h; planned = refl })
   does_grows w (Act.Ping source) = posts_grows w Pinger false (OfPing (ping_from source w.node.addr))
-  does_grows w (Act.Give k) = hands_grows w k (numbered w.sent k)
-  does_grows w (Act.Damage k at mask) = damages_grows w at mask (numbered w.sent k)
+  does_grows w (Act.Give k) = at_number (Grows w) (λ i e. delivers m served w i e e.who e.content) w.sent k w (grows_not w) (λ n e at. delivers_grows w (suc n) e e.who e.content)
+  does_grows w (Act.Damage k at mask) =
+      at_number (Grows w) (λ i e. hands_over m served w (changed (sent_bytes w e) at mask) e.who) w.sent k w (grows_not w) (λ n e there. over_grows w (changed (sent_bytes w e) at mask) e.who)
   does_grows w Act.Tick = all_grows tick w

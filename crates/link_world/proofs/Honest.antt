@@ -17,12 +17,13 @@ use Rattle.link_client.specs.declared.client_state.ClientState.TheVariants as Is
 use Rattle.link_client.specs.declared.fin_at.FinAt.{FinAt}
 use Rattle.link_client.specs.declared.setup.Setup.{Setup}
 use Rattle.link_world.specs.World.{World, Side, Sent}
-use Rattle.link_world.specs.Schedule.{plays_line, goes_on_with, plays_from, plays}
+use Rattle.link_world.specs.Schedule.{plays_line, plays_from, plays}
 use Rattle.link_world.specs.History.{Planned, IsPlanned, IsPlan, opening_world}
 use Rattle.link_schedule.specs.declared.event.Event.{Event}
 use Rattle.link_schedule.specs.declared.event.Event.TheVariants.{Opens, Round}
 use Rattle.link_world.specs.Headline.{IsAct, IsPlainAct, OfLine, IsSchedulePlayed, IsServed}
 use Rattle.link_world.specs.Honest.{AnswersIn, IsServedWhole, HonestLink}
+use Rattle.link_world.proofs.Doing.{goes_on_with}
 use Rattle.link_world.proofs.Basics.{wrap_wrap}
 use Rattle.link_world.proofs.Fits.{FitConn, all_nil, all_cons}
 use Rattle.link_world.proofs.Prefix.{prefix_and_whole}

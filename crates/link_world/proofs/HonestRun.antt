@@ -19,10 +19,11 @@ use Rattle.link_client.specs.Client.{AbstractClient, own_fin, client_takes}
 use Rattle.link_client.specs.declared.client_state.ClientState.TheVariants as Is
 use Rattle.link_client.specs.declared.setup.Setup.{Setup}
 use Rattle.link_world.specs.World.{World, Sent, client_sockets, becomes_opened}
-use Rattle.link_world.specs.Schedule.{plays_line, goes_on_with, plays_from, BadLine}
+use Rattle.link_world.specs.Schedule.{plays_line, plays_from, BadLine}
 use Rattle.link_schedule.specs.declared.event.Event.TheVariants.{Round}
 use Rattle.link_world.specs.declared.who.Who.TheVariants.{FromClient, FromNode}
 use Rattle.link_world.specs.Honest.{AnswersIn}
+use Rattle.link_world.proofs.Doing.{goes_on_with}
 use Rattle.link_world.proofs.Basics.{wrap_wrap}
 use Rattle.link_world.proofs.Fits.{FitConn}
 use Rattle.link_world.proofs.Rounds.{only_side, under_way, at_rest, sent_by, one_longer, round_of_none, node_answers, client_answers, client_is_silent}

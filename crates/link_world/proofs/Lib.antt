@@ -2,6 +2,7 @@ pub mod Sample
 pub mod Rows
 pub mod Hearing
 pub mod Basics
+pub mod Doing
 pub mod Cases
 pub mod ClientCases
 pub mod Good

@@ -1,7 +1,9 @@
 -- No act looks at the mark; so what the lines of a schedule reach, a list of acts reaches.
 use Rattle.std.specs.List.{All}
-use Rattle.std.proofs.Common.{◌≡◌, ℕ, zero, suc, ◌+◌, inl, inr, Bool, List, [], ◌∷◌, ◌++◌, length, map, flat_map, replicate, reverse, refl, sym, ap, ◌∙◌, arith, Option, Some, None, Result, Ok, Err, ltb, if◌then◌else◌}
+use Rattle.std.proofs.Common.{◌≡◌, ℕ, zero, suc, ◌+◌, inl, inr, Bool, false, List, [], ◌∷◌, ◌++◌, length, map, flat_map, replicate, reverse, refl, sym, ap, ◌∙◌, arith, Option, Some, None, Result, Ok, Err, ltb, if◌then◌else◌}
 use Rattle.std.proofs.lemmas.List.Elements.{All-append}
+use Rattle.std.specs.Option.{option_map_or, option_or}
+use Rattle.link_schedule.specs.Numbers.{◌>>=◌}
 use Rattle.app_events.specs.Part.{Meaning}
 use Rattle.tcp_segment.specs.Segments.{PlainSegment}
 use Rattle.uip_node.specs.Events.{Event as NodeEvent, Reply, tick}
@@ -10,18 +12,19 @@ use Rattle.uip_node.specs.Events.Reply.{Echo, Tcp}
 use Rattle.uip_node.specs.Edge.{event_of}
 use Rattle.uip_node.specs.Node.{NodeStep, step}
 use Rattle.link_client.specs.Client.{AbstractClient, ClientStep, client_takes, client_opens, client_again, client_closes, client_aborts, tells_window}
-use Rattle.link_world.specs.World.{World, Side, Sent, Content, numbered, buries, posts_reply, node_handles, with_client, with_side, posts_of_client, client_stepped, marked, client_sockets, gives_node, gives_client, delivers, hands_to}
+use Rattle.link_world.specs.World.{World, Side, Sent, Content, numbered, buries, posts, posts_reply, node_handles, with_client, with_side, client_stepped, marked, client_sockets, delivers}
 use Rattle.link_world.specs.World.Content.{OfSegment, OfPing, OfEcho}
 use Rattle.link_world.specs.Bytes.{bytes_by, sent_bytes, changed, hears_datagram}
-use Rattle.link_world.specs.Acts.{client_acts, handles_all, client_handed, handed, hands_over, damages_at, does, no_byte, named_fault, or_full, fault_of, done_or, acts, and_then, runs}
-use Rattle.link_world.specs.Schedule.{past_mark, acts_of, mark_after, with_mark, goes_on_with, plays_from}
+use Rattle.link_world.specs.Acts.{acts, client_acts, does, fault_of, handed, handles_all, hands_over, named_fault, needs, runs}
+use Rattle.link_world.specs.Schedule.{past_mark, acts_of, mark_after, plays_from}
 use Rattle.link_world.specs.declared.act.Act.{Act}
 use Rattle.link_schedule.specs.declared.event.Event.{Event}
 use Rattle.link_world.specs.declared.step_fault.StepFault.{StepFault}
-use Rattle.link_world.specs.declared.step_fault.StepFault.TheVariants.{NoByte}
+use Rattle.link_world.specs.declared.step_fault.StepFault.TheVariants.{Full, NoByte, NoDatagram}
 use Rattle.link_world.specs.declared.who.Who.{Who}
 use Rattle.link_world.specs.declared.who.Who.TheVariants.{FromClient, FromNode, Pinger}
 use Rattle.link_world.specs.Headline.{IsAct, IsPlainAct, OfLine, LinesAreActs}
+use Rattle.link_world.proofs.Doing.{goes_on_with, with_mark}
 use Rattle.link_world.proofs.Fits.{all_nil, all_cons}
 
 abbrev at_mark : ℕ → World → World
@@ -40,28 +43,29 @@ module _ (m : Meaning) (served : ℕ → Bool) (x : ℕ) where
   all_mark [] w = refl
   all_mark (e ∷ es) w = ap (λ (v : World). handles_all m served es v) (handles_mark w e) ∙ all_mark es (node_handles m served w e)
 
-  said_mark : (w : World) (n : ℕ) (s : Option PlainSegment) → posts_of_client (at_mark x w) n s ≡ at_mark x (posts_of_client w n s)
-  said_mark w n None = refl
-  said_mark w n (Some s) = refl
+  -- what is done with what may be wanting
+  some_mark : {X : Type 0} (act marked_act : X → World) (o : Option X) (w : World) → ((y : X) → marked_act y ≡ at_mark x (act y)) → option_map_or marked_act o (at_mark x w) ≡ at_mark x (option_map_or act o w)
+  some_mark act marked_act None w h = refl
+  some_mark act marked_act (Some y) w h = h y
 
   stepped_mark : (w : World) (n : ℕ) (side : Side) (took : ClientStep) → client_stepped (at_mark x w) n side took ≡ at_mark x (client_stepped w n side took)
-  stepped_mark w n side took = said_mark (with_side w n (with_client side took.client)) n took.sent
+  stepped_mark w n side took =
+      let v : World = with_side w n (with_client side took.client) in
+      some_mark (λ s. posts v (FromClient n) false (OfSegment 0 s)) (λ s. posts (at_mark x v) (FromClient n) false (OfSegment 0 s)) took.sent v (λ s. refl)
 
-  client_mark : (w : World) (n : ℕ) (act : AbstractClient → ClientStep) (side : Option Side) → client_acts (at_mark x w) n act side ≡ at_mark x (client_acts w n act side)
-  client_mark w n act None = refl
-  client_mark w n act (Some side) = stepped_mark w n side (act side.client)
-
-  to_node_mark : (w : World) (n k : ℕ) (e : Sent) (s : PlainSegment) (side : Option Side) → gives_node m served (at_mark x w) n k e s side ≡ at_mark x (gives_node m served w n k e s side)
-  to_node_mark w n k e s None = refl
-  to_node_mark w n k e s (Some side) = handles_mark (with_side w n (marked side k e)) (Arrived (client_sockets side) s)
-
-  to_client_mark : (w : World) (n k : ℕ) (e : Sent) (s : PlainSegment) (side : Option Side) → gives_client (at_mark x w) n k e s side ≡ at_mark x (gives_client w n k e s side)
-  to_client_mark w n k e s None = refl
-  to_client_mark w n k e s (Some side) = stepped_mark w n (marked side k e) (client_takes side.client s)
+  client_mark : (w : World) (n : ℕ) (act : AbstractClient → ClientStep) → client_acts (at_mark x w) n act ≡ at_mark x (client_acts w n act)
+  client_mark w n act =
+      some_mark (λ side. client_stepped w n side (act side.client)) (λ side. client_stepped (at_mark x w) n side (act side.client)) (numbered w.sides n) w
+      (λ side. stepped_mark w n side (act side.client))
 
   delivers_mark : (w : World) (k : ℕ) (e : Sent) (who : Who) (content : Content) → delivers m served (at_mark x w) k e who content ≡ at_mark x (delivers m served w k e who content)
-  delivers_mark w k e (FromClient n) (OfSegment id s) = to_node_mark w n k e s (numbered w.sides n)
-  delivers_mark w k e (FromNode n) (OfSegment id s) = to_client_mark w n k e s (numbered w.sides n)
+  delivers_mark w k e (FromClient n) (OfSegment id s) =
+      some_mark (λ side. node_handles m served (with_side w n (marked side k e)) (Arrived (client_sockets side) s))
+      (λ side. node_handles m served (with_side (at_mark x w) n (marked side k e)) (Arrived (client_sockets side) s)) (numbered w.sides n) w
+      (λ side. handles_mark (with_side w n (marked side k e)) (Arrived (client_sockets side) s))
+  delivers_mark w k e (FromNode n) (OfSegment id s) =
+      some_mark (λ side. client_stepped w n (marked side k e) (client_takes side.client s)) (λ side. client_stepped (at_mark x w) n (marked side k e) (client_takes side.client s)) (numbered w.sides n) w
+      (λ side. stepped_mark w n (marked side k e) (client_takes side.client s))
   delivers_mark w k e Pinger (OfPing datagram) = handles_mark w (EchoAsked datagram)
   delivers_mark w k e (FromClient n) (OfPing datagram) = refl
   delivers_mark w k e (FromClient n) (OfEcho request) = refl
@@ -69,10 +73,6 @@ module _ (m : Meaning) (served : ℕ → Bool) (x : ℕ) where
   delivers_mark w k e (FromNode n) (OfEcho request) = refl
   delivers_mark w k e Pinger (OfSegment id s) = refl
   delivers_mark w k e Pinger (OfEcho request) = refl
-
-  gives_mark : (w : World) (k : ℕ) (e : Option Sent) → hands_to m served (at_mark x w) k e ≡ at_mark x (hands_to m served w k e)
-  gives_mark w k None = refl
-  gives_mark w k (Some e) = delivers_mark w k e e.who e.content
 
   bytes_mark : (w : World) (who : Who) (content : Content) → bytes_by (at_mark x w) who content ≡ bytes_by w who content
   bytes_mark w (FromClient n) (OfSegment id s) = refl
@@ -85,36 +85,36 @@ module _ (m : Meaning) (served : ℕ → Bool) (x : ℕ) where
   bytes_mark w (FromNode n) (OfEcho request) = refl
   bytes_mark w Pinger (OfEcho request) = refl
 
-  heard_mark : (w : World) (n : ℕ) (side : Side) (s : Option PlainSegment) → client_handed (at_mark x w) n side s ≡ at_mark x (client_handed w n side s)
-  heard_mark w n side None = refl
-  heard_mark w n side (Some s) = stepped_mark w n side (client_takes side.client s)
-
-  handed_mark : (w : World) (n : ℕ) (bytes : List ℕ) (side : Option Side) → handed (at_mark x w) n bytes side ≡ at_mark x (handed w n bytes side)
-  handed_mark w n bytes None = refl
-  handed_mark w n bytes (Some side) = heard_mark w n side (hears_datagram side.client.setup bytes)
+  handed_mark : (w : World) (n : ℕ) (bytes : List ℕ) (side : Side) → handed (at_mark x w) n bytes side ≡ at_mark x (handed w n bytes side)
+  handed_mark w n bytes side =
+      some_mark (λ s. client_stepped w n side (client_takes side.client s)) (λ s. client_stepped (at_mark x w) n side (client_takes side.client s)) (hears_datagram side.client.setup bytes) w
+      (λ s. stepped_mark w n side (client_takes side.client s))
 
   over_mark : (w : World) (bytes : List ℕ) (who : Who) → hands_over m served (at_mark x w) bytes who ≡ at_mark x (hands_over m served w bytes who)
   over_mark w bytes (FromClient n) = handles_mark w (event_of w.node.addr bytes)
   over_mark w bytes Pinger = handles_mark w (event_of w.node.addr bytes)
-  over_mark w bytes (FromNode n) = handed_mark w n bytes (numbered w.sides n)
+  over_mark w bytes (FromNode n) = some_mark (handed w n bytes) (handed (at_mark x w) n bytes) (numbered w.sides n) w (λ side. handed_mark w n bytes side)
 
-  damages_mark : (w : World) (at mask : ℕ) (e : Option Sent) → damages_at m served (at_mark x w) at mask e ≡ at_mark x (damages_at m served w at mask e)
-  damages_mark w at mask None = refl
-  damages_mark w at mask (Some e) =
+  damages_mark : (w : World) (at mask : ℕ) (e : Sent) → hands_over m served (at_mark x w) (changed (sent_bytes (at_mark x w) e) at mask) e.who ≡ at_mark x (hands_over m served w (changed (sent_bytes w e) at mask) e.who)
+  damages_mark w at mask e =
       ap (λ (b : List ℕ). hands_over m served (at_mark x w) (changed b at mask) e.who) (bytes_mark w e.who e.content) ∙ over_mark w (changed (sent_bytes w e) at mask) e.who
 
   does_mark : (w : World) (act : Act) → does m served (at_mark x w) act ≡ at_mark x (does m served w act)
-  does_mark w (Act.Opens n) = client_mark w n client_opens (numbered w.sides n)
-  does_mark w (Act.Again n) = client_mark w n client_again (numbered w.sides n)
-  does_mark w (Act.Closes n) = client_mark w n client_closes (numbered w.sides n)
-  does_mark w (Act.Aborts n) = client_mark w n client_aborts (numbered w.sides n)
-  does_mark w (Act.Window n y) = client_mark w n (tells_window y) (numbered w.sides n)
+  does_mark w (Act.Opens n) = client_mark w n client_opens
+  does_mark w (Act.Again n) = client_mark w n client_again
+  does_mark w (Act.Closes n) = client_mark w n client_closes
+  does_mark w (Act.Aborts n) = client_mark w n client_aborts
+  does_mark w (Act.Window n y) = client_mark w n (tells_window y)
   does_mark w (Act.Ping source) = refl
-  does_mark w (Act.Give k) = gives_mark w k (numbered w.sent k)
-  does_mark w (Act.Damage k at mask) = damages_mark w at mask (numbered w.sent k)
+  does_mark w (Act.Give k) =
+      some_mark (λ e. delivers m served w k e e.who e.content) (λ e. delivers m served (at_mark x w) k e e.who e.content) (numbered w.sent k) w (λ e. delivers_mark w k e e.who e.content)
+  does_mark w (Act.Damage k at mask) =
+      some_mark (λ e. hands_over m served w (changed (sent_bytes w e) at mask) e.who) (λ e. hands_over m served (at_mark x w) (changed (sent_bytes (at_mark x w) e) at mask) e.who)
+      (numbered w.sent k) w (λ e. damages_mark w at mask e)
   does_mark w Act.Tick = all_mark tick w
 
-  byte_mark : (w : World) (at : ℕ) (e : Option Sent) → no_byte (at_mark x w) at e ≡ no_byte w at e
+  byte_mark : (w : World) (at : ℕ) (e : Option Sent) → option_map_or (λ d. if ltb at (length (sent_bytes (at_mark x w) d)) then None else Some NoByte) e (Some NoDatagram)
+      ≡ option_map_or (λ d. if ltb at (length (sent_bytes w d)) then None else Some NoByte) e (Some NoDatagram)
   byte_mark w at None = refl
   byte_mark w at (Some e) = ap (λ (b : List ℕ). if ltb at (length b) then None else Some NoByte) (bytes_mark w e.who e.content)
 
@@ -129,29 +129,26 @@ module _ (m : Meaning) (served : ℕ → Bool) (x : ℕ) where
   named_mark w (Act.Damage k at mask) = byte_mark w at (numbered w.sent k)
   named_mark w Act.Tick = refl
 
-  full_mark : (w : World) (act : Act) (f : Option StepFault) → or_full (at_mark x w) act f ≡ or_full w act f
-  full_mark w act None = refl
-  full_mark w act (Some f) = refl
-
   fault_mark : (w : World) (act : Act) → fault_of (at_mark x w) act ≡ fault_of w act
-  fault_mark w act = ap (λ (f : Option StepFault). or_full (at_mark x w) act f) (named_mark w act) ∙ full_mark w act (named_fault w act)
+  fault_mark w act = ap (λ (f : Option StepFault). option_or f (if ltb 65535 (length w.sent + needs act) then Some Full else None)) (named_mark w act)
 
-  done_mark : (w : World) (f : Option StepFault) → done_or (at_mark x w) f ≡ with_mark x (done_or w f)
+  done_mark : (w : World) (f : Option StepFault) → option_map_or Err f (Ok (at_mark x w)) ≡ with_mark x (option_map_or Err f (Ok w))
   done_mark w None = refl
   done_mark w (Some f) = refl
 
   pub acts_mark : (w : World) (act : Act) → acts m served (at_mark x w) act ≡ with_mark x (acts m served w act)
   acts_mark w act =
-      ap (λ (v : World). done_or v (fault_of (at_mark x w) act)) (does_mark w act) ∙ ap (λ (f : Option StepFault). done_or (at_mark x (does m served w act)) f) (fault_mark w act) ∙ done_mark (does m served w act) (fault_of w act)
+      ap (λ (v : World). option_map_or {U = Result World StepFault} Err (fault_of (at_mark x w) act) (Ok v)) (does_mark w act)
+      ∙ ap (λ (f : Option StepFault). option_map_or Err f (Ok (at_mark x (does m served w act)))) (fault_mark w act) ∙ done_mark (does m served w act) (fault_of w act)
 
   then_mark : (more : List Act) → ((w : World) → runs m served more (at_mark x w) ≡ with_mark x (runs m served more w)) → (r : Result World StepFault) →
-      and_then (runs m served more) (with_mark x r) ≡ with_mark x (and_then (runs m served more) r)
+      (with_mark x r >>= runs m served more) ≡ with_mark x (r >>= runs m served more)
   then_mark more h (Ok v) = h v
   then_mark more h (Err f) = refl
 
   pub runs_mark : (schedule : List Act) (w : World) → runs m served schedule (at_mark x w) ≡ with_mark x (runs m served schedule w)
   runs_mark [] w = refl
-  runs_mark (act ∷ more) w = ap (λ r. and_then (runs m served more) r) (acts_mark w act) ∙ then_mark more (λ v. runs_mark more v) (acts m served w act)
+  runs_mark (act ∷ more) w = ap (λ (r : Result World StepFault). r >>= runs m served more) (acts_mark w act) ∙ then_mark more (λ v. runs_mark more v) (acts m served w act)
 
 module _ (m : Meaning) (served : ℕ → Bool) where
   same_mark : (w u : World) (r : Result World StepFault) → r ≡ with_mark w.mark r → r ≡ Ok u → u.mark ≡ w.mark
@@ -161,12 +158,12 @@ module _ (m : Meaning) (served : ℕ → Bool) where
   pub keeps_mark : (schedule : List Act) (w u : World) → runs m served schedule w ≡ Ok u → u.mark ≡ w.mark
   keeps_mark schedule w u e = same_mark w u (runs m served schedule w) (runs_mark m served w.mark schedule w) e
 
-  then_joined : (front back : List Act) → ((w : World) → runs m served (front ++ back) w ≡ and_then (runs m served back) (runs m served front w)) → (r : Result World StepFault) →
-      and_then (runs m served (front ++ back)) r ≡ and_then (runs m served back) (and_then (runs m served front) r)
+  then_joined : (front back : List Act) → ((w : World) → runs m served (front ++ back) w ≡ (runs m served front w >>= runs m served back)) → (r : Result World StepFault) →
+      (r >>= runs m served (front ++ back)) ≡ ((r >>= runs m served front) >>= runs m served back)
   then_joined front back h (Ok v) = h v
   then_joined front back h (Err f) = refl
 
-  pub runs_joined : (front back : List Act) (w : World) → runs m served (front ++ back) w ≡ and_then (runs m served back) (runs m served front w)
+  pub runs_joined : (front back : List Act) (w : World) → runs m served (front ++ back) w ≡ (runs m served front w >>= runs m served back)
   runs_joined [] back w = refl
   runs_joined (act ∷ front) back w = then_joined front back (λ v. runs_joined front back v) (acts m served w act)
 
@@ -229,7 +226,7 @@ module _ (m : Meaning) (served : ℕ → Bool) where
         schedule = acts_of w e ++ rest.schedule;
         all = All-append P (acts_of w e) rest.schedule a rest.all;
         other = All-append Q (acts_of w e) rest.schedule b rest.other;
-        runs_to = runs_joined (acts_of w e) rest.schedule w ∙ ap (λ r. and_then (runs m served rest.schedule) r) q ∙ ran ∙ ap (λ n. Ok (at_mark n v)) kept;
+        runs_to = runs_joined (acts_of w e) rest.schedule w ∙ ap (λ (r : Result World StepFault). r >>= runs m served rest.schedule) q ∙ ran ∙ ap (λ n. Ok (at_mark n v)) kept;
       }
 
   lines_acted : (P Q : Act → Type 0) (place : ℕ) (lines : List Event) (w v : World) → All (OfLine P) lines → All (OfLine Q) lines → plays_from m served place lines w ≡ Ok v → Acted P Q w v

@@ -1,6 +1,7 @@
 -- Damage is a loss: nothing but the node's past changes.
 use Rattle.std.proofs.Common.{◌≡◌, ℕ, ◌+◌, ◌<◌, ◌≤◌, ◌==◌, Bool, true, false, if◌then◌else◌, List, [], ◌∷◌, map, length, refl, sym, ap, ◌∙◌, subst, Option, Some, None}
 use Rattle.std.specs.List.{list_any}
+use Rattle.std.specs.Option.{option_map_or}
 use Rattle.uip_wire.specs.Numbers.{wrap}
 use Rattle.app_events.specs.Part.{Meaning}
 use Rattle.uip_ipv4.specs.declared.fate.IpFate.TheVariants as Ip
@@ -11,15 +12,17 @@ use Rattle.uip_node.specs.Events.Answer.{Silent}
 use Rattle.uip_node.specs.Counters.{times, raised, counters}
 use Rattle.uip_node.specs.Events.Event.{IpRefused, IcmpRefused, TcpRefused, EchoAsked, Arrived, Overlong, Periodic}
 use Rattle.uip_node.specs.Edge.{event_of}
+use Rattle.link_client.specs.Client.{client_takes}
 use Rattle.link_client.specs.declared.setup.Setup.{Setup}
-use Rattle.link_world.specs.World.{World, Side, numbered, node_handles}
+use Rattle.link_world.specs.World.{World, Side, client_stepped, numbered, node_handles}
 use Rattle.link_world.specs.Bytes.{sent_bytes, changed, heard_by}
-use Rattle.link_world.specs.Acts.{damages_at, hands_over, handed, client_handed}
+use Rattle.link_world.specs.Acts.{hands_over, handed}
 use Rattle.link_world.specs.declared.who.Who.{Who}
 use Rattle.link_world.specs.declared.who.Who.TheVariants.{FromClient, FromNode, Pinger}
 use Rattle.link_world.specs.Headline.{is_refused, raised_by, rise, IsLoss, OneRefusal, CountsBy, IsWholeDatagram, DamageIsLoss}
 use Rattle.link_world.proofs.Basics.{wrap_wrap}
 use Rattle.link_world.proofs.Damage.{damage_refused}
+use Rattle.link_world.proofs.Doing.{damaged}
 
 pub same_world : (w : World) → IsLoss w w
 same_world w = record { sides = refl; sent = refl; mark = refl; addr = refl; numbers = refl; connections = refl; ticks = refl; initial = refl; ident = refl }
@@ -28,23 +31,18 @@ node_loses : (m : Meaning) (served : ℕ → Bool) (w : World) (e : Event) → i
 node_loses m served w (IpRefused fate) h = record { sides = refl; sent = refl; mark = refl; addr = refl; numbers = refl; connections = refl; ticks = refl; initial = refl; ident = refl }
 node_loses m served w (IcmpRefused fate) h = record { sides = refl; sent = refl; mark = refl; addr = refl; numbers = refl; connections = refl; ticks = refl; initial = refl; ident = refl }
 node_loses m served w (TcpRefused fate) h = record { sides = refl; sent = refl; mark = refl; addr = refl; numbers = refl; connections = refl; ticks = refl; initial = refl; ident = refl }
-node_loses m served w (EchoAsked datagram) h = absurd (cc)
-node_loses m served w (Arrived sockets s) h = absurd (cc)
-node_loses m served w Overlong h = absurd (cc)
-node_loses m served w (Periodic place) h = absurd (cc)
+node_loses m served w _ h = absurd (cc)
 
 nothing_heard : (setup : Setup) (e : Event) → is_refused e ≡ true → heard_by setup e ≡ None
 nothing_heard setup (IpRefused fate) h = refl
 nothing_heard setup (IcmpRefused fate) h = refl
 nothing_heard setup (TcpRefused fate) h = refl
-nothing_heard setup (EchoAsked datagram) h = absurd (cc)
-nothing_heard setup (Arrived sockets s) h = absurd (cc)
-nothing_heard setup Overlong h = absurd (cc)
-nothing_heard setup (Periodic place) h = absurd (cc)
+nothing_heard setup _ h = absurd (cc)
 
-client_loses : (w : World) (number : ℕ) (bytes : List ℕ) (side : Option Side) → ((setup : Setup) → is_refused (event_of setup.addr bytes) ≡ true) → IsLoss w (handed w number bytes side)
+client_loses : (w : World) (number : ℕ) (bytes : List ℕ) (side : Option Side) → ((setup : Setup) → is_refused (event_of setup.addr bytes) ≡ true) → IsLoss w (option_map_or (handed w number bytes) side w)
 client_loses w number bytes None h = same_world w
-client_loses w number bytes (Some side) h = subst (λ x. IsLoss w (client_handed w number side x)) (sym (nothing_heard side.client.setup (event_of side.client.setup.addr bytes) (h side.client.setup))) (same_world w)
+client_loses w number bytes (Some side) h =
+    subst (λ x. IsLoss w (option_map_or (λ s. client_stepped w number side (client_takes side.client s)) x w)) (sym (nothing_heard side.client.setup (event_of side.client.setup.addr bytes) (h side.client.setup))) (same_world w)
 
 pub loses : (m : Meaning) (served : ℕ → Bool) (w : World) (who : Who) (bytes : List ℕ) (at mask : ℕ) → IsWholeDatagram bytes → at < length bytes → 1 ≤ mask → mask < 256 → IsLoss w (hands_over m served w (changed bytes at mask) who)
 loses m served w (FromClient n) bytes at mask h l a b = node_loses m served w (event_of w.node.addr (changed bytes at mask)) (damage_refused bytes at mask w.node.addr h l a b)
@@ -76,40 +74,29 @@ all_more (test ∷ tests) p past numbers n e =
     ap (λ x. x ∷ map (λ t. wrap (times t (p ∷ past))) tests) (one_more test p past b (head_is (test p) b (map (λ t. t p) tests) (marks numbers (n + 1) tests) e))
     ∙ ap (λ xs. (if b then wrap (wrap (times test past) + 1) else wrap (times test past)) ∷ xs) (all_more tests p past numbers (n + 1) (tail_is (test p) b (map (λ t. t p) tests) (marks numbers (n + 1) tests) e))
 
-counted_by : (e : Event) (past : List Past) → map (λ test. test (record { event = e; answer = Silent })) raised ≡ marks (raised_by e) 1 raised → counters (record { event = e; answer = Silent } ∷ past) ≡ rise (raised_by e) 1 (counters past)
-counted_by e past m = all_more raised (record { event = e; answer = Silent }) past (raised_by e) 1 m
+-- each counter that a refusal raises is told
+raised_told : (e : Event) → is_refused e ≡ true → map (λ test. test (record { event = e; answer = Silent })) raised ≡ marks (raised_by e) 1 raised
+raised_told (IpRefused Ip.Short) h = refl
+raised_told (IpRefused _) h = refl
+raised_told (IcmpRefused Icmp.Short) h = refl
+raised_told (IcmpRefused _) h = refl
+raised_told (TcpRefused Tcp.Short) h = refl
+raised_told (TcpRefused _) h = refl
+raised_told _ h = absurd (cc)
 
 refusal_counts : (e : Event) (past : List Past) → is_refused e ≡ true → counters (record { event = e; answer = Silent } ∷ past) ≡ rise (raised_by e) 1 (counters past)
-refusal_counts (IpRefused Ip.Short) past h = counted_by (IpRefused Ip.Short) past refl
-refusal_counts (IpRefused Ip.Version) past h = counted_by (IpRefused Ip.Version) past refl
-refusal_counts (IpRefused Ip.Length) past h = counted_by (IpRefused Ip.Length) past refl
-refusal_counts (IpRefused Ip.Fragment) past h = counted_by (IpRefused Ip.Fragment) past refl
-refusal_counts (IpRefused Ip.Checksum) past h = counted_by (IpRefused Ip.Checksum) past refl
-refusal_counts (IpRefused Ip.NotOurs) past h = counted_by (IpRefused Ip.NotOurs) past refl
-refusal_counts (IpRefused Ip.Protocol) past h = counted_by (IpRefused Ip.Protocol) past refl
-refusal_counts (IcmpRefused Icmp.Short) past h = counted_by (IcmpRefused Icmp.Short) past refl
-refusal_counts (IcmpRefused Icmp.Checksum) past h = counted_by (IcmpRefused Icmp.Checksum) past refl
-refusal_counts (IcmpRefused Icmp.NotEcho) past h = counted_by (IcmpRefused Icmp.NotEcho) past refl
-refusal_counts (TcpRefused Tcp.Short) past h = counted_by (TcpRefused Tcp.Short) past refl
-refusal_counts (TcpRefused Tcp.Offset) past h = counted_by (TcpRefused Tcp.Offset) past refl
-refusal_counts (TcpRefused Tcp.Checksum) past h = counted_by (TcpRefused Tcp.Checksum) past refl
-refusal_counts (EchoAsked datagram) past h = absurd (cc)
-refusal_counts (Arrived sockets s) past h = absurd (cc)
-refusal_counts Overlong past h = absurd (cc)
-refusal_counts (Periodic place) past h = absurd (cc)
+refusal_counts e past h = all_more raised (record { event = e; answer = Silent }) past (raised_by e) 1 (raised_told e h)
 
 one_refusal : (m : Meaning) (served : ℕ → Bool) (w : World) (e : Event) → is_refused e ≡ true → OneRefusal w (node_handles m served w e)
 one_refusal m served w (IpRefused fate) h = record { event = IpRefused fate; refused = refl; past = refl; counted = refusal_counts (IpRefused fate) w.node.past refl }
 one_refusal m served w (IcmpRefused fate) h = record { event = IcmpRefused fate; refused = refl; past = refl; counted = refusal_counts (IcmpRefused fate) w.node.past refl }
 one_refusal m served w (TcpRefused fate) h = record { event = TcpRefused fate; refused = refl; past = refl; counted = refusal_counts (TcpRefused fate) w.node.past refl }
-one_refusal m served w (EchoAsked datagram) h = absurd (cc)
-one_refusal m served w (Arrived sockets s) h = absurd (cc)
-one_refusal m served w Overlong h = absurd (cc)
-one_refusal m served w (Periodic place) h = absurd (cc)
+one_refusal m served w _ h = absurd (cc)
 
-client_past : (w : World) (number : ℕ) (bytes : List ℕ) (side : Option Side) → ((setup : Setup) → is_refused (event_of setup.addr bytes) ≡ true) → (handed w number bytes side).node.past ≡ w.node.past
+client_past : (w : World) (number : ℕ) (bytes : List ℕ) (side : Option Side) → ((setup : Setup) → is_refused (event_of setup.addr bytes) ≡ true) → (option_map_or (handed w number bytes) side w).node.past ≡ w.node.past
 client_past w number bytes None h = refl
-client_past w number bytes (Some side) h = subst (λ x. (client_handed w number side x).node.past ≡ w.node.past) (sym (nothing_heard side.client.setup (event_of side.client.setup.addr bytes) (h side.client.setup))) refl
+client_past w number bytes (Some side) h =
+    subst (λ x. (option_map_or (λ s. client_stepped w number side (client_takes side.client s)) x w).node.past ≡ w.node.past) (sym (nothing_heard side.client.setup (event_of side.client.setup.addr bytes) (h side.client.setup))) refl
 
 counts : (m : Meaning) (served : ℕ → Bool) (w : World) (who : Who) (bytes : List ℕ) (at mask : ℕ) → IsWholeDatagram bytes → at < length bytes → 1 ≤ mask → mask < 256 → CountsBy who w (hands_over m served w (changed bytes at mask) who)
 counts m served w (FromClient n) bytes at mask h l a b = one_refusal m served w (event_of w.node.addr (changed bytes at mask)) (damage_refused bytes at mask w.node.addr h l a b)
@@ -118,6 +105,6 @@ counts m served w (FromNode n) bytes at mask h l a b = client_past w n (changed 
 
 pub damage_is_loss : DamageIsLoss
 damage_is_loss m served w k at mask e sent h l a b = (
-  subst (λ x. IsLoss w (damages_at m served w at mask x)) (sym sent) (loses m served w e.who (sent_bytes w e) at mask h l a b),
-  subst (λ x. CountsBy e.who w (damages_at m served w at mask x)) (sym sent) (counts m served w e.who (sent_bytes w e) at mask h l a b),
+  subst (λ x. IsLoss w (damaged m served w at mask x)) (sym sent) (loses m served w e.who (sent_bytes w e) at mask h l a b),
+  subst (λ x. CountsBy e.who w (damaged m served w at mask x)) (sym sent) (counts m served w e.who (sent_bytes w e) at mask h l a b),
 )

@@ -98,12 +98,7 @@ heard_front : (pages : Pages) (opened : Option ℕ) (client : AbstractClient) (c
 heard_front pages opened client c Closed l g = absurd (cc)
 heard_front pages opened client c SynRcvd l g = subst (λ (xs : List ℕ). IsPrefixOf xs client.request) (sym g.heard) record { rest = client.request; joined = refl }
 heard_front pages opened client c Established l g = g.text.heard
-heard_front pages opened client c CloseWait l g = g.heard
-heard_front pages opened client c FinWait1 l g = g.heard
-heard_front pages opened client c FinWait2 l g = g.heard
-heard_front pages opened client c Closing l g = g.heard
-heard_front pages opened client c TimeWait l g = g.heard
-heard_front pages opened client c LastAck l g = g.heard
+heard_front pages opened client c _ l g = g.heard
 
 has_taken : (pages : Pages) (k : ℕ) (client : AbstractClient) (c : Connection) (sent : List Sent) (opened : Option ℕ) → RequestedBy k client c sent opened → is_some opened ≡ true → is_live c.state ≡ true → StateGood pages opened client c c.state → HasTextNumbers c → HasTaken client c
 has_taken pages k client c sent None r s l g n = absurd (cc)

@@ -63,14 +63,7 @@ module _ (m : Meaning) where
 
   tick_closed : (st : State) (c : Connection) (numbers : List ℕ) → is_live st ≡ false → tick_by m st c numbers ≡ leaves c numbers Step.Drop
   tick_closed Closed c numbers h = refl
-  tick_closed SynRcvd c numbers h = absurd (cc)
-  tick_closed Established c numbers h = absurd (cc)
-  tick_closed CloseWait c numbers h = absurd (cc)
-  tick_closed FinWait1 c numbers h = absurd (cc)
-  tick_closed FinWait2 c numbers h = absurd (cc)
-  tick_closed Closing c numbers h = absurd (cc)
-  tick_closed TimeWait c numbers h = absurd (cc)
-  tick_closed LastAck c numbers h = absurd (cc)
+  tick_closed _ c numbers h = absurd (cc)
 
   -- a tick of a CLOSED connection does nothing
   pub on_tick_closed : (c : Connection) (numbers : List ℕ) → is_live c.state ≡ false → on_tick m c numbers ≡ leaves c numbers Step.Drop

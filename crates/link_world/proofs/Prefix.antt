@@ -1,4 +1,5 @@
 -- Prefix and whole, for every schedule.
+use Rattle.std.specs.Option.{option_map_or}
 use Rattle.std.specs.List.{All}
 use Rattle.std.proofs.Common.{◌≡◌, ℕ, ◌≤◌, true, false, List, [], ◌∷◌, ◌++◌, length, map, replicate, refl, sym, ap, ◌∙◌, subst, arith, Option, Some, None, slice_get, take}
 use Rattle.std.proofs.Math.Seq.{take-length}
@@ -17,8 +18,8 @@ use Rattle.tcp_machine.specs.OnSegment.{accepted, on_segment}
 use Rattle.tcp_machine.specs.OnTick.{on_tick}
 use Rattle.link_client.specs.Client.{AbstractClient, ClientStep, has_closed, client_takes, client_opens, client_again, client_closes, client_aborts, tells_window}
 use Rattle.link_client.specs.declared.client_state.ClientState.{ClientState}
-use Rattle.link_world.specs.World.{World, Side, Sent, Era, client_sockets, with_client, marked, is_clean}
-use Rattle.link_world.specs.History.{era, era_of, serving, captures_in, captures_of, page_of, Planned, IsPlanned, IsPlan, fresh_side, opening_world}
+use Rattle.link_world.specs.World.{World, Side, Sent, Era, client_sockets, with_client, marked, is_clean, era_of}
+use Rattle.link_world.specs.History.{era, serving, captures_of, page_of, Planned, IsPlanned, IsPlan, fresh_side, opening_world}
 use Rattle.link_world.specs.Headline.{IsReached, IsServed, PrefixAndWhole}
 use Rattle.link_world.proofs.Steadiness.{steady_of}
 use Rattle.link_world.proofs.Basics.{both_ways, append_nothing, part_prefix}
@@ -198,12 +199,7 @@ module _ (m : Meaning) (pages : Pages) (lawful : IsPaged m pages) where
 
   not_early : (st : ClientState) → is_early st ≡ true → has_closed st ≡ true → ⊥
   not_early Rattle.link_client.specs.declared.client_state.ClientState.TheVariants.Idle h e = cc
-  not_early Rattle.link_client.specs.declared.client_state.ClientState.TheVariants.Opening h e = cc
-  not_early Rattle.link_client.specs.declared.client_state.ClientState.TheVariants.Reset h e = cc
-  not_early Rattle.link_client.specs.declared.client_state.ClientState.TheVariants.Opened h e = cc
-  not_early Rattle.link_client.specs.declared.client_state.ClientState.TheVariants.Closing h e = cc
-  not_early Rattle.link_client.specs.declared.client_state.ClientState.TheVariants.Closed h e = cc
-  not_early Rattle.link_client.specs.declared.client_state.ClientState.TheVariants.Ended h e = cc
+  not_early _ h e = cc
 
   served_by : (w : World) (side : Side) (o : Option ℕ) → side.opened ≡ o → OpenedGood pages side.client side.past (serving (client_sockets side) w.node.connections) o → IsServed pages w side
   served_by w side None q h = record {
@@ -213,7 +209,7 @@ module _ (m : Meaning) (pages : Pages) (lawful : IsPaged m pages) where
   }
   served_by w side (Some o) q h =
       let c : Connection = serving (client_sockets side) w.node.connections in
-      let k : captures_of w side ≡ (era side.past c o).captures = ap (λ x. captures_in x side.past c) q in
+      let k : captures_of w side ≡ (era side.past c o).captures = ap (λ (x : Option ℕ). option_map_or (λ n. (era side.past c n).captures) x []) q in
       let p : page_of pages w side ≡ pages.text side.client.request (era side.past c o).captures = ap (λ x. pages.text side.client.request x) k in
       record {
         prefix = subst (λ x. IsPrefixOf side.client.received x) (sym p) (part_prefix (pages.text side.client.request (era side.past c o).captures) side.client.received h.part);

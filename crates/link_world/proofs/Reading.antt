@@ -1,6 +1,7 @@
 -- The bytes of each datagram are read as what was sent.
-use Rattle.std.proofs.Common.{◌≡◌, ℕ, zero, suc, ◌<◌, ◌≤◌, List, length, take, refl, sym, ap, ◌∙◌, subst, arith, Option, Some, None, slice_get, if◌then◌else◌, length-append, length-take, length-drop}
+use Rattle.std.proofs.Common.{◌≡◌, ℕ, zero, suc, ◌<◌, ◌≤◌, List, [], length, take, refl, sym, ap, ◌∙◌, subst, arith, Option, Some, None, slice_get, if◌then◌else◌, length-append, length-take, length-drop}
 use Rattle.std.proofs.Math.Seq.{take-length}
+use Rattle.std.specs.Option.{option_map_or}
 use Rattle.uip_wire.specs.declared.addr.Addr.{Addr}
 use Rattle.icmp_echo.specs.Echo.{echo_reply}
 use Rattle.tcp_segment.specs.ReadBack.{IsReadBack, head_of}
@@ -88,14 +89,14 @@ AtClient addr bytes s at = ((side : Side) → at ≡ Some side → side.client.s
 some_side : (P : Side → Type 0) (a b : Side) → Some a ≡ Some b → P a → P b
 some_side P a b e h = subst P (let f : a ≡ b = cc in f) h
 
-at_node : (addr : Addr) (id : ℕ) (s : PlainSegment) (at : Option Side) → id < 65536 → IsSoundSegment s → ((x : Side) → at ≡ Some x → IsSoundClient x.client) → AtNode addr (client_bytes id s at) s at
+at_node : (addr : Addr) (id : ℕ) (s : PlainSegment) (at : Option Side) → id < 65536 → IsSoundSegment s → ((x : Side) → at ≡ Some x → IsSoundClient x.client) → AtNode addr (option_map_or (client_bytes id s) at []) s at
 at_node addr id s None l g h = ((λ side e f. absurd (cc)), omega arith)
 at_node addr id s (Some side) l g h = (
   (λ x e. some_side (λ (y : Side). y.client.setup.server ≡ addr → event_of addr (datagram_bytes (to_node side id s)) ≡ Arrived (client_sockets y) s) side x e (node_reads addr side id s l g (h side refl))),
   datagram_short (to_node side id s) (to_node_place side id s l (h side refl)) g,
 )
 
-at_client : (addr : Addr) (id : ℕ) (s : PlainSegment) (at : Option Side) → IsAddr addr → id < 65536 → IsSoundSegment s → ((x : Side) → at ≡ Some x → IsSoundClient x.client) → AtClient addr (node_bytes addr id s at) s at
+at_client : (addr : Addr) (id : ℕ) (s : PlainSegment) (at : Option Side) → IsAddr addr → id < 65536 → IsSoundSegment s → ((x : Side) → at ≡ Some x → IsSoundClient x.client) → AtClient addr (option_map_or (node_bytes addr id s) at []) s at
 at_client addr id s None a l g h = ((λ side e f. absurd (cc)), omega arith)
 at_client addr id s (Some side) a l g h = (
   (λ x e. some_side (λ (y : Side). y.client.setup.server ≡ addr → hears_datagram y.client.setup (datagram_bytes (to_client addr side id s)) ≡ Some s) side x e (client_reads addr side id s a l g (h side refl))),

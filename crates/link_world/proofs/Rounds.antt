@@ -1,6 +1,9 @@
 -- A round with one datagram under way, and what its delivery leaves.
-use Rattle.std.proofs.Common.{◌≡◌, ℕ, suc, ◌+◌, ◌-◌, ◌≤◌, max, Bool, true, false, if◌then◌else◌, List, [], ◌∷◌, ◌++◌, length, map, refl, ap, ◌∙◌, arith, Option, Some, None, Result, Ok, Err, slice_get, length-append}
+use Rattle.std.proofs.Common.{◌≡◌, ℕ, suc, ◌+◌, ◌-◌, ◌≤◌, max, Bool, true, false, if◌then◌else◌, List, [], ◌∷◌, ◌++◌, length, map, refl, ap, ◌∙◌, arith, Option, Some, None, Result, Ok, Err, slice_get, length-append, ltb}
 use Rattle.std.proofs.lemmas.Bool.{le-ltb}
+use Rattle.std.specs.List.{range_with_len}
+use Rattle.std.specs.Option.{option_map_or, option_or}
+use Rattle.link_schedule.specs.Numbers.{◌>>=◌}
 use Rattle.app_events.specs.Part.{Meaning}
 use Rattle.tcp_segment.specs.Segments.{PlainSegment}
 use Rattle.tcp_machine.specs.Connection.{same_sockets}
@@ -8,16 +11,17 @@ use Rattle.uip_node.specs.Events.Reply.{Tcp}
 use Rattle.uip_node.specs.Counters.{ticks_of}
 use Rattle.uip_node.specs.Node.{AbstractNode, NodeStep, arrives}
 use Rattle.link_client.specs.Client.{AbstractClient, ClientStep, client_takes}
-use Rattle.link_world.specs.World.{World, Side, Sent, numbered, client_sockets, becomes_opened, posts, delivers, hands_to, client_stepped, node_stepped}
+use Rattle.link_world.specs.World.{World, Side, Sent, numbered, client_sockets, becomes_opened, posts, delivers, client_stepped, node_stepped}
 use Rattle.link_world.specs.World.Content.{OfSegment}
-use Rattle.link_world.specs.Acts.{does, no_datagram, or_full, fault_of, done_or, acts, and_then, runs}
-use Rattle.link_world.specs.Schedule.{numbers_from, mark_after, with_mark, plays_line}
+use Rattle.link_world.specs.Acts.{does, fault_of, acts, runs}
+use Rattle.link_world.specs.Schedule.{mark_after, plays_line}
 use Rattle.link_world.specs.declared.act.Act.{Act}
 use Rattle.link_schedule.specs.declared.event.Event.TheVariants.{Round}
 use Rattle.link_world.specs.declared.step_fault.StepFault.{StepFault}
-use Rattle.link_world.specs.declared.step_fault.StepFault.TheVariants.{Full}
+use Rattle.link_world.specs.declared.step_fault.StepFault.TheVariants.{Full, NoDatagram}
 use Rattle.link_world.specs.declared.who.Who.{Who}
 use Rattle.link_world.specs.declared.who.Who.TheVariants.{FromClient, FromNode}
+use Rattle.link_world.proofs.Doing.{with_mark}
 use Rattle.link_world.proofs.SocketPairs.{same_self}
 
 -- the side of a client to which nothing stale came, and whose connection never became CLOSED
@@ -47,33 +51,33 @@ last_numbered : {X : Type 0} (xs : List X) (x : X) (k : ℕ) → k ≡ suc (leng
 last_numbered xs x k e = ap (λ n. numbered (xs ++ x ∷ []) n) e ∙ last_there xs x
 
 -- there is one number above the mark, or none
-one_past : (k n : ℕ) → n ≡ suc k → numbers_from (k + 1) (n - k) ≡ suc k ∷ []
+one_past : (k n : ℕ) → n ≡ suc k → range_with_len (k + 1) (n - k) ≡ suc k ∷ []
 one_past k n e =
     let left : n - k ≡ 1 = omega (arith, e) in
     let next : k + 1 ≡ suc k = omega arith in
-    ap (λ x. numbers_from (k + 1) x) left ∙ ap (λ x. x ∷ []) next
+    ap (λ x. range_with_len (k + 1) x) left ∙ ap (λ x. x ∷ []) next
 
-none_past : (k : ℕ) → numbers_from (k + 1) (k - k) ≡ []
-none_past k = let left : k - k ≡ 0 = omega arith in ap (λ x. numbers_from (k + 1) x) left
+none_past : (k : ℕ) → range_with_len (k + 1) (k - k) ≡ []
+none_past k = let left : k - k ≡ 0 = omega arith in ap (λ x. range_with_len (k + 1) x) left
 
 highest : (k n : ℕ) → k ≤ n → max k n ≡ n
 highest k n h = omega arith
 
 module _ (m : Meaning) (served : ℕ → Bool) where
-  only_act : (r : Result World StepFault) → and_then (runs m served []) r ≡ r
+  only_act : (r : Result World StepFault) → (r >>= runs m served []) ≡ r
   only_act (Ok w) = refl
   only_act (Err f) = refl
 
   -- there is room for the answer of one delivery
   has_room : (w : World) (k : ℕ) (e : Sent) → numbered w.sent k ≡ Some e → length w.sent + 1 ≤ 65535 → fault_of w (Act.Give k) ≡ None
   has_room w k e there room =
-      ap (λ o. or_full w (Act.Give k) (no_datagram o)) there
+      ap (λ (o : Option Sent). option_or (option_map_or {T = Sent} (λ d. None) o (Some NoDatagram)) (if ltb 65535 (length w.sent + 1) then Some Full else None)) there
       ∙ ap (λ b. if b then Some Full else None) (le-ltb 65535 (length w.sent + 1) room)
 
   delivered : (w : World) (k : ℕ) (e : Sent) → numbered w.sent k ≡ Some e → length w.sent + 1 ≤ 65535 → acts m served w (Act.Give k) ≡ Ok (delivers m served w k e e.who e.content)
   delivered w k e there room =
-      ap (λ f. done_or (does m served w (Act.Give k)) f) (has_room w k e there room)
-      ∙ ap (λ o. Ok (hands_to m served w k o)) there
+      ap (λ (f : Option StepFault). option_map_or Err f (Ok (does m served w (Act.Give k)))) (has_room w k e there room)
+      ∙ ap (λ (o : Option Sent). Ok (option_map_or (λ d. delivers m served w k d d.who d.content) o w)) there
 
   pub round_of_one : (node : AbstractNode) (side : Side) (before : List Sent) (e : Sent) → suc (length before) + 1 ≤ 65535 →
       plays_line m served (under_way node side before e) Round

@@ -1,12 +1,14 @@
 -- What every act keeps holds of every world that is reached.
 use Rattle.std.specs.List.{All}
 use Rattle.std.proofs.Common.{◌≡◌, ℕ, zero, suc, ◌⊎◌, inl, inr, Bool, List, [], ◌∷◌, replicate, refl, subst, arith, Option, Some, None, Result, Ok, Err, slice_get}
+use Rattle.std.specs.Option.{option_map_or}
 use Rattle.uip_wire.specs.declared.addr.Addr.{Addr}
 use Rattle.app_events.specs.Part.{Meaning}
 use Rattle.app_events.specs.Pages.{Pages, IsPaged, IsMoment, IsWord, IsAddr}
 use Rattle.tcp_machine.specs.Connection.{Connection, closed}
 use Rattle.link_world.specs.World.{World, Side}
-use Rattle.link_world.specs.Acts.{does, fault_of, done_or, acts, and_then, runs}
+use Rattle.link_schedule.specs.Numbers.{◌>>=◌}
+use Rattle.link_world.specs.Acts.{does, fault_of, acts, runs}
 use Rattle.link_world.specs.declared.act.Act.{Act}
 use Rattle.link_world.specs.declared.step_fault.StepFault.{StepFault}
 use Rattle.link_world.specs.History.{Planned, IsPlanned, IsPlan, fresh_side, opening_world, started}
@@ -58,17 +60,17 @@ opening_sound addr numbers plan a is = record {
 }
 
 -- the acts in turn, for any fact that each accepted one of them keeps
-done_world : (v w : World) (f : Option StepFault) → done_or v f ≡ Ok w → v ≡ w
+done_world : (v w : World) (f : Option StepFault) → option_map_or Err f (Ok v) ≡ Ok w → v ≡ w
 done_world v w None e = cc
 done_world v w (Some f) e = absurd (cc)
 
-no_fault : (v w : World) (f : Option StepFault) → done_or v f ≡ Ok w → f ≡ None
+no_fault : (v w : World) (f : Option StepFault) → option_map_or Err f (Ok v) ≡ Ok w → f ≡ None
 no_fault v w None e = refl
 no_fault v w (Some f) e = absurd (cc)
 
 module _ (m : Meaning) (served : ℕ → Bool) (Fine : Act → Type 0) (P : World → Type 0) (step : (w : World) (act : Act) → Fine act → fault_of w act ≡ None → P w → P (does m served w act)) where
   one_keeps : (v w : World) (act : Act) (more : List Act) (r : Result World StepFault) → acts m served v act ≡ r → Fine act → P v →
-      ((u : World) → P u → runs m served more u ≡ Ok w → P w) → and_then (runs m served more) r ≡ Ok w → P w
+      ((u : World) → P u → runs m served more u ≡ Ok w → P w) → (r >>= runs m served more) ≡ Ok w → P w
   one_keeps v w act more (Ok u) q f p rest e =
       rest u (subst P (done_world (does m served v act) u (fault_of v act) q) (step v act f (no_fault (does m served v act) u (fault_of v act) q) p)) e
   one_keeps v w act more (Err f) q g p rest e = absurd (cc)

@@ -17,11 +17,11 @@ use Rattle.tcp_machine.specs.Ask.{Outcome, asked}
 use Rattle.tcp_machine.specs.OnSegment.{first_mss, accepted, on_segment}
 use Rattle.tcp_machine.specs.OnTick.{on_tick}
 use Rattle.link_client.specs.Client.{ClientStep}
-use Rattle.link_world.specs.World.{World, Side, Sent, Content, client_sockets, with_client, marked, is_clean}
+use Rattle.link_world.specs.World.{World, Side, Sent, Content, client_sockets, with_client, marked, is_clean, era_of}
 use Rattle.link_world.specs.World.Content.{OfSegment, OfPing, OfEcho}
 use Rattle.link_world.specs.Acts.{does}
 use Rattle.link_world.specs.declared.act.Act.{Act}
-use Rattle.link_world.specs.History.{era_of, serving, Planned, IsPlan, opening_world}
+use Rattle.link_world.specs.History.{serving, Planned, IsPlan, opening_world}
 use Rattle.link_world.specs.Headline.{Alike, IsReached, RepeatsSameBytes, MarksRepeats, SameBytes, SameBytesPlainly, AgainExactly}
 use Rattle.link_world.specs.Steady.{IsSteady}
 use Rattle.link_world.proofs.Steadiness.{steady_of, IsShort, short_said}

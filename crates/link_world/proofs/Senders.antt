@@ -18,7 +18,7 @@ use Rattle.uip_node.specs.Counters.{initial_number, ident_of}
 use Rattle.uip_node.specs.Node.{AbstractNode, NodeStep, answer_of, reply_of, moment, happened, connection_in, slot_for_syn, passes, refuses, opens_in, opens, from_stranger, arrives_at, step}
 use Rattle.link_client.specs.Client.{AbstractClient, ClientStep, client_takes, client_opens, client_again, client_closes, client_aborts, tells_window}
 use Rattle.link_client.specs.declared.setup.Setup.{Setup}
-use Rattle.link_world.specs.World.{World, Side, Sent, Content, numbered, client_sockets, buries, buries_in, addressed, posts, posts_reply, node_stepped, node_handles, with_client, with_side, posts_of_client, client_stepped, marked, gives_node, gives_client, delivers, hands_to}
+use Rattle.link_world.specs.World.{World, Side, Sent, Content, numbered, client_sockets, buries, buries_in, addressed, posts, posts_reply, node_stepped, node_handles, with_client, with_side, posts_of_client, client_stepped, marked, delivers}
 use Rattle.link_world.specs.World.Content.{OfSegment, OfPing, OfEcho}
 use Rattle.link_world.specs.Bytes.{ping_from}
 use Rattle.link_world.specs.Acts.{client_acts, handles_all, does}
@@ -29,6 +29,7 @@ use Rattle.link_world.specs.declared.who.Who.TheVariants.{FromClient, FromNode, 
 use Rattle.link_world.specs.Headline.{IsLoss, IsReached}
 use Rattle.link_world.specs.Reading.{IsNumberOf, IsSentBy, SentToClients}
 use Rattle.link_world.proofs.Basics.{both_ways, choose, only_some, and_true, get_push}
+use Rattle.link_world.proofs.Doing.{at_number, where_there}
 use Rattle.link_world.proofs.Basics.AtEnd.{older, newest}
 use Rattle.link_world.proofs.Tables.{get_set, get_set_same, find_is, index_of}
 use Rattle.link_world.proofs.Tables.Written.{here, there}
@@ -269,13 +270,11 @@ sockets_by setup = record { peer = setup.addr; peer_port = setup.port; own_port 
 
 client_from : (w : World) (n : ℕ) (side base : Side) (took : ClientStep) → slice_get w.sides n ≡ Some side → took.client.setup ≡ side.client.setup → HasSenders w → HasSenders (client_stepped w (suc n) base took)
 client_from w n side base took at e h =
-    go took.sent (put_from w n side (with_client base took.client) at (ap sockets_by e) h)
-  where
-    go : (x : Option PlainSegment) → HasSenders (with_side w (suc n) (with_client base took.client)) → HasSenders (posts_of_client (with_side w (suc n) (with_client base took.client)) (suc n) x)
-    go None g = g
-    go (Some x) g =
-        posts_from (with_side w (suc n) (with_client base took.client)) (FromClient (suc n)) false (OfSegment 0 x)
-        ((with_client base took.client, get_set_same w.sides n side (with_client base took.client) at), tt) g
+    let new : Side = with_client base took.client in
+    let v : World = with_side w (suc n) new in
+    let g : HasSenders v = put_from w n side new at (ap sockets_by e) h in
+    where_there HasSenders (λ x. posts v (FromClient (suc n)) false (OfSegment 0 x)) took.sent v g
+    (λ x is. posts_from v (FromClient (suc n)) false (OfSegment 0 x) ((new, get_set_same w.sides n side new at), tt) g)
 
 loss_from : (w v : World) → IsLoss w v → HasSenders w → HasSenders v
 loss_from w v l h =
@@ -284,26 +283,24 @@ loss_from w v l h =
     record { conns = subst (λ s. HaveClients s v.node.connections) (sym l.sides) conns; sent = subst (λ s. AllFrom s v.sent) (sym l.sides) sent }
 
 module _ (m : Meaning) (served : ℕ → Bool) where
-  gives_node_from : (w : World) (n k : ℕ) (e : Sent) (s : PlainSegment) (side : Option Side) → slice_get w.sides n ≡ side → HasSenders w → HasSenders (gives_node m served w (suc n) k e s side)
-  gives_node_from w n k e s None at h = h
-  gives_node_from w n k e s (Some side) at h =
+  gives_node_from : (w : World) (n k : ℕ) (e : Sent) (s : PlainSegment) (side : Side) → slice_get w.sides n ≡ Some side → HasSenders w
+      → HasSenders (node_handles m served (with_side w (suc n) (marked side k e)) (Arrived (client_sockets side) s))
+  gives_node_from w n k e s side at h =
       let v : World = with_side w (suc n) (marked side k e) in
       let g : HasSenders v = put_from w n side (marked side k e) at refl h in
       stepped_from v (step m served v.node (Arrived (client_sockets side) s))
       (arrival_from v.sides v.sent m served v.node (client_sockets side) s record { index = n; side = marked side k e; get = get_set_same w.sides n side (marked side k e) at; same = refl } g.conns) g
 
-  gives_client_from : (w : World) (n k : ℕ) (e : Sent) (s : PlainSegment) (side : Option Side) → slice_get w.sides n ≡ side → HasSenders w → HasSenders (gives_client w (suc n) k e s side)
-  gives_client_from w n k e s None at h = h
-  gives_client_from w n k e s (Some side) at h = client_from w n side (marked side k e) (client_takes side.client s) at (takes_setup side.client s) h
-
   echo_from : (w : World) (datagram : List ℕ) → IsAsked w.sent datagram → HasSenders w → HasSenders (node_handles m served w (EchoAsked datagram))
   echo_from w datagram a h = stepped_from w (step m served w.node (EchoAsked datagram)) record { conns = h.conns; said = λ x e. only_some (λ r. MaySay w.sides w.sent r) (Echo datagram) x e a } h
 
   delivers_from : (w : World) (k : ℕ) (e : Sent) (who : Who) (content : Content) → ((datagram : List ℕ) → content ≡ OfPing datagram → IsAsked w.sent datagram) → HasSenders w → HasSenders (delivers m served w k e who content)
-  delivers_from w k e (FromClient zero) (OfSegment id s) a h = h
-  delivers_from w k e (FromClient (suc n)) (OfSegment id s) a h = gives_node_from w n k e s (slice_get w.sides n) refl h
-  delivers_from w k e (FromNode zero) (OfSegment id s) a h = h
-  delivers_from w k e (FromNode (suc n)) (OfSegment id s) a h = gives_client_from w n k e s (slice_get w.sides n) refl h
+  delivers_from w k e (FromClient number) (OfSegment id s) a h =
+      at_number HasSenders (λ i side. node_handles m served (with_side w i (marked side k e)) (Arrived (client_sockets side) s)) w.sides number w h
+      (λ n side at. gives_node_from w n k e s side at h)
+  delivers_from w k e (FromNode number) (OfSegment id s) a h =
+      at_number HasSenders (λ i side. client_stepped w i (marked side k e) (client_takes side.client s)) w.sides number w h
+      (λ n side at. client_from w n side (marked side k e) (client_takes side.client s) at (takes_setup side.client s) h)
   delivers_from w k e Pinger (OfPing datagram) a h = echo_from w datagram (a datagram refl) h
   delivers_from w k e (FromClient n) (OfPing datagram) a h = h
   delivers_from w k e (FromClient n) (OfEcho request) a h = h
@@ -312,21 +309,10 @@ module _ (m : Meaning) (served : ℕ → Bool) where
   delivers_from w k e Pinger (OfSegment id s) a h = h
   delivers_from w k e Pinger (OfEcho request) a h = h
 
-  gives_from : (w : World) (k j : ℕ) (e : Option Sent) → slice_get w.sent j ≡ e → HasSenders w → HasSenders (hands_to m served w k e)
-  gives_from w k j None at h = h
-  gives_from w k j (Some e) at h = delivers_from w k e e.who e.content (λ datagram q. record { index = j; asker = e; get = at; is = q }) h
-
-  number_from : (w : World) (k : ℕ) → HasSenders w → HasSenders (hands_to m served w k (numbered w.sent k))
-  number_from w zero h = h
-  number_from w (suc j) h = gives_from w (suc j) j (slice_get w.sent j) refl h
-
-  own_from : (w : World) (n : ℕ) (act : AbstractClient → ClientStep) (side : Option Side) → slice_get w.sides n ≡ side → ((c : AbstractClient) → SameSetup c (act c)) → HasSenders w → HasSenders (client_acts w (suc n) act side)
-  own_from w n act None at s h = h
-  own_from w n act (Some side) at s h = client_from w n side side (act side.client) at (s side.client) h
-
-  act_from : (w : World) (number : ℕ) (act : AbstractClient → ClientStep) → ((c : AbstractClient) → SameSetup c (act c)) → HasSenders w → HasSenders (client_acts w number act (numbered w.sides number))
-  act_from w zero act s h = h
-  act_from w (suc n) act s h = own_from w n act (slice_get w.sides n) refl s h
+  act_from : (w : World) (number : ℕ) (act : AbstractClient → ClientStep) → ((c : AbstractClient) → SameSetup c (act c)) → HasSenders w → HasSenders (client_acts w number act)
+  act_from w number act s h =
+      at_number HasSenders (λ i side. client_stepped w i side (act side.client)) w.sides number w h
+      (λ n side at. client_from w n side side (act side.client) at (s side.client) h)
 
   slots_from : (slots : List ℕ) (w : World) → HasSenders w → HasSenders (handles_all m served (map Periodic slots) w)
   slots_from [] w h = h
@@ -340,7 +326,9 @@ module _ (m : Meaning) (served : ℕ → Bool) where
   does_from w (Act.Aborts n) l h = act_from w n client_aborts aborts_setup h
   does_from w (Act.Window n x) l h = act_from w n (tells_window x) (λ c. refl) h
   does_from w (Act.Ping source) l h = posts_from w Pinger false (OfPing (ping_from source w.node.addr)) (tt, tt) h
-  does_from w (Act.Give k) l h = number_from w k h
+  does_from w (Act.Give k) l h =
+      at_number HasSenders (λ i e. delivers m served w i e e.who e.content) w.sent k w h
+      (λ n e at. delivers_from w (suc n) e e.who e.content (λ datagram q. record { index = n; asker = e; get = at; is = q }) h)
   does_from w (Act.Damage k at mask) l h = loss_from w (does m served w (Act.Damage k at mask)) l h
   does_from w Act.Tick l h = slots_from (0 ∷ 1 ∷ 2 ∷ 3 ∷ 4 ∷ 5 ∷ 6 ∷ 7 ∷ 8 ∷ 9 ∷ []) w h
 

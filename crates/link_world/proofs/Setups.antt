@@ -38,12 +38,7 @@ ack_follows c s =
 
 fin_stays : (st : ClientState) → is_idle st ≡ false → is_idle (after_fin st) ≡ false
 fin_stays Is.Idle h = h
-fin_stays Is.Opening h = refl
-fin_stays Is.Opened h = refl
-fin_stays Is.Closing h = refl
-fin_stays Is.Closed h = refl
-fin_stays Is.Ended h = refl
-fin_stays Is.Reset h = refl
+fin_stays _ h = refl
 
 text_follows : (c : AbstractClient) (s : PlainSegment) → Follows c (takes_text c s)
 text_follows c s = record { stays = λ h. choose (λ x. is_idle x ≡ false) (has_fin s.flags) (after_fin c.state) c.state (λ e. fin_stays c.state h) (λ e. h); planned = refl }

@@ -1,8 +1,8 @@
 -- What the world's acts do to the sides, in small.
 use Rattle.std.proofs.Common.{◌≡◌, ℕ, zero, suc, ◌+◌, Bool, true, false, not, ◌&&◌, List, [], ◌∷◌, ◌++◌, set, refl, sym, ap, ◌∙◌, arith, Option, Some, None, is_none, slice_get, if◌then◌else◌}
 use Rattle.tcp_machine.specs.Connection.{Sockets, Connection, same_sockets}
-use Rattle.link_world.specs.World.{Side, Sent, client_sockets, buries, buries_in, addressed, marked, first_of_both, is_clean, epoch}
-use Rattle.link_world.specs.History.{era_of}
+use Rattle.link_world.specs.World.{Side, Sent, client_sockets, buries, buries_in, addressed, era_of, marked, is_clean, epoch}
+use Rattle.std.specs.Option.{option_or}
 use Rattle.link_world.proofs.Basics.{both_ways, choose, eqb-eq}
 use Rattle.link_world.proofs.Tables.{get_map, get_set}
 use Rattle.link_world.proofs.Tables.Written.{here, there}
@@ -68,7 +68,7 @@ put_apart sides n side new at q h j k a b x y p =
       ]
     ]
 
-none_both : (a : Option ℕ) (b : Bool) (n : ℕ) → is_none (first_of_both a (if b then None else Some n)) ≡ true → (is_none a ≡ true) × (b ≡ true)
+none_both : (a : Option ℕ) (b : Bool) (n : ℕ) → is_none (option_or a (if b then None else Some n)) ≡ true → (is_none a ≡ true) × (b ≡ true)
 none_both None true n h = (refl, refl)
 none_both None false n h = absurd (cc)
 none_both (Some x) b n h = absurd (cc)

@@ -73,11 +73,7 @@ module _ (m : Meaning) where
   asked_for_lens at o (Step.Ask fresh) h =
       wanted_lens (m.want o.numbers (m.prepare o.numbers o.connection.part (at o.connection))) fresh (prepared m (at o.connection) o.connection o.numbers) o.numbers record { len = h.len; mss = h.mss; initial = h.initial }
   asked_for_lens at o Step.Drop h = h
-  asked_for_lens at o Step.Ack h = h
-  asked_for_lens at o (Step.SynAck again) h = h
-  asked_for_lens at o (Step.Text again) h = h
-  asked_for_lens at o (Step.Fin again) h = h
-  asked_for_lens at o Step.Reset h = h
+  asked_for_lens at o _ h = h
 
   pub asked_lens : (at : Connection → Now) (o : Outcome) → Lens o.connection → Lens (asked m at o).connection
   asked_lens at o h = asked_for_lens at o o.step h

@@ -10,7 +10,7 @@ use Rattle.uip_node.specs.Events.Event.{Arrived, EchoAsked, Periodic}
 use Rattle.uip_node.specs.Events.Reply.{Echo, Tcp}
 use Rattle.uip_node.specs.Node.{NodeStep, step}
 use Rattle.link_client.specs.Client.{AbstractClient, ClientStep, client_takes, client_opens, client_again, client_closes, client_aborts, tells_window}
-use Rattle.link_world.specs.World.{World, Side, Sent, Content, numbered, client_sockets, buries, buries_in, addressed, posts, posts_reply, node_stepped, node_handles, with_client, with_side, posts_of_client, client_stepped, marked, gives_node, gives_client, delivers, hands_to}
+use Rattle.link_world.specs.World.{World, Side, Sent, Content, client_sockets, buries, buries_in, addressed, posts, posts_reply, node_stepped, node_handles, with_client, with_side, posts_of_client, client_stepped, marked, delivers}
 use Rattle.link_world.specs.World.Content.{OfSegment, OfPing, OfEcho}
 use Rattle.link_world.specs.Bytes.{ping_from}
 use Rattle.link_world.specs.Acts.{client_acts, handles_all, does}
@@ -26,6 +26,7 @@ use Rattle.link_world.proofs.Tables.Written.{here, there}
 use Rattle.link_world.proofs.FitWorlds.{FitWorld, put_fits, periodic_fits}
 use Rattle.link_world.proofs.Sound.{IsSoundSegment, IsSoundClient, SoundStep, takes_sound, opens_sound, again_sound, closes_sound, aborts_sound, window_sound}
 use Rattle.link_world.proofs.SoundNodes.{LensAll, SoundReply, SoundNode, arrival_node, periodic_node}
+use Rattle.link_world.proofs.Doing.{at_number, where_there}
 use Rattle.link_world.proofs.Harmless.{Harmless}
 
 pub data SoundSent (addr : Addr) (who : Who) (content : Content) : Type 0 where
@@ -85,11 +86,11 @@ put_sound w n new s h = record {
 }
 
 client_sound : (w : World) (n : ℕ) (base : Side) (took : ClientStep) → SoundStep took → SoundWorld w → SoundWorld (client_stepped w (suc n) base took)
-client_sound w n base took s h = go took.sent s.said (put_sound w n (with_client base took.client) s.client h)
-  where
-    go : (x : Option PlainSegment) → ((y : PlainSegment) → x ≡ Some y → IsSoundSegment y) → SoundWorld (with_side w (suc n) (with_client base took.client)) → SoundWorld (posts_of_client (with_side w (suc n) (with_client base took.client)) (suc n) x)
-    go None f g = g
-    go (Some x) f g = posts_sound (with_side w (suc n) (with_client base took.client)) (FromClient (suc n)) false (OfSegment 0 x) (of_segment 0 x refl (omega arith) (f x refl)) g
+client_sound w n base took s h =
+    let v : World = with_side w (suc n) (with_client base took.client) in
+    let g : SoundWorld v = put_sound w n (with_client base took.client) s.client h in
+    where_there SoundWorld (λ x. posts v (FromClient (suc n)) false (OfSegment 0 x)) took.sent v g
+    (λ x e. posts_sound v (FromClient (suc n)) false (OfSegment 0 x) (of_segment 0 x refl (omega arith) (s.said x e)) g)
 
 same_segment : (P : PlainSegment → Type 0) (id id' : ℕ) (s t : PlainSegment) → OfSegment id s ≡ OfSegment id' t → P t → P s
 same_segment P id id' s t e h = subst P (let f : t ≡ s = cc in f) h
@@ -110,26 +111,24 @@ loss_sound w v l h = record {
 }
 
 module _ (m : Meaning) (pages : Pages) (lawful : IsPaged m pages) (page : HasBytes pages) (served : ℕ → Bool) where
-  gives_node_sound : (w : World) (n k : ℕ) (e : Sent) (s : PlainSegment) (side : Option Side) → slice_get w.sides n ≡ side → IsSoundSegment s → FitWorld w → SoundWorld w → SoundWorld (gives_node m served w (suc n) k e s side)
-  gives_node_sound w n k e s None at g f h = h
-  gives_node_sound w n k e s (Some side) at g f h =
+  gives_node_sound : (w : World) (n k : ℕ) (e : Sent) (s : PlainSegment) (side : Side) → slice_get w.sides n ≡ Some side → IsSoundSegment s → FitWorld w → SoundWorld w
+      → SoundWorld (node_handles m served (with_side w (suc n) (marked side k e)) (Arrived (client_sockets side) s))
+  gives_node_sound w n k e s side at g f h =
       let v : World = with_side w (suc n) (marked side k e) in
       let vf : FitWorld v = put_fits w n side (marked side k e) at refl refl f in
       let vh : SoundWorld v = put_sound w n (marked side k e) (h.sides n side at) h in
       stepped_sound v (step m served v.node (Arrived (client_sockets side) s)) (arrival_node m pages lawful page served v.node (client_sockets side) s (f.sides n side at).addr (f.sides n side at).port g vf.node vh.conns) vh
 
-  gives_client_sound : (w : World) (n k : ℕ) (e : Sent) (s : PlainSegment) (side : Option Side) → slice_get w.sides n ≡ side → SoundWorld w → SoundWorld (gives_client w (suc n) k e s side)
-  gives_client_sound w n k e s None at h = h
-  gives_client_sound w n k e s (Some side) at h = client_sound w n (marked side k e) (client_takes side.client s) (takes_sound side.client s (h.sides n side at)) h
-
   echo_sound : (w : World) (datagram : List ℕ) → SoundWorld w → SoundWorld (node_handles m served w (EchoAsked datagram))
   echo_sound w datagram h = stepped_sound w (step m served w.node (EchoAsked datagram)) record { addr = refl; conns = h.conns; said = λ x e. only_some (λ r. SoundReply r) (Echo datagram) x e tt } h
 
   delivers_sound : (w : World) (k : ℕ) (e : Sent) (who : Who) (content : Content) → SoundSent w.node.addr who content → FitWorld w → SoundWorld w → SoundWorld (delivers m served w k e who content)
-  delivers_sound w k e (FromClient zero) (OfSegment id s) g f h = h
-  delivers_sound w k e (FromClient (suc n)) (OfSegment id s) g f h = gives_node_sound w n k e s (slice_get w.sides n) refl (segment_inside w.node.addr (FromClient (suc n)) id s g) f h
-  delivers_sound w k e (FromNode zero) (OfSegment id s) g f h = h
-  delivers_sound w k e (FromNode (suc n)) (OfSegment id s) g f h = gives_client_sound w n k e s (slice_get w.sides n) refl h
+  delivers_sound w k e (FromClient number) (OfSegment id s) g f h =
+      at_number SoundWorld (λ i side. node_handles m served (with_side w i (marked side k e)) (Arrived (client_sockets side) s)) w.sides number w h
+      (λ n side at. gives_node_sound w n k e s side at (segment_inside w.node.addr (FromClient number) id s g) f h)
+  delivers_sound w k e (FromNode number) (OfSegment id s) g f h =
+      at_number SoundWorld (λ i side. client_stepped w i (marked side k e) (client_takes side.client s)) w.sides number w h
+      (λ n side at. client_sound w n (marked side k e) (client_takes side.client s) (takes_sound side.client s (h.sides n side at)) h)
   delivers_sound w k e Pinger (OfPing datagram) g f h = echo_sound w datagram h
   delivers_sound w k e (FromClient n) (OfPing datagram) g f h = h
   delivers_sound w k e (FromClient n) (OfEcho request) g f h = h
@@ -138,21 +137,10 @@ module _ (m : Meaning) (pages : Pages) (lawful : IsPaged m pages) (page : HasByt
   delivers_sound w k e Pinger (OfSegment id s) g f h = h
   delivers_sound w k e Pinger (OfEcho request) g f h = h
 
-  gives_sound : (w : World) (k j : ℕ) (e : Option Sent) → slice_get w.sent j ≡ e → FitWorld w → SoundWorld w → SoundWorld (hands_to m served w k e)
-  gives_sound w k j None at f h = h
-  gives_sound w k j (Some e) at f h = delivers_sound w k e e.who e.content (h.sent j e at) f h
-
-  number_sound : (w : World) (k : ℕ) → FitWorld w → SoundWorld w → SoundWorld (hands_to m served w k (numbered w.sent k))
-  number_sound w zero f h = h
-  number_sound w (suc j) f h = gives_sound w (suc j) j (slice_get w.sent j) refl f h
-
-  own_sound : (w : World) (n : ℕ) (act : AbstractClient → ClientStep) (side : Option Side) → slice_get w.sides n ≡ side → ((c : AbstractClient) → IsSoundClient c → SoundStep (act c)) → SoundWorld w → SoundWorld (client_acts w (suc n) act side)
-  own_sound w n act None at s h = h
-  own_sound w n act (Some side) at s h = client_sound w n side (act side.client) (s side.client (h.sides n side at)) h
-
-  act_sound : (w : World) (number : ℕ) (act : AbstractClient → ClientStep) → ((c : AbstractClient) → IsSoundClient c → SoundStep (act c)) → SoundWorld w → SoundWorld (client_acts w number act (numbered w.sides number))
-  act_sound w zero act s h = h
-  act_sound w (suc n) act s h = own_sound w n act (slice_get w.sides n) refl s h
+  act_sound : (w : World) (number : ℕ) (act : AbstractClient → ClientStep) → ((c : AbstractClient) → IsSoundClient c → SoundStep (act c)) → SoundWorld w → SoundWorld (client_acts w number act)
+  act_sound w number act s h =
+      at_number SoundWorld (λ i side. client_stepped w i side (act side.client)) w.sides number w h
+      (λ n side at. client_sound w n side (act side.client) (s side.client (h.sides n side at)) h)
 
   slots_sound : (slots : List ℕ) (w : World) → FitWorld w → SoundWorld w → SoundWorld (handles_all m served (map Periodic slots) w)
   slots_sound [] w f h = h
@@ -167,6 +155,7 @@ module _ (m : Meaning) (pages : Pages) (lawful : IsPaged m pages) (page : HasByt
   does_sound w (Act.Aborts n) is l f h = act_sound w n client_aborts aborts_sound h
   does_sound w (Act.Window n x) is l f h = act_sound w n (tells_window x) (λ c s. window_sound x c is s) h
   does_sound w (Act.Ping source) is l f h = posts_sound w Pinger false (OfPing (ping_from source w.node.addr)) (of_ping source refl refl is) h
-  does_sound w (Act.Give k) is l f h = number_sound w k f h
+  does_sound w (Act.Give k) is l f h =
+      at_number SoundWorld (λ i e. delivers m served w i e e.who e.content) w.sent k w h (λ n e at. delivers_sound w (suc n) e e.who e.content (h.sent n e at) f h)
   does_sound w (Act.Damage k at mask) is l f h = loss_sound w (does m served w (Act.Damage k at mask)) l h
   does_sound w Act.Tick is l f h = slots_sound (0 ∷ 1 ∷ 2 ∷ 3 ∷ 4 ∷ 5 ∷ 6 ∷ 7 ∷ 8 ∷ 9 ∷ []) w f h

@@ -186,12 +186,7 @@ module _ (m : Meaning) (pages : Pages) (lawful : IsPaged m pages) where
 
     asked_for_good : (moment : Connection → Now) (c d : Connection) (numbers : List ℕ) (s : Step) → OutBy c d s → StepGood pages opened client c (spoken m (asked_for m moment (leaves d numbers s) s))
     asked_for_good moment c d numbers (Step.Ask fresh) h = asking_good c d (moment d) fresh numbers h
-    asked_for_good moment c d numbers Step.Drop h = h
-    asked_for_good moment c d numbers Step.Ack h = h
-    asked_for_good moment c d numbers (Step.SynAck again) h = h
-    asked_for_good moment c d numbers (Step.Text again) h = h
-    asked_for_good moment c d numbers (Step.Fin again) h = h
-    asked_for_good moment c d numbers Step.Reset h = h
+    asked_for_good moment c d numbers _ h = h
 
     pub asked_good : (moment : Connection → Now) (c : Connection) (o : Outcome) → OutGood c o → StepGood pages opened client c (spoken m (asked m moment o))
     asked_good moment c o h = asked_for_good moment c o.connection o.numbers o.step h

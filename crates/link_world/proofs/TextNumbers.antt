@@ -25,11 +25,7 @@ AtNumbers Closed c = Unit {0}
 AtNumbers SynRcvd c = (c.acked ≡ 0) × (c.len ≡ 1) × (c.taken ≡ 0) × (c.part.heard ≡ [])
 AtNumbers Established c = (c.acked ≡ 1 + c.part.acked) × (c.taken ≡ length c.part.heard)
 AtNumbers CloseWait c = (c.acked ≡ 1 + c.part.acked) × (c.taken ≡ length c.part.heard + 1)
-AtNumbers FinWait1 c = length c.part.heard ≤ c.taken
-AtNumbers FinWait2 c = length c.part.heard ≤ c.taken
-AtNumbers Closing c = length c.part.heard ≤ c.taken
-AtNumbers TimeWait c = length c.part.heard ≤ c.taken
-AtNumbers LastAck c = length c.part.heard ≤ c.taken
+AtNumbers _ c = length c.part.heard ≤ c.taken
 
 pub record Num (c : Connection) : Type 0 where
   pub at : AtNumbers c.state c
@@ -56,22 +52,14 @@ like_num c d Closed a l t pa ph h = tt
 like_num c d SynRcvd a l t pa ph h = (a ∙ h.0, l ∙ h.1, t ∙ h.2, ph ∙ h.3)
 like_num c d Established a l t pa ph h = (omega (arith, a, pa, h.0), omega (arith, t, ap length ph, h.1))
 like_num c d CloseWait a l t pa ph h = (omega (arith, a, pa, h.0), omega (arith, t, ap length ph, h.1))
-like_num c d FinWait1 a l t pa ph h = omega (arith, t, ap length ph, h)
-like_num c d FinWait2 a l t pa ph h = omega (arith, t, ap length ph, h)
-like_num c d Closing a l t pa ph h = omega (arith, t, ap length ph, h)
-like_num c d TimeWait a l t pa ph h = omega (arith, t, ap length ph, h)
-like_num c d LastAck a l t pa ph h = omega (arith, t, ap length ph, h)
+like_num c d _ a l t pa ph h = omega (arith, t, ap length ph, h)
 
 low_num : (c : Connection) (st : State) → is_live st ≡ true → AtNumbers st c → length c.part.heard ≤ c.taken
 low_num c Closed l h = absurd (cc)
 low_num c SynRcvd l h = omega (arith, ap length h.3)
 low_num c Established l h = omega (arith, h.1)
 low_num c CloseWait l h = omega (arith, h.1)
-low_num c FinWait1 l h = h
-low_num c FinWait2 l h = h
-low_num c Closing l h = h
-low_num c TimeWait l h = h
-low_num c LastAck l h = h
+low_num c _ l h = h
 
 -- the state after an own FIN
 fin_num : (d : Connection) (st : State) → length d.part.heard ≤ d.taken → AtNumbers (after_own_fin st) d

@@ -69,25 +69,11 @@ early_at age limit last e h t = elim (low_or_not age last) [ inl x ↦ omega (ar
 
 early : (st : State) (age : ℕ) → tries_at age < limit_of st → age < give_up_age (limit_of st)
 early SynRcvd age t = early_at age 5 102 refl (λ x. let s = six age x in omega (arith, s)) t
-early Closed age t = early_at age 8 249 refl (λ x. let s = nine age x in omega (arith, s)) t
-early Established age t = early_at age 8 249 refl (λ x. let s = nine age x in omega (arith, s)) t
-early CloseWait age t = early_at age 8 249 refl (λ x. let s = nine age x in omega (arith, s)) t
-early FinWait1 age t = early_at age 8 249 refl (λ x. let s = nine age x in omega (arith, s)) t
-early FinWait2 age t = early_at age 8 249 refl (λ x. let s = nine age x in omega (arith, s)) t
-early Closing age t = early_at age 8 249 refl (λ x. let s = nine age x in omega (arith, s)) t
-early TimeWait age t = early_at age 8 249 refl (λ x. let s = nine age x in omega (arith, s)) t
-early LastAck age t = early_at age 8 249 refl (λ x. let s = nine age x in omega (arith, s)) t
+early _ age t = early_at age 8 249 refl (λ x. let s = nine age x in omega (arith, s)) t
 
 limit_low : (st : State) → limit_of st ≤ 8
 limit_low SynRcvd = omega arith
-limit_low Closed = omega arith
-limit_low Established = omega arith
-limit_low CloseWait = omega arith
-limit_low FinWait1 = omega arith
-limit_low FinWait2 = omega arith
-limit_low Closing = omega arith
-limit_low TimeWait = omega arith
-limit_low LastAck = omega arith
+limit_low _ = omega arith
 
 -- the beat of an expired timer
 again_beat : (c : Connection) → IsExpired c → beat_at (limit_of c.state) (c.age + 1) ≡ Again
@@ -108,9 +94,7 @@ module _ (m : Meaning) where
   by_state FinWait1 c numbers e w l = refl
   by_state Closing c numbers e w l = refl
   by_state LastAck c numbers e w l = refl
-  by_state Closed c numbers e w l = absurd (cc)
-  by_state FinWait2 c numbers e w l = absurd (cc)
-  by_state TimeWait c numbers e w l = absurd (cc)
+  by_state _ c numbers e w l = absurd (cc)
 
   tick_is : (c : Connection) (numbers : List ℕ) → IsExpired c → on_tick m c numbers ≡ leaves (grows_older c) numbers (outstanding true c.state)
   tick_is c numbers x = by_state c.state c numbers refl x.waits x.some ∙ ap (λ b. by_beat m b c numbers) (again_beat c x)
@@ -127,20 +111,11 @@ module _ (m : Meaning) where
   due FinWait1 d w = record { segment = fin_of d; is = refl; again = refl }
   due Closing d w = record { segment = fin_of d; is = refl; again = refl }
   due LastAck d w = record { segment = fin_of d; is = refl; again = refl }
-  due Closed d w = absurd (cc)
-  due FinWait2 d w = absurd (cc)
-  due TimeWait d w = absurd (cc)
+  due _ d w = absurd (cc)
 
   not_asked : (st : State) (now : Connection → Now) (d : Connection) (numbers : List ℕ) → asked m now (leaves d numbers (outstanding true st)) ≡ leaves d numbers (outstanding true st)
   not_asked SynRcvd now d numbers = refl
-  not_asked Established now d numbers = refl
-  not_asked CloseWait now d numbers = refl
-  not_asked FinWait1 now d numbers = refl
-  not_asked Closing now d numbers = refl
-  not_asked LastAck now d numbers = refl
-  not_asked Closed now d numbers = refl
-  not_asked FinWait2 now d numbers = refl
-  not_asked TimeWait now d numbers = refl
+  not_asked _ now d numbers = refl
 
   sends_it : (n : AbstractNode) (event : Event) (slot : ℕ) (c : Connection) (s : Step) (x : PlainSegment) → segment_of m (grows_older c) s ≡ Some x → is_again s ≡ true → segment_of m (grows_older c) (outstanding true c.state) ≡ Some x → SendsAgain m c (happened m n event slot c (leaves (grows_older c) n.numbers s)).sent
   unfolding happened

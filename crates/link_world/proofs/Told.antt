@@ -33,9 +33,7 @@ due m CloseWait c = text_segment m c
 due m FinWait1 c = fin_of c
 due m Closing c = fin_of c
 due m LastAck c = fin_of c
-due m FinWait2 c = bare_ack c
-due m TimeWait c = bare_ack c
-due m Closed c = bare_ack c
+due m _ c = bare_ack c
 
 pub alike_refl : (s : PlainSegment) → Alike s s
 alike_refl s = record { flags = refl; text = refl }
@@ -165,11 +163,7 @@ module _ (m : Meaning) (steady : IsSteady m) (Low : ℕ → Type 0) (low_text : 
   alike_same SynRcvd c d h = record { flags = refl; text = refl }
   alike_same Established c d h = record { flags = refl; text = h }
   alike_same CloseWait c d h = record { flags = refl; text = h }
-  alike_same FinWait1 c d h = record { flags = refl; text = refl }
-  alike_same FinWait2 c d h = record { flags = refl; text = refl }
-  alike_same Closing c d h = record { flags = refl; text = refl }
-  alike_same TimeWait c d h = record { flags = refl; text = refl }
-  alike_same LastAck c d h = record { flags = refl; text = refl }
+  alike_same _ c d h = record { flags = refl; text = refl }
 
   onto_same : (c : Connection) → Onto c c
   onto_same c = record { first = refl; grows = omega arith; kept = λ l e. (l, alike_refl (due m c.state c)) }
@@ -212,7 +206,7 @@ module _ (m : Meaning) (steady : IsSteady m) (Low : ℕ → Type 0) (low_text : 
     marked = λ x e p. absurd (cc);
   }
 
-  -- a step from b, which c had become
+  -- a step from b, to which c came by an acknowledgement of all that was outstanding
   from_tells : (c b d : Connection) (sent : Option PlainSegment) → Onto c b → (0 < c.len → c.acked < b.acked) → b.len ≡ 0 → StepTells b d sent false → StepTells c d sent false
   from_tells c b d sent o new z t = record {
     still = λ l x. elim (t.still l x) [ inl y ↦ absurd (let p = y.some in omega (arith, p, z)) | inr y ↦ inr y ];
@@ -294,12 +288,7 @@ module _ (m : Meaning) (steady : IsSteady m) (Low : ℕ → Type 0) (low_text : 
 
   asked_for_tells : (moment : Connection → Now) (c d : Connection) (numbers : List ℕ) (s : Step) → ((now : Now) → now ≡ moment d → All IsMoment (m.prepare numbers d.part now).captures) → OutTells c d s → OutTold c (asked_for m moment (leaves d numbers s) s)
   asked_for_tells moment c d numbers (Step.Ask fresh) fit h = asking_tells c d (moment d) fresh numbers h (fit (moment d) refl)
-  asked_for_tells moment c d numbers Step.Drop fit h = h
-  asked_for_tells moment c d numbers Step.Ack fit h = h
-  asked_for_tells moment c d numbers (Step.SynAck again) fit h = h
-  asked_for_tells moment c d numbers (Step.Text again) fit h = h
-  asked_for_tells moment c d numbers (Step.Fin again) fit h = h
-  asked_for_tells moment c d numbers Step.Reset fit h = h
+  asked_for_tells moment c d numbers _ fit h = h
 
   pub asked_tells : (moment : Connection → Now) (c : Connection) (o : Outcome) → ((now : Now) → now ≡ moment o.connection → All IsMoment (m.prepare o.numbers o.connection.part now).captures) → OutTells c o.connection o.step → OutTold c (asked m moment o)
   asked_tells moment c o fit h = asked_for_tells moment c o.connection o.numbers o.step fit h
@@ -363,24 +352,14 @@ module _ (m : Meaning) (steady : IsSteady m) (Low : ℕ → Type 0) (low_text : 
   established_tells acked c numbers s st ms ini h =
       choose (λ (y : Outcome). OutTells c y.connection y.step) (has_fin s.flags) _ _ (λ e. closing_tells c numbers s st ms ini h) (λ e. going_tells acked c numbers s st ms ini h)
 
-  -- a step from b, to which c came by an acknowledgement of all that was outstanding
-  acked_tells : (c b d : Connection) (sent : Option PlainSegment) → Onto c b → (0 < c.len → c.acked < b.acked) → b.len ≡ 0 → StepTells b d sent false → StepTells c d sent false
-  acked_tells c b d sent o new none t = record {
-    still = λ l x. elim (t.still l x) [ inl y ↦ absurd (let p = y.some in omega (arith, p, none)) | inr y ↦ inr y ];
-    onto = λ l. onto_then c b d o (t.onto l);
-    safe = t.safe;
-    said = λ s e p. (let h = t.said s e p in record { live = h.live; due_now = h.due_now; repeated = λ x. absurd (cc); new = λ x y. (let g = (t.onto h.live).grows in omega (arith, new y, g)) });
-    marked = λ s e p. absurd (cc);
-  }
-
   out_from : (c b d : Connection) (s : Step) → is_again s ≡ false → Onto c b → (0 < c.len → c.acked < b.acked) → b.len ≡ 0 → OutTells b d s → OutTells c d s
   out_from c b d (Step.Ask fresh) n o new none h = record { onto = onto_then c b d o h.onto; is_asked = h.is_asked; idle = h.idle; mss = h.mss; initial = h.initial; text = h.text; new = λ y. (let g = h.onto.grows in omega (arith, new y, g)) }
-  out_from c b d Step.Drop n o new none h = acked_tells c b d None o new none h
-  out_from c b d Step.Ack n o new none h = acked_tells c b d (Some (bare_ack d)) o new none h
-  out_from c b d (Step.SynAck again) n o new none h = subst (λ x. StepTells c d (Some (syn_ack d)) x) (sym n) (acked_tells c b d (Some (syn_ack d)) o new none (subst (λ x. StepTells b d (Some (syn_ack d)) x) n h))
-  out_from c b d (Step.Text again) n o new none h = subst (λ x. StepTells c d (Some (text_segment m d)) x) (sym n) (acked_tells c b d (Some (text_segment m d)) o new none (subst (λ x. StepTells b d (Some (text_segment m d)) x) n h))
-  out_from c b d (Step.Fin again) n o new none h = subst (λ x. StepTells c d (Some (fin_of d)) x) (sym n) (acked_tells c b d (Some (fin_of d)) o new none (subst (λ x. StepTells b d (Some (fin_of d)) x) n h))
-  out_from c b d Step.Reset n o new none h = acked_tells c b d (Some (reset_of d)) o new none h
+  out_from c b d Step.Drop n o new none h = from_tells c b d None o new none h
+  out_from c b d Step.Ack n o new none h = from_tells c b d (Some (bare_ack d)) o new none h
+  out_from c b d (Step.SynAck again) n o new none h = subst (λ x. StepTells c d (Some (syn_ack d)) x) (sym n) (from_tells c b d (Some (syn_ack d)) o new none (subst (λ x. StepTells b d (Some (syn_ack d)) x) n h))
+  out_from c b d (Step.Text again) n o new none h = subst (λ x. StepTells c d (Some (text_segment m d)) x) (sym n) (from_tells c b d (Some (text_segment m d)) o new none (subst (λ x. StepTells b d (Some (text_segment m d)) x) n h))
+  out_from c b d (Step.Fin again) n o new none h = subst (λ x. StepTells c d (Some (fin_of d)) x) (sym n) (from_tells c b d (Some (fin_of d)) o new none (subst (λ x. StepTells b d (Some (fin_of d)) x) n h))
+  out_from c b d Step.Reset n o new none h = from_tells c b d (Some (reset_of d)) o new none h
 
   established_again : (acked : Bool) (c : Connection) (numbers : List ℕ) (s : PlainSegment) → is_again (in_established m acked c numbers s).step ≡ false
   unfolding in_established peer_closes goes_on
@@ -484,11 +463,7 @@ module _ (m : Meaning) (steady : IsSteady m) (Low : ℕ → Type 0) (low_text : 
   older_safe c SynRcvd h = record { len = h.len; acked = h.acked }
   older_safe c Established h = record { fits = h.fits; count = h.count }
   older_safe c CloseWait h = record { text = record { fits = h.text.fits; count = h.text.count }; some = h.some }
-  older_safe c FinWait1 h = record { len = h.len; low = h.low }
-  older_safe c FinWait2 h = record { len = h.len; low = h.low }
-  older_safe c Closing h = record { len = h.len; low = h.low }
-  older_safe c TimeWait h = record { len = h.len; low = h.low }
-  older_safe c LastAck h = record { len = h.len; low = h.low }
+  older_safe c _ h = record { len = h.len; low = h.low }
 
   older_onto : (c : Connection) → Onto c (grows_older c)
   older_onto c = record { first = refl; grows = omega arith; kept = λ l e. (l, alike_same c.state c (grows_older c) refl) }

@@ -7,10 +7,10 @@ use Rattle.app_events.specs.Part.{Moment, Meaning}
 use Rattle.app_events.specs.Pages.{Pages, IsPaged}
 use Rattle.app_events.specs.declared.state.State.{State}
 use Rattle.app_events.specs.declared.state.State.TheVariants.{Closed, SynRcvd, Established, CloseWait, FinWait1, FinWait2, Closing, TimeWait, LastAck}
-use Rattle.tcp_machine.specs.Connection.{Connection, is_live}
+use Rattle.tcp_machine.specs.Connection.{Connection, closed, is_live}
 use Rattle.link_client.specs.Client.{AbstractClient, ClientStep}
-use Rattle.link_world.specs.World.{Sent, Era, becomes_opened}
-use Rattle.link_world.specs.History.{era, no_era, era_of}
+use Rattle.link_world.specs.World.{Sent, Era, becomes_opened, era_of}
+use Rattle.link_world.specs.History.{era}
 use Rattle.link_world.proofs.Basics.{both_ways, append_nothing, get_push}
 use Rattle.link_world.proofs.Basics.AtEnd.{older, newest}
 use Rattle.link_world.proofs.Clients.{not_opening}
@@ -45,11 +45,11 @@ lt_false a b h = grind (arith, common_steps)
 low_or_not : (a b : ℕ) → (a < b) ⊎ (b ≤ a)
 low_or_not a b = grind arith
 
-pub era_old : (past : List Era) (c : Connection) (n : ℕ) → n < length past → era past c n ≡ get_or past n no_era
-era_old past c n h = ap (λ b. if b then get_or past n no_era else era_of c) (lt_true n (length past) h)
+pub era_old : (past : List Era) (c : Connection) (n : ℕ) → n < length past → era past c n ≡ get_or past n (era_of closed)
+era_old past c n h = ap (λ b. if b then get_or past n (era_of closed) else era_of c) (lt_true n (length past) h)
 
 pub era_now : (past : List Era) (c : Connection) (n : ℕ) → length past ≤ n → era past c n ≡ era_of c
-era_now past c n h = ap (λ b. if b then get_or past n no_era else era_of c) (lt_false n (length past) h)
+era_now past c n h = ap (λ b. if b then get_or past n (era_of closed) else era_of c) (lt_false n (length past) h)
 
 get_or_before : (past : List Era) (x d : Era) (n : ℕ) → n < length past → get_or (past ++ x ∷ []) n d ≡ get_or past n d
 get_or_before [] x d n h = absurd (omega arith)
@@ -75,8 +75,8 @@ pub first_dead : (past : List Era) (c d dead : Connection) → d.first ≡ c.fir
 first_dead past c d dead f o le =
     let longer : o < length (past ++ era_of d ∷ []) = omega (arith, le, length_push past (era_of d)) in
     elim (low_or_not o (length past)) [
-      | inl h ↦ ap (λ (x : Era). x.first) (era_old (past ++ era_of d ∷ []) dead o longer ∙ get_or_before past (era_of d) no_era o h) ∙ sym (ap (λ (x : Era). x.first) (era_old past c o h))
-      | inr h ↦ ap (λ (x : Era). x.first) (era_old (past ++ era_of d ∷ []) dead o longer ∙ get_or_last past (era_of d) no_era o (omega (arith, h, le))) ∙ f ∙ sym (ap (λ (x : Era). x.first) (era_now past c o h))
+      | inl h ↦ ap (λ (x : Era). x.first) (era_old (past ++ era_of d ∷ []) dead o longer ∙ get_or_before past (era_of d) (era_of closed) o h) ∙ sym (ap (λ (x : Era). x.first) (era_old past c o h))
+      | inr h ↦ ap (λ (x : Era). x.first) (era_old (past ++ era_of d ∷ []) dead o longer ∙ get_or_last past (era_of d) (era_of closed) o (omega (arith, h, le))) ∙ f ∙ sym (ap (λ (x : Era). x.first) (era_now past c o h))
     ]
 
 -- the connection goes on
@@ -84,7 +84,7 @@ onward_live : (past : List Era) (c d : Connection) (more : List Moment) → d.fi
 onward_live past c d more f k l = record {
   longer = omega arith;
   eras = λ n le lv. elim (low_or_not n (length past)) [
-    | inl h ↦ later_by _ _ _ _ (era_old past c n h) (era_old past d n h) (same_era (get_or past n no_era))
+    | inl h ↦ later_by _ _ _ _ (era_old past c n h) (era_old past d n h) (same_era (get_or past n (era_of closed)))
     | inr h ↦ later_by _ _ _ _ (era_now past c n h) (era_now past d n h) record { first = f; more = more; captures = k }
   ];
   live = λ e x. l;
@@ -95,8 +95,8 @@ onward_dead : (past : List Era) (c d dead : Connection) (more : List Moment) →
 onward_dead past c d dead more f k = record {
   longer = omega (arith, length_push past (era_of d));
   eras = λ n le lv. elim (low_or_not n (length past)) [
-    | inl h ↦ later_by _ _ _ _ (era_old past c n h) (era_old (past ++ era_of d ∷ []) dead n (omega (arith, length_push past (era_of d))) ∙ get_or_before past (era_of d) no_era n h) (same_era (get_or past n no_era))
-    | inr h ↦ later_by _ _ _ _ (era_now past c n h) (era_old (past ++ era_of d ∷ []) dead n (omega (arith, length_push past (era_of d))) ∙ get_or_last past (era_of d) no_era n (omega arith)) record { first = f; more = more; captures = k }
+    | inl h ↦ later_by _ _ _ _ (era_old past c n h) (era_old (past ++ era_of d ∷ []) dead n (omega (arith, length_push past (era_of d))) ∙ get_or_before past (era_of d) (era_of closed) n h) (same_era (get_or past n (era_of closed)))
+    | inr h ↦ later_by _ _ _ _ (era_now past c n h) (era_old (past ++ era_of d ∷ []) dead n (omega (arith, length_push past (era_of d))) ∙ get_or_last past (era_of d) (era_of closed) n (omega arith)) record { first = f; more = more; captures = k }
   ];
   live = λ e x. absurd (omega (arith, length_push past (era_of d)));
 }
@@ -106,7 +106,7 @@ onward_born : (past : List Era) (c d : Connection) → is_live c.state ≡ false
 onward_born past c d n l = record {
   longer = omega arith;
   eras = λ m le lv. elim (low_or_not m (length past)) [
-    | inl h ↦ later_by _ _ _ _ (era_old past c m h) (era_old past d m h) (same_era (get_or past m no_era))
+    | inl h ↦ later_by _ _ _ _ (era_old past c m h) (era_old past d m h) (same_era (get_or past m (era_of closed)))
     | inr h ↦ absurd (let z : is_live c.state ≡ true = lv (omega arith) in cc)
   ];
   live = λ e x. l;

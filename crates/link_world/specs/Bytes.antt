@@ -1,4 +1,5 @@
 -- The bytes of the datagrams of a world, and a byte of them that is changed on the way.
+use Rattle.std.specs.Option.{option_map_or}
 use Rattle.std.specs.Prelude.{ℕ, List, [], ◌∷◌, ◌++◌, Option, Some, None, slice_index, slice_set, bit_xor, if◌then◌else◌}
 use Rattle.uip_wire.specs.declared.addr.Addr.{Addr}
 use Rattle.uip_ipv4.specs.Head.{head_bytes}
@@ -23,17 +24,16 @@ ping_from source target = head_bytes 28 1 Icmp source.0 target.0 ++ 8 ∷ 0 ∷ 
 abbrev pub server_of : Setup → Sockets
 server_of setup = record { peer = setup.server; peer_port = setup.server_port; own_port = setup.port }
 
-abbrev pub client_bytes : ℕ → PlainSegment → Option Side → List ℕ
-client_bytes id s None = []
-client_bytes id s (Some side) = datagram_bytes (datagram_to side.client.setup.addr (server_of side.client.setup) id s)
+-- a client's datagram, and one of the node to a client
+abbrev pub client_bytes : ℕ → PlainSegment → Side → List ℕ
+client_bytes id s side = datagram_bytes (datagram_to side.client.setup.addr (server_of side.client.setup) id s)
 
-abbrev pub node_bytes : Addr → ℕ → PlainSegment → Option Side → List ℕ
-node_bytes addr id s None = []
-node_bytes addr id s (Some side) = datagram_bytes (datagram_to addr (client_sockets side) id s)
+abbrev pub node_bytes : Addr → ℕ → PlainSegment → Side → List ℕ
+node_bytes addr id s side = datagram_bytes (datagram_to addr (client_sockets side) id s)
 
 abbrev pub bytes_by : World → Who → Content → List ℕ
-bytes_by w (FromClient number) (OfSegment id s) = client_bytes id s (numbered w.sides number)
-bytes_by w (FromNode number) (OfSegment id s) = node_bytes w.node.addr id s (numbered w.sides number)
+bytes_by w (FromClient number) (OfSegment id s) = option_map_or (client_bytes id s) (numbered w.sides number) []
+bytes_by w (FromNode number) (OfSegment id s) = option_map_or (node_bytes w.node.addr id s) (numbered w.sides number) []
 bytes_by w Pinger (OfSegment id s) = []
 bytes_by w who (OfPing datagram) = datagram
 bytes_by w who (OfEcho request) = echo_reply request

@@ -1,5 +1,6 @@
 -- What the history of a world tells of a client: its captures and its page.
 use Rattle.std.specs.List.{All}
+use Rattle.std.specs.Option.{option_map_or}
 use Rattle.std.specs.Prelude.{ℕ, ◌≡◌, ◌<◌, ◌≤◌, List, [], ◌∷◌, length, map, nat_lt, if◌then◌else◌, Bool, Option, Some, None, slice_get, slice_index_or}
 use Rattle.uip_wire.specs.declared.addr.Addr.{Addr}
 use Rattle.app_events.specs.Part.{Moment}
@@ -8,30 +9,20 @@ use Rattle.tcp_machine.specs.Connection.{Sockets, Connection, closed, serves}
 use Rattle.uip_node.specs.Node.{opening}
 use Rattle.link_client.specs.Client.{idle}
 use Rattle.link_client.specs.declared.setup.Setup.{Setup}
-use Rattle.link_world.specs.World.{World, Side, Era, client_sockets}
+use Rattle.link_world.specs.World.{World, Side, Era, client_sockets, era_of}
 
 -- the first connection that serves these sockets; one that is CLOSED where none does
 abbrev pub serving : Sockets → List Connection → Connection
 serving sockets [] = closed
 serving sockets (c ∷ cs) = if serves sockets c then c else serving sockets cs
 
-abbrev pub no_era : Era
-no_era = record { first = 0; captures = [] }
-
-abbrev pub era_of : Connection → Era
-era_of c = record { first = c.first; captures = c.part.captures }
-
 -- the first number and the captures of the connection of an epoch; of the present epoch they are those of the one that lives
 abbrev pub era : List Era → Connection → ℕ → Era
-era past c o = if nat_lt o (length past) then slice_index_or past o no_era else era_of c
-
-abbrev pub captures_in : Option ℕ → List Era → Connection → List Moment
-captures_in None past c = []
-captures_in (Some o) past c = (era past c o).captures
+era past c o = if nat_lt o (length past) then slice_index_or past o (era_of closed) else era_of c
 
 -- the captures of a client: those of the server's connection of the epoch in which it opened
 abbrev pub captures_of : World → Side → List Moment
-captures_of w side = captures_in side.opened side.past (serving (client_sockets side) w.node.connections)
+captures_of w side = option_map_or (λ o. (era side.past (serving (client_sockets side) w.node.connections) o).captures) side.opened []
 
 -- the page of a client: that of its whole request and its captures
 abbrev pub page_of : Pages → World → Side → List ℕ

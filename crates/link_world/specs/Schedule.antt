@@ -1,6 +1,9 @@
 -- The lines of a schedule as lists of acts, and the mark.
-use Rattle.std.specs.Prelude.{ℕ, zero, suc, ◌+◌, ◌-◌, ◌%◌, ◌==◌, List, [], ◌∷◌, length, map, filter, flat_map, replicate, reverse, max, Bool, Result, Ok, Err}
+use Rattle.std.specs.List.{range_with_len}
+use Rattle.std.specs.Prelude.{ℕ, ◌+◌, ◌-◌, ◌%◌, ◌==◌, List, [], ◌∷◌, length, map, filter, flat_map, replicate, reverse, max, Bool, Result, Ok}
+use Rattle.std.specs.Result.{result_map_both}
 use Rattle.app_events.specs.Part.{Meaning}
+use Rattle.link_schedule.specs.Numbers.{◌>>=◌}
 use Rattle.link_world.specs.World.{World}
 use Rattle.link_world.specs.Acts.{runs}
 use Rattle.link_world.specs.declared.act.Act.{Act}
@@ -8,14 +11,9 @@ use Rattle.link_schedule.specs.declared.event.Event.{Event}
 use Rattle.link_schedule.specs.declared.event.Event.TheVariants.{Opens, Again, Closes, Aborts, Window, Ping, Give, Damage, Tick, Round, Twice, Reverse, Half, Lose}
 use Rattle.link_world.specs.declared.step_fault.StepFault.{StepFault}
 
--- so many numbers from one on
-abbrev pub numbers_from : ℕ → ℕ → List ℕ
-numbers_from start zero = []
-numbers_from start (suc n) = start ∷ numbers_from (start + 1) n
-
 -- the numbers above the mark that are sent
 abbrev pub past_mark : World → List ℕ
-past_mark w = numbers_from (w.mark + 1) (length w.sent - w.mark)
+past_mark w = range_with_len (w.mark + 1) (length w.sent - w.mark)
 
 abbrev pub acts_of : World → Event → List Act
 acts_of w (Opens number) = Act.Opens number ∷ []
@@ -42,25 +40,18 @@ mark_after w Half = max w.mark (length w.sent)
 mark_after w Lose = max w.mark (length w.sent)
 mark_after w _ = w.mark
 
-abbrev pub with_mark : ℕ → Result World StepFault → Result World StepFault
-with_mark mark (Ok w) = Ok (record w { mark = mark })
-with_mark mark (Err fault) = Err fault
-
 abbrev pub plays_line : Meaning → (ℕ → Bool) → World → Event → Result World StepFault
-plays_line m served w event = with_mark (mark_after w event) (runs m served (acts_of w event) w)
+plays_line m served w event = runs m served (acts_of w event) w >>= λ v. Ok (record v { mark = mark_after w event })
 
 -- the lines in turn: the world, or the place of the first line that is refused, counted from 0, and why
 pub record BadLine : Type 0 where
   pub place : ℕ
   pub why : StepFault
 
-abbrev pub goes_on_with : ℕ → (World → Result World BadLine) → Result World StepFault → Result World BadLine
-goes_on_with place next (Ok w) = next w
-goes_on_with place next (Err fault) = Err (record { place = place; why = fault })
-
 abbrev pub plays_from : Meaning → (ℕ → Bool) → ℕ → List Event → World → Result World BadLine
 plays_from m served place [] w = Ok w
-plays_from m served place (event ∷ more) w = goes_on_with place (plays_from m served (place + 1) more) (plays_line m served w event)
+plays_from m served place (event ∷ more) w =
+    result_map_both (λ v. v) (λ why. record { place = place; why = why }) (plays_line m served w event) >>= plays_from m served (place + 1) more
 
 abbrev pub plays : Meaning → (ℕ → Bool) → List Event → World → Result World BadLine
 plays m served events w = plays_from m served 0 events w

@@ -1,4 +1,5 @@
 -- The world of a replay: the node, the clients, and the list of all datagrams that were ever sent.
+use Rattle.std.specs.Option.{option_map_or, option_or}
 use Rattle.std.specs.Prelude.{ℕ, zero, suc, ◌+◌, ◌==◌, Bool, true, false, List, [], ◌∷◌, ◌++◌, length, map, Option, Some, None, if◌then◌else◌, is_none, slice_get, slice_set}
 use Rattle.tcp_segment.specs.Segments.{PlainSegment}
 use Rattle.app_events.specs.Part.{Moment, Meaning}
@@ -18,6 +19,9 @@ use Rattle.link_world.specs.declared.who.Who.TheVariants.{FromClient, FromNode, 
 pub record Era : Type 0 where
   pub first : ℕ  -- its first number
   pub captures : List Moment
+
+abbrev pub era_of : Connection → Era
+era_of c = record { first = c.first; captures = c.part.captures }
 
 -- A client, and what the world keeps of it.
 pub record Side : Type 0 where
@@ -70,13 +74,10 @@ set_numbered xs (suc n) x = slice_set xs n x
 -- the client whose connection became CLOSED is one epoch on
 abbrev pub buries_in : Connection → Side → Side
 buries_in gone side =
-    if same_sockets gone.sockets (client_sockets side)
-    then record side { past = side.past ++ record { first = gone.first; captures = gone.part.captures } ∷ [] }
-    else side
+    if same_sockets gone.sockets (client_sockets side) then record side { past = side.past ++ era_of gone ∷ [] } else side
 
 abbrev pub buries : Option Connection → List Side → List Side
-buries None sides = sides
-buries (Some gone) sides = map (buries_in gone) sides
+buries gone sides = option_map_or (λ c. map (buries_in c) sides) gone sides
 
 -- the client, by its number, whose sockets a datagram of the node has; 0 where there is none
 abbrev pub addressed : ℕ → Sockets → List Side → ℕ
@@ -84,13 +85,9 @@ addressed number sockets [] = 0
 addressed number sockets (side ∷ sides) = if same_sockets sockets (client_sockets side) then number else addressed
     (number + 1) sockets sides
 
-abbrev pub epoch_at : Option Side → ℕ
-epoch_at None = 0
-epoch_at (Some side) = epoch side
-
 abbrev pub epoch_of : Who → List Side → ℕ
-epoch_of (FromClient number) sides = epoch_at (numbered sides number)
-epoch_of (FromNode number) sides = epoch_at (numbered sides number)
+epoch_of (FromClient number) sides = option_map_or epoch (numbered sides number) 0
+epoch_of (FromNode number) sides = option_map_or epoch (numbered sides number) 0
 epoch_of Pinger sides = 0
 
 -- one more datagram
@@ -126,41 +123,27 @@ abbrev pub with_side : World → ℕ → Side → World
 with_side w number side = record w { sides = set_numbered w.sides number side }
 
 abbrev pub posts_of_client : World → ℕ → Option PlainSegment → World
-posts_of_client w number None = w
-posts_of_client w number (Some s) = posts w (FromClient number) false (OfSegment 0 s)
+posts_of_client w number sent = option_map_or (λ s. posts w (FromClient number) false (OfSegment 0 s)) sent w
 
 -- client `number`, which was `side`, took a step
 abbrev pub client_stepped : World → ℕ → Side → ClientStep → World
 client_stepped w number side took = posts_of_client (with_side w number (with_client side took.client)) number took.sent
 
 -- A datagram is stale where its client's epoch is another one when it is delivered. The first such is kept.
-abbrev pub first_of_both : Option ℕ → Option ℕ → Option ℕ
-first_of_both (Some n) other = Some n
-first_of_both None other = other
-
 abbrev pub marked : Side → ℕ → Sent → Side
 marked side number e = record side {
-  first_stale = first_of_both side.first_stale (if e.epoch == epoch side then None else Some number);
+  first_stale = option_or side.first_stale (if e.epoch == epoch side then None else Some number);
 }
 
--- datagram k, sent by client `number`, is delivered to the node
-abbrev pub gives_node : Meaning → (ℕ → Bool) → World → ℕ → ℕ → Sent → PlainSegment → Option Side → World
-gives_node m served w number k e s None = w
-gives_node m served w number k e s (Some side) =
-    node_handles m served (with_side w number (marked side k e)) (Arrived (client_sockets side) s)
+-- what is done with the client of a number, where there is one
+abbrev pub at_side : World → ℕ → (Side → World) → World
+at_side w number act = option_map_or act (numbered w.sides number) w
 
--- datagram k, sent to client `number`, is delivered to it
-abbrev pub gives_client : World → ℕ → ℕ → Sent → PlainSegment → Option Side → World
-gives_client w number k e s None = w
-gives_client w number k e s (Some side) = client_stepped w number (marked side k e) (client_takes side.client s)
-
--- A client's datagram and a ping go to the node, a TCP datagram of the node to its client, an echo reply to nobody.
+-- Datagram k is delivered: a client's and a ping go to the node, a TCP datagram of the node to its client, an echo reply to nobody.
 abbrev pub delivers : Meaning → (ℕ → Bool) → World → ℕ → Sent → Who → Content → World
-delivers m served w k e (FromClient number) (OfSegment id s) = gives_node m served w number k e s (numbered w.sides number)
-delivers m served w k e (FromNode number) (OfSegment id s) = gives_client w number k e s (numbered w.sides number)
+delivers m served w k e (FromClient number) (OfSegment id s) =
+    at_side w number (λ side. node_handles m served (with_side w number (marked side k e)) (Arrived (client_sockets side) s))
+delivers m served w k e (FromNode number) (OfSegment id s) =
+    at_side w number (λ side. client_stepped w number (marked side k e) (client_takes side.client s))
 delivers m served w k e Pinger (OfPing datagram) = node_handles m served w (EchoAsked datagram)
 delivers m served w k e _ _ = w
-
-abbrev pub hands_to : Meaning → (ℕ → Bool) → World → ℕ → Option Sent → World
-hands_to m served w k None = w
-hands_to m served w k (Some e) = delivers m served w k e e.who e.content

@@ -162,14 +162,10 @@ module _ (files : List File) where
 
   asked_apart : (at : Connection → Now) → IsAt at → (o : Outcome) (s : Step) → Waits s o.connection → ClosesInTime files (asked_for m at o s).connection
   asked_apart at g o Step.Drop h = h
-  asked_apart at g o Step.Ack h = h
-  asked_apart at g o (Step.SynAck again) h = h
-  asked_apart at g o (Step.Text again) h = h
-  asked_apart at g o (Step.Fin again) h = h
-  asked_apart at g o Step.Reset h = h
   asked_apart at g o (Step.Ask fresh) h =
       let now : Now = at o.connection in
       wanted_apart fresh (prepared m now o.connection o.numbers) o.numbers (prepared_apart o.numbers o.connection.part now (g.seen o.connection h.0) h.1)
+  asked_apart at g o _ h = h
 
   heard_apart : (numbers : List ℕ) (p : Part) (text : List ℕ) → Apart p → Apart (hears m numbers p text).part
   heard_apart numbers p [] h = h
@@ -236,14 +232,7 @@ module _ (files : List File) where
 
   outstanding_apart : (st : State) (c : Connection) → ClosesInTime files c → Waits (outstanding true st) c
   outstanding_apart Closed c h = h
-  outstanding_apart SynRcvd c h = h
-  outstanding_apart Established c h = h
-  outstanding_apart CloseWait c h = h
-  outstanding_apart FinWait1 c h = h
-  outstanding_apart FinWait2 c h = h
-  outstanding_apart Closing c h = h
-  outstanding_apart TimeWait c h = h
-  outstanding_apart LastAck c h = h
+  outstanding_apart _ c h = h
 
   beat_apart : (b : Beat) (c : Connection) (numbers : List ℕ) → ClosesInTime files c → Leaves (by_beat m b c numbers)
   beat_apart Beat.Wait c numbers h = record { idle = h.idle; apart = h.apart }

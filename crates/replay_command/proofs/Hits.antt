@@ -49,14 +49,7 @@ module _ (files : List File) where
   -- before a connection is open nothing was heard
   abbrev Fresh : State → Connection → Type 0
   Fresh SynRcvd c = c.part.heard ≡ []
-  Fresh Closed c = Unit {0}
-  Fresh Established c = Unit {0}
-  Fresh CloseWait c = Unit {0}
-  Fresh FinWait1 c = Unit {0}
-  Fresh FinWait2 c = Unit {0}
-  Fresh Closing c = Unit {0}
-  Fresh TimeWait c = Unit {0}
-  Fresh LastAck c = Unit {0}
+  Fresh _ c = Unit {0}
 
   record Counts (before : Wanted) (numbers : List ℕ) (o : Outcome) : Type 0 where
     hits : o.numbers ≡ hits_by files numbers before (asks o.connection)
@@ -69,14 +62,7 @@ module _ (files : List File) where
 
   late : (st : State) (c d : Connection) → d.part.heard ≡ c.part.heard → Fresh st c → Fresh st d
   late SynRcvd c d e h = e ∙ h
-  late Closed c d e h = tt
-  late Established c d e h = tt
-  late CloseWait c d e h = tt
-  late FinWait1 c d e h = tt
-  late FinWait2 c d e h = tt
-  late Closing c d e h = tt
-  late TimeWait c d e h = tt
-  late LastAck c d e h = tt
+  late _ c d e h = tt
 
   -- a step that nothing is heard in
   quiet : (c d : Connection) (numbers : List ℕ) (s : Step) → d.part.heard ≡ c.part.heard → Fresh d.state d → Counts (asks c) numbers (record { connection = d; numbers = numbers; step = s })
@@ -87,25 +73,11 @@ module _ (files : List File) where
 
   fin_fresh : (d : Connection) (st : State) → Fresh (after_own_fin st) d
   fin_fresh d Closed = tt
-  fin_fresh d SynRcvd = tt
-  fin_fresh d Established = tt
-  fin_fresh d CloseWait = tt
-  fin_fresh d FinWait1 = tt
-  fin_fresh d FinWait2 = tt
-  fin_fresh d Closing = tt
-  fin_fresh d TimeWait = tt
-  fin_fresh d LastAck = tt
+  fin_fresh d _ = tt
 
   told_same : (how : Ending) (st : State) (p : Part) (numbers : List ℕ) → told_end m how st p numbers ≡ numbers
   told_same how Closed p numbers = refl
-  told_same how SynRcvd p numbers = refl
-  told_same how Established p numbers = refl
-  told_same how CloseWait p numbers = refl
-  told_same how FinWait1 p numbers = refl
-  told_same how FinWait2 p numbers = refl
-  told_same how Closing p numbers = refl
-  told_same how TimeWait p numbers = refl
-  told_same how LastAck p numbers = refl
+  told_same how _ p numbers = refl
 
   closes_counts : (c : Connection) (how : Ending) (numbers : List ℕ) (s : Step) → Counts (asks c) numbers (record { connection = closes c; numbers = told_end m how c.state c.part numbers; step = s })
   closes_counts c how numbers s = record { hits = told_same how c.state c.part numbers ∙ sym (same_by numbers (asks c)); fresh = tt }
@@ -139,11 +111,7 @@ module _ (files : List File) where
       choose (λ (p : Part). p.heard ≡ o.connection.part.heard) (is_acknowledged files o.connection.part && waits_for_capture files (wanted o.connection.part.heard) o.connection.part) _ _ (λ e. refl) (λ e. refl) in
       wanted_like (m.want o.numbers (m.prepare o.numbers o.connection.part now)) fresh b o same (late o.connection.state o.connection b same f)
   asked_for_like at o Step.Drop f = record { numbers = refl; heard = refl; fresh = f }
-  asked_for_like at o Step.Ack f = record { numbers = refl; heard = refl; fresh = f }
-  asked_for_like at o (Step.SynAck again) f = record { numbers = refl; heard = refl; fresh = f }
-  asked_for_like at o (Step.Text again) f = record { numbers = refl; heard = refl; fresh = f }
-  asked_for_like at o (Step.Fin again) f = record { numbers = refl; heard = refl; fresh = f }
-  asked_for_like at o Step.Reset f = record { numbers = refl; heard = refl; fresh = f }
+  asked_for_like at o _ f = record { numbers = refl; heard = refl; fresh = f }
 
   asked_counts : (at : Connection → Now) (before : Wanted) (numbers : List ℕ) (o : Outcome) → Counts before numbers o → Counts before numbers (asked m at o)
   asked_counts at before numbers o h =

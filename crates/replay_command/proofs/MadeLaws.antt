@@ -1,6 +1,6 @@
 -- A schedule that a seed makes.
 use Rattle.std.specs.List.{range_with_len}
-use Rattle.std.proofs.Common.{◌≡◌, ℕ, suc, ◌+◌, ◌/◌, ◌%◌, ◌<◌, Bool, List, [], ◌∷◌, ◌++◌, length, map, replicate, refl, sym, ap, subst, ◌∙◌, arith, append_assoc, eqb, leb}
+use Rattle.std.proofs.Common.{◌≡◌, ℕ, suc, ◌+◌, ◌/◌, ◌%◌, ◌<◌, Bool, List, [], ◌∷◌, ◌++◌, length, map, replicate, refl, sym, ap, subst, ◌∙◌, arith, append_assoc}
 use Rattle.std.specs.Prelude.{flat_map}
 use Rattle.std.proofs.Math.Nat.{mod-lt}
 use Rattle.std.proofs.lemmas.List.{length-map}
@@ -17,11 +17,11 @@ use Rattle.link_schedule.specs.declared.why.Why.{Why}
 use Rattle.link_world.specs.Schedule.{plays, plays_from}
 use Rattle.link_world.specs.World.{World}
 use Rattle.link_world.specs.declared.step_fault.StepFault.TheVariants.{Full}
-use Rattle.link_world.proofs.Basics.{choose}
 use Rattle.link_world.proofs.Accepting.{AreKept, FineLines, IsKept, IsOpening, keeps_again, keeps_half, keeps_lose, keeps_reverse, keeps_round, keeps_tick, keeps_twice, kept_append, kept_fine, kept_replicate, opening_ready, opens_fine}
 use Rattle.link_replay.specs.Opening.{opening_for, plan_from, server}
 use Rattle.link_replay.specs.Playing.{event_at, refusal_at}
 use Rattle.workload.specs.Workload.{client_of, event_drawn, events_of, happens, numbered_from, words_from}
+use Rattle.workload.proofs.Keeping.{of_drawn}
 use Rattle.replay_command.specs.Laws.{OnlyFull}
 
 events_numbered : (number : ℕ) (events : List Event) → map event_at (numbered_from number events) ≡ events
@@ -36,12 +36,8 @@ module _ (m : Meaning) (served : ℕ → Bool) (n : ℕ) (some : 0 < n) where
   event_kept : (rest k : ℕ) → k < n → IsKept m served n (event_drawn rest (1 + k))
   event_kept rest k lt =
       let last : suc k ≡ 1 + k = omega arith in
-      choose (λ e. IsKept m served n e) (leb rest 2) _ _ (λ e. keeps_round m served n) (λ e.
-      choose (λ e. IsKept m served n e) (eqb rest 3) _ _ (λ e. keeps_twice m served n) (λ e.
-      choose (λ e. IsKept m served n e) (eqb rest 4) _ _ (λ e. keeps_reverse m served n) (λ e.
-      choose (λ e. IsKept m served n e) (eqb rest 5) _ _ (λ e. keeps_half m served n) (λ e.
-      choose (λ e. IsKept m served n e) (eqb rest 6) _ _ (λ e. keeps_lose m served n) (λ e.
-      subst (λ (i : ℕ). IsKept m served n (Again i)) last (keeps_again m served n k lt))))))
+      of_drawn (IsKept m served n) rest (1 + k) (keeps_round m served n) (keeps_twice m served n) (keeps_reverse m served n) (keeps_half m served n) (keeps_lose m served n)
+      (subst (λ (i : ℕ). IsKept m served n (Again i)) last (keeps_again m served n k lt))
 
   words_kept : (words : List ℕ) → AreKept m served n (flat_map (happens n) words)
   words_kept [] = tt

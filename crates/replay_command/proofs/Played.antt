@@ -38,6 +38,13 @@ outcome_from hits files content = plays (web_meaning files) is_served (map event
 abbrev pub ForPages : List File → List ℕ → Type 0 → Type 0
 ForPages files hits Done = (pages : Pages) → IsPaged (web_meaning files) pages → HasBytes pages → All IsWord hits → Done
 
+-- what holds of a site that was loaded holds of the one that it is
+pub at_site : (P : SiteContent → Type 0) (site given : SiteContent) (hits : List ℕ) → site ≡ given → IsLoaded given → All IsByte given.image → hits ≡ no_hits (files_of given)
+    → (IsLoaded site → All IsByte site.image → hits ≡ no_hits (files_of site) → P site) → P given
+at_site P site given hits same loaded bytes none done =
+    subst P same
+    (done (subst IsLoaded (sym same) loaded) (subst (λ (s : SiteContent). All IsByte s.image) (sym same) bytes) (none ∙ ap (λ (s : SiteContent). no_hits (files_of s)) (sym same)))
+
 module _ (site : SiteContent) (loaded : IsLoaded site) (bytes : All IsByte site.image) (hits : List ℕ) (none : hits ≡ no_hits (files_of site)) where
   -- a site has pages, and its counts are words before the first request
   web_has : (Done : Type 0) → ForPages (files_of site) hits Done → Done
@@ -84,10 +91,7 @@ text_due files bytes content show reads text ends.Done due = record {
   promises = due.promises;
 }
 text_due files bytes content show reads text (ends.BadSchedule line why) due = (inr (record { content = content; reads = reads; refuses = due.0 }), due.1)
-text_due files bytes content show reads text (ends.BadSite error) due = absurd due
-text_due files bytes content show reads text ends.ShelfFault due = absurd due
-text_due files bytes content show reads text ends.WriteFault due = absurd due
-text_due files bytes content show reads text ends.NoMemory due = absurd due
+text_due files bytes content show reads text _ due = absurd due
 
 pub text_answers : (files : List File) (bytes : List ℕ) (content : SchedulePlan) (show : Bool) → read_text bytes ≡ Ok content
     → (old new : SinkTold) (result : ReplayEnd) → WritesDue (IsPlayDue files content (Report show)) old new result

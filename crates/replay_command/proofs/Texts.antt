@@ -78,6 +78,4 @@ is_text site schedule show held files bytes text (ends.BadSchedule line why) rea
   due.1,
 )
 is_text site schedule show held files bytes text (ends.BadSite error) read front due = absurd due
-is_text site schedule show held files bytes text ends.ShelfFault read front due = absurd due
-is_text site schedule show held files bytes text ends.WriteFault read front due = absurd due
-is_text site schedule show held files bytes text ends.NoMemory read front due = absurd due
+is_text site schedule show held files bytes text _ read front due = absurd due

@@ -55,9 +55,7 @@ module _ (site schedule : List ℕ) (show : Bool) (old new : WorkTold) (held : n
   only_text text ends.Done is = tt
   only_text text (ends.BadSite error) is = tt
   only_text text (ends.BadSchedule line why) is = tt
-  only_text text ends.ShelfFault is = absurd is
-  only_text text ends.WriteFault is = absurd is
-  only_text text ends.NoMemory is = absurd is
+  only_text text _ is = absurd is
 
   -- the bytes that were read of the schedule's file
   pub schedule_ends : (files : List File) (bytes : List ℕ) (result : ReplayEnd) → IsSiteRead site old.shelf.held (Ok files) → HoldsFile old.shelf.held schedule (IsFrontOf bytes)
@@ -82,18 +80,13 @@ module _ (site : List ℕ) (seed clients : ℕ) (old new : WorkTold) (held : new
   only_load text ends.Done is = tt
   only_load text (ends.BadSite error) is = tt
   only_load text (ends.BadSchedule line why) is = tt
-  only_load text ends.ShelfFault is = absurd is.2
-  only_load text ends.WriteFault is = absurd is.2
-  only_load text ends.NoMemory is = absurd is.2
+  only_load text _ is = absurd is.2
 
   load_text : (files : List File) (text : List ℕ) (end : ReplayEnd) → IsSiteRead site old.shelf.held (Ok files) → IsPlayDue files (workload_of seed clients) Summary text end
       → IsLoadText site seed clients old.shelf.held text end
   load_text files text ends.Done read due = (files, read, due)
   load_text files text (ends.BadSchedule line why) read due = (files, read, due)
-  load_text files text (ends.BadSite error) read due = absurd due
-  load_text files text ends.ShelfFault read due = absurd due
-  load_text files text ends.WriteFault read due = absurd due
-  load_text files text ends.NoMemory read due = absurd due
+  load_text files text _ read due = absurd due
 
   -- the schedule that the number makes was played
   pub load_ends : (files : List File) (result : ReplayEnd) → IsSiteRead site old.shelf.held (Ok files)

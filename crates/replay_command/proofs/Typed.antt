@@ -1,23 +1,25 @@
 -- The clients of a text that reads have the ranges of their types.
 use Rattle.std.specs.List.{All, list_all, list_any, slice_split}
+use Rattle.std.specs.Option.{option_map_or}
 use Rattle.std.specs.Prelude.{IfSome, codes}
 use Rattle.std.specs.Str.{bytes_eq}
-use Rattle.std.proofs.Common.{◌≡◌, ℕ, ◌+◌, ◌<◌, Bool, true, false, cond, List, [], ◌∷◌, ◌++◌, length, Option, Some, None, Result, Ok, Err, IfOk, refl, subst, arith, eqb, leb, ltb}
+use Rattle.std.proofs.Common.{◌≡◌, ℕ, ◌+◌, ◌<◌, ◌&&◌, Bool, true, false, cond, List, [], ◌∷◌, ◌++◌, length, Option, Some, None, Result, Ok, Err, IfOk, refl, subst, arith, eqb, leb, ltb}
 use Rattle.std.proofs.lemmas.Bool.{and_parts, leb-true, ltb-true}
 use Rattle.std.proofs.lemmas.List.Elements.{All-append, All-cons, All-nil}
 use Rattle.uip_wire.specs.Addr.{quad_of}
+use Rattle.uip_wire.specs.declared.addr.Addr.{Addr}
 use Rattle.app_events.specs.Pages.{IsAddr, IsByte}
 use Rattle.hex.specs.Hex.{decode_of}
 use Rattle.hex.specs.declared.error.FromHexError.{FromHexError}
-use Rattle.link_schedule.specs.Clients.{Plan, got, is_seen, is_target, plan_of, plan_with, raw, request_of, side_of}
+use Rattle.link_schedule.specs.Clients.{Plan, got, is_target, plan_of, plan_with, raw, request_of, side_of}
 use Rattle.link_schedule.specs.Events.{event_of_words}
 use Rattle.link_schedule.specs.Kept.{Keeps, is_between}
-use Rattle.link_schedule.specs.Numbers.{address, address_word, within}
-use Rattle.link_schedule.specs.Reading.{BadText, SchedulePlan, reads_on, is_passed_over, meets, nothing_yet, read_client, read_line, read_lines, read_text, read_words, with_plan, with_event, with_line}
+use Rattle.link_schedule.specs.Numbers.{◌>>=◌, address, within}
+use Rattle.link_schedule.specs.Reading.{BadText, SchedulePlan, meets, nothing_yet, read_lines, read_text, with_plan, with_event, with_line}
 use Rattle.link_schedule.specs.declared.sides.ClientSide.{ClientSide}
 use Rattle.link_schedule.specs.declared.why.Why.{Why}
 use Rattle.link_schedule.specs.declared.why.Why.TheVariants.{Clients, Form, Long, Ports}
-use Rattle.link_schedule.proofs.Keeping.{kept_where_read}
+use Rattle.link_schedule.proofs.Keeping.{kept_where_read, lines_keep, of_words}
 use Rattle.link_schedule.proofs.Kept.{anything, behind, either, tested, within_range}
 use Rattle.replay_command.proofs.HexBytes.{decoded_bytes}
 use Rattle.replay_command.proofs.Quads.{quad_is_addr}
@@ -31,7 +33,7 @@ pub record HasTypes (plan : Plan) : Type 0 where
 abbrev SideTyped : ClientSide → Type 0
 SideTyped side = IsAddr side.addr × (side.mss < 65536)
 
-addressed_typed : (o : Option (List ℕ)) → IfSome o (λ quad. IsAddr (record { 0 = quad })) → IfOk (address_word o) IsAddr
+addressed_typed : (o : Option (List ℕ)) → IfSome o (λ quad. IsAddr (record { 0 = quad })) → IfOk (option_map_or {T = List ℕ} {U = Result Addr Why} (λ quad. Ok (record { 0 = quad })) o (Err Form)) IsAddr
 addressed_typed (Some quad) p = p
 addressed_typed None p = tt
 
@@ -53,7 +55,7 @@ all_tested test p (c ∷ bytes) e =
 plain_bytes : (bytes : List ℕ) → list_all (λ c. ltb c 256) bytes ≡ true → All IsByte bytes
 plain_bytes bytes e = all_tested (λ c. ltb c 256) (λ c f. ltb-true c 256 f) bytes e
 
-seen_byte : (c : ℕ) → is_seen c ≡ true → IsByte c
+seen_byte : (c : ℕ) → (leb 33 c && leb c 126) ≡ true → IsByte c
 seen_byte c e = let most = leb-true c 126 (and_parts (leb 33 c) (leb c 126) e).1 in omega (arith, most)
 
 got_typed : (target : List ℕ) → IfOk (got target) (All IsByte)
@@ -61,7 +63,7 @@ got_typed target =
     tested (All IsByte) (is_target target) (Ok (codes "GET " ++ target ++ codes " HTTP/1.0\r\n\r\n")) (Err Form)
     (λ e. All-append IsByte (codes "GET " ++ target) (codes " HTTP/1.0\r\n\r\n")
     (All-append IsByte (codes "GET ") target (plain_bytes (codes "GET ") refl)
-    (all_tested is_seen seen_byte target (and_parts (is_between 1 4079 (length target)) (list_all is_seen target) e).1))
+    (all_tested (λ c. leb 33 c && leb c 126) seen_byte target (and_parts (is_between 1 4079 (length target)) (list_all (λ c. leb 33 c && leb c 126) target) e).1))
     (plain_bytes (codes " HTTP/1.0\r\n\r\n") refl)) tt
 
 raw_typed : (r : Result (List ℕ) FromHexError) → IfOk r (All IsByte) → IfOk (raw r) (All IsByte)
@@ -80,14 +82,7 @@ with_typed addr port mss seg how what =
     (λ request bytes. record { addr = typed.0; offered = typed.1; all_bytes = bytes }))
 
 plan_typed : (words : List (List ℕ)) → IfOk (plan_of words) HasTypes
-plan_typed [] = tt
-plan_typed (a ∷ []) = tt
-plan_typed (a ∷ b ∷ []) = tt
-plan_typed (a ∷ b ∷ c ∷ []) = tt
-plan_typed (a ∷ b ∷ c ∷ d ∷ []) = tt
-plan_typed (a ∷ b ∷ c ∷ d ∷ e ∷ []) = tt
-plan_typed (a ∷ b ∷ c ∷ d ∷ e ∷ f ∷ []) = with_typed a b c d e f
-plan_typed (a ∷ b ∷ c ∷ d ∷ e ∷ f ∷ g ∷ words) = tt
+plan_typed words = of_words HasTypes with_typed words
 
 abbrev Typed : SchedulePlan → Type 0
 Typed content = All HasTypes content.clients
@@ -105,28 +100,11 @@ event_typed number above words typed =
     behind (λ event. Unit {0}) Typed (event_of_words (length above.clients) words) (λ event. Ok (with_line above number event))
     (anything (event_of_words (length above.clients) words)) (λ event u. typed)
 
-words_typed : (number : ℕ) (above : SchedulePlan) (words : List (List ℕ)) → Typed above → IfOk (read_words number above words) Typed
-words_typed number above [] typed = tt
-words_typed number above (verb ∷ words) typed =
-    either Typed (bytes_eq verb (codes "client")) (read_client words above) (with_event number above (verb ∷ words))
-    (behind HasTypes Typed (plan_of words) (with_plan above) (plan_typed words) (λ plan is. client_typed above plan typed is))
-    (event_typed number above (verb ∷ words) typed)
-
-line_typed : (number : ℕ) (above : SchedulePlan) (line : List ℕ) → Typed above → IfOk (read_line number above line) Typed
-line_typed number above line typed =
-    either Typed (is_passed_over line) (Ok above) (read_words number above (slice_split (λ c. eqb c 32) line)) typed
-    (words_typed number above (slice_split (λ c. eqb c 32) line) typed)
-
-goes_typed : (number : ℕ) (next : SchedulePlan → Result SchedulePlan BadText) (r : Result SchedulePlan Why) → IfOk r Typed
-    → ((content : SchedulePlan) → Typed content → IfOk (next content) Typed) → IfOk (reads_on number next r) Typed
-goes_typed number next (Ok content) typed f = f content typed
-goes_typed number next (Err why) typed f = tt
-
 lines_typed : (number : ℕ) (above : SchedulePlan) (lines : List (List ℕ)) → Typed above → IfOk (read_lines number above lines) Typed
-lines_typed number above [] typed = typed
-lines_typed number above (line ∷ lines) typed =
-    goes_typed number (λ content. read_lines (number + 1) content lines) (read_line number above line) (line_typed number above line typed)
-    (λ content is. lines_typed (number + 1) content lines is)
+lines_typed number above lines typed =
+    lines_keep Typed
+    (λ above words typed. behind HasTypes Typed (plan_of words) (with_plan above) (plan_typed words) (λ plan is. client_typed above plan typed is))
+    event_typed number above lines typed
 
 -- a text that is not too long reads as its lines do
 lines_read : (text : List ℕ) (content : SchedulePlan) → read_text text ≡ Ok content → read_lines 1 nothing_yet (slice_split (λ c. eqb c 10) text) ≡ Ok content

@@ -63,9 +63,7 @@ IsReplayText site schedule show held text (ends.BadSite error) =
 IsReplayText site schedule show held text (ends.BadSchedule line why) =
     (files : List File) × IsSiteRead site held (Ok files)
     × HoldsFile held schedule (λ bytes. IsFirstBad files bytes line why) × (text ≡ bad_schedule line why)
-IsReplayText site schedule show held text ends.ShelfFault = ⊥
-IsReplayText site schedule show held text ends.WriteFault = ⊥
-IsReplayText site schedule show held text ends.NoMemory = ⊥
+IsReplayText site schedule show held text _ = ⊥
 
 -- the shelf tells its files, and lacks the site or the schedule
 abbrev pub LacksEither : List ℕ → List ℕ → Option Files → Type 0

@@ -91,13 +91,19 @@ opens_fit n a (suc m) low high =
     both (is_between 1 n a) (list_all (event_in_range n) (map (λ k. Opens k) (range_with_len (a + 1) m)))
     (between n a low (omega (arith, high))) (opens_fit n (a + 1) m (omega arith) (omega (arith, high)))
 
-one_of : (n : ℕ) (b : Bool) (x y : Event) → event_in_range n x ≡ true → event_in_range n y ≡ true → event_in_range n (if b then x else y) ≡ true
-one_of n true x y p q = p
-one_of n false x y p q = q
+-- what holds of each event that may be drawn
+pub of_drawn : (P : Event → Type 0) (rest client : ℕ) → P Round → P Twice → P Reverse → P Half → P Lose → P (Again client) → P (event_drawn rest client)
+of_drawn P zero client round twice back half lose again = round
+of_drawn P (suc zero) client round twice back half lose again = round
+of_drawn P (suc (suc zero)) client round twice back half lose again = round
+of_drawn P (suc (suc (suc zero))) client round twice back half lose again = twice
+of_drawn P (suc (suc (suc (suc zero)))) client round twice back half lose again = back
+of_drawn P (suc (suc (suc (suc (suc zero))))) client round twice back half lose again = half
+of_drawn P (suc (suc (suc (suc (suc (suc zero)))))) client round twice back half lose again = lose
+of_drawn P (suc (suc (suc (suc (suc (suc (suc n))))))) client round twice back half lose again = again
 
 event_fits : (n r c : ℕ) → is_between 1 n c ≡ true → event_in_range n (event_drawn r c) ≡ true
-event_fits n r c fits =
-    one_of n (nat_le r 2) Round _ refl (one_of n (r == 3) Twice _ refl (one_of n (r == 4) Reverse _ refl (one_of n (r == 5) Half _ refl (one_of n (r == 6) Lose (Again c) refl fits))))
+event_fits n r c fits = of_drawn (λ event. event_in_range n event ≡ true) r c refl refl refl refl refl fits
 
 rest_below : (w n : ℕ) → 1 ≤ n → w % n < n
 rest_below w n some = omega (arith, some)

@@ -1,5 +1,5 @@
 -- The schedule that a number makes.
-use Rattle.std.specs.Prelude.{ℕ, ◌+◌, ◌/◌, ◌%◌, ◌==◌, nat_le, Bool, List, [], ◌∷◌, ◌++◌, map, flat_map, replicate, if◌then◌else◌, codes}
+use Rattle.std.specs.Prelude.{ℕ, ◌+◌, ◌/◌, ◌%◌, ◌==◌, Bool, List, [], ◌∷◌, ◌++◌, map, flat_map, replicate, if◌then◌else◌, codes, slice_get, unwrap_or}
 use Rattle.std.specs.List.{range_with_len}
 use Rattle.rand_core.specs.Steps.{first_words}
 use Rattle.rand_pcg.specs.Lcg.{increment_of, started}
@@ -25,12 +25,7 @@ client_of k = record {
 -- three of eight words let all through, and the others disturb the link
 abbrev pub event_drawn : ℕ → ℕ → Event
 event_drawn rest client =
-    if nat_le rest 2 then Round
-    else if rest == 3 then Twice
-    else if rest == 4 then Reverse
-    else if rest == 5 then Half
-    else if rest == 6 then Lose
-    else Again client
+    unwrap_or (slice_get (Round ∷ Round ∷ Round ∷ Twice ∷ Reverse ∷ Half ∷ Lose ∷ []) rest) (Again client)
 
 -- what a word makes happen, and a tick
 abbrev pub happens : ℕ → ℕ → List Event

@@ -17,22 +17,19 @@ use uip_edge::NoMemory;
 fn event_by(rest: u32, client: u8) -> Event
     ensures { result ≡ event_meant rest client }
 {
-    if rest <= 2 {
-        return Event::Round;
-    }
-    if rest == 3 {
-        return Event::Twice;
-    }
-    if rest == 4 {
-        return Event::Reverse;
-    }
-    if rest == 5 {
-        return Event::Half;
-    }
-    if rest == 6 {
-        return Event::Lose;
-    }
-    Event::Again(client)
+    let others = [
+        Event::Round,
+        Event::Round,
+        Event::Round,
+        Event::Twice,
+        Event::Reverse,
+        Event::Half,
+        Event::Lose,
+    ];
+    others
+        .get(rest as usize)
+        .copied()
+        .unwrap_or(Event::Again(client))
 }
 
 /// One event more.

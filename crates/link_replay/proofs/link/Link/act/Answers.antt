@@ -1,15 +1,10 @@
-use Rattle.std.proofs.Common.{◌≡◌, ℕ, ◌++◌, ◌-◌, suc, take, drop, Some, Option, slice_get, refl, sym, ap, ◌∙◌, arith, subst, length, List, ◌≤◌}
-use Rattle.std.specs.Vec.{with_item}
-use Rattle.link_client.specs.Calls.{Sends}
-use Rattle.link_client.specs.Client.{ClientStep}
-use Rattle.link_client.specs.declared.setup.Setup.{Setup}
-use Rattle.link_world.specs.Acts.{client_acts}
-use Rattle.link_world.specs.World.{World, Side, with_client, with_side}
+use Rattle.std.proofs.Common.{◌≡◌, ℕ, ◌-◌, suc, Option, refl, sym, ap, ◌∙◌, arith, subst, length, List, ◌≤◌}
+use Rattle.std.specs.Option.{option_map_or}
+use Rattle.link_world.specs.World.{World, Side, client_stepped, numbered}
 use Rattle.link_replay.specs.Owning.{own_step}
 use Rattle.link_replay.specs.Stands.{LinkStands, SideStands}
 use Rattle.link_replay.specs.declared.side.Side.{Side as CodeSide}
 use Rattle.link_replay.proofs.Pairs.{there_is, partner}
-use Rattle.link_replay.proofs.Places.{link_put}
 use Rattle.link_replay.proofs.Sending
 use Rattle.link_replay.proofs.link.Link.act.Goals as goal
 
@@ -22,45 +17,24 @@ post_front-requires-clause-inside c = λ len e.
 
 pub returns-clause-kept : goal.returns-clause-kept
 returns-clause-kept c = λ addr h.
-    let n : ℕ = c.from-place.result - 1 in
-    let old : CodeSide = c.index_mut.result.now in
-    let new : CodeSide = c.act-sent.new.self in
-    let at : slice_get c.args.self.now.sides.items n ≡ Some old = there_is c.args.self.now.sides.items n old c.index_mut.ensures.value (omega arith) in
-    let area = Sending.area_is c.act-sent.new.area c.args.self.now.area.items c.args.self.now.area.len (c.act-sent.ensures.room ∙ ap length c.as_mut_slice.ensures.value) (sym c.as_mut_slice.ensures.len ∙ ap length c.as_mut_slice.ensures.value) in
     c.post_front.ensures.kept addr
-    (Sending.kept_too addr (record c.args.self.now { sides = with_item c.args.self.now.sides n new }) _ refl refl (ap length area ∙ c.act-sent.ensures.room ∙ ap length c.as_mut_slice.ensures.value ∙ h.area)
-    (link_put addr c.args.self.now n new h c.act-sent.ensures.client (ap (λ (x : Setup). x.server) c.act-sent.ensures.setup ∙ h.servers n old at)))
+    (Sending.kept_put addr c.args.self.now _ (c.from-place.result - 1) c.index_mut.result.now c.act-sent.new.self refl refl
+    (ap length (Sending.area_is c.act-sent.new.area c.args.self.now.area.items c.args.self.now.area.len (c.act-sent.ensures.room ∙ ap length c.as_mut_slice.ensures.value) (sym c.as_mut_slice.ensures.len ∙ ap length c.as_mut_slice.ensures.value)) ∙ c.act-sent.ensures.room ∙ ap length c.as_mut_slice.ensures.value)
+    (there_is c.args.self.now.sides.items (c.from-place.result - 1) c.index_mut.result.now c.index_mut.ensures.value (omega arith)) c.act-sent.ensures.client c.act-sent.ensures.setup h)
 
 pub returns-in_err-post_front-clause-kept : goal.returns-in_err-post_front-clause-kept
 returns-in_err-post_front-clause-kept c = λ addr h.
-    let n : ℕ = c.from-place.result - 1 in
-    let old : CodeSide = c.index_mut.result.now in
-    let new : CodeSide = c.act-sent.new.self in
-    let at : slice_get c.args.self.now.sides.items n ≡ Some old = there_is c.args.self.now.sides.items n old c.index_mut.ensures.value (omega arith) in
-    let area = Sending.area_is c.act-sent.new.area c.args.self.now.area.items c.args.self.now.area.len (c.act-sent.ensures.room ∙ ap length c.as_mut_slice.ensures.value) (sym c.as_mut_slice.ensures.len ∙ ap length c.as_mut_slice.ensures.value) in
     c.post_front.ensures.kept addr
-    (Sending.kept_too addr (record c.args.self.now { sides = with_item c.args.self.now.sides n new }) _ refl refl (ap length area ∙ c.act-sent.ensures.room ∙ ap length c.as_mut_slice.ensures.value ∙ h.area)
-    (link_put addr c.args.self.now n new h c.act-sent.ensures.client (ap (λ (x : Setup). x.server) c.act-sent.ensures.setup ∙ h.servers n old at)))
+    (Sending.kept_put addr c.args.self.now _ (c.from-place.result - 1) c.index_mut.result.now c.act-sent.new.self refl refl
+    (ap length (Sending.area_is c.act-sent.new.area c.args.self.now.area.items c.args.self.now.area.len (c.act-sent.ensures.room ∙ ap length c.as_mut_slice.ensures.value) (sym c.as_mut_slice.ensures.len ∙ ap length c.as_mut_slice.ensures.value)) ∙ c.act-sent.ensures.room ∙ ap length c.as_mut_slice.ensures.value)
+    (there_is c.args.self.now.sides.items (c.from-place.result - 1) c.index_mut.result.now c.index_mut.ensures.value (omega arith)) c.act-sent.ensures.client c.act-sent.ensures.setup h)
 
 pub returns-clause-acted : goal.returns-clause-acted
 returns-clause-acted c = λ w h t.
     let n : ℕ = c.from-place.result - 1 in
-    let number : ℕ = c.args.number in
-    let is : number ≡ suc n = omega arith in
+    let is : c.args.number ≡ suc n = omega arith in
     let old : CodeSide = c.index_mut.result.now in
-    let new : CodeSide = c.act-sent.new.self in
-    let at : slice_get c.args.self.now.sides.items n ≡ Some old = there_is c.args.self.now.sides.items n old c.index_mut.ensures.value (omega arith) in
-    let p = partner SideStands c.args.self.now.sides.items w.sides n old h.sides at in
-    let s : Side = p.other in
-    let step : ClientStep = own_step c.args.own s.client in
-    let st = c.act-sent.ensures.step s p.pair in
-    let t' : Side = with_client s step.client in
-    let v : World = with_side w number t' in
-    let area = Sending.area_is c.act-sent.new.area c.args.self.now.area.items c.args.self.now.area.len (c.act-sent.ensures.room ∙ ap length c.as_mut_slice.ensures.value) (sym c.as_mut_slice.ensures.len ∙ ap length c.as_mut_slice.ensures.value) in
-    let sends : Sends t'.client.setup step.sent c.act-sent.result (take c.args.self.now.area.len (c.act-sent.new.area ++ drop (length c.act-sent.new.area) c.args.self.now.area.items))
-    = subst (λ (xs : List ℕ). Sends t'.client.setup step.sent c.act-sent.result xs) (sym area)
-    (subst (λ (x : Setup). Sends x step.sent c.act-sent.result c.act-sent.new.area) (sym (Sending.setup_stays c.args.self.now w number n old new s is h p.get p.pair c.act-sent.ensures.setup step c.act-sent.result c.act-sent.new.area st)) st.sent) in
-    subst (λ (x : Option Side). LinkStands c.post_front.new.self (client_acts w number (own_step c.args.own) x)) (sym (Sending.numbered_there c.args.self.now w number n old new s is h p.get p.pair c.act-sent.ensures.setup))
-    (c.in_ok-post_front.ensures.posted v t' step.sent
-    (Sending.stands_too (record c.args.self.now { sides = with_item c.args.self.now.sides n new }) _ v refl refl (Sending.step_put c.args.self.now w number n old new s is h p.get p.pair c.act-sent.ensures.setup step c.act-sent.result c.act-sent.new.area st))
-    (Sending.numbered_new c.args.self.now w number n old new s is h p.get p.pair c.act-sent.ensures.setup t') sends t)
+    let p = partner SideStands c.args.self.now.sides.items w.sides n old h.sides (there_is c.args.self.now.sides.items n old c.index_mut.ensures.value (omega arith)) in
+    subst (λ (x : Option Side). LinkStands c.post_front.new.self (option_map_or (λ o. client_stepped w c.args.number o (own_step c.args.own o.client)) x w)) (sym (ap (numbered w.sides) is ∙ p.get))
+    (Sending.step_posted c.args.self.now w c.args.number n old c.act-sent.new.self p.other is h p.get p.pair c.act-sent.ensures.setup (own_step c.args.own p.other.client) c.act-sent.result c.act-sent.new.area
+    _ c.post_front.new.self c.args.tick (c.act-sent.ensures.step p.other p.pair) refl refl (Sending.area_is c.act-sent.new.area c.args.self.now.area.items c.args.self.now.area.len (c.act-sent.ensures.room ∙ ap length c.as_mut_slice.ensures.value) (sym c.as_mut_slice.ensures.len ∙ ap length c.as_mut_slice.ensures.value)) c.in_ok-post_front.ensures.posted t)

@@ -1,15 +1,11 @@
-use Rattle.std.proofs.Common.{◌≡◌, ℕ, ◌++◌, ◌-◌, suc, take, drop, Some, Option, slice_get, refl, sym, ap, ◌∙◌, arith, subst, length, List, ◌≤◌}
-use Rattle.std.specs.Vec.{with_item}
-use Rattle.link_client.specs.Calls.{Sends}
-use Rattle.link_client.specs.Client.{ClientStep}
-use Rattle.link_client.specs.declared.setup.Setup.{Setup}
+use Rattle.std.proofs.Common.{◌≡◌, ℕ, ◌-◌, suc, Option, refl, sym, ap, ◌∙◌, arith, subst, length, List, ◌≤◌}
+use Rattle.std.specs.Option.{option_map_or}
 use Rattle.link_world.specs.Acts.{handed}
-use Rattle.link_world.specs.World.{World, Side, with_client, with_side}
+use Rattle.link_world.specs.World.{World, Side, numbered}
 use Rattle.link_client.specs.Calls.{client_hears, client_hands}
 use Rattle.link_replay.specs.Stands.{LinkStands, SideStands}
 use Rattle.link_replay.specs.declared.side.Side.{Side as CodeSide}
 use Rattle.link_replay.proofs.Pairs.{there_is, partner}
-use Rattle.link_replay.proofs.Places.{link_put}
 use Rattle.link_replay.proofs.Sending
 use Rattle.link_replay.proofs.link.Link.hear.Goals as goal
 
@@ -22,46 +18,25 @@ post_front-requires-clause-inside c = λ len e.
 
 pub returns-clause-kept : goal.returns-clause-kept
 returns-clause-kept c = λ addr h.
-    let n : ℕ = c.from-place.result - 1 in
-    let old : CodeSide = c.index_mut.result.now in
-    let new : CodeSide = c.hear.new.self in
-    let at : slice_get c.args.self.now.sides.items n ≡ Some old = there_is c.args.self.now.sides.items n old c.index_mut.ensures.value (omega arith) in
-    let area = Sending.area_is c.hear.new.area c.args.self.now.area.items c.args.self.now.area.len (c.hear.ensures.room ∙ ap length c.as_mut_slice.ensures.value) (sym c.as_mut_slice.ensures.len ∙ ap length c.as_mut_slice.ensures.value) in
     c.post_front.ensures.kept addr
-    (Sending.kept_too addr (record c.args.self.now { sides = with_item c.args.self.now.sides n new }) _ refl refl (ap length area ∙ c.hear.ensures.room ∙ ap length c.as_mut_slice.ensures.value ∙ h.area)
-    (link_put addr c.args.self.now n new h c.hear.ensures.client (ap (λ (x : Setup). x.server) c.hear.ensures.setup ∙ h.servers n old at)))
+    (Sending.kept_put addr c.args.self.now _ (c.from-place.result - 1) c.index_mut.result.now c.hear.new.self refl refl
+    (ap length (Sending.area_is c.hear.new.area c.args.self.now.area.items c.args.self.now.area.len (c.hear.ensures.room ∙ ap length c.as_mut_slice.ensures.value) (sym c.as_mut_slice.ensures.len ∙ ap length c.as_mut_slice.ensures.value)) ∙ c.hear.ensures.room ∙ ap length c.as_mut_slice.ensures.value)
+    (there_is c.args.self.now.sides.items (c.from-place.result - 1) c.index_mut.result.now c.index_mut.ensures.value (omega arith)) c.hear.ensures.client c.hear.ensures.setup h)
 
 pub returns-in_err-post_front-clause-kept : goal.returns-in_err-post_front-clause-kept
 returns-in_err-post_front-clause-kept c = λ addr h.
-    let n : ℕ = c.from-place.result - 1 in
-    let old : CodeSide = c.index_mut.result.now in
-    let new : CodeSide = c.hear.new.self in
-    let at : slice_get c.args.self.now.sides.items n ≡ Some old = there_is c.args.self.now.sides.items n old c.index_mut.ensures.value (omega arith) in
-    let area = Sending.area_is c.hear.new.area c.args.self.now.area.items c.args.self.now.area.len (c.hear.ensures.room ∙ ap length c.as_mut_slice.ensures.value) (sym c.as_mut_slice.ensures.len ∙ ap length c.as_mut_slice.ensures.value) in
     c.post_front.ensures.kept addr
-    (Sending.kept_too addr (record c.args.self.now { sides = with_item c.args.self.now.sides n new }) _ refl refl (ap length area ∙ c.hear.ensures.room ∙ ap length c.as_mut_slice.ensures.value ∙ h.area)
-    (link_put addr c.args.self.now n new h c.hear.ensures.client (ap (λ (x : Setup). x.server) c.hear.ensures.setup ∙ h.servers n old at)))
+    (Sending.kept_put addr c.args.self.now _ (c.from-place.result - 1) c.index_mut.result.now c.hear.new.self refl refl
+    (ap length (Sending.area_is c.hear.new.area c.args.self.now.area.items c.args.self.now.area.len (c.hear.ensures.room ∙ ap length c.as_mut_slice.ensures.value) (sym c.as_mut_slice.ensures.len ∙ ap length c.as_mut_slice.ensures.value)) ∙ c.hear.ensures.room ∙ ap length c.as_mut_slice.ensures.value)
+    (there_is c.args.self.now.sides.items (c.from-place.result - 1) c.index_mut.result.now c.index_mut.ensures.value (omega arith)) c.hear.ensures.client c.hear.ensures.setup h)
 
 pub returns-clause-heard : goal.returns-clause-heard
 returns-clause-heard c = λ w h t.
     let n : ℕ = c.from-place.result - 1 in
-    let number : ℕ = c.args.number in
-    let is : number ≡ suc n = omega arith in
+    let is : c.args.number ≡ suc n = omega arith in
     let old : CodeSide = c.index_mut.result.now in
-    let new : CodeSide = c.hear.new.self in
-    let at : slice_get c.args.self.now.sides.items n ≡ Some old = there_is c.args.self.now.sides.items n old c.index_mut.ensures.value (omega arith) in
-    let p = partner SideStands c.args.self.now.sides.items w.sides n old h.sides at in
-    let s : Side = p.other in
-    let step : ClientStep = client_hands s.client (client_hears s.client.setup c.args.datagram.now) in
-    let st = c.in_ok-sent.ensures.step s p.pair in
-    let t' : Side = with_client s step.client in
-    let v : World = with_side w number t' in
-    let area = Sending.area_is c.hear.new.area c.args.self.now.area.items c.args.self.now.area.len (c.hear.ensures.room ∙ ap length c.as_mut_slice.ensures.value) (sym c.as_mut_slice.ensures.len ∙ ap length c.as_mut_slice.ensures.value) in
-    let sends : Sends t'.client.setup step.sent c.in_ok-sent.sent (take c.args.self.now.area.len (c.hear.new.area ++ drop (length c.hear.new.area) c.args.self.now.area.items))
-    = subst (λ (xs : List ℕ). Sends t'.client.setup step.sent c.in_ok-sent.sent xs) (sym area)
-    (subst (λ (x : Setup). Sends x step.sent c.in_ok-sent.sent c.hear.new.area) (sym (Sending.setup_stays c.args.self.now w number n old new s is h p.get p.pair c.hear.ensures.setup step c.in_ok-sent.sent c.hear.new.area st)) st.sent) in
-    subst (λ (x : Option Side). LinkStands c.post_front.new.self (handed w number c.args.datagram.now x)) (sym (Sending.numbered_there c.args.self.now w number n old new s is h p.get p.pair c.hear.ensures.setup))
-    (subst (λ (x : World). LinkStands c.post_front.new.self x) (Sending.heard_handed w number n s c.args.datagram.now is p.get)
-    (c.in_ok-post_front.ensures.posted v t' step.sent
-    (Sending.stands_too (record c.args.self.now { sides = with_item c.args.self.now.sides n new }) _ v refl refl (Sending.step_put c.args.self.now w number n old new s is h p.get p.pair c.hear.ensures.setup step c.in_ok-sent.sent c.hear.new.area st))
-    (Sending.numbered_new c.args.self.now w number n old new s is h p.get p.pair c.hear.ensures.setup t') sends t))
+    let p = partner SideStands c.args.self.now.sides.items w.sides n old h.sides (there_is c.args.self.now.sides.items n old c.index_mut.ensures.value (omega arith)) in
+    subst (λ (x : Option Side). LinkStands c.post_front.new.self (option_map_or (handed w c.args.number c.args.datagram.now) x w)) (sym (ap (numbered w.sides) is ∙ p.get))
+    (subst (λ (x : World). LinkStands c.post_front.new.self x) (Sending.heard_handed w c.args.number n p.other c.args.datagram.now is p.get)
+    (Sending.step_posted c.args.self.now w c.args.number n old c.hear.new.self p.other is h p.get p.pair c.hear.ensures.setup (client_hands p.other.client (client_hears p.other.client.setup c.args.datagram.now)) c.in_ok-sent.sent c.hear.new.area
+    _ c.post_front.new.self c.args.tick (c.in_ok-sent.ensures.step p.other p.pair) refl refl (Sending.area_is c.hear.new.area c.args.self.now.area.items c.args.self.now.area.len (c.hear.ensures.room ∙ ap length c.as_mut_slice.ensures.value) (sym c.as_mut_slice.ensures.len ∙ ap length c.as_mut_slice.ensures.value)) c.in_ok-post_front.ensures.posted t))

@@ -1,8 +1,8 @@
 use Rattle.std.proofs.Common.{◌≡◌, ℕ, ◌-◌, suc, Some, Option, slice_get, sym, ap, ◌∙◌, arith, refl, subst}
 use Rattle.std.specs.Vec.{with_item}
 use Rattle.link_client.specs.Client.{tells_window}
-use Rattle.link_world.specs.Acts.{client_acts}
-use Rattle.link_world.specs.World.{Side, numbered, with_client, with_side}
+use Rattle.std.specs.Option.{option_map_or}
+use Rattle.link_world.specs.World.{Side, client_stepped, numbered, with_client, with_side}
 use Rattle.link_replay.specs.Stands.{LinkStands, SideStands}
 use Rattle.link_replay.specs.declared.side.Side.{Side as CodeSide}
 use Rattle.link_replay.proofs.Pairs.{there_is, partner}
@@ -21,5 +21,5 @@ returns-clause-told c = λ w h.
     let t : Side = with_client p.other (tells_window c.args.window p.other.client).client in
     let put : LinkStands (record c.args.self.now { sides = with_item c.args.self.now.sides n new }) (with_side w (suc n) t)
     = side_put c.args.self.now w n new p.other t h p.get refl (c.tell_window.ensures.step p.other p.pair) in
-    subst (λ (x : Option Side). LinkStands (record c.args.self.now { sides = with_item c.args.self.now.sides n new }) (client_acts w number (tells_window c.args.window) x)) (sym (ap (numbered w.sides) is ∙ p.get))
-    (subst (λ k. LinkStands (record c.args.self.now { sides = with_item c.args.self.now.sides n new }) (client_acts w k (tells_window c.args.window) (Some p.other))) (sym is) put)
+    subst (λ (x : Option Side). LinkStands (record c.args.self.now { sides = with_item c.args.self.now.sides n new }) (option_map_or (λ s. client_stepped w number s (tells_window c.args.window s.client)) x w)) (sym (ap (numbered w.sides) is ∙ p.get))
+    (subst (λ k. LinkStands (record c.args.self.now { sides = with_item c.args.self.now.sides n new }) (client_stepped w k p.other (tells_window c.args.window p.other.client))) (sym is) put)

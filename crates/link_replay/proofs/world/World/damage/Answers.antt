@@ -2,7 +2,9 @@ use Rattle.std.proofs.Common.{◌≡◌, ℕ, ◌-◌, ◌<◌, ◌≤◌, lengt
 use Rattle.uip_node.specs.Edge.{event_of}
 use Rattle.uip_node.specs.Events.{Reply}
 use Rattle.uip_node.specs.Node.{step}
-use Rattle.link_world.specs.Acts.{damages_at, hands_over}
+use Rattle.link_world.specs.Acts.{does, hands_over}
+use Rattle.link_world.specs.declared.act.Act.{Act}
+use Rattle.link_world.proofs.Doing.{damaged}
 use Rattle.link_world.specs.Bytes.{sent_bytes, changed}
 use Rattle.link_world.specs.World.{World, Sent, numbered}
 use Rattle.link_world.specs.declared.who.Who.{Who}
@@ -39,8 +41,8 @@ returns-clause-damaged g c = λ w h f s.
     = subst (λ (who : Who). AnswersTo w who answer) (sym p.pair.who)
     (subst (λ (b : List ℕ). AnswersTo w e.who (step m a.served w.node (event_of w.node.addr b)).sent) (sym bytes)
     (damage_answers m a.served w number c.args.at c.args.mask e h low high f there)) in
-    let same : hands_over m a.served w c.as_slice-2.result.now code.who ≡ damages_at m a.served w c.args.at c.args.mask (numbered w.sent number)
+    let same : hands_over m a.served w c.as_slice-2.result.now code.who ≡ does m a.served w (Act.Damage number c.args.at c.args.mask)
     = ap (λ (b : List ℕ). hands_over m a.served w b code.who) bytes
     ∙ ap (λ (who : Who). hands_over m a.served w (changed (sent_bytes w e) c.args.at c.args.mask) who) p.pair.who
-    ∙ sym (ap (λ (x : Option Sent). damages_at m a.served w c.args.at c.args.mask x) there) in
+    ∙ sym (ap (λ (x : Option Sent). damaged m a.served w c.args.at c.args.mask x) there) in
     subst (λ (u : World). WorldStands a c.hand.new.self u) same (c.in_ok-hand.ensures.handed w s answers)

@@ -3,9 +3,11 @@ use Rattle.uip_wire.specs.declared.sizes.TheConstants.{LARGEST_DATAGRAM}
 use Rattle.uip_node.specs.Edge.{event_of}
 use Rattle.uip_node.specs.Events.{Reply}
 use Rattle.uip_node.specs.Node.{step}
-use Rattle.link_world.specs.Acts.{hands_over}
+use Rattle.std.specs.Option.{option_map_or}
+use Rattle.link_world.specs.Acts.{does, hands_over}
+use Rattle.link_world.specs.declared.act.Act.{Act}
 use Rattle.link_world.specs.Bytes.{sent_bytes}
-use Rattle.link_world.specs.World.{World, Sent, hands_to, numbered}
+use Rattle.link_world.specs.World.{World, Sent, delivers, numbered}
 use Rattle.link_world.specs.declared.who.Who.{Who}
 use Rattle.link_replay.specs.Stands.{LinkStands, SentStands, WorldStands}
 use Rattle.link_replay.specs.Telling.{AnswersTo, client_told, sees}
@@ -53,9 +55,9 @@ returns-clause-given g c = λ w h s.
     = subst (λ (who : Who). AnswersTo v who answer) (sym p.pair.who)
     (subst (λ (b : List ℕ). AnswersTo v e.who (step m a.served v.node (event_of v.node.addr b)).sent) (sym bytes)
     (answers_seen m a.served w (client_told e.who) number e (numbered w.sides (client_told e.who)) e.who (sent_bytes w e) facts.answers)) in
-    let same : hands_over m a.served v c.as_slice-2.result.now code.who ≡ hands_to m a.served w number (numbered w.sent number)
+    let same : hands_over m a.served v c.as_slice-2.result.now code.who ≡ does m a.served w (Act.Give number)
     = ap (λ (b : List ℕ). hands_over m a.served v b code.who) bytes
     ∙ ap (λ (who : Who). hands_over m a.served v (sent_bytes w e) who) p.pair.who
     ∙ facts.same
-    ∙ sym (ap (λ (x : Option Sent). hands_to m a.served w number x) (numbered_at w.sent number above ∙ p.get)) in
+    ∙ sym (ap (λ (x : Option Sent). option_map_or (λ d. delivers m a.served w number d d.who d.content) x w) (numbered_at w.sent number above ∙ p.get)) in
     subst (λ (u : World). WorldStands a c.hand.new.self u) same (c.in_ok-hand.ensures.handed v stands answers)

@@ -1,6 +1,5 @@
 use Rattle.std.proofs.Common.{sym, subst}
 use Rattle.link_world.specs.Acts.{hands_over}
-use Rattle.link_world.specs.World.{numbered}
 use Rattle.link_world.specs.declared.who.Who.{Who}
 use Rattle.link_replay.specs.Stands.{WorldStands}
 use Rattle.link_replay.proofs.Handling.{handed_done, still_kept}
@@ -18,5 +17,5 @@ returns-in_ok-hear-in-FromNode-clause-handed g c = λ w s to.
     let m = a.meaning (a.kept c.args.self.now.node.shared) in
     let number = c.in-FromNode.client in
     subst (λ (who : Who). WorldStands a (record c.args.self.now { link = c.hear.new.self }) (hands_over m a.served w c.args.bytes.now who)) (sym c.in-FromNode.is)
-    (handed_done a c.args.self.now c.hear.new.self w number c.args.bytes.now (numbered w.sides number) s
+    (handed_done a c.args.self.now c.hear.new.self w number c.args.bytes.now s
     (c.in_ok-hear-in-FromNode.ensures.heard w s.link s.node.counts.ticks) (c.hear.ensures.kept w.node.addr s.home))

@@ -1,4 +1,3 @@
-use Rattle.link_world.specs.World.{numbered}
 use Rattle.link_replay.specs.Owning.{own_step}
 use Rattle.link_replay.proofs.Handling.{own_done, still_kept}
 use Rattle.link_replay.proofs.world.World.own.Goals as goal
@@ -12,5 +11,5 @@ returns-clause-kept g c = still_kept g.A.App _ _ c.requires.kept.node c.requires
 pub returns-clause-acted : goal.returns-clause-acted
 returns-clause-acted g c = λ w s.
     let a = g.A.App in
-    own_done a c.args.self.now c.act.new.self w c.args.number (own_step c.args.own) (numbered w.sides c.args.number) s
+    own_done a c.args.self.now c.act.new.self w c.args.number (own_step c.args.own) s
     (c.in_ok-act.ensures.acted w s.link s.node.counts.ticks) (c.act.ensures.kept w.node.addr s.home)

@@ -1,7 +1,6 @@
 use Rattle.std.proofs.Common.{sym, subst}
 use Rattle.link_client.specs.Client.{tells_window}
 use Rattle.link_world.specs.Acts.{does}
-use Rattle.link_world.specs.World.{numbered}
 use Rattle.link_world.specs.declared.act.Act.{Act}
 use Rattle.link_replay.specs.Stands.{WorldStands}
 use Rattle.link_replay.proofs.Handling.{own_done, still_kept}
@@ -16,5 +15,5 @@ returns-in-Window-clause-done g c = λ w h f s.
     let m = a.meaning (a.kept c.args.self.now.node.shared) in
     let number = c.in-Window.number in
     subst (λ (act : Act). WorldStands a (record c.args.self.now { link = c.tell_window.new.self }) (does m a.served w act)) (sym c.in-Window.is)
-    (own_done a c.args.self.now c.tell_window.new.self w number (tells_window c.in-Window.window) (numbered w.sides number) s (c.tell_window.ensures.told w s.link)
+    (own_done a c.args.self.now c.tell_window.new.self w number (tells_window c.in-Window.window) s (c.tell_window.ensures.told w s.link)
     (c.tell_window.ensures.kept w.node.addr s.home))

@@ -14,13 +14,11 @@ loop-slot-preserved g c =
     let slot : ℕ = c.loop-slot.slot in
     let m = a.meaning (a.kept c.args.self.now.node.shared) in
     record {
-      kept = c.node_ticks.ensures.kept;
-      same = c.node_ticks.ensures.same ∙ inv.same;
-      mark = c.node_ticks.ensures.mark ∙ inv.mark;
+      follows = record { kept = c.node_ticks.ensures.kept; same = c.node_ticks.ensures.same ∙ inv.follows.same; mark = c.node_ticks.ensures.mark ∙ inv.follows.mark };
       so_far = λ w s.
           (let here = inv.so_far w s in
           let v : World = node_handles m a.served here.0 (Periodic slot) in
           let now : WorldStands a c.node_ticks.new.self v
-          = subst (λ k. WorldStands a c.node_ticks.new.self (node_handles (a.meaning k) a.served here.0 (Periodic slot))) inv.same (c.in_ok-node_ticks.ensures.ticked here.0 here.1) in
+          = subst (λ k. WorldStands a c.node_ticks.new.self (node_handles (a.meaning k) a.served here.0 (Periodic slot))) inv.follows.same (c.in_ok-node_ticks.ensures.ticked here.0 here.1) in
           (v, now, ap (λ (es : List Event). handles_all m a.served es here.0) (sym (next_call slot c.loop-slot-test.true)) ∙ here.2));
     }
