@@ -1,7 +1,8 @@
 -- What each call does to a connection of the web server. Its text is the page of the bytes that were heard and of the captures
 -- that were taken. The numbers are the hits of the files, in their order.
-use Rattle.std.specs.Prelude.{ℕ, ◌+◌, ◌-◌, ◌%◌, ◌^◌, ◌==◌, Bool, ◌&&◌, false, not, List, [], ◌∷◌, ◌++◌, length, min, nat_lt, slice_set, if◌then◌else◌, Option, None, Some}
+use Rattle.std.specs.Prelude.{ℕ, ◌+◌, ◌-◌, ◌%◌, ◌^◌, ◌==◌, Bool, ◌&&◌, false, not, List, [], ◌∷◌, ◌++◌, length, min, nat_lt, slice_set, if◌then◌else◌, Option}
 use Rattle.std.specs.List.{slice_index_or}
+use Rattle.std.specs.Option.{option_map_or}
 use Rattle.app_events.specs.Part.{Part, Meaning}
 use Rattle.app_events.specs.declared.want.Want.{Want}
 use Rattle.app_events.specs.declared.want.Want.TheVariants.{Nothing, Send, Close, Abort}
@@ -13,8 +14,7 @@ use Rattle.web_pages.specs.declared.TheConstants.{MOST_POLLS, LARGEST_SEGMENT}
 
 -- a hit of the file at a place: its count rises by one modulo 2^32
 abbrev pub hit_at : List ℕ → Option ℕ → List ℕ
-hit_at hits None = hits
-hit_at hits (Some place) = slice_set hits place ((slice_index_or hits place 0 + 1) % 2 ^ 32)
+hit_at hits found = option_map_or (λ place. slice_set hits place ((slice_index_or hits place 0 + 1) % 2 ^ 32)) found hits
 
 -- the hits where what is decided was open before: the file that is asked for is hit
 abbrev pub hits_by : List File → List ℕ → Wanted → Wanted → List ℕ
