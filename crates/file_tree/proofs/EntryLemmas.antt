@@ -8,8 +8,9 @@ use Rattle.site_image.specs.declared.part.Part.{Part}
 use Rattle.site_image.specs.declared.version.Version.{Version}
 use Rattle.site_image.specs.Files.{File, has_name}
 use Rattle.site_image.specs.Parts.{text, after_text, kind_given, after_kind, content, after_content, name_fault, kind_fault, content_fault}
-use Rattle.site_image.specs.Faults.{twice, entry_fault}
+use Rattle.site_image.specs.Faults.{entry_fault}
 use Rattle.site_image.specs.Places.{IsPart}
+use Rattle.site_image.proofs.Rows.{twice}
 use Rattle.file_tree.specs.declared.file_id.FileId.{FileId}
 use Rattle.file_tree.specs.Index.{IsOrder, IsSlot}
 use Rattle.file_tree.specs.Reading.{IsEntry, place_by}

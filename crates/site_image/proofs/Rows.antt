@@ -1,8 +1,14 @@
 -- A table of faults, row by row.
-use Rattle.std.proofs.Common.{◌≡◌, Bool, true, false, [], ◌∷◌, Option, Some, None, refl, ap, ◌∙◌}
+use Rattle.std.proofs.Common.{◌≡◌, ℕ, Bool, true, false, if◌then◌else◌, List, [], ◌∷◌, Option, Some, None, refl, ap, ◌∙◌}
 use Rattle.std.specs.Option.{option_or}
 use Rattle.site_image.specs.declared.site_error.SiteWhy.{SiteWhy}
-use Rattle.site_image.specs.Parts.{first_of}
+use Rattle.site_image.specs.declared.site_error.SiteWhy.TheVariants.{Twice}
+use Rattle.site_image.specs.Files.{File, has_name}
+use Rattle.site_image.specs.Parts.{first_of, text}
+
+-- an earlier file has the name of the entry
+abbrev pub twice : List File → List ℕ → Option SiteWhy
+twice earlier bytes = if has_name earlier (text bytes) then Some Twice else None
 
 -- where no row of a table holds, none of its tests does
 pub four-rows : (a b c d : Bool) (i j k l : SiteWhy) → first_of ((a, i) ∷ (b, j) ∷ (c, k) ∷ (d, l) ∷ []) ≡ None → (a ≡ false) × (b ≡ false) × (c ≡ false) × (d ≡ false)

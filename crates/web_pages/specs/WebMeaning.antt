@@ -34,16 +34,14 @@ waits_for_capture files _ part = false
 abbrev pub left_of : List File → Part → ℕ
 left_of files part = length (page files part.heard part.captures) - part.acked
 
--- It closes when the whole page is acknowledged, and sends what is left of the page so far.
-abbrev pub open_want : List File → Part → Want
-open_want files part =
-    if is_page_whole files part.heard part.captures && is_acknowledged files part then Close
+-- It gives up after so many ticks with nothing to send, closes when the whole page is acknowledged, and sends what is left of the
+-- page so far.
+abbrev pub web_want : List File → Part → Want
+web_want files part =
+    if part.polls == MOST_POLLS then Abort
+    else if is_page_whole files part.heard part.captures && is_acknowledged files part then Close
     else if nat_lt 0 (left_of files part) then Send (min LARGEST_SEGMENT (left_of files part))
     else Nothing
-
--- It gives up after so many ticks with nothing to send.
-abbrev pub web_want : List File → Part → Want
-web_want files part = if part.polls == MOST_POLLS then Abort else open_want files part
 
 abbrev pub web_meaning : List File → Meaning
 web_meaning files = record {
