@@ -1,5 +1,5 @@
 // A site of one file: its image in both versions, and what is read of them.
-use file_tree::{Held, KindWord, LoadFault, Site, SiteError, SiteWhy, pack, upgrade};
+use file_tree::{KindWord, LoadFault, Site, SiteError, SiteWhy, pack, upgrade};
 use std::alloc::{AllocError, Global};
 use std::test::Fail;
 use uip_edge::{Held, MemShelf};
