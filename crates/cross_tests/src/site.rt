@@ -1,5 +1,5 @@
 // A site of one file: its image in both versions, and what is read of them.
-use file_tree::{Entry, KindWord, LoadFault, Site, SiteError, SiteWhy, pack, upgrade};
+use file_tree::{KindWord, LoadFault, Site, SiteError, SiteWhy, pack, upgrade};
 use std::alloc::{AllocError, Global};
 use std::test::Fail;
 use uip_edge::{Held, MemShelf};
@@ -21,7 +21,7 @@ fn shelf_of(alloc: Global, content: &[u8], fails: &[u64]) -> Result<MemShelf, Al
 fn packs_the_image_of_a_list(rt: HostRuntime) -> Result<(), Fail> {
     let alloc = rt.alloc();
     let mut list = Vec::new(alloc);
-    list.push(Entry {
+    list.push(Held {
         name: b"/index.html".to_vec(alloc)?,
         content: b"hello\n".to_vec(alloc)?,
     })?;

@@ -1,6 +1,6 @@
 // The example site, and a site of as many files as there can be.
 use crate::example_image::IMAGE;
-use file_tree::{Entry, Site, pack};
+use file_tree::{Held, Site, pack};
 use std::alloc::{AllocError, Global};
 use std::test::Fail;
 
@@ -32,9 +32,9 @@ fn reads_the_example_site(rt: HostRuntime) -> Result<(), Fail> {
     Ok(())
 }
 
-fn file_named(alloc: Global, number: usize) -> Result<Entry, AllocError> {
+fn file_named(alloc: Global, number: usize) -> Result<Held, AllocError> {
     let name = format!(in alloc; "/f{number}")?;
-    Ok(Entry {
+    Ok(Held {
         name: name.as_bytes().to_vec(alloc)?,
         content: name.as_bytes().to_vec(alloc)?,
     })

@@ -1,6 +1,6 @@
 // At full size, so that no answer for want of memory hides a smaller limit: the longest schedule with 64 clients, the largest image,
 // and the longest name.
-use file_tree::{Entry, Site, pack};
+use file_tree::{Held, Site, pack};
 use httpd::{Httpd, Web};
 use link_replay::play;
 use link_schedule::Schedule;
@@ -55,7 +55,7 @@ fn plays_the_longest_schedule(rt: HostRuntime) -> Result<(), Fail> {
 /// The image of one file that fills it.
 fn image_of(alloc: Global, name: &[u8], size: usize) -> Result<Option<Vec<u8>>, AllocError> {
     let mut list = Vec::new(alloc);
-    list.push(Entry {
+    list.push(Held {
         name: name.to_vec(alloc)?,
         content: vec![in alloc; b'x'; size]?,
     })?;

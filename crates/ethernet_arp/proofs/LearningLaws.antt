@@ -1,9 +1,14 @@
 -- The last learning of an address behind one more act.
 use Rattle.std.proofs.Common.{◌≡◌, ℕ, ◌+◌, ◌||◌, Bool, true, false, if◌then◌else◌, List, [], ◌∷◌, ◌++◌, Option, None, Some, length, refl, sym, ap, ◌∙◌, subst, arith}
 use Rattle.std.specs.Prelude.{⊤}
+use Rattle.std.specs.Option.{option_and_then, option_or}
 use Rattle.std.specs.Str.{bytes_eq}
 use Rattle.std.proofs.lemmas.Slice.Eq.{bytes_eq-Decides}
-use Rattle.ethernet_arp.specs.Learning.{Act, Asked, Learning, Pair, Replied, Ticked, addresses_of, among, last_learning, later_or, learning_by, taught, ticks_in, with_one}
+use Rattle.ethernet_arp.specs.Learning.{Act, Asked, Learning, Pair, Replied, Ticked, addresses_of, among, is_fresh, last_learning, learning_by, taught, ticks_in, with_one}
+
+-- the hardware address of a learning that is fresh
+abbrev pub mac_of : Option Learning → Option (List ℕ)
+mac_of learning = option_and_then (λ l. if is_fresh l then Some l.mac else None) learning
 
 -- bytes that are equal
 pub is_same : (xs ys : List ℕ) → bytes_eq xs ys ≡ true → xs ≡ ys
@@ -27,7 +32,7 @@ abbrev pub on_later : Act → Option Learning → Option Learning
 on_later act None = None
 on_later act (Some l) = Some (record { mac = l.mac; later = l.later ++ act ∷ [] })
 
-later_none : (x : Option Learning) → later_or x None ≡ x
+later_none : (x : Option Learning) → option_or x None ≡ x
 later_none None = refl
 later_none (Some l) = refl
 
@@ -41,20 +46,20 @@ by_more addr (Some pair) acts act =
       | false ↦ refl
     ]
 
-later_more : (n l b : Option Learning) (act : Act) → later_or (later_or n (on_later act l)) (on_later act b) ≡ later_or n (on_later act (later_or l b))
+later_more : (n l b : Option Learning) (act : Act) → option_or (option_or n (on_later act l)) (on_later act b) ≡ option_or n (on_later act (option_or l b))
 later_more (Some x) l b act = refl
 later_more None (Some y) b act = refl
 later_more None None b act = refl
 
 pub last-more : (addr : List ℕ) (acts : List Act) (act : Act)
-    → last_learning addr (acts ++ act ∷ []) ≡ later_or (learning_by addr (taught act) []) (on_later act (last_learning addr acts))
+    → last_learning addr (acts ++ act ∷ []) ≡ option_or (learning_by addr (taught act) []) (on_later act (last_learning addr acts))
 last-more addr [] act = sym (later_none (learning_by addr (taught act) []))
 last-more addr (x ∷ acts) act =
     let new = learning_by addr (taught act) [] in
     let old = last_learning addr acts in
     let first = learning_by addr (taught x) acts in
-    ap (λ (l : Option Learning). later_or l (learning_by addr (taught x) (acts ++ act ∷ []))) (last-more addr acts act)
-    ∙ ap (λ (l : Option Learning). later_or (later_or new (on_later act old)) l) (by_more addr (taught x) acts act)
+    ap (λ (l : Option Learning). option_or l (learning_by addr (taught x) (acts ++ act ∷ []))) (last-more addr acts act)
+    ∙ ap (λ (l : Option Learning). option_or (option_or new (on_later act old)) l) (by_more addr (taught x) acts act)
     ∙ later_more new old first act
 
 -- ticks behind one more act
@@ -161,24 +166,24 @@ addresses-learnt (x ∷ acts) act pair e = with_more (taught x) pair.addr _ _ (a
 
 -- the last learning of an address behind an act that taught a pair
 abbrev by_pair : List ℕ → List Act → Act → Option Pair → Option Learning
-by_pair addr acts act pair = later_or (learning_by addr pair []) (on_later act (last_learning addr acts))
+by_pair addr acts act pair = option_or (learning_by addr pair []) (on_later act (last_learning addr acts))
 
 pub last-learnt : (addr : List ℕ) (acts : List Act) (act : Act) (pair : Pair) → taught act ≡ Some pair → bytes_eq pair.addr addr ≡ true
     → last_learning addr (acts ++ act ∷ []) ≡ Some (record { mac = pair.mac; later = [] })
 last-learnt addr acts act pair e is =
     last-more addr acts act ∙ ap (λ (p : Option Pair). by_pair addr acts act p) e
-    ∙ ap (λ v. later_or (if v then Some (record { mac = pair.mac; later = [] }) else None) (on_later act (last_learning addr acts))) is
+    ∙ ap (λ v. option_or (if v then Some (record { mac = pair.mac; later = [] }) else None) (on_later act (last_learning addr acts))) is
 
 pub last-other : (addr : List ℕ) (acts : List Act) (act : Act) (pair : Pair) → taught act ≡ Some pair → bytes_eq pair.addr addr ≡ false
     → last_learning addr (acts ++ act ∷ []) ≡ on_later act (last_learning addr acts)
 last-other addr acts act pair e other =
     last-more addr acts act ∙ ap (λ (p : Option Pair). by_pair addr acts act p) e
-    ∙ ap (λ v. later_or (if v then Some (record { mac = pair.mac; later = [] }) else None) (on_later act (last_learning addr acts))) other
+    ∙ ap (λ v. option_or (if v then Some (record { mac = pair.mac; later = [] }) else None) (on_later act (last_learning addr acts))) other
 
 pub last-tick : (addr : List ℕ) (acts : List Act) → last_learning addr (acts ++ Ticked ∷ []) ≡ on_later Ticked (last_learning addr acts)
 last-tick addr acts = last-more addr acts Ticked
 
-both_none : (x y : Option Learning) → later_or x y ≡ None → (x ≡ None) × (y ≡ None)
+both_none : (x y : Option Learning) → option_or x y ≡ None → (x ≡ None) × (y ≡ None)
 both_none None y e = (refl, e)
 both_none (Some l) y e = absurd (cc e)
 
@@ -230,7 +235,7 @@ found_later : (addr : List ℕ) (x y : Option Learning) (acts : List Act) (l : L
     → ((m : Learning) → last_learning addr acts ≡ Some m → among addr (addresses_of m.later) ≡ false)
     → (last_learning addr acts ≡ None → among addr (addresses_of acts) ≡ false)
     → ((m : Learning) → y ≡ Some m → m.later ≡ acts)
-    → x ≡ last_learning addr acts → later_or x y ≡ Some l → among addr (addresses_of l.later) ≡ false
+    → x ≡ last_learning addr acts → option_or x y ≡ Some l → among addr (addresses_of l.later) ≡ false
 found_later addr (Some m) y acts l some none by is e = some l (sym is ∙ e)
 found_later addr None y acts l some none by is e = ap (λ (a : List Act). among addr (addresses_of a)) (by l e) ∙ none (sym is)
 

@@ -1,6 +1,7 @@
 -- Each frame with a datagram goes to the hardware address that its target taught last.
 use Rattle.std.proofs.Common.{◌≡◌, ℕ, zero, suc, ◌+◌, ◌*◌, ◌/◌, ◌%◌, ◌<◌, ◌&&◌, ◌||◌, ◌==◌, Bool, true, false, if◌then◌else◌, nat_le, nat_lt, List, [], ◌∷◌, ◌++◌, Option, None, Some, length, drop, map, refl, sym, ap, ◌∙◌, subst, arith, inl, inr, ◌⊎◌, append_assoc, length-append, ne_eqb, eq-eqb}
 use Rattle.std.specs.Prelude.{⊤, slice_get}
+use Rattle.std.specs.Option.{option_map_or, option_or}
 use Rattle.std.specs.Str.{bytes_eq}
 use Rattle.std.proofs.lemmas.Bool.{leb-true}
 use Rattle.app_events.specs.Part.{Meaning}
@@ -17,8 +18,9 @@ use Rattle.serve_loop.specs.DeedRuns.{Deed, Does, Happens, Station, after_deed, 
 use Rattle.serve_loop.specs.LineDeeds.{beat_on, deed_by, deeds_behind, line_deeds, tick_on}
 use Rattle.serve_loop.specs.Pace.{is_beat}
 use Rattle.ethernet_arp.specs.EtherWay.{closed_by, ether_text, ether_way, is_taken, is_whole, open_from}
-use Rattle.ethernet_arp.specs.Frames.{Host, arp_brings, arp_packet, broadcast, frame_brings, frame_with, frame_to, framed, is_arp, is_arp_for, is_datagram, is_sendable, mac_at, no_mac, payload_brings, arp_reply, arp_request, sender_of, wrapped}
-use Rattle.ethernet_arp.specs.Learning.{Act, Asked, Learning, Pair, Replied, Ticked, is_fresh, known, last_learning, later_or, learning_by, mac_of, taught}
+use Rattle.ethernet_arp.specs.Frames.{Host, arp_brings, arp_packet, broadcast, frame_brings, frame_with, framed, is_arp, is_arp_for, is_datagram, is_sendable, mac_at, no_mac, payload_brings, arp_reply, arp_request, sender_of, wrapped}
+use Rattle.ethernet_arp.specs.Learning.{Act, Asked, Learning, Pair, Replied, Ticked, is_fresh, known, last_learning, learning_by, taught}
+use Rattle.ethernet_arp.proofs.LearningLaws.{mac_of}
 use Rattle.ethernet_arp.specs.Sending.{AllGoHome, GoesHome, frames_from, target_in}
 use Rattle.ethernet_arp.proofs.Bytes.{elements6, six}
 
@@ -67,7 +69,7 @@ by_six addr (Replied pair) later l s e = by_pair addr pair later l s.1 e
 by_six addr Ticked later l s e = absurd (cc e)
 
 in_either : (x y : Option Learning) (l : Learning) → ((m : Learning) → x ≡ Some m → length m.mac ≡ 6) → ((m : Learning) → y ≡ Some m → length m.mac ≡ 6)
-    → later_or x y ≡ Some l → length l.mac ≡ 6
+    → option_or x y ≡ Some l → length l.mac ≡ 6
 in_either (Some m) y l f g e = f l e
 in_either None y l f g e = g l e
 
@@ -197,7 +199,7 @@ module _ (k : Host) (mac6 : length k.mac ≡ 6) (addr4 : length k.addr ≡ 4) wh
       }
 
   wrapped_says : (acts : List Act) (d : List ℕ) (o : Option (List ℕ)) → AllSound acts → length d < 65000 → known acts (address_at d 16) ≡ o
-      → Says acts (framed (frame_to k (address_at d 16) o d))
+      → Says acts (framed (option_map_or (λ mac. frame_with mac k.mac 2048 d) o (arp_request k (address_at d 16))))
   wrapped_says acts d None sound most e = inr (arp_request k (address_at d 16), arp_says acts broadcast 1 no_mac (address_at d 16) refl refl refl)
   wrapped_says acts d (Some mac) sound most e = inr (frame_with mac k.mac 2048 d, datagram_says acts d mac sound most e)
 

@@ -2,14 +2,13 @@
 use Rattle.std.specs.Prelude.{ℕ, ◌+◌, ◌*◌, ◌==◌, ◌&&◌, nat_le, Bool, false, if◌then◌else◌, List, [], ◌∷◌, ◌++◌, length, drop}
 use Rattle.line_medium.specs.Ways.{Came, Way}
 use Rattle.ethernet_arp.specs.Frames.{Host, frame_brings, framed, is_sendable, arp_reply, wrapped}
-use Rattle.ethernet_arp.specs.Learning.{Act, Asked, Replied, Ticked}
+use Rattle.ethernet_arp.specs.Learning.{Act, Asked, Ticked}
 use Rattle.ethernet_arp.specs.declared.sizes.TheConstants.{LARGEST_FRAME, SMALLEST_FRAME}
 
 -- bytes that begin with a length are whole where so many follow it
 abbrev pub is_whole : List ℕ → Bool
 is_whole (high ∷ low ∷ frame) = length frame == 256 * high + low
-is_whole (high ∷ []) = false
-is_whole [] = false
+is_whole part = false
 
 -- what stands behind the last whole frame, and waits for more
 abbrev pub open_from : List ℕ → List ℕ → List ℕ
@@ -27,8 +26,7 @@ closed_by k part = if is_whole part && is_taken (drop 2 part) then frame_brings 
 -- what a host writes at an act: the reply to a request
 abbrev pub says_at : Host → Act → List ℕ
 says_at k (Asked pair) = framed (arp_reply k pair)
-says_at k (Replied pair) = []
-says_at k Ticked = []
+says_at k act = []
 
 -- the text of a datagram behind these acts
 abbrev pub ether_text : Host → List Act → List ℕ → List ℕ

@@ -1,5 +1,6 @@
 -- Ethernet frames (RFC 894) and the ARP packets in them (RFC 826): what a received one brings, and those that are sent.
-use Rattle.std.specs.Prelude.{ℕ, ◌+◌, ◌==◌, ◌&&◌, ◌||◌, nat_le, nat_lt, Bool, if◌then◌else◌, List, [], ◌∷◌, ◌++◌, length, drop, slice_index, Option, None, Some}
+use Rattle.std.specs.Prelude.{ℕ, ◌+◌, ◌==◌, ◌&&◌, ◌||◌, nat_le, nat_lt, Bool, if◌then◌else◌, List, [], ◌∷◌, ◌++◌, length, drop, slice_index}
+use Rattle.std.specs.Option.{option_map_or}
 use Rattle.std.specs.Str.{bytes_eq}
 use Rattle.uip_wire.specs.Addr.{address_at}
 use Rattle.uip_wire.specs.Fields.{word_at, word_bytes}
@@ -80,14 +81,11 @@ frame_brings k frame =
     if bytes_eq (mac_at frame 0) k.mac || bytes_eq (mac_at frame 0) broadcast then payload_brings k (word_at frame 12) (drop 14 frame)
     else []
 
--- the frame for a datagram to a target: to the known hardware address of that, or else the request for it
-abbrev pub frame_to : Host → List ℕ → Option (List ℕ) → List ℕ → List ℕ
-frame_to k target (Some mac) datagram = frame_with mac k.mac 2048 datagram
-frame_to k target None datagram = arp_request k target
-
--- the frame for a datagram, behind these acts
+-- the frame for a datagram, behind these acts: to the known hardware address of its target, or else the request for that
 abbrev pub wrapped : Host → List Act → List ℕ → List ℕ
-wrapped k acts datagram = let target = address_at datagram 16 in frame_to k target (known acts target) datagram
+wrapped k acts datagram =
+    let target = address_at datagram 16 in
+    option_map_or (λ mac. frame_with mac k.mac 2048 datagram) (known acts target) (arp_request k target)
 
 -- a frame behind its length
 abbrev pub framed : List ℕ → List ℕ

@@ -1,5 +1,7 @@
 -- Which addresses are known: the law of the list of all learnings and ticks, with no table.
-use Rattle.std.specs.Prelude.{ℕ, ◌+◌, ◌&&◌, ◌||◌, nat_lt, Bool, false, if◌then◌else◌, List, [], ◌∷◌, length, Option, None, Some}
+use Rattle.std.specs.Prelude.{ℕ, ◌+◌, ◌&&◌, nat_lt, Bool, if◌then◌else◌, List, [], ◌∷◌, length, Option, None, Some}
+use Rattle.std.specs.List.{list_any}
+use Rattle.std.specs.Option.{option_and_then, option_map_or, option_or}
 use Rattle.std.specs.Str.{bytes_eq}
 use Rattle.ethernet_arp.specs.declared.sizes.TheConstants.{ARP_ENTRIES, ARP_TICKS}
 
@@ -27,33 +29,26 @@ pub record Learning : Type 0 where
 
 -- the learning of an address from this pair
 abbrev pub learning_by : List ℕ → Option Pair → List Act → Option Learning
-learning_by addr None later = None
-learning_by addr (Some pair) later = if bytes_eq pair.addr addr then Some (record { mac = pair.mac; later = later }) else None
-
-abbrev pub later_or : Option Learning → Option Learning → Option Learning
-later_or (Some l) earlier = Some l
-later_or None earlier = earlier
+learning_by addr pair later =
+    option_and_then (λ p. if bytes_eq p.addr addr then Some (record { mac = p.mac; later = later }) else None) pair
 
 -- the last learning of an address
 abbrev pub last_learning : List ℕ → List Act → Option Learning
 last_learning addr [] = None
-last_learning addr (act ∷ acts) = later_or (last_learning addr acts) (learning_by addr (taught act) acts)
+last_learning addr (act ∷ acts) = option_or (last_learning addr acts) (learning_by addr (taught act) acts)
 
 -- how many ticks went by
 abbrev pub ticks_in : List Act → ℕ
 ticks_in [] = 0
 ticks_in (Ticked ∷ acts) = ticks_in acts + 1
-ticks_in (Asked pair ∷ acts) = ticks_in acts
-ticks_in (Replied pair ∷ acts) = ticks_in acts
+ticks_in (act ∷ acts) = ticks_in acts
 
 abbrev pub among : List ℕ → List (List ℕ) → Bool
-among addr [] = false
-among addr (other ∷ others) = bytes_eq other addr || among addr others
+among addr others = list_any (λ other. bytes_eq other addr) others
 
 -- one more address among others, each of which stands once
 abbrev pub with_one : Option Pair → List (List ℕ) → List (List ℕ)
-with_one None others = others
-with_one (Some pair) others = if among pair.addr others then others else pair.addr ∷ others
+with_one pair others = option_map_or (λ p. if among p.addr others then others else p.addr ∷ others) pair others
 
 -- the addresses that were learnt, each once
 abbrev pub addresses_of : List Act → List (List ℕ)
@@ -64,10 +59,6 @@ addresses_of (act ∷ acts) = with_one (taught act) (addresses_of acts)
 abbrev pub is_fresh : Learning → Bool
 is_fresh l = nat_lt (ticks_in l.later) ARP_TICKS && nat_lt (length (addresses_of l.later)) ARP_ENTRIES
 
-abbrev pub mac_of : Option Learning → Option (List ℕ)
-mac_of None = None
-mac_of (Some l) = if is_fresh l then Some l.mac else None
-
 -- An address is known exactly where its last learning is fresh; its hardware address is that learning's.
 abbrev pub known : List Act → List ℕ → Option (List ℕ)
-known acts addr = mac_of (last_learning addr acts)
+known acts addr = option_and_then (λ l. if is_fresh l then Some l.mac else None) (last_learning addr acts)

@@ -17,9 +17,6 @@ pair_of high low = do
   l ← digit_of low
   Some (h * 16 + l)
 
-abbrev pub is_parted : ℕ → ℕ → ℕ → ℕ → ℕ → Option (List ℕ) → Option (List ℕ)
-is_parted p q r s t mac = if p == 58 && q == 58 && r == 58 && s == 58 && t == 58 then mac else None
-
 abbrev pub six_of : Option ℕ → Option ℕ → Option ℕ → Option ℕ → Option ℕ → Option ℕ → Option (List ℕ)
 six_of first second third fourth fifth sixth = do
   a ← first
@@ -33,5 +30,6 @@ six_of first second third fourth fifth sixth = do
 -- the six bytes, or none where the text has another form
 abbrev pub mac_of_text : List ℕ → Option (List ℕ)
 mac_of_text (a ∷ b ∷ p ∷ c ∷ d ∷ q ∷ e ∷ f ∷ r ∷ g ∷ h ∷ s ∷ i ∷ j ∷ t ∷ k ∷ l ∷ []) =
-    is_parted p q r s t (six_of (pair_of a b) (pair_of c d) (pair_of e f) (pair_of g h) (pair_of i j) (pair_of k l))
+    if p == 58 && q == 58 && r == 58 && s == 58 && t == 58
+    then six_of (pair_of a b) (pair_of c d) (pair_of e f) (pair_of g h) (pair_of i j) (pair_of k l) else None
 mac_of_text text = None

@@ -5,15 +5,15 @@ use Rattle.std.specs.Option.{option_or}
 use Rattle.site_image.specs.declared.site_error.SiteWhy.{SiteWhy}
 use Rattle.site_image.specs.declared.site_error.SiteWhy.TheVariants.{Twice}
 use Rattle.site_image.specs.declared.part.Part.{Part}
-use Rattle.site_image.specs.declared.place.Place.{Place}
 use Rattle.site_image.specs.declared.version.Version.{Version}
 use Rattle.site_image.specs.Files.{File, has_name}
 use Rattle.site_image.specs.Parts.{text, after_text, kind_given, after_kind, content, after_content, name_fault, kind_fault, content_fault}
-use Rattle.site_image.specs.Faults.{twice, entry_fault}
+use Rattle.site_image.specs.Faults.{entry_fault}
 use Rattle.site_image.specs.Places.{IsPart}
+use Rattle.site_image.proofs.Rows.{twice}
 use Rattle.file_tree.specs.declared.file_id.FileId.{FileId}
 use Rattle.file_tree.specs.Index.{IsOrder, IsSlot}
-use Rattle.file_tree.specs.Reading.{IsEntry}
+use Rattle.file_tree.specs.Reading.{IsEntry, place_by}
 use Rattle.file_tree.proofs.OrderLemmas.{slot-fresh}
 
 module _ (version : Version) (earlier : List File) (bytes : List ℕ) where
@@ -47,18 +47,6 @@ module _ (version : Version) (earlier : List File) (bytes : List ℕ) where
       → last ≡ after_kind version rest → content_fault last ≡ o → entry_fault version earlier bytes ≡ o
   fault-content o rest last e t is k last_is c =
       after-kinds rest e t is k ∙ ap content_fault (sym (last_is ∙ ap (after_kind version) is)) ∙ c
-
--- the place by its three parts
-abbrev pub place_by : Part → Part → Part → Place
-place_by name kind body = record {
-  name_at = name.at;
-  name_len = name.len;
-  kind_at = kind.at;
-  kind_len = kind.len;
-  at = body.at;
-  len = body.len;
-  greatest = 0;
-}
 
 pub entry-by-parts : (image : List ℕ) (version : Version) (earlier : List File) (order : List FileId) (at : ℕ) (name kind body : Part) (slot : ℕ) → IsOrder earlier order
     → name_fault (drop at image) ≡ None → IsPart image name (text (drop at image)) (after_text (drop at image))

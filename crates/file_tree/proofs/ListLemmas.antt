@@ -4,15 +4,15 @@ use Rattle.std.proofs.lemmas.Bool.{not_from_true}
 use Rattle.site_image.specs.declared.site_error.SiteWhy.TheVariants.{Name, Twice}
 use Rattle.site_image.specs.Names.{is_name}
 use Rattle.site_image.specs.Files.{File, has_name}
-use Rattle.site_image.specs.Parts.{row, first_of}
+use Rattle.site_image.specs.Parts.{first_of}
 use Rattle.file_tree.specs.Packing.{listed_fault}
 
-second-row : (a b : Bool) → a ≡ false → b ≡ true → first_of (row a Name ∷ row b Twice ∷ []) ≡ Some Twice
+second-row : (a b : Bool) → a ≡ false → b ≡ true → first_of ((a, Name) ∷ (b, Twice) ∷ []) ≡ Some Twice
 second-row true b p q = absurd cc
 second-row false true p q = refl
 second-row false false p q = absurd cc
 
-no-rows : (a b : Bool) → a ≡ false → b ≡ false → first_of (row a Name ∷ row b Twice ∷ []) ≡ None
+no-rows : (a b : Bool) → a ≡ false → b ≡ false → first_of ((a, Name) ∷ (b, Twice) ∷ []) ≡ None
 no-rows true b p q = absurd cc
 no-rows false true p q = absurd cc
 no-rows false false p q = refl

@@ -1,13 +1,13 @@
 -- What was read of a file so far is a front of it.
 use Rattle.std.proofs.Common.{◌≡◌, ℕ, ◌+◌, ◌<◌, ◌≤◌, List, [], ◌++◌, length, take, drop, ltb, Option, Some, None, Result, Ok, Err, refl, sym, ap, subst, inl, inr, ◌∙◌, arith}
-use Rattle.std.specs.Prelude.{⊤}
+use Rattle.std.specs.Prelude.{⊤, IsSomeAnd}
 use Rattle.std.proofs.lemmas.Bool.{cases_lt, lt-ltb}
 use Rattle.std.proofs.lemmas.List.{take-append-drop, take-take, drop-take, take_all, length-take, length-take-le, take-append-le, length-append}
 use Rattle.uip_edge.specs.Shelving.{Files, ReadsFile, Reads}
 use Rattle.site_image.specs.declared.TheConstants.{LONGEST_IMAGE}
 use Rattle.file_tree.specs.declared.load_fault.LoadFault.{LoadFault}
 use Rattle.file_tree.specs.declared.load_fault.LoadFault.TheVariants.{Shelf, Bad, NoMemory}
-use Rattle.file_tree.specs.Loading.{HoldsContent, HoldsFile, Loads}
+use Rattle.file_tree.specs.Loading.{HoldsFile, Loads}
 use Rattle.file_tree.specs.Answers.{Gives}
 use Rattle.site_image.specs.declared.TheConstants.{MOST_FILES}
 use Rattle.site_image.specs.declared.site_error.SiteError.{SiteError}
@@ -53,13 +53,13 @@ abbrev pub IsWhole : ℕ → List ℕ → List ℕ → Type 0
 IsWhole limit bytes content = bytes ≡ take (limit + 1) content
 
 -- at the file's end, and where enough was read
-ended-in : (limit : ℕ) (o : Option (List ℕ)) (bytes buf : List ℕ) → IsFrontIn o bytes → ReadsFile o (length bytes) (Ok 0) buf → length bytes ≤ limit + 1 → HoldsContent o (IsWhole limit bytes)
+ended-in : (limit : ℕ) (o : Option (List ℕ)) (bytes buf : List ℕ) → IsFrontIn o bytes → ReadsFile o (length bytes) (Ok 0) buf → length bytes ≤ limit + 1 → IsSomeAnd o (IsWhole limit bytes)
 ended-in limit None bytes buf front reads short = absurd reads
 ended-in limit (Some content) bytes buf front reads short =
     let ended = reads.1.0 refl in
     front ∙ take_all (length bytes) content ended ∙ sym (take_all (limit + 1) content (omega arith))
 
-full-in : (limit : ℕ) (o : Option (List ℕ)) (bytes : List ℕ) → IsFrontIn o bytes → length bytes ≡ limit + 1 → HoldsContent o (IsWhole limit bytes)
+full-in : (limit : ℕ) (o : Option (List ℕ)) (bytes : List ℕ) → IsFrontIn o bytes → length bytes ≡ limit + 1 → IsSomeAnd o (IsWhole limit bytes)
 full-in limit None bytes front full = let none = ap length front in absurd (omega arith)
 full-in limit (Some content) bytes front full = front ∙ ap (λ n. take n content) full
 
@@ -112,7 +112,7 @@ read-front content =
 whole-reads : (bytes content : List ℕ) (read : Result (List File) SiteError) → IsWhole LONGEST_IMAGE bytes content → read_image bytes ≡ read → read_image content ≡ read
 whole-reads bytes content read whole e = sym (read-front content) ∙ ap read_image (sym whole) ∙ e
 
-content-map : (o : Option (List ℕ)) (P Q : List ℕ → Type 0) → ((content : List ℕ) → P content → Q content) → HoldsContent o P → HoldsContent o Q
+content-map : (o : Option (List ℕ)) (P Q : List ℕ → Type 0) → ((content : List ℕ) → P content → Q content) → IsSomeAnd o P → IsSomeAnd o Q
 content-map None P Q along h = h
 content-map (Some content) P Q along h = along content h
 

@@ -6,9 +6,9 @@ use Rattle.std.proofs.lemmas.Bool.{cases_order, or_parts, false_from_ne_true, co
 use Rattle.std.proofs.lemmas.List.{length-take, length-drop, length-map, get_or-map}
 use Rattle.std.proofs.lemmas.Option.{slice_get-get_or}
 use Rattle.std.proofs.lemmas.Slice.Eq.{bytes_eq-Decides}
+use Rattle.std.specs.Option.{option_map_or}
 use Rattle.site_image.specs.declared.place.Place.{Place}
 use Rattle.site_image.specs.Files.{File, has_name, file_named}
-use Rattle.site_image.specs.Pages.{size_of}
 use Rattle.site_image.specs.Places.{IsWithin, file_in, files_in}
 use Rattle.file_tree.specs.declared.file_id.FileId.{FileId}
 use Rattle.file_tree.specs.Index.{name_of, id_at, name_at, AreWithin, IsOrder, IsIndex}
@@ -57,7 +57,7 @@ place-at image places id d within lt = within id (get_or places id d) (slice_get
 
 -- the place with the id has the length of the file of the name
 pub named-length : (image : List ℕ) (places : List Place) (order : List FileId) (id : ℕ) (name : List ℕ) (d : Place) → IsIndex image places order → id < length places
-    → name_of (files_in image places) id ≡ name → (get_or places id d).len ≡ size_of (file_named (files_in image places) name)
+    → name_of (files_in image places) id ≡ name → (get_or places id d).len ≡ option_map_or (λ file. length file.content) (file_named (files_in image places) name) 0
 named-length image places order id name d table lt e =
     let files = files_in image places in
     let counted : length files ≡ length places = length-map places (file_in image) in
@@ -67,7 +67,7 @@ named-length image places order id name d table lt e =
     ∙ ap Some (get_or-map (file_in image) places id d (record { name = []; kind = []; content = [] }) lt) in
     let place = get_or places id d in
     let within = place-at image places id d table.within lt in
-    sym (slice-length image place.at place.len within.content) ∙ sym (ap size_of named)
+    sym (slice-length image place.at place.len within.content) ∙ sym (ap (λ found. option_map_or (λ (file : File). length file.content) found 0) named)
 
 -- no file has a name that stands nowhere in the order
 pub named-nowhere : (files : List File) (name : List ℕ) → has_name files name ≡ false → file_named files name ≡ None

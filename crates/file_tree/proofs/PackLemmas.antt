@@ -15,7 +15,8 @@ use Rattle.site_image.specs.Faults.{unless}
 use Rattle.site_image.specs.Places.{files_in}
 use Rattle.file_tree.specs.declared.file_id.FileId.{FileId}
 use Rattle.file_tree.specs.Index.{IsIndex}
-use Rattle.file_tree.specs.Packing.{EntryContent, file_of, listed, listed_fault, named}
+use Rattle.uip_edge.specs.Shelving.{HeldFile}
+use Rattle.file_tree.specs.Packing.{file_of, listed, listed_fault, named}
 use Rattle.file_tree.proofs.SizeLemmas.{entries-more, entries-le, image-size, listed-at}
 use Rattle.file_tree.proofs.TableLemmas.{table-empty}
 
@@ -121,13 +122,13 @@ packs-end files i made places order p done =
 
 -- ---- the same by an entry of the list
 
-module _ (list : List EntryContent) (i : ℕ) (made : List ℕ) (places : List Place) (order : List FileId) (e : EntryContent)
+module _ (list : List HeldFile) (i : ℕ) (made : List ℕ) (places : List Place) (order : List FileId) (e : HeldFile)
     (p : Packs (listed list) i made places order) (lt : i < length list) (is : e ≡ get_or list i e) where
   the_file : get_or (listed list) i (file_of e.name e.content) ≡ file_of e.name e.content
   the_file = listed-at list i e (file_of e.name e.content) lt is
 
   in_files : i < length (listed list)
-  in_files = let counted = length-map list (λ (x : EntryContent). file_of x.name x.content) in omega arith
+  in_files = let counted = length-map list (λ (x : HeldFile). file_of x.name x.content) in omega arith
 
   pub room-at : length (image One (listed list)) ≤ LONGEST_IMAGE → length made + length (entry One (file_of e.name e.content)) ≤ LONGEST_IMAGE
   room-at room = subst (λ f. length made + length (entry One f) ≤ LONGEST_IMAGE) the_file (packs-room (listed list) i made places order (file_of e.name e.content) p in_files room)

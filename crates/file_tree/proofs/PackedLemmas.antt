@@ -17,7 +17,8 @@ use Rattle.site_image.specs.Faults.{unless, read_image}
 use Rattle.site_image.proofs.Rows.{two-rows}
 use Rattle.site_image.proofs.EntryLaws.{AreFresh}
 use Rattle.site_image.proofs.ImageLaws.{fresh-again, scripts-sound}
-use Rattle.file_tree.specs.Packing.{EntryContent, listed, listed_fault, named, packed}
+use Rattle.uip_edge.specs.Shelving.{HeldFile}
+use Rattle.file_tree.specs.Packing.{listed, listed_fault, named, packed}
 use Rattle.file_tree.proofs.PackLemmas.{fine}
 
 -- the files have no content type of their own
@@ -78,6 +79,6 @@ pub packed-reads : (files : List File) → AreListed files → length (image One
     → read_image (image One files) ≡ Ok files
 packed-reads files listed le few names sound = fresh-again One files (names-fresh files [] listed names) few le (scripts-sound files 0 files tt sound)
 
-pub are-listed : (list : List EntryContent) → AreListed (listed list)
+pub are-listed : (list : List HeldFile) → AreListed (listed list)
 are-listed [] = tt
 are-listed (e ∷ list) = (refl, are-listed list)

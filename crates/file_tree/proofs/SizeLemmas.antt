@@ -7,7 +7,8 @@ use Rattle.site_image.specs.declared.version.Version.{Version}
 use Rattle.site_image.specs.declared.version.Version.TheVariants.{One, Two}
 use Rattle.site_image.specs.Files.{File}
 use Rattle.site_image.specs.Grammar.{magic, short_text, long_text, entry, image}
-use Rattle.file_tree.specs.Packing.{EntryContent, file_of, listed}
+use Rattle.uip_edge.specs.Shelving.{HeldFile}
+use Rattle.file_tree.specs.Packing.{file_of, listed}
 
 flat-append : (version : Version) (xs ys : List File) → flat_map (entry version) (xs ++ ys) ≡ flat_map (entry version) xs ++ flat_map (entry version) ys
 flat-append version [] ys = refl
@@ -44,16 +45,16 @@ listed-size name content =
     length-append (short_text name) (long_text content) ∙ ap (λ k. length (short_text name) + k) number ∙ omega arith
 
 -- the entry at an index of a list
-pub listed-at : (list : List EntryContent) (i : ℕ) (e : EntryContent) (d : File) → i < length list → e ≡ get_or list i e → get_or (listed list) i d ≡ file_of e.name e.content
+pub listed-at : (list : List HeldFile) (i : ℕ) (e : HeldFile) (d : File) → i < length list → e ≡ get_or list i e → get_or (listed list) i d ≡ file_of e.name e.content
 listed-at list i e d lt is =
-    get_or-map (λ (x : EntryContent). file_of x.name x.content) list i e d lt ∙ ap (λ (x : EntryContent). file_of x.name x.content) (sym is)
+    get_or-map (λ (x : HeldFile). file_of x.name x.content) list i e d lt ∙ ap (λ (x : HeldFile). file_of x.name x.content) (sym is)
 
-pub size-more : (list : List EntryContent) (i : ℕ) (e : EntryContent) → i < length list → e ≡ get_or list i e
+pub size-more : (list : List HeldFile) (i : ℕ) (e : HeldFile) → i < length list → e ≡ get_or list i e
     → 10 + length (flat_map (entry One) (take (i + 1) (listed list))) ≡ 10 + length (flat_map (entry One) (take i (listed list))) + (length e.name + length e.content + 5)
 size-more list i e lt is =
     let files = listed list in
     let d = file_of e.name e.content in
-    let counted : length files ≡ length list = length-map list (λ (x : EntryContent). file_of x.name x.content) in
+    let counted : length files ≡ length list = length-map list (λ (x : HeldFile). file_of x.name x.content) in
     let more = ap length (entries-more One files i d (omega arith)) ∙ length-append (flat_map (entry One) (take i files)) (entry One (get_or files i d)) in
     let own : length (entry One (get_or files i d)) ≡ length e.name + length e.content + 5 =
     ap (λ f. length (entry One f)) (listed-at list i e d lt is) ∙ listed-size e.name e.content in

@@ -1,5 +1,5 @@
 -- What is loaded of a shelf, and when that may fail.
-use Rattle.std.specs.Prelude.{◌≡◌, ◌≤◌, ◌⊎◌, ℕ, List, Option, None, Some, Result, Ok, Err, ⊤}
+use Rattle.std.specs.Prelude.{◌≡◌, ◌≤◌, ◌⊎◌, ℕ, List, Option, None, Some, IsSomeAnd, Result, Ok, Err, ⊤}
 use Rattle.site_image.specs.Files.{File}
 use Rattle.site_image.specs.Faults.{read_image}
 use Rattle.uip_edge.specs.Causes.{Rose}
@@ -7,15 +7,10 @@ use Rattle.uip_edge.specs.Shelving.{Files, IsMissing}
 use Rattle.file_tree.specs.declared.load_fault.LoadFault.{LoadFault}
 use Rattle.file_tree.specs.declared.load_fault.LoadFault.TheVariants.{Shelf, Bad, NoMemory}
 
--- there is a content, and the fact holds of it
-abbrev pub HoldsContent : Option (List ℕ) → (List ℕ → Type 0) → Type 0
-HoldsContent None fact = ⊥
-HoldsContent (Some content) fact = fact content
-
 -- where the shelf tells its files, it holds one of that name, and the fact holds of its content
 abbrev pub HoldsFile : Option Files → List ℕ → (List ℕ → Type 0) → Type 0
 HoldsFile None name fact = ⊤
-HoldsFile (Some files) name fact = HoldsContent (files name) fact
+HoldsFile (Some files) name fact = IsSomeAnd (files name) fact
 
 -- the answer is what reading the file's bytes gives, seen by the function; the shelf's failing and want of memory say
 -- nothing of the bytes

@@ -14,23 +14,23 @@ use Rattle.file_tree.specs.Site.{SiteContent, files_of}
 abbrev pub site_read : List ℕ → Files → Option (Result (List File) SiteError)
 site_read name files = if bytes_eq name (codes "-") then Some (Ok []) else option_map read_image (files name)
 
--- reading gives this, where the shelf tells its files
-abbrev pub IsSiteRead : List ℕ → Option Files → Result (List File) SiteError → Type 0
-IsSiteRead name None read = ⊤
-IsSiteRead name (Some files) read = site_read name files ≡ Some read
+-- this is what a way to read finds in the files, where the shelf tells them
+abbrev pub IsRead : {A : Type 0} → (Files → Option A) → Option Files → A → Type 0
+IsRead read None found = ⊤
+IsRead read (Some files) found = read files ≡ Some found
 
--- the shelf tells its files, and the one that is asked for is missing
-abbrev pub LacksSite : List ℕ → Option Files → Type 0
-LacksSite name None = ⊥
-LacksSite name (Some files) = site_read name files ≡ None
+-- the shelf tells its files, and one that the way to read asks for is missing
+abbrev pub LacksFile : {A : Type 0} → (Files → Option A) → Option Files → Type 0
+LacksFile read None = ⊥
+LacksFile read (Some files) = read files ≡ None
 
 -- why there is no site, with the count of the shelf's faults before and after
 abbrev pub FailsToOpen : List ℕ → Option Files → ℕ → ℕ → LoadFault → Type 0
-FailsToOpen name held before now (Bad error) = IsSiteRead name held (Err error) × (now ≡ before)
-FailsToOpen name held before now Shelf = (Rose before now ⊎ LacksSite name held) × (before ≤ now)
+FailsToOpen name held before now (Bad error) = IsRead (site_read name) held (Err error) × (now ≡ before)
+FailsToOpen name held before now Shelf = (Rose before now ⊎ LacksFile (site_read name) held) × (before ≤ now)
 FailsToOpen name held before now NoMemory = now ≡ before
 
 -- the site, or why there is none
 abbrev pub Opens : List ℕ → Option Files → ℕ → ℕ → Result SiteContent LoadFault → Type 0
-Opens name held before now (Ok site) = IsSiteRead name held (Ok (files_of site)) × (now ≡ before)
+Opens name held before now (Ok site) = IsRead (site_read name) held (Ok (files_of site)) × (now ≡ before)
 Opens name held before now (Err fault) = FailsToOpen name held before now fault

@@ -1,5 +1,6 @@
 -- Packing a list of files: its image, or its first fault. And the place of an entry that is written.
 use Rattle.std.specs.Prelude.{ℕ, ◌+◌, not, ⊤, List, [], ◌∷◌, ◌++◌, length, map, nat_lt, Option, Result, Ok}
+use Rattle.uip_edge.specs.Shelving.{HeldFile}
 use Rattle.site_image.specs.declared.TheConstants.{LONGEST_IMAGE, MOST_FILES}
 use Rattle.site_image.specs.declared.place.Place.{Place}
 use Rattle.site_image.specs.declared.site_error.SiteWhy.{SiteWhy}
@@ -10,25 +11,20 @@ use Rattle.site_image.specs.declared.version.Version.TheVariants.{One, Two}
 use Rattle.site_image.specs.Names.{is_name}
 use Rattle.site_image.specs.Files.{File, has_name}
 use Rattle.site_image.specs.Grammar.{image}
-use Rattle.site_image.specs.Parts.{row, first_of}
+use Rattle.site_image.specs.Parts.{first_of}
 use Rattle.site_image.specs.Faults.{◌>>=◌, refuse, unless, scripts}
-
--- a file of a list that is to be packed
-pub record EntryContent : Type 0 where
-  pub name : List ℕ
-  pub content : List ℕ
 
 -- a file without a content type of its own
 abbrev pub file_of : List ℕ → List ℕ → File
 file_of name content = record { name = name; kind = []; content = content }
 
--- the files of a list
-abbrev pub listed : List EntryContent → List File
+-- the files of a list that is to be packed
+abbrev pub listed : List HeldFile → List File
 listed list = map (λ entry. file_of entry.name entry.content) list
 
 -- what is wrong with a name behind the earlier files: the name itself, else it stands twice
 abbrev pub listed_fault : List File → List ℕ → Option SiteWhy
-listed_fault earlier name = first_of (row (not (is_name name)) Name ∷ row (has_name earlier name) Twice ∷ [])
+listed_fault earlier name = first_of ((not (is_name name), Name) ∷ (has_name earlier name, Twice) ∷ [])
 
 -- the files in turn, behind the earlier ones
 unfoldable pub named : List File → List File → Result ⊤ SiteError

@@ -1,5 +1,6 @@
 -- What is known of an entry that was read, and of the entries that were read so far.
 use Rattle.std.specs.Prelude.{◌≡◌, ◌≤◌, ℕ, List, drop, length, None}
+use Rattle.site_image.specs.declared.part.Part.{Part}
 use Rattle.site_image.specs.declared.place.Place.{Place}
 use Rattle.site_image.specs.declared.version.Version.{Version}
 use Rattle.site_image.specs.Files.{File}
@@ -7,6 +8,18 @@ use Rattle.site_image.specs.Faults.{entry_fault, entry_file, after_entry}
 use Rattle.site_image.specs.Places.{IsWithin, file_in}
 use Rattle.file_tree.specs.declared.file_id.FileId.{FileId}
 use Rattle.file_tree.specs.Index.{IsSlot}
+
+-- the place of a file by its three parts
+abbrev pub place_by : Part → Part → Part → Place
+place_by name kind body = record {
+  name_at = name.at;
+  name_len = name.len;
+  kind_at = kind.at;
+  kind_len = kind.len;
+  at = body.at;
+  len = body.len;
+  greatest = 0;
+}
 
 -- the entry at a place of the image has no fault, its file lies at its own place, the next entry follows it, and its name
 -- goes to the slot of the order

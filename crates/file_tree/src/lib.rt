@@ -3,7 +3,6 @@
 //! an image here, and an image is upgraded to the version that gives each file a content type.
 #![tactic(auto)]
 
-mod entry;
 mod entry_place;
 mod file_id;
 mod index;
@@ -18,7 +17,6 @@ mod table;
 mod upgrading;
 mod writing;
 
-pub use entry::Entry;
 pub use file_id::FileId;
 pub use kind_word::KindWord;
 pub use load_fault::LoadFault;
@@ -26,4 +24,5 @@ pub use loading::read_file;
 pub use packing::pack;
 pub use site::Site;
 pub use site_image::{LONGEST_IMAGE, Place, SiteError, SiteWhy, content_kind};
+pub use uip_edge::Held;
 pub use upgrading::upgrade;

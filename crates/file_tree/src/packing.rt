@@ -11,7 +11,6 @@ ghost use Rattle.file_tree.specs.Index.{IsSlot, IsIndex};
 ghost use Rattle.file_tree.specs.Packing.{file_of, listed, listed_fault, named, packed};
 ghost use Rattle.file_tree.specs.declared.load_fault.LoadFault.TheVariants.{Bad};
 
-use crate::entry::Entry;
 use crate::file_id::FileId;
 use crate::index::search;
 use crate::load_fault::LoadFault;
@@ -21,6 +20,7 @@ use site_image::{
     LONGEST_IMAGE, MOST_FILES, Place, SiteError, SiteWhy, Version, is_name, push_head,
 };
 use std::alloc::Global;
+use uip_edge::Held;
 
 /// An image that is being made, with the places of its files and the order of their names.
 #[derive(Drop)]
@@ -72,7 +72,7 @@ fn push_named(draft: &mut Draft, name: &[u8], content: &[u8]) -> Result<(), Load
 }
 
 /// The same of an entry.
-fn push_listed(draft: &mut Draft, entry: &Entry) -> Result<(), LoadFault>
+fn push_listed(draft: &mut Draft, entry: &Held) -> Result<(), LoadFault>
     requires table { IsIndex draft.old.image.items draft.old.files.items draft.old.order.items }
     requires few { length draft.old.files.items < MOST_FILES }
     requires room { length draft.old.image.items + length (written One (file_of entry.now.name entry.now.content)) ≤ LONGEST_IMAGE }
@@ -99,7 +99,7 @@ fn fault_of(why: SiteWhy, number: usize) -> LoadFault
 }
 
 /// The length of a file's entry.
-fn entry_len(entry: &Entry) -> usize
+fn entry_len(entry: &Held) -> usize
     ensures { result ≡ min (length entry.now.name + length entry.now.content + 5) (2 ^ 64 - 1) }
 {
     let texts = entry.name.len().saturating_add(entry.content.len());
@@ -107,7 +107,7 @@ fn entry_len(entry: &Entry) -> usize
 }
 
 /// The length of the list's image, and `None` where it is longer than an image may be.
-fn packed_len(list: &[Entry]) -> Option<usize>
+fn packed_len(list: &[Held]) -> Option<usize>
     ensures fits { IfSome result (λ size. (size ≡ length (image One (listed list.now))) × (size ≤ LONGEST_IMAGE)) }
     ensures long { IfNone result (LONGEST_IMAGE < length (image One (listed list.now))) }
 {
@@ -122,7 +122,7 @@ fn packed_len(list: &[Entry]) -> Option<usize>
 }
 
 /// The image of the list in version 1, or the first fault of the list.
-pub fn pack(alloc: Global, list: &[Entry]) -> Result<Vec<u8>, LoadFault>
+pub fn pack(alloc: Global, list: &[Held]) -> Result<Vec<u8>, LoadFault>
     ensures exact { Gives (λ image. image.items) result (packed (listed list.now)) }
 
     // The image is read again as the list.
@@ -153,7 +153,7 @@ pub fn pack(alloc: Global, list: &[Entry]) -> Result<Vec<u8>, LoadFault>
 }
 
 /// Appends all files of the list.
-fn push_all(draft: &mut Draft, list: &[Entry]) -> Result<(), LoadFault>
+fn push_all(draft: &mut Draft, list: &[Held]) -> Result<(), LoadFault>
     requires head { draft.old.image.items ≡ magic One ++ to_be_bytes w16 (length list.now) }
     requires no_files { draft.old.files.items ≡ [] }
     requires no_order { draft.old.order.items ≡ [] }

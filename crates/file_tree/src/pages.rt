@@ -1,10 +1,11 @@
 ghost use Rattle.std.specs.Prelude.{◌≡◌, ◌≤◌, ◌<◌, ◌+◌, ◌*◌, true, false, [], length, IfOk, IfErr, OnOk, IfSome, MatchOption, Some, None, sum_by, slice_range};
 ghost use Rattle.std.specs.List.{list_any};
+ghost use Rattle.std.specs.Option.{option_map_or};
 ghost use Rattle.script_lang.specs.Pieces.{pieces, LiesWithin};
 ghost use Rattle.site_image.specs.declared.TheConstants.{LONGEST_IMAGE, MOST_FILES};
 ghost use Rattle.site_image.specs.Faults.{scripts};
 ghost use Rattle.site_image.specs.Files.{has_name, file_named, kind_of};
-ghost use Rattle.site_image.specs.Pages.{misses, piece_length, page_length, script_fault, size_of};
+ghost use Rattle.site_image.specs.Pages.{misses, piece_length, page_length, script_fault};
 ghost use Rattle.site_image.specs.Places.{IsWithin, file_in, files_in};
 ghost use Rattle.file_tree.specs.Index.{AreMeasured, IsIndex};
 
@@ -45,7 +46,8 @@ fn included_len(image: &[u8], files: &[Place], order: &[FileId], name: &[u8]) ->
     requires image_fits { length image.now ≤ LONGEST_IMAGE }
     ensures missing { let there = has_name (files_in image.now files.now) name.now in
         MatchOption result (there ≡ false) (λ _. there ≡ true) }
-    ensures len { IfSome result (λ n. n ≡ size_of (file_named (files_in image.now files.now) name.now)) }
+    ensures len { let found = file_named (files_in image.now files.now) name.now in
+        IfSome result (λ n. n ≡ option_map_or (λ file. length file.content) found 0) }
     ensures bound { IfSome result (λ n. n ≤ LONGEST_IMAGE) }
 {
     match search(image, files, order, name) {

@@ -4,7 +4,7 @@ ghost use Rattle.site_image.specs.Faults.{entry_fault, entries, read_image};
 ghost use Rattle.site_image.specs.Places.{files_in};
 ghost use Rattle.file_tree.specs.Answers.{Fails, Gives};
 ghost use Rattle.file_tree.specs.Index.{AreWithin, IsOrder, IsIndex};
-ghost use Rattle.file_tree.specs.Reading.{IsEntry};
+ghost use Rattle.file_tree.specs.Reading.{IsEntry, place_by};
 ghost use Rattle.file_tree.specs.Site.{IsLoaded};
 
 use crate::entry_place::EntryPlace;
@@ -23,15 +23,7 @@ fn place_of(name: Part, kind: Part, content: Part) -> Place
     requires name_fits { name.at + name.len < 2 ^ 32 }
     requires kind_fits { kind.at + kind.len < 2 ^ 32 }
     requires content_fits { content.at + content.len < 2 ^ 32 }
-    ensures { result ≡ record {
-      name_at = name.at;
-      name_len = name.len;
-      kind_at = kind.at;
-      kind_len = kind.len;
-      at = content.at;
-      len = content.len;
-      greatest = 0;
-    } }
+    ensures { result ≡ place_by name kind content }
 {
     Place {
         name_at: name.at as u32,

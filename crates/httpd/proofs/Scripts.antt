@@ -14,7 +14,7 @@ use Rattle.script_lang.proofs.PieceLemmas.{found-goes, pieces_from-step, run-res
 use Rattle.script_lang.proofs.PlaceLemmas.{first_place-is}
 use Rattle.script_lang.proofs.StartLemmas.{run-inside}
 use Rattle.site_image.specs.Files.{file_named}
-use Rattle.web_pages.specs.Pieces.{Say, piece_bytes, says}
+use Rattle.web_pages.specs.Pieces.{Say, bytes_or, says}
 use Rattle.web_pages.specs.Pieces.Say.{Plain, Made}
 use Rattle.httpd.specs.declared.span.Span.{Span}
 use Rattle.httpd.specs.declared.thread.Thread.TheVariants.{Body}
@@ -188,9 +188,9 @@ text_at script at from len next place read =
 
 -- the first piece is an include, or a call
 pub include_step : (r : FileReply) (at : ℕ) (script : List ℕ) (read : Found) (from len : ℕ) → script ≡ body r → is_scripted r.file ≡ true → Reads (body r) at read → read.piece ≡ Include from len
-    → Plain (piece_bytes (file_named r.files (slice_range script from (from + len)))) ∷ body_from r read.next ≡ left_from r (Body at)
+    → Plain (bytes_or [] (file_named r.files (slice_range script from (from + len)))) ∷ body_from r read.next ≡ left_from r (Body at)
 include_step r at script read from len e scripted reads is =
-    ap (λ s. Plain (piece_bytes (file_named r.files (slice_range s from (from + len)))) ∷ body_from r read.next) e
+    ap (λ s. Plain (bytes_or [] (file_named r.files (slice_range s from (from + len)))) ∷ body_from r read.next) e
     ∙ ap (λ p. says r.files (body r) p ∷ body_from r read.next) (sym is)
     ∙ sym (script_step r at read scripted reads.pieces)
 

@@ -73,6 +73,14 @@ reply_fits a site found e has =
 pub reply_found : (a : Httpd) (site : SiteContent) (found : Option FileId) → a.stage ≡ stage.Reply found → HasPart HttpdStands a site → IsFound (files_of site) found
 reply_found a site found e has = found_told (files_of site) found (∥∥₁_map has (λ c. (replying a site c.0 found e c.1).1.there))
 
+-- the same of the site that a web is seen to hold
+pub found_inside : (a : Httpd) (site inside : SiteContent) (found : Option FileId) → inside ≡ site → a.stage ≡ stage.Reply found → HasPart HttpdStands a site → IsFound (files_of inside) found
+found_inside a site inside found same e has = subst (λ (s : SiteContent). IsFound (files_of s) found) (sym same) (reply_found a site found e has)
+
+pub fits_inside : (a : Httpd) (site inside : SiteContent) (found : Option FileId) → inside ≡ site → a.stage ≡ stage.Reply found → HasPart HttpdStands a site
+    → Fits (reply_in inside found a.capture) a.thread
+fits_inside a site inside found same e has = subst (λ (s : SiteContent). Fits (reply_in s found a.capture) a.thread) (sym same) (reply_fits a site found e has)
+
 pub some_part : (a : Httpd) (site : SiteContent) (n : ℕ) → CanSay means HttpdStands a site n → HasPart HttpdStands a site
 some_part a site n can = ∥∥₁_map can (λ c. (c.0, c.1))
 

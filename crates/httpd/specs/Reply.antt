@@ -8,7 +8,7 @@ use Rattle.file_tree.specs.declared.file_id.FileId.{FileId}
 use Rattle.file_tree.specs.Site.{SiteContent, files_of}
 use Rattle.generators.specs.declared.capture.Capture.{Capture}
 use Rattle.generators.specs.Text.{capture_text}
-use Rattle.web_pages.specs.Pieces.{Say, piece_bytes, found_head, kind_line, missing_body, missing_head, says}
+use Rattle.web_pages.specs.Pieces.{Say, bytes_or, found_head, kind_line, missing_head, says}
 use Rattle.web_pages.specs.Pieces.Say.{Plain, Made}
 use Rattle.web_pages.specs.Pages.{takes_capture}
 use Rattle.httpd.specs.declared.thread.Thread.{Thread}
@@ -37,7 +37,7 @@ kind_text (Some file) = kind_of file
 
 -- the bytes from which the body is said
 abbrev pub body_bytes : List File → Option File → List ℕ
-body_bytes files None = missing_body (file_named files (codes "/404.html"))
+body_bytes files None = bytes_or (codes "not found\n") (file_named files (codes "/404.html"))
 body_bytes files (Some file) = file.content
 
 abbrev pub is_scripted : Option File → Bool
@@ -55,7 +55,7 @@ body_from reply at =
 
 -- the bytes of an included file
 abbrev pub included : FileReply → FileId → List ℕ
-included reply file = piece_bytes (slice_get reply.files file.0)
+included reply file = bytes_or [] (slice_get reply.files file.0)
 
 -- what is left to be said
 unfoldable pub left_from : FileReply → Thread → List Say

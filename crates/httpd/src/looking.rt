@@ -4,7 +4,7 @@ ghost use Rattle.std.specs.Prelude.{◌≡◌, ◌≤◌, ◌<◌, ◌+◌, ◌�
 ghost use Rattle.file_tree.specs.Site.{files_of};
 ghost use Rattle.site_image.specs.declared.TheConstants.{LONGEST_IMAGE};
 ghost use Rattle.site_image.specs.Files.{file_named};
-ghost use Rattle.web_pages.specs.Pieces.{piece_bytes};
+ghost use Rattle.web_pages.specs.Pieces.{bytes_or};
 ghost use Rattle.web_pages.specs.Pieces.Say.{Plain, Made};
 ghost use Rattle.httpd.specs.Reply.{body, body_from, found_file, is_scripted, left_from, reply_in};
 ghost use Rattle.script_lang.specs.Pieces.{run_end};
@@ -207,7 +207,7 @@ fn look_include<'a>(
     requires inner { IsInner (reply_in site.now found capture.now) next }
     requires directive { EndsInclude (reply_in site.now found capture.now) next name.now }
     ensures sees { let reply = reply_in site.now found capture.now in
-        Sees reply (Plain (piece_bytes (file_named reply.files name.now)) ∷ body_from reply next) result }
+        Sees reply (Plain (bytes_or [] (file_named reply.files name.now)) ∷ body_from reply next) result }
     ensures kept { KeepsAll (reply_in site.now found capture.now) result.here }
 {
     match place_in(site, name) {

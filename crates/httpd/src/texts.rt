@@ -1,10 +1,10 @@
 //! The texts of a reply.
 
-ghost use Rattle.std.specs.Prelude.{◌≡◌, ◌≤◌, ◌<◌, length, option_map, slice_get, None, Some};
+ghost use Rattle.std.specs.Prelude.{◌≡◌, ◌≤◌, ◌<◌, [], length, option_map, slice_get, None, Some};
 ghost use Rattle.site_image.specs.declared.TheConstants.{LONGEST_IMAGE, LONGEST_KIND};
 ghost use Rattle.site_image.specs.Files.{kind_of};
 ghost use Rattle.file_tree.specs.Site.{files_of, IsLoaded};
-ghost use Rattle.web_pages.specs.Pieces.{piece_bytes, kind_line};
+ghost use Rattle.web_pages.specs.Pieces.{bytes_or, kind_line};
 ghost use Rattle.httpd.specs.Reply.{body_bytes, found_file, head_text, is_scripted, kind_text};
 ghost use Rattle.httpd.specs.Places.{IsFound};
 
@@ -50,7 +50,7 @@ fn kind_at(site: &Site, id: FileId) -> &[u8]
 /// The bytes of a file.
 pub(crate) fn bytes_at(site: &Site, id: FileId) -> &[u8]
     requires { id.0 < length (files_of site.now) }
-    ensures text { result.now ≡ piece_bytes (slice_get (files_of site.now) id.0) }
+    ensures text { result.now ≡ bytes_or [] (slice_get (files_of site.now) id.0) }
     ensures short { length result.now ≤ LONGEST_IMAGE }
 {
     see_loaded(site);

@@ -1,12 +1,12 @@
 -- The front of a text that is read of its file shows all that the whole text does.
 use Rattle.std.proofs.Common.{◌≡◌, ℕ, ◌+◌, List, length, take, Ok, Err, Option, Some, None, sym, ap, ◌∙◌, inl, inr, Bool, arith}
-use Rattle.std.specs.Prelude.{nat_le, ◌==◌, if◌then◌else◌}
+use Rattle.std.specs.Prelude.{IsSomeAnd, nat_le, ◌==◌, if◌then◌else◌}
 use Rattle.std.specs.List.{slice_split}
 use Rattle.std.proofs.lemmas.Bool.{cases_lt, lt-leb}
 use Rattle.std.proofs.lemmas.List.{take_all, length-take-le}
-use Rattle.file_tree.specs.Loading.{HoldsContent, HoldsFile}
+use Rattle.file_tree.specs.Loading.{HoldsFile}
 use Rattle.site_image.specs.Files.{File}
-use Rattle.file_tree.specs.Opening.{IsSiteRead}
+use Rattle.file_tree.specs.Opening.{IsRead, site_read}
 use Rattle.uip_edge.specs.Shelving.{Files}
 use Rattle.link_world.specs.World.{World}
 use Rattle.link_schedule.specs.Reading.{nothing_yet, read_lines, read_text}
@@ -43,7 +43,7 @@ bad_alike files s t line why e (inl bad) = inl (sym e ∙ bad)
 bad_alike files s t line why e (inr refused) = inr (record { content = refused.content; reads = sym e ∙ refused.reads; refuses = refused.refuses })
 
 -- another fact of a file's content
-holds_content : (P Q : List ℕ → Type 0) → ((content : List ℕ) → P content → Q content) → (o : Option (List ℕ)) → HoldsContent o P → HoldsContent o Q
+holds_content : (P Q : List ℕ → Type 0) → ((content : List ℕ) → P content → Q content) → (o : Option (List ℕ)) → IsSomeAnd o P → IsSomeAnd o Q
 holds_content P Q f None h = h
 holds_content P Q f (Some content) h = f content h
 
@@ -59,7 +59,7 @@ reads_alike : (bytes content : List ℕ) → IsFrontOf bytes content → read_te
 reads_alike bytes content e = ap read_text e ∙ text_front content
 
 -- what is due for the bytes that were read is due for the shelf's files
-pub is_text : (site schedule : List ℕ) (show : Bool) (held : Option Files) (files : List File) (bytes text : List ℕ) (end : ReplayEnd) → IsSiteRead site held (Ok files)
+pub is_text : (site schedule : List ℕ) (show : Bool) (held : Option Files) (files : List File) (bytes text : List ℕ) (end : ReplayEnd) → IsRead (site_read site) held (Ok files)
     → HoldsFile held schedule (IsFrontOf bytes) → IsTextDue files bytes show text end → IsReplayText site schedule show held text end
 is_text site schedule show held files bytes text ends.Done read front due = record {
   files = files;

@@ -1,7 +1,7 @@
 -- A replay or a load that nothing outside disturbs ends as is due.
 use Rattle.std.proofs.Common.{ℕ, List, Option, refl, inl, inr, arith}
 use Rattle.uip_edge.specs.Shelving.{Files}
-use Rattle.file_tree.specs.Opening.{LacksSite}
+use Rattle.file_tree.specs.Opening.{LacksFile, site_read}
 use Rattle.replay_command.specs.Ending.{EndsWith, IsLoadText, IsReplayText, LacksEither}
 use Rattle.replay_command.specs.Laws.{WroteDue, LoadIsTold, ReplayIsTold}
 use Rattle.replay_command.specs.declared.replay_end.ReplayEnd.{ReplayEnd}
@@ -22,4 +22,4 @@ pub replay_is_told : ReplayIsTold
 replay_is_told site schedule show = as_due (IsReplayText site schedule show) (LacksEither site schedule)
 
 pub load_is_told : LoadIsTold
-load_is_told site seed clients = as_due (IsLoadText site seed clients) (LacksSite site)
+load_is_told site seed clients = as_due (IsLoadText site seed clients) (LacksFile (site_read site))

@@ -1,5 +1,5 @@
 -- Each schedule is computed from the definitions.
-use Rattle.std.proofs.Common.{refl}
+use Rattle.std.proofs.Common.{rules}
 use Rattle.std.specs.Fmt.{digits}
 use Rattle.generators.specs.Text.{row_parts}
 use Rattle.tcp_machine.specs.Ask.{idles}
@@ -11,13 +11,4 @@ use Rattle.replay_command.specs.Worked.{AreWorkedReplays}
 
 pub worked : AreWorkedReplays
 unfolding digits row_parts idles peer_closes goes_on in_established fin_acked fin_waits in_fin_wait_2 on_segment rests_on ticks_established happened opens_in from_stranger sends_next takes_in_order takes_by client_takes opens_by again_by closes_by aborts_by
-worked = record {
-  page = refl;
-  hits = refl;
-  refused = refl;
-  undecided = refl;
-  first_time = refl;
-  second_time = refl;
-  counters = refl;
-  full_table = refl;
-}
+worked = search rules

@@ -2,7 +2,7 @@
 use Rattle.std.specs.Prelude.{◌≡◌, ◌≤◌, ◌⊎◌, ℕ, Bool, List, Option, Ok, Err, ⊤}
 use Rattle.file_tree.specs.Loading.{HoldsFile}
 use Rattle.site_image.specs.Files.{File}
-use Rattle.file_tree.specs.Opening.{IsSiteRead, LacksSite}
+use Rattle.file_tree.specs.Opening.{IsRead, LacksFile, site_read}
 use Rattle.site_commands.specs.Report.{bad_line}
 use Rattle.uip_edge.specs.Causes.{Rose}
 use Rattle.uip_edge.specs.Shelving.{Files, IsMissing}
@@ -51,7 +51,7 @@ EndsWith Is Missing old new end = Told (Is old.shelf.held) old new end
 pub record IsReport (site schedule : List ℕ) (show : Bool) (held : Option Files) (text : List ℕ) : Type 0 where
   pub files : List File
   pub world : World
-  pub read : IsSiteRead site held (Ok files)
+  pub read : IsRead (site_read site) held (Ok files)
   pub played : HoldsFile held schedule (λ bytes. IsPlayed files bytes world)
   pub told : text ≡ report show world
   pub promises : KeepsPromises files world
@@ -59,15 +59,15 @@ pub record IsReport (site schedule : List ℕ) (show : Bool) (held : Option File
 abbrev pub IsReplayText : List ℕ → List ℕ → Bool → Option Files → List ℕ → ReplayEnd → Type 0
 IsReplayText site schedule show held text ends.Done = IsReport site schedule show held text
 IsReplayText site schedule show held text (ends.BadSite error) =
-    IsSiteRead site held (Err error) × HoldsFile held schedule (λ bytes. ⊤) × (text ≡ bad_line error)
+    IsRead (site_read site) held (Err error) × HoldsFile held schedule (λ bytes. ⊤) × (text ≡ bad_line error)
 IsReplayText site schedule show held text (ends.BadSchedule line why) =
-    (files : List File) × IsSiteRead site held (Ok files)
+    (files : List File) × IsRead (site_read site) held (Ok files)
     × HoldsFile held schedule (λ bytes. IsFirstBad files bytes line why) × (text ≡ bad_schedule line why)
 IsReplayText site schedule show held text _ = ⊥
 
 -- the shelf tells its files, and lacks the site or the schedule
 abbrev pub LacksEither : List ℕ → List ℕ → Option Files → Type 0
-LacksEither site schedule held = LacksSite site held ⊎ IsMissing held schedule
+LacksEither site schedule held = LacksFile (site_read site) held ⊎ IsMissing held schedule
 
 abbrev pub ReplayEnds : List ℕ → List ℕ → Bool → WorkTold → WorkTold → ReplayEnd → Type 0
 ReplayEnds site schedule show old new end = EndsWith (IsReplayText site schedule show) (LacksEither site schedule) old new end
@@ -75,9 +75,9 @@ ReplayEnds site schedule show old new end = EndsWith (IsReplayText site schedule
 -- The text that is due for these files and the schedule that a number makes, with the end that goes with it. For a schedule that is
 -- played to its end it is the summary of the world that is reached, of which the promises are kept.
 abbrev pub IsLoadText : List ℕ → ℕ → ℕ → Option Files → List ℕ → ReplayEnd → Type 0
-IsLoadText site seed clients held text (ends.BadSite error) = IsSiteRead site held (Err error) × (text ≡ bad_line error)
+IsLoadText site seed clients held text (ends.BadSite error) = IsRead (site_read site) held (Err error) × (text ≡ bad_line error)
 IsLoadText site seed clients held text end =
-    (files : List File) × IsSiteRead site held (Ok files) × IsPlayDue files (workload_of seed clients) Summary text end
+    (files : List File) × IsRead (site_read site) held (Ok files) × IsPlayDue files (workload_of seed clients) Summary text end
 
 abbrev pub LoadEnds : List ℕ → ℕ → ℕ → WorkTold → WorkTold → ReplayEnd → Type 0
-LoadEnds site seed clients old new end = EndsWith (IsLoadText site seed clients) (LacksSite site) old new end
+LoadEnds site seed clients old new end = EndsWith (IsLoadText site seed clients) (LacksFile (site_read site)) old new end

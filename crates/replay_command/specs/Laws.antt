@@ -3,7 +3,7 @@ use Rattle.std.specs.Prelude.{◌≡◌, ◌≢◌, ◌<◌, ◌≤◌, ◌+◌,
 use Rattle.std.specs.Io.KnownBytes.{Appends}
 use Rattle.file_tree.specs.Site.{SiteContent, IsLoaded, files_of}
 use Rattle.site_image.specs.Files.{File}
-use Rattle.file_tree.specs.Opening.{LacksSite}
+use Rattle.file_tree.specs.Opening.{LacksFile, site_read}
 use Rattle.web_pages.specs.Pages.{pages_of}
 use Rattle.web_pages.specs.Requests.{wanted}
 use Rattle.web_pages.specs.Requests.Wanted.{NotYet}
@@ -40,7 +40,7 @@ abbrev pub LoadIsTold : Type 0
 LoadIsTold =
     (site : List ℕ) (seed clients : ℕ) (old new : WorkTold) (end : ReplayEnd)
     → LoadEnds site seed clients old new end → WorkUnfailed old new
-    → ¬ (LacksSite site old.shelf.held) → WroteDue (IsLoadText site seed clients old.shelf.held) old new end
+    → ¬ (LacksFile (site_read site) old.shelf.held) → WroteDue (IsLoadText site seed clients old.shelf.held) old new end
 
 -- two rounds for each part of the request of the first client, two for each text of its page, and six more
 abbrev pub rounds_for : List File → Plan → ℕ

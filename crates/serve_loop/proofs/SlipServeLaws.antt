@@ -110,6 +110,12 @@ module _ (m : Meaning) (served : ℕ → Bool) (own : Addr) where
       ∙ text_is (after_deeds m served (all_happen events) s).acts (step m served (after_deeds m served (all_happen events) s).node event).sent
       ∙ ap (λ (n : AbstractNode). text_for own (step m served n event).sent) (after_is m served events s)
 
+-- what is said over the deeds of a serial line is the text of what the node sends over its events
+pub said_on_line : (m : Meaning) (served : ℕ → Bool) (own : Addr) (pace : ℕ) (items : List Item) (s : Station NoAct)
+    → said m served slip_way own (line_deeds slip_way own pace items) s ≡ text_of own (run m served (line_events own pace items) s.node).sent
+said_on_line m served own pace items s =
+    ap (λ (l : List (Deed NoAct)). said m served slip_way own l s) (deeds_are own pace [] items) ∙ said_is m served own (line_events own pace items) s
+
 module _ {A S : Type 0} (g : Ghosts A S) (did did' : List NoAct → Type 0) (began : did []) where
   abbrev At : Node A S → AbstractNode → Type 0
   At node n = Stands g node n n.past

@@ -1,6 +1,7 @@
 -- A run of a medium and the abstract node behind it over a list of deeds, and what is said for them.
 use Rattle.std.specs.Prelude.{◌≡◌, ℕ, Bool, List, [], ◌∷◌, ◌++◌, Option, None, Some}
 use Rattle.std.specs.Io.KnownBytes.{Appends}
+use Rattle.std.specs.Option.{option_map_or}
 use Rattle.uip_wire.specs.declared.addr.Addr.{Addr}
 use Rattle.app_events.specs.Part.{Meaning}
 use Rattle.uip_node.specs.Edge.{reply_bytes}
@@ -21,8 +22,7 @@ pub data Deed (A : Type 0) : Type 0 where
 
 -- the text of the reply to an event, where there is one
 abbrev pub text_behind : {A : Type 0} → Way A → List A → Addr → Option Reply → List ℕ
-text_behind w acts own None = []
-text_behind w acts own (Some reply) = w.text acts (reply_bytes own reply)
+text_behind w acts own reply = option_map_or (λ r. w.text acts (reply_bytes own r)) reply []
 
 abbrev pub after_deed : {A : Type 0} → Meaning → (ℕ → Bool) → Station A → Deed A → Station A
 after_deed m served s (Does a) = record { acts = s.acts ++ a ∷ []; node = s.node }

@@ -4,7 +4,8 @@ use Rattle.uip_edge.specs.Shelving.{Files}
 use Rattle.site_commands.specs.declared.site_end.SiteEnd.{SiteEnd}
 use Rattle.site_commands.specs.declared.site_end.SiteEnd.TheVariants as ends
 use Rattle.site_commands.specs.Due.{Due}
-use Rattle.site_commands.specs.Ending.{Ends, EndsAsDue, LacksFile}
+use Rattle.site_commands.specs.Ending.{Ends, EndsAsDue}
+use Rattle.file_tree.specs.Opening.{LacksFile}
 use Rattle.uip_edge.specs.Told.{WorkTold, WorkUnfailed}
 
 pub as_due : (due : Files → Option Due) (old new : WorkTold) (end : SiteEnd) → Ends due old new end → WorkUnfailed old new → ¬ (LacksFile due old.shelf.held) → EndsAsDue due old.shelf.held end

@@ -1,25 +1,29 @@
 -- A list that is read file by file.
 use Rattle.std.proofs.Common.{◌≡◌, ℕ, ◌+◌, ◌-◌, ◌<◌, ◌≤◌, List, [], ◌∷◌, ◌++◌, length, drop, get_or, Option, Some, None, Result, Ok, Err, refl, sym, ap, subst, inl, inr, ◌∙◌, append_assoc, append-nil, arith}
-use Rattle.std.specs.Prelude.{⊤, nat_lt, option_map, option_and_then, if◌then◌else◌}
+use Rattle.std.specs.Prelude.{⊤, IsSomeAnd, nat_lt, option_map, option_and_then, if◌then◌else◌}
 use Rattle.std.proofs.lemmas.Bool.{le-ltb, lt-ltb}
 use Rattle.std.proofs.lemmas.List.{at_drop_more, at_drop_all}
 use Rattle.uip_edge.specs.Causes.{Rose}
-use Rattle.uip_edge.specs.Shelving.{Files, IsMissing}
+use Rattle.uip_edge.specs.Shelving.{Files, IsMissing, HeldFile}
 use Rattle.site_image.specs.declared.TheConstants.{LONGEST_IMAGE}
 use Rattle.site_image.specs.declared.site_error.SiteError.{SiteError}
 use Rattle.site_image.specs.declared.site_error.SiteWhy.TheVariants.{TooLong}
 use Rattle.site_image.specs.Faults.{◌>>=◌, fault}
 use Rattle.file_tree.specs.declared.load_fault.LoadFault.{LoadFault}
 use Rattle.file_tree.specs.declared.load_fault.LoadFault.TheVariants.{Shelf, Bad, NoMemory}
-use Rattle.file_tree.specs.Loading.{HoldsContent, HoldsFile, HasLoadCause}
-use Rattle.file_tree.specs.Packing.{EntryContent}
-use Rattle.site_commands.specs.Gathering.{NamedContent, Gathers, IsList, IsTooLong, LacksNamed, WasRead, entry_of, gathered, list_of, with_first}
+use Rattle.file_tree.specs.Loading.{HoldsFile, HasLoadCause}
+use Rattle.file_tree.specs.Opening.{IsRead, LacksFile}
+use Rattle.site_commands.specs.Gathering.{NamedContent, Gathers, IsTooLong, WasRead, gathered, list_of, with_first}
 
 abbrev pub ReadList : Type 0
-ReadList = Result (List EntryContent) SiteError
+ReadList = Result (List HeldFile) SiteError
+
+-- the file that is packed of a named file
+abbrev pub entry_of : NamedContent → List ℕ → HeldFile
+entry_of named content = record { name = named.name; content = content }
 
 -- the list with entries in front
-abbrev pub behind : List EntryContent → ReadList → ReadList
+abbrev pub behind : List HeldFile → ReadList → ReadList
 behind before list = list >>= λ entries. Ok (before ++ entries)
 
 behind-none : (o : Option ReadList) → o ≡ option_map (behind []) o
@@ -27,7 +31,7 @@ behind-none None = refl
 behind-none (Some (Ok list)) = refl
 behind-none (Some (Err e)) = refl
 
-behind-more : (before : List EntryContent) (entry : EntryContent) (o : Option ReadList)
+behind-more : (before : List HeldFile) (entry : HeldFile) (o : Option ReadList)
     → option_map (behind before) (option_map (with_first entry) o) ≡ option_map (behind (before ++ entry ∷ [])) o
 behind-more before entry None = refl
 behind-more before entry (Some (Ok list)) = ap (λ l. let r : Option ReadList = Some (Ok l) in r) (sym (append_assoc before (entry ∷ []) list))
@@ -63,16 +67,16 @@ lacks : (files : Files) (room : ℕ) (named : NamedContent) (rest : List NamedCo
 lacks files room named rest missing = gathered-cons files room named rest ∙ ap (option_and_then (rest_of files room named rest)) missing
 
 -- the content that is held
-held_content : (o : Option (List ℕ)) (P : List ℕ → Type 0) → HoldsContent o P → (content : List ℕ) × (o ≡ Some content) × P content
+held_content : (o : Option (List ℕ)) (P : List ℕ → Type 0) → IsSomeAnd o P → (content : List ℕ) × (o ≡ Some content) × P content
 held_content None P holds = absurd holds
 held_content (Some content) P holds = (content, refl, holds)
 
 -- what was read so far, with so much room left
-abbrev pub SoFar : Option Files → List NamedContent → ℕ → ℕ → List EntryContent → Type 0
+abbrev pub SoFar : Option Files → List NamedContent → ℕ → ℕ → List HeldFile → Type 0
 SoFar None named i room list = ⊤
 SoFar (Some files) named i room list = list_of named files ≡ option_map (behind list) (gathered files room (drop i named))
 
-pub record Gathering (named : List NamedContent) (i room : ℕ) (list : List EntryContent) (start now : Option Files) (before faults : ℕ) : Type 0 where
+pub record Gathering (named : List NamedContent) (i room : ℕ) (list : List HeldFile) (start now : Option Files) (before faults : ℕ) : Type 0 where
   pub held : now ≡ start
   pub same : faults ≡ before
   pub most : room ≤ LONGEST_IMAGE
@@ -96,7 +100,7 @@ next_is : (files : Files) (named : List NamedContent) (i room : ℕ) (n : NamedC
 next_is files named i room n lt is =
     at_drop_more (gathered files room) named i n lt ∙ ap (λ x. gathered files room (x ∷ drop (i + 1) named)) (sym is)
 
-so_far-more : (held : Option Files) (named : List NamedContent) (i room left : ℕ) (list new : List EntryContent) (n : NamedContent) → i < length named → n ≡ get_or named i n
+so_far-more : (held : Option Files) (named : List NamedContent) (i room left : ℕ) (list new : List HeldFile) (n : NamedContent) → i < length named → n ≡ get_or named i n
     → HoldsFile held n.file (WasRead n room left list new) → SoFar held named i room list → SoFar held named (i + 1) left new
 so_far-more None named i room left list new n lt is holds so_far = tt
 so_far-more (Some files) named i room left list new n lt is holds so_far =
@@ -110,7 +114,7 @@ so_far-more (Some files) named i room left list new n lt is holds so_far =
     ∙ ap (λ k. option_map (behind (list ++ entry_of n content ∷ [])) (gathered files k rest)) (sym was.left_is)
     ∙ ap (λ l. option_map (behind l) (gathered files left rest)) (sym was.entry)
 
-pub gathering-more : (named : List NamedContent) (i room left : ℕ) (list new : List EntryContent) (start now next : Option Files) (before faults raised : ℕ) (n : NamedContent)
+pub gathering-more : (named : List NamedContent) (i room left : ℕ) (list new : List HeldFile) (start now next : Option Files) (before faults raised : ℕ) (n : NamedContent)
     → i < length named → n ≡ get_or named i n → Gathering named i room list start now before faults
     → HoldsFile now n.file (WasRead n room left list new) → left ≤ room → next ≡ now → raised ≡ faults
     → Gathering named (i + 1) left new start next before raised
@@ -128,32 +132,32 @@ unfolding gathered
 nothing files room = refl
 
 -- all files were read
-all_read : (held : Option Files) (named : List NamedContent) (i room : ℕ) (list : List EntryContent) → length named ≤ i → SoFar held named i room list → IsList named held (Ok list)
+all_read : (held : Option Files) (named : List NamedContent) (i room : ℕ) (list : List HeldFile) → length named ≤ i → SoFar held named i room list → IsRead (list_of named) held (Ok list)
 all_read None named i room list end so_far = tt
 all_read (Some files) named i room list end so_far =
     so_far ∙ ap (option_map (behind list)) (at_drop_all (gathered files room) named i end ∙ nothing files room)
     ∙ ap (λ l. let r : Option ReadList = Some (Ok l) in r) (append-nil list)
 
-pub gathered-all : {X : Type 0} (view : X → List EntryContent) (x : X) (named : List NamedContent) (i room : ℕ) (start now : Option Files) (before faults : ℕ) → length named ≤ i
+pub gathered-all : {X : Type 0} (view : X → List HeldFile) (x : X) (named : List NamedContent) (i room : ℕ) (start now : Option Files) (before faults : ℕ) → length named ≤ i
     → Gathering named i room (view x) start now before faults → Gathers view named start before faults (Ok x)
 gathered-all view x named i room start now before faults end g = (all_read start named i room (view x) end g.so_far, g.same)
 
 -- a file is missing, or there is no room for it
-lacks_one : (held : Option Files) (named : List NamedContent) (i room : ℕ) (list : List EntryContent) (n : NamedContent) → i < length named → n ≡ get_or named i n
-    → IsMissing held n.file → SoFar held named i room list → LacksNamed named held
+lacks_one : (held : Option Files) (named : List NamedContent) (i room : ℕ) (list : List HeldFile) (n : NamedContent) → i < length named → n ≡ get_or named i n
+    → IsMissing held n.file → SoFar held named i room list → LacksFile (list_of named) held
 lacks_one None named i room list n lt is missing so_far = missing
 lacks_one (Some files) named i room list n lt is missing so_far =
     so_far ∙ ap (option_map (behind list)) (next_is files named i room n lt is ∙ lacks files room n (drop (i + 1) named) missing)
 
-no_room : (held : Option Files) (named : List NamedContent) (i room : ℕ) (list : List EntryContent) (n : NamedContent) (error : SiteError) → i < length named → n ≡ get_or named i n
-    → error ≡ fault TooLong 0 → HoldsFile held n.file (λ content. room < length content) → SoFar held named i room list → IsList named held (Err error)
+no_room : (held : Option Files) (named : List NamedContent) (i room : ℕ) (list : List HeldFile) (n : NamedContent) (error : SiteError) → i < length named → n ≡ get_or named i n
+    → error ≡ fault TooLong 0 → HoldsFile held n.file (λ content. room < length content) → SoFar held named i room list → IsRead (list_of named) held (Err error)
 no_room None named i room list n error lt is e holds so_far = tt
 no_room (Some files) named i room list n error lt is e holds so_far =
     let found = held_content (files n.file) (λ content. room < length content) holds in
     so_far ∙ ap (option_map (behind list)) (next_is files named i room n lt is ∙ overflows files room n (drop (i + 1) named) found.0 found.1 found.2)
     ∙ ap (λ x. let r : Option ReadList = Some (Err x) in r) (sym e)
 
-pub gathering-stops : {X : Type 0} (view : X → List EntryContent) (named : List NamedContent) (i room : ℕ) (list : List EntryContent) (start now : Option Files) (before faults raised : ℕ)
+pub gathering-stops : {X : Type 0} (view : X → List HeldFile) (named : List NamedContent) (i room : ℕ) (list : List HeldFile) (start now : Option Files) (before faults raised : ℕ)
     (n : NamedContent) (why : LoadFault) (r : Result ℕ LoadFault) → r ≡ Err why → i < length named → n ≡ get_or named i n → Gathering named i room list start now before faults
     → IsTooLong now n.file room why → HasLoadCause faults raised now n.file r → Gathers view named start before raised (Err why)
 gathering-stops view named i room list start now before faults raised n Shelf r e lt is g long cause =

@@ -30,37 +30,32 @@ checked (Err error) = record { text = bad_line error; fault = Some error }
 abbrev pub check_due : List ℕ → Files → Option Due
 check_due name files = option_map (λ content. checked (read_image content)) (files name)
 
--- an image, or its first fault, for which nothing is written
-abbrev pub imaged : Result (List ℕ) SiteError → Due
-imaged (Ok image) = record { text = image; fault = None }
-imaged (Err error) = record { text = []; fault = Some error }
+-- a text, or the first fault of the image, for which nothing is written
+abbrev pub due_of : Result (List ℕ) SiteError → Due
+due_of (Ok text) = record { text = text; fault = None }
+due_of (Err error) = record { text = []; fault = Some error }
 
 -- what is due for a list of named files: its image in version 1
 abbrev pub pack_due : List NamedContent → Files → Option Due
-pack_due named files = option_map (λ list. imaged (list >>= λ entries. packed (listed entries))) (list_of named files)
+pack_due named files = option_map (λ list. due_of (list >>= λ entries. packed (listed entries))) (list_of named files)
 
 -- what is due for the site under the name and the words that give content types: its image in version 2
 abbrev pub upgrade_due : List ℕ → List KindContent → Files → Option Due
 upgrade_due name words files =
-    option_map (λ content. imaged (read_image content >>= λ old. second_image (upgraded words old))) (files name)
+    option_map (λ content. due_of (read_image content >>= λ old. second_image (upgraded words old))) (files name)
 
 -- the image is what was made, unless memory was short
 abbrev pub MakesImage : Result (List ℕ) SiteError → Result Due Halt → Type 0
-MakesImage image (Ok made) = made ≡ imaged image
+MakesImage image (Ok made) = made ≡ due_of image
 MakesImage image (Err halt.NoMemory) = ⊤
 MakesImage image (Err halt.Shelf) = ⊥
 
 -- what is made of a fault
 abbrev pub MadeOfFault : LoadFault → Result Due Halt → Type 0
 MadeOfFault fault.Shelf made = made ≡ Err halt.Shelf
-MadeOfFault (fault.Bad error) made = made ≡ Ok (imaged (Err error))
+MadeOfFault (fault.Bad error) made = made ≡ Ok (due_of (Err error))
 MadeOfFault fault.NoMemory made = made ≡ Err halt.NoMemory
 
--- the page of a target, as a node says it at which nothing has happened; nothing is written of an image with a fault
-abbrev pub paged : List ℕ → Result (List File) SiteError → Due
-paged target (Ok files) = record { text = zero_page files target; fault = None }
-paged target (Err error) = record { text = []; fault = Some error }
-
--- what is due for a target of the site under the name
+-- what is due for a target of the site under the name: its page, as a node says it at which nothing has happened
 abbrev pub page_due : List ℕ → List ℕ → Files → Option Due
-page_due name target files = option_map (paged target) (site_read name files)
+page_due name target files = option_map (λ read. due_of (read >>= λ site. Ok (zero_page site target))) (site_read name files)

@@ -5,26 +5,17 @@ use Rattle.uip_edge.specs.Shelving.{Files}
 use Rattle.uip_edge.specs.Told.{ShelfTold, SinkTold, WorkTold}
 use Rattle.uip_edge.specs.Writing.{WritesAll, WritesEnd, WritesFront}
 use Rattle.site_image.specs.declared.site_error.SiteError.{SiteError}
+use Rattle.file_tree.specs.Opening.{IsRead, LacksFile}
 use Rattle.site_commands.specs.declared.halt.Halt.{Halt}
 use Rattle.site_commands.specs.declared.halt.Halt.TheVariants as halt
 use Rattle.site_commands.specs.declared.site_end.SiteEnd.{SiteEnd}
 use Rattle.site_commands.specs.declared.site_end.SiteEnd.TheVariants as ends
 use Rattle.site_commands.specs.Due.{Due}
 
--- this is due, where the shelf tells its files
-abbrev pub IsDue : (Files → Option Due) → Option Files → Due → Type 0
-IsDue due None made = ⊤
-IsDue due (Some files) made = due files ≡ Some made
-
--- the shelf tells its files, and one that is asked for is missing
-abbrev pub LacksFile : (Files → Option Due) → Option Files → Type 0
-LacksFile due None = ⊥
-LacksFile due (Some files) = due files ≡ None
-
 -- the whole text was written, and this was the first fault
 abbrev pub Finishes : (Files → Option Due) → WorkTold → WorkTold → Option SiteError → Type 0
 Finishes due old new fault = (text : List ℕ)
-    × IsDue due old.shelf.held (record { text = text; fault = fault })
+    × IsRead due old.shelf.held (record { text = text; fault = fault })
     × WritesAll old.sink new.sink text
     × (new.shelf.faults ≡ old.shelf.faults)
 
@@ -36,14 +27,14 @@ Ends due old new ends.ShelfFault =
     (Rose old.shelf.faults new.shelf.faults ⊎ LacksFile due old.shelf.held) × (old.shelf.faults ≤ new.shelf.faults)
     × (new.sink ≡ old.sink)
 Ends due old new ends.WriteFault = (made : Due)
-    × IsDue due old.shelf.held made
+    × IsRead due old.shelf.held made
     × WritesFront old.sink new.sink made.text
     × (new.shelf.faults ≡ old.shelf.faults)
 Ends due old new ends.NoMemory = new ≡ old
 
 -- what was made of the shelf's files, or why nothing was
 abbrev pub Makes : (Files → Option Due) → ShelfTold → ShelfTold → Result Due Halt → Type 0
-Makes due old new (Ok made) = IsDue due old.held made × (new.faults ≡ old.faults)
+Makes due old new (Ok made) = IsRead due old.held made × (new.faults ≡ old.faults)
 Makes due old new (Err halt.Shelf) = (Rose old.faults new.faults ⊎ LacksFile due old.held) × (old.faults ≤ new.faults)
 Makes due old new (Err halt.NoMemory) = new.faults ≡ old.faults
 
@@ -60,4 +51,4 @@ WritesMade (Err halt.NoMemory) old new end = (end ≡ ends.NoMemory) × (new ≡
 
 -- the end is the one that is due, or memory was short
 abbrev pub EndsAsDue : (Files → Option Due) → Option Files → SiteEnd → Type 0
-EndsAsDue due held end = (end ≡ ends.NoMemory) ⊎ ((made : Due) × IsDue due held made × (end ≡ end_of made.fault))
+EndsAsDue due held end = (end ≡ ends.NoMemory) ⊎ ((made : Due) × IsRead due held made × (end ≡ end_of made.fault))

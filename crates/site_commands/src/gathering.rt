@@ -4,7 +4,7 @@ ghost use Rattle.file_tree.specs.Loading.{HasLoadCause, HoldsFile};
 ghost use Rattle.site_commands.specs.Gathering.{Gathers, IsTooLong, WasRead};
 
 use crate::named_file::NamedFile;
-use file_tree::{Entry, LONGEST_IMAGE, LoadFault, SiteError, SiteWhy, read_file};
+use file_tree::{Held, LONGEST_IMAGE, LoadFault, SiteError, SiteWhy, read_file};
 use std::alloc::Global;
 use uip_edge::Shelf;
 
@@ -13,7 +13,7 @@ pub(crate) fn gather<H: Shelf>(
     alloc: Global,
     files: &[NamedFile],
     shelf: &mut H,
-) -> Result<Vec<Entry>, LoadFault>
+) -> Result<Vec<Held>, LoadFault>
     ensures list { Gathers (λ list. list.items) files.now (H.held shelf.old) (H.faults shelf.old) (H.faults shelf.new) result }
     ensures kept { H.held shelf.new ≡ H.held shelf.old }
 {
@@ -31,7 +31,7 @@ pub(crate) fn gather<H: Shelf>(
 /// Reads a further file onto the list, and tells what room is left.
 fn push_read<H: Shelf>(
     alloc: Global,
-    list: &mut Vec<Entry>,
+    list: &mut Vec<Held>,
     named: &NamedFile,
     room: usize,
     shelf: &mut H,
@@ -53,6 +53,6 @@ fn push_read<H: Shelf>(
     }
     let left = room - content.len();
     let name = named.name.clone()?;
-    list.push(Entry { name, content })?;
+    list.push(Held { name, content })?;
     Ok(left)
 }

@@ -11,8 +11,8 @@ use Rattle.site_image.specs.declared.version.Version.TheVariants.{One, Two}
 use Rattle.site_image.specs.Files.{File, has_name}
 use Rattle.site_image.specs.Grammar.{short_text, long_text, entry, IsFile}
 use Rattle.site_image.specs.Parts.{text, after_text, content, after_content, long_length, byte_length, name_fault, kind_fault, content_fault}
-use Rattle.site_image.specs.Faults.{unless, twice, entry_fault, entry_file, after_entry, entries}
-use Rattle.site_image.proofs.Rows.{no-else, else-none}
+use Rattle.site_image.specs.Faults.{unless, entry_fault, entry_file, after_entry, entries}
+use Rattle.site_image.proofs.Rows.{no-else, else-none, twice}
 use Rattle.site_image.proofs.PartLaws.{IsBytes, IsBytes-drop, name-parts, kind-parts, content-parts, name-again, kind-again, content-again, short-text, short-after, long-content, long-after}
 
 -- what is read of an entry without fault

@@ -53,14 +53,10 @@ image_head bytes = do
   _ ← refuse (nat_lt MOST_FILES (file_count bytes)) TooMany
   Ok (version, file_count bytes)
 
--- an earlier file has the name of the entry
-abbrev pub twice : List File → List ℕ → Option SiteWhy
-twice earlier bytes = if has_name earlier (text bytes) then Some Twice else None
-
--- what is wrong with the entry in front: its name, else a name twice, else its content type, else its content
+-- what is wrong with the entry in front: its name, else that an earlier file has it, else its content type, else its content
 abbrev pub entry_fault : Version → List File → List ℕ → Option SiteWhy
 entry_fault version earlier bytes =
-    option_or (name_fault bytes) (option_or (twice earlier bytes)
+    option_or (name_fault bytes) (option_or (if has_name earlier (text bytes) then Some Twice else None)
     (option_or (kind_fault version (after_text bytes)) (content_fault (after_kind version (after_text bytes)))))
 
 -- the file that it stands for

@@ -1,6 +1,7 @@
 -- How long the page of a file can be, and what can be wrong with a script.
 use Rattle.std.specs.Prelude.{ℕ, ◌+◌, Bool, false, true, List, length, nat_le, sum_by, slice_range, if◌then◌else◌, Option, None, Some}
 use Rattle.std.specs.List.{list_any}
+use Rattle.std.specs.Option.{option_map_or}
 use Rattle.script_lang.specs.declared.piece.Piece.{Piece}
 use Rattle.script_lang.specs.declared.piece.Piece.TheVariants.{Text, Include, Call}
 use Rattle.script_lang.specs.Functions.{length_at_most}
@@ -11,16 +12,11 @@ use Rattle.site_image.specs.declared.site_error.SiteWhy.TheVariants as why
 use Rattle.site_image.specs.Names.{is_script}
 use Rattle.site_image.specs.Files.{File, has_name, file_named, kind_of}
 
--- the length of a file's bytes, 0 where there is no file
-abbrev pub size_of : Option File → ℕ
-size_of None = 0
-size_of (Some file) = length file.content
-
 -- the greatest length of what a piece of a script gives: a text run its bytes, an include the bytes of the file that it
--- names, a call the greatest length of its function
+-- names and none where there is no such file, a call the greatest length of its function
 abbrev pub piece_length : List File → List ℕ → Piece → ℕ
 piece_length files script (Text at len) = len
-piece_length files script (Include at len) = size_of (file_named files (slice_range script at (at + len)))
+piece_length files script (Include at len) = option_map_or (λ file. length file.content) (file_named files (slice_range script at (at + len))) 0
 piece_length files script (Call function at len) = length_at_most function
 
 -- a file's bytes, or for a script what its pieces give at most
@@ -35,9 +31,8 @@ page_length files file = HEAD_LEN + KIND_LINE_LEN + length (kind_of file) + body
 
 -- the piece is an include that names no file
 abbrev pub misses : List File → List ℕ → Piece → Bool
-misses files script (Text at len) = false
 misses files script (Include at len) = if has_name files (slice_range script at (at + len)) then false else true
-misses files script (Call function at len) = false
+misses files script _ = false
 
 -- what is wrong with a file, if it is a script: an include that names no file, else a page that can be too long
 abbrev pub script_fault : List File → File → Option SiteWhy

@@ -8,18 +8,10 @@ use Rattle.site_image.specs.declared.version.Version.{Version}
 use Rattle.site_image.specs.declared.version.Version.TheVariants.{One, Two}
 use Rattle.site_image.specs.Names.{is_name, is_kind}
 
--- a row of the table of faults: the fault holds where the test does
-pub record Row : Type 0 where
-  pub holds : Bool
-  pub why : SiteWhy
-
-abbrev pub row : Bool → SiteWhy → Row
-row holds why = record { holds = holds; why = why }
-
--- the first row that holds
-abbrev pub first_of : List Row → Option SiteWhy
+-- the fault of the first row of a table whose test holds
+abbrev pub first_of : List (Bool × SiteWhy) → Option SiteWhy
 first_of [] = None
-first_of (r ∷ rows) = if r.holds then Some r.why else first_of rows
+first_of (row ∷ rows) = if row.0 then Some row.1 else first_of rows
 
 -- a length of one byte, the text of that length, and what follows it
 abbrev pub byte_length : List ℕ → ℕ
@@ -44,20 +36,20 @@ after_content bytes = drop (long_length bytes + 4) bytes
 -- what is wrong with a name
 abbrev pub name_fault : List ℕ → Option SiteWhy
 name_fault bytes = first_of (
-    row (length bytes == 0) Cut
-    ∷ row (byte_length bytes == 0 || nat_lt LONGEST_NAME (byte_length bytes)) Name
-    ∷ row (nat_lt (length bytes) (byte_length bytes + 1)) Cut
-    ∷ row (not (is_name (text bytes))) Name
+    (length bytes == 0, Cut)
+    ∷ (byte_length bytes == 0 || nat_lt LONGEST_NAME (byte_length bytes), Name)
+    ∷ (nat_lt (length bytes) (byte_length bytes + 1), Cut)
+    ∷ (not (is_name (text bytes)), Name)
     ∷ [])
 
 -- what is wrong with a content type, which is there in version 2
 abbrev pub kind_fault : Version → List ℕ → Option SiteWhy
 kind_fault One bytes = None
 kind_fault Two bytes = first_of (
-    row (length bytes == 0) Cut
-    ∷ row (nat_lt LONGEST_KIND (byte_length bytes)) Kind
-    ∷ row (nat_lt (length bytes) (byte_length bytes + 1)) Cut
-    ∷ row (not (is_kind (text bytes))) Kind
+    (length bytes == 0, Cut)
+    ∷ (nat_lt LONGEST_KIND (byte_length bytes), Kind)
+    ∷ (nat_lt (length bytes) (byte_length bytes + 1), Cut)
+    ∷ (not (is_kind (text bytes)), Kind)
     ∷ [])
 
 -- the content type, and what follows it
@@ -71,7 +63,4 @@ after_kind Two bytes = after_text bytes
 
 -- what is wrong with a content
 abbrev pub content_fault : List ℕ → Option SiteWhy
-content_fault bytes = first_of (
-    row (nat_lt (length bytes) 4) Cut
-    ∷ row (nat_lt (length bytes) (long_length bytes + 4)) Cut
-    ∷ [])
+content_fault bytes = first_of ((nat_lt (length bytes) 4, Cut) ∷ (nat_lt (length bytes) (long_length bytes + 4), Cut) ∷ [])

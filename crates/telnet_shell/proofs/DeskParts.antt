@@ -44,8 +44,10 @@ shell_can d a site count is can = ∥∥₁_map can (λ c.
     (c.0, w.stands, fits (desk_meaning (files_of site)) shell_meaning c.0 count (shell_left (files_of site) c.0 w.port) c.2))
 
 -- what holds of the application of a port holds of the desk there
-pub on_web : (P : Meaning → Type 0) (files : List File) (p : Part) → (p.port == TELNET_PORT) ≡ false → P (web_meaning files) → P (meaning_at files p.port)
-on_web P files p e h = subst P (sym (at_web files p.port e)) h
+pub by_web : (P : Meaning → Type 0) (d : Desk) (a : Httpd) (site : SiteContent) (p : Part) → d ≡ desk.Web a → DeskStands d site p
+    → (IsWebPart a site p → P (web_meaning (files_of site))) → P (meaning_at (files_of site) p.port)
+by_web P d a site p is s h = (let at = web_part d a site p is s in subst P (sym (at_web (files_of site) p.port at.port)) (h at))
 
-pub on_shell : (P : Meaning → Type 0) (files : List File) (p : Part) → (p.port == TELNET_PORT) ≡ true → P shell_meaning → P (meaning_at files p.port)
-on_shell P files p e h = subst P (sym (at_shell files p.port e)) h
+pub by_shell : (P : Meaning → Type 0) (d : Desk) (a : Shell) (site : SiteContent) (p : Part) → d ≡ desk.Shell a → DeskStands d site p
+    → (IsShellPart a p → P shell_meaning) → P (meaning_at (files_of site) p.port)
+by_shell P d a site p is s h = (let at = shell_part d a site p is s in subst P (sym (at_shell (files_of site) p.port at.port)) (h at))

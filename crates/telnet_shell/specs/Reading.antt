@@ -16,13 +16,10 @@ pub data Token : Type 0 where
   Byte : (byte : ℕ) → Token
   Answer : (command : Command) → Token
 
--- WILL, WONT, DO and DONT
-abbrev pub is_verb : ℕ → Bool
-is_verb byte = nat_le WILL byte && nat_le byte DONT
-
+-- a verb is one of WILL, WONT, DO and DONT
 abbrev pub next_awaits : Awaits → ℕ → Awaits
 next_awaits Text byte = if byte == IAC then Second else Text
-next_awaits Second byte = if is_verb byte then Choice byte else Text
+next_awaits Second byte = if nat_le WILL byte && nat_le byte DONT then Choice byte else Text
 next_awaits (Choice verb) byte = Text
 
 -- an option is refused: WILL by DONT, DO by WONT; a WONT and a DONT need no answer

@@ -8,6 +8,7 @@ use Rattle.generators.specs.Text.{capture_text}
 use Rattle.generators.specs.declared.capture.Capture.{Capture}
 use Rattle.generators.specs.declared.capture.Capture.TheVariants.{Empty}
 use Rattle.app_events.specs.Part.{Moment}
+use Rattle.web_pages.specs.Pages.{takes_capture}
 use Rattle.telnet_shell.specs.declared.hearing.TheConstants.{IAC}
 use Rattle.telnet_shell.specs.declared.command.Command.{Command}
 use Rattle.telnet_shell.specs.declared.command.Command.TheVariants.{Refuse, Help, Stats, Conns, Ticks, Quit, Blank, Other}
@@ -20,10 +21,7 @@ function_of Ticks = function.Ticks
 function_of _ = function.Unknown
 
 abbrev pub needs_capture : Command → Bool
-needs_capture Stats = true
-needs_capture Conns = true
-needs_capture Ticks = true
-needs_capture _ = false
+needs_capture command = takes_capture (function_of command)
 
 -- what a command says with its capture
 abbrev pub said_with : Command → Capture → List ℕ

@@ -6,10 +6,14 @@ use Rattle.std.proofs.lemmas.Bool.{cases_lt}
 use Rattle.std.proofs.Math.Seq.{take-length}
 use Rattle.std.specs.List.{AllByRecursion, flat_map}
 use Rattle.uip_wire.specs.declared.sizes.TheConstants.{LARGEST_DATAGRAM}
-use Rattle.trace.specs.CaptureReading.{BeginsWith, Captured, IsCaptured, IsReadAs, Reading, captured_in, captured_bytes, captured_line, length_in, lines_of}
+use Rattle.trace.specs.CaptureReading.{BeginsWith, Captured, IsCaptured, IsReadAs, Reading, captured_in, captured_bytes, length_in, line_text, lines_of}
 use Rattle.trace.specs.CaptureReading.Reading.{BadLength, InRecord, Whole}
 use Rattle.trace.specs.declared.byte_order.ByteOrder.{ByteOrder}
 use Rattle.trace.specs.declared.byte_order.ByteOrder.TheVariants.{Big, Little}
+
+-- the line of a record
+abbrev pub captured_line : Captured → List ℕ
+captured_line captured = line_text captured.body
 
 -- the bytes in front of others
 pub front_of : {X : Type 0} (n : ℕ) (xs ys : List X) → length xs ≡ n → take n (xs ++ ys) ≡ xs
@@ -19,18 +23,12 @@ front_of n xs ys size =
 
 -- a length stands in the first sixteen bytes
 pub length_in-append : (order : ByteOrder) (xs ys : List ℕ) → 16 ≤ length xs → length_in order (xs ++ ys) ≡ length_in order xs
-length_in-append Big xs ys h =
+length_in-append order xs ys h =
     let a = get_or_append_left xs ys 0 8 (omega arith) in
     let b = get_or_append_left xs ys 0 9 (omega arith) in
     let c = get_or_append_left xs ys 0 10 (omega arith) in
     let d = get_or_append_left xs ys 0 11 (omega arith) in
-    rw (a, b, c, d) refl
-length_in-append Little xs ys h =
-    let a = get_or_append_left xs ys 0 8 (omega arith) in
-    let b = get_or_append_left xs ys 0 9 (omega arith) in
-    let c = get_or_append_left xs ys 0 10 (omega arith) in
-    let d = get_or_append_left xs ys 0 11 (omega arith) in
-    rw (a, b, c, d) refl
+    elim order as (λ o. length_in o (xs ++ ys) ≡ length_in o xs) [ Big ↦ rw (a, b, c, d) refl | Little ↦ rw (a, b, c, d) refl ]
 
 pub all_more : {X : Type 0} (P : X → Type 0) (xs : List X) (x : X) → AllByRecursion P xs → P x → AllByRecursion P (xs ++ x ∷ [])
 all_more P [] x all p = (p, tt)

@@ -146,29 +146,19 @@ data Case (bytes : List ℕ) (reading : Reading) : Type 0 where
   Bad : 24 ≤ length bytes → order_of (take 24 bytes) ≡ None → reading ≡ BadHeader → Case bytes reading
   Good : Standing bytes reading → Case bytes reading
 
+good : (bytes : List ℕ) (reading : Reading) (order : ByteOrder) (records : List Captured) (rest : List ℕ) → BeginsWith order records rest bytes → HasNone order rest
+    → reading ≡ kind_of order records rest → Case bytes reading
+good bytes reading order records rest begins none kind =
+    Good (record { order = order; records = records; rest = rest; begins = begins; none = none; kind = kind })
+
 case_of : (bytes : List ℕ) (reading : Reading) → IsReadAs bytes reading → Case bytes reading
 case_of bytes InHeader read = Short read refl
 case_of bytes BadHeader read = Bad read.0 read.1 refl
-case_of bytes (Whole records) read =
-    Good (record { order = read.0; records = records; rest = []; begins = read.1; none = none_in_nothing read.0; kind = refl })
+case_of bytes (Whole records) read = good bytes (Whole records) read.0 records [] read.1 (none_in_nothing read.0) refl
 case_of bytes (InRecord records) read =
-    Good (record {
-      order = read.0;
-      records = records;
-      rest = read.1;
-      begins = read.2;
-      none = none_in_part read.0 read.1 read.4;
-      kind = in_record read.0 records read.1 read.3 read.4;
-    })
+    good bytes (InRecord records) read.0 records read.1 read.2 (none_in_part read.0 read.1 read.4) (in_record read.0 records read.1 read.3 read.4)
 case_of bytes (BadLength records) read =
-    Good (record {
-      order = read.0;
-      records = records;
-      rest = read.1;
-      begins = read.2;
-      none = none_in_long read.0 read.1 read.3;
-      kind = bad_length read.0 records read.1 read.3;
-    })
+    good bytes (BadLength records) read.0 records read.1 read.2 (none_in_long read.0 read.1 read.3) (bad_length read.0 records read.1 read.3)
 
 same_case : (bytes : List ℕ) (one other : Reading) → Case bytes one → Case bytes other → one ≡ other
 same_case bytes one other (Short s e) (Short t f) = e ∙ sym f

@@ -7,7 +7,7 @@ use Rattle.uip_edge.proofs.Told.{Appends-then, appends_by, prefix_by, prefix_mor
 use Rattle.uip_edge.specs.Writing.{AppendsPrefix}
 use Rattle.uip_slip.specs.Text.{slip_text}
 use Rattle.uip_wire.specs.declared.sizes.TheConstants.{LARGEST_DATAGRAM}
-use Rattle.trace.specs.CaptureReading.{BeginsWith, Captured, IsCaptured, captured_in, captured_line, length_in, line_text, lines_of, order_of}
+use Rattle.trace.specs.CaptureReading.{BeginsWith, Captured, IsCaptured, captured_in, length_in, line_text, lines_of, order_of}
 use Rattle.trace.specs.CaptureReading.Reading.{BadHeader, BadLength}
 use Rattle.trace.specs.Gathering.{BrokeOff, IsReadTo, IsAtFault, StopsAt}
 use Rattle.trace.specs.declared.byte_order.ByteOrder.{ByteOrder}
@@ -15,7 +15,7 @@ use Rattle.trace.specs.declared.reader.Stop.{Stop}
 use Rattle.trace.specs.declared.slip_end.CaptureWhy.TheVariants as whys
 use Rattle.trace.specs.declared.stage.Stage.{Stage}
 use Rattle.trace.specs.declared.stage.Stage.TheVariants as stages
-use Rattle.trace.proofs.CaptureLaws.{front_of, length_in-append, lines-more, more_rest, one_more, reads_on}
+use Rattle.trace.proofs.CaptureLaws.{captured_line, front_of, length_in-append, lines-more, more_rest, one_more, reads_on}
 
 module _ (start now : Option (List ℕ)) (bytes : List ℕ) (number : ℕ) (part : List ℕ) where
   -- the header is none that is read

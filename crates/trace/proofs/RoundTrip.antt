@@ -14,14 +14,15 @@ use Rattle.uip_slip.specs.Text.{slip_text}
 use Rattle.uip_wire.specs.Fields.{long_bytes}
 use Rattle.uip_wire.specs.declared.sizes.TheConstants.{LARGEST_DATAGRAM}
 use Rattle.uip_edge.proofs.Told.{appends_by, bytes_among-append, bytes_among-map, taken_within}
-use Rattle.trace.specs.CaptureReading.{Captured, HoldsJust, IsCaptured, IsReadAs, Reading, cut_in, captured_in, captured_bytes, captured_line, fault_in, lines_of, order_of}
+use Rattle.trace.specs.CaptureReading.{Captured, HoldsJust, IsCaptured, IsReadAs, Reading, cut_in, captured_in, captured_bytes, fault_in, lines_of, order_of}
 use Rattle.trace.specs.CaptureReading.Reading.{BadHeader, BadLength, InRecord, InHeader, Whole}
-use Rattle.trace.specs.CaptureText.{capture_header, capture_file, datagrams_in, datagrams_on, frame_record, seen_record}
+use Rattle.trace.specs.CaptureText.{capture_header, capture_file, datagrams_in, datagrams_on, frame_record}
 use Rattle.trace.specs.Converting.{Converts, IsSurely, SlipEndsBy, end_by_cut}
 use Rattle.trace.specs.Seen.{Seen, seen_on}
-use Rattle.trace.proofs.CaptureLaws.{length_in-append, more_rest}
+use Rattle.trace.proofs.CaptureLaws.{captured_line, length_in-append, more_rest}
 use Rattle.trace.proofs.OneReading.{one_reading}
 use Rattle.trace.proofs.ReadLaws.{line_some}
+use Rattle.trace.proofs.TextLaws.{seen_record}
 use Rattle.trace.proofs.SeenLaws.{frame_in, frames_seen}
 use Rattle.trace.specs.declared.byte_order.ByteOrder.TheVariants.{Big}
 use Rattle.trace.specs.declared.slip_end.CaptureWhy.{CaptureWhy}

@@ -2,12 +2,20 @@
 use Rattle.std.proofs.Common.{◌≡◌, ℕ, ◌+◌, List, [], ◌∷◌, ◌++◌, map, refl, sym, ap, ◌∙◌}
 use Rattle.std.specs.List.{enumerate_from, flat_map}
 use Rattle.uip_edge.specs.declared.item.Item.{Item}
-use Rattle.trace.specs.CaptureText.{capture_header, capture_file, seen_record}
-use Rattle.trace.specs.DumpText.{dump_line, dump_text, numbered_line}
+use Rattle.uip_slip.specs.Frames.{Frame}
+use Rattle.trace.specs.CaptureText.{capture_header, capture_file, frame_record}
+use Rattle.trace.specs.DumpText.{dump_line, dump_text}
 use Rattle.trace.specs.Seen.{Seen, seen_on}
 use Rattle.trace.specs.Watching.{text_after, texts_from}
 use Rattle.trace.specs.declared.form.Form.TheVariants.{Capture, Dump}
 use Rattle.trace.proofs.SeenLaws.{frame_in, frames_seen}
+
+-- what is written of a frame with its number, and of one that was seen
+abbrev numbered_line : ℕ × Frame → List ℕ
+numbered_line numbered = dump_line numbered.0 numbered.1
+
+abbrev pub seen_record : Seen → List ℕ
+seen_record seen = frame_record seen.silences seen.frame
 
 lines_of : (n : ℕ) (seen : List Seen) → flat_map numbered_line (enumerate_from n (map frame_in seen)) ≡ texts_from Dump n seen
 lines_of n [] = refl

@@ -8,7 +8,7 @@ use Rattle.uip_edge.specs.declared.item.Item.{Item}
 use Rattle.uip_edge.specs.declared.item.Item.TheVariants.{Byte, Quiet}
 use Rattle.trace.specs.CaptureReading.{Captured, IsReadAs, Reading, cut_in, captured_in, fault_in, lines_of}
 use Rattle.trace.specs.CaptureReading.Reading.{BadHeader, BadLength, InRecord, InHeader, Whole}
-use Rattle.trace.specs.Gathering.{BrokeOff, IsReadTo, IsAtFault, IsOpen, EndsIn, ReadBy, ReadsTurn, end_at}
+use Rattle.trace.specs.Gathering.{BrokeOff, IsReadTo, IsAtFault, IsOpen, EndsIn, ReadBy, ReadsTurn, StopsBy, end_at}
 use Rattle.serve_loop.proofs.EventLaws.{counted}
 use Rattle.trace.specs.declared.reader.Turn.{Turn}
 use Rattle.trace.specs.declared.slip_end.CaptureWhy.{CaptureWhy}
@@ -153,21 +153,19 @@ pub is_dry : (told : Option (List Item)) → IsAtEnd (Ok End) told → TookAll t
 is_dry None e = tt
 is_dry (Some all) e = e
 
+-- a file is at fault in its header or in a length
+found_so : (why : CaptureWhy) (old new : LineTold) (items : List Item) (reading : Reading) (number : ℕ) → fault_in reading ≡ Some (number, why) → IsCalm old new → StopsBy old new items reading (ends.Bad number why)
+found_so whys.Head old new items reading number fault calm = (calm, fault)
+found_so whys.Length old new items reading number fault calm = (calm, fault)
+found_so whys.Cut old new items reading number fault calm = absurd (never_cut reading number fault)
+
 -- the file is at fault
 pub file_fault : (why : CaptureWhy) (start : Option (List ℕ)) (before : List Item) (bytes : List ℕ) (old new : LineTold) (number : ℕ)
     → IsAtFault why start new.sink.written (bytes_among before ++ bytes) number → IsCalm old new → EndsIn start before (map Byte bytes) old new (ends.Bad number why)
-file_fault whys.Head start before bytes old new number f calm = record {
+file_fault why start before bytes old new number f calm = record {
   reading = f.reading;
   read = subst (λ (l : List ℕ). IsReadAs l f.reading) (bytes_on before bytes) f.read;
-  cause = (calm, f.fault);
+  cause = found_so why old new (map Byte bytes) f.reading number f.fault calm;
   wrote = f.written;
   some = λ is. absurd (cc is);
 }
-file_fault whys.Length start before bytes old new number f calm = record {
-  reading = f.reading;
-  read = subst (λ (l : List ℕ). IsReadAs l f.reading) (bytes_on before bytes) f.read;
-  cause = (calm, f.fault);
-  wrote = f.written;
-  some = λ is. absurd (cc is);
-}
-file_fault whys.Cut start before bytes old new number f calm = absurd (never_cut f.reading number f.fault)

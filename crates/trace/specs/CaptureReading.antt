@@ -91,23 +91,19 @@ cut_in _ = None
 
 -- the whole records
 abbrev pub captured_in : Reading → List Captured
-captured_in InHeader = []
-captured_in BadHeader = []
 captured_in (Whole records) = records
 captured_in (InRecord records) = records
 captured_in (BadLength records) = records
+captured_in reading = []
 
 -- a datagram of no bytes has no frame
 abbrev pub line_text : List ℕ → List ℕ
 line_text [] = []
 line_text (b ∷ datagram) = slip_text (b ∷ datagram)
 
-abbrev pub captured_line : Captured → List ℕ
-captured_line captured = line_text captured.body
-
 -- the serial line of records
 abbrev pub lines_of : List Captured → List ℕ
-lines_of records = flat_map captured_line records
+lines_of records = flat_map (λ captured. line_text captured.body) records
 
 -- a capture file of just these datagrams
 pub record HoldsJust (datagrams : List (List ℕ)) (bytes : List ℕ) : Type 0 where

@@ -34,12 +34,9 @@ abbrev pub frame_record : ℕ → Frame → List ℕ
 frame_record silences (Datagram bytes) = record_bytes silences bytes
 frame_record silences Overlong = []
 
-abbrev pub seen_record : Seen → List ℕ
-seen_record seen = frame_record seen.silences seen.frame
-
 -- the header and the records
 abbrev pub capture_file : List Item → List ℕ
-capture_file items = capture_header ++ flat_map seen_record (seen_on items)
+capture_file items = capture_header ++ flat_map (λ seen. frame_record seen.silences seen.frame) (seen_on items)
 
 -- the datagrams of a line, in order
 abbrev pub datagrams_in : Frame → List (List ℕ)

@@ -34,10 +34,8 @@ SlipEndsBy n old new taken reading ends.WriteFault =
     (length taken ≤ n) × (new.link.faults ≡ old.link.faults) × Rose old.sink.faults new.sink.faults
 SlipEndsBy n old new taken reading (ends.Bad number whys.Cut) =
     TookAll old.link.coming taken × (length taken < n) × IsCalm old new × (fault_in reading ≡ None) × (cut_in reading ≡ Some number)
-SlipEndsBy n old new taken reading (ends.Bad number whys.Head) =
-    (length taken ≤ n) × IsCalm old new × (fault_in reading ≡ Some (number, whys.Head)) × HasNewFault taken
-SlipEndsBy n old new taken reading (ends.Bad number whys.Length) =
-    (length taken ≤ n) × IsCalm old new × (fault_in reading ≡ Some (number, whys.Length)) × HasNewFault taken
+SlipEndsBy n old new taken reading (ends.Bad number why) =
+    (length taken ≤ n) × IsCalm old new × (fault_in reading ≡ Some (number, why)) × HasNewFault taken
 
 -- the text was written whole, or a front of it where a write failed
 abbrev pub WroteLine : SlipEnd → Option (List ℕ) → Option (List ℕ) → List ℕ → Type 0

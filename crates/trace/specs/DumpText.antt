@@ -65,8 +65,7 @@ message_words head message =
 abbrev pub icmp_words : IpHead → List ℕ → Option IcmpFate → List ℕ
 icmp_words head message (Some icmp.Short) = codes "short"
 icmp_words head message (Some icmp.Checksum) = codes "checksum"
-icmp_words head message (Some icmp.NotEcho) = message_words head message
-icmp_words head message None = message_words head message
+icmp_words head message fate = message_words head message
 
 -- an address and a port
 abbrev pub socket_text : List ℕ → ℕ → List ℕ
@@ -102,9 +101,6 @@ dump_line number Overlong = decimal number ++ codes " overlong\n"
 dump_line number (Datagram bytes) =
     decimal number ++ codes " " ++ decimal (length bytes) ++ datagram_words (head_or_fate bytes (address_at bytes 16)) bytes ++ codes "\n"
 
-abbrev pub numbered_line : ℕ × Frame → List ℕ
-numbered_line numbered = dump_line numbered.0 numbered.1
-
 -- the lines of the frames, numbered from 1
 abbrev pub dump_text : List Item → List ℕ
-dump_text items = flat_map numbered_line (enumerate_from 1 (frames (bytes_among items)))
+dump_text items = flat_map (λ numbered. dump_line numbered.0 numbered.1) (enumerate_from 1 (frames (bytes_among items)))

@@ -7,7 +7,7 @@ use Rattle.uip_edge.specs.Writing.{AppendsPrefix}
 use Rattle.uip_edge.specs.declared.item.Item.{Item}
 use Rattle.uip_edge.specs.declared.serve_end.ServeEnd.TheVariants as ends
 use Rattle.uip_slip.specs.Decoding.{State, WasFed}
-use Rattle.trace.specs.CaptureText.{seen_record}
+use Rattle.trace.specs.CaptureText.{frame_record}
 use Rattle.trace.specs.DumpText.{dump_line}
 use Rattle.trace.specs.Seen.{Seen, seen_behind, seen_on, silences_of}
 use Rattle.trace.specs.declared.form.Form.{Form}
@@ -21,7 +21,7 @@ use Rattle.serve_loop.specs.declared.turn.Turn.TheVariants as turns
 -- what is written of a frame with its number
 abbrev pub frame_text : Form → ℕ × Seen → List ℕ
 frame_text Dump numbered = dump_line numbered.0 numbered.1.frame
-frame_text Capture numbered = seen_record numbered.1
+frame_text Capture numbered = frame_record numbered.1.silences numbered.1.frame
 
 -- what is written of frames, numbered from here on
 abbrev pub texts_from : Form → ℕ → List Seen → List ℕ

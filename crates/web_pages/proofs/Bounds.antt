@@ -6,6 +6,8 @@ use Rattle.std.proofs.lemmas.List.{get_or_past}
 use Rattle.std.proofs.lemmas.List.Sums.{sum_by-cons}
 use Rattle.std.proofs.lemmas.List.Elements.{All-head, All-tail, All-get_or}
 use Rattle.std.proofs.lemmas.Bool.{cases_lt}
+use Rattle.std.specs.Option.{option_map_or}
+use Rattle.std.specs.List.{slice_index_or}
 use Rattle.script_lang.specs.declared.function.Function.{Function}
 use Rattle.script_lang.specs.declared.function.Function.TheVariants.{FileStats, TcpConnections, NetStats, Ticks, Unknown}
 use Rattle.script_lang.specs.declared.piece.Piece.{Piece}
@@ -15,13 +17,13 @@ use Rattle.script_lang.specs.Functions.{length_at_most}
 use Rattle.script_lang.specs.Pieces.{pieces}
 use Rattle.site_image.specs.Names.{is_script}
 use Rattle.site_image.specs.Files.{File, file_named, kind_of}
-use Rattle.site_image.specs.Pages.{size_of, piece_length, body_length, page_length}
+use Rattle.site_image.specs.Pages.{piece_length, body_length, page_length}
 use Rattle.generators.proofs.Lengths.{texts_short}
 use Rattle.app_events.specs.Part.{Moment}
 use Rattle.app_events.specs.Pages.{IsMoment, IsWord}
-use Rattle.web_pages.specs.Pieces.{Say, says, piece_bytes, body_of, found_reply, kind_line}
+use Rattle.web_pages.specs.Pieces.{Say, says, bytes_or, body_of, found_reply, kind_line}
 use Rattle.web_pages.specs.Pieces.Say.{Plain, Made}
-use Rattle.web_pages.specs.Pages.{takes_capture, made_text, hits_of, number_at, place_of, page_text}
+use Rattle.web_pages.specs.Pages.{takes_capture, made_text, hits_of, place_of, page_text}
 use Rattle.web_pages.specs.Lemmas.Growing.{silent_text, stopped_text, made_first}
 
 -- the greatest length of what is said
@@ -34,7 +36,7 @@ all_said says = sum_by most_said says
 
 -- ---- a call
 
-word_at : (numbers : List ℕ) (place : Option ℕ) → All IsWord numbers → IsWord (number_at numbers place)
+word_at : (numbers : List ℕ) (place : Option ℕ) → All IsWord numbers → IsWord (option_map_or (λ at. slice_index_or numbers at 0) place 0)
 word_at numbers None all = lit< tt
 word_at numbers (Some place) all =
     elim (cases_lt place (length numbers)) [
@@ -93,7 +95,7 @@ text_bound files (Made function argument ∷ more) (capture ∷ later) all =
 pub range_short : {X : Type 0} (xs : List X) (a b n : ℕ) → b ≤ a + n → length (slice_range xs a b) ≤ n
 range_short xs a b n h = omega (arith, length-take (b - a) (drop a xs))
 
-bytes_size : (file : Option File) → length (piece_bytes file) ≡ size_of file
+bytes_size : (file : Option File) → length (bytes_or [] file) ≡ option_map_or (λ found. length found.content) file 0
 bytes_size None = refl
 bytes_size (Some file) = refl
 

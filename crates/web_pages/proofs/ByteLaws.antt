@@ -28,7 +28,7 @@ use Rattle.app_events.specs.Part.{Moment}
 use Rattle.app_events.specs.Pages.{IsByte}
 use Rattle.web_pages.specs.Requests.{Wanted, wanted}
 use Rattle.web_pages.specs.Requests.Wanted.{NotYet, Refused, Name}
-use Rattle.web_pages.specs.Pieces.{Say, says, piece_bytes, body_of, missing_body, missing_head, found_head, kind_line, reply_to, reply_pieces}
+use Rattle.web_pages.specs.Pieces.{Say, says, bytes_or, body_of, missing_head, found_head, kind_line, reply_to, reply_pieces}
 use Rattle.web_pages.specs.Pieces.Say.{Plain, Made}
 use Rattle.web_pages.specs.Pages.{takes_capture, hits_of, made_text, page_text, page_for}
 use Rattle.web_pages.specs.Claims.{IsMadeOfBytes}
@@ -224,11 +224,11 @@ files_bytes : (site : SiteContent) → All IsByte site.image → AreOfBytes (fil
 files_bytes site all k file s =
     place_bytes site.image (slice_get site.files k) file all (sym (slice_get-map (file_in site.image) site.files k) ∙ s)
 
-named_bytes : (files : List File) (name : List ℕ) (found : Option File) → AreOfBytes files → file_named files name ≡ found → All IsByte (piece_bytes found)
+named_bytes : (files : List File) (name : List ℕ) (found : Option File) → AreOfBytes files → file_named files name ≡ found → All IsByte (bytes_or [] found)
 named_bytes files name None all e = All-nil IsByte
 named_bytes files name (Some file) all e = (let there = found_there files name file e in (all there.place file there.at).content)
 
-missing_bytes : (files : List File) (name : List ℕ) (found : Option File) → AreOfBytes files → file_named files name ≡ found → All IsByte (missing_body found)
+missing_bytes : (files : List File) (name : List ℕ) (found : Option File) → AreOfBytes files → file_named files name ≡ found → All IsByte (bytes_or (codes "not found\n") found)
 missing_bytes files name None all e = written (codes "not found\n") refl
 missing_bytes files name (Some file) all e = (let there = found_there files name file e in (all there.place file there.at).content)
 

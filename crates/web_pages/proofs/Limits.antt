@@ -24,7 +24,7 @@ use Rattle.app_events.specs.Part.{Moment}
 use Rattle.app_events.specs.Pages.{IsMoment}
 use Rattle.web_pages.specs.Requests.{Wanted, wanted}
 use Rattle.web_pages.specs.Requests.Wanted.{NotYet, Refused, Name}
-use Rattle.web_pages.specs.Pieces.{Say, missing_body, missing_reply, missing_head, reply_to, reply_pieces, found_reply, kind_line}
+use Rattle.web_pages.specs.Pieces.{Say, bytes_or, missing_reply, missing_head, reply_to, reply_pieces, found_reply, kind_line}
 use Rattle.web_pages.specs.Pieces.Say.{Plain}
 use Rattle.web_pages.specs.Pages.{page_text, page_for, page}
 use Rattle.web_pages.specs.Claims.{IsAtMostGreatest}
@@ -115,7 +115,7 @@ greatest_short site is k file s = by_script (is_script file.name) refl
 -- ---- pages
 
 missing_small : (site : SiteContent) → IsLoaded site → (file : Option File) → file_named (files_of site) (codes "/404.html") ≡ file
-    → length (missing_body file) ≤ 16777216
+    → length (bytes_or (codes "not found\n") file) ≤ 16777216
 missing_small site is None e = lit≤ tt
 missing_small site is (Some file) e =
     let there = found_there (files_of site) (codes "/404.html") file e in
@@ -124,7 +124,7 @@ missing_small site is (Some file) e =
 missing_bound : (site : SiteContent) → IsLoaded site → all_said (missing_reply (files_of site)) < 1073741824
 missing_bound site is =
     let body = missing_small site is (file_named (files_of site) (codes "/404.html")) refl in
-    let last : Say = Plain (missing_body (file_named (files_of site) (codes "/404.html"))) in
+    let last : Say = Plain (bytes_or (codes "not found\n") (file_named (files_of site) (codes "/404.html"))) in
     let line : Say = Plain (kind_line (codes "text/html")) in
     let head_length : length missing_head ≡ 60 = refl in
     let line_length : length (kind_line (codes "text/html")) ≡ 27 = refl in

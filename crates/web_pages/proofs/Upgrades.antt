@@ -1,12 +1,13 @@
 -- An upgrade in which no word names a file keeps every page.
 use Rattle.std.proofs.Common.{◌≡◌, ℕ, zero, suc, ◌-◌, ◌+◌, ◌==◌, not, Bool, true, false, List, [], ◌∷◌, ◌++◌, length, get_or, map, Option, Some, None, refl, sym, ap, ◌∙◌, arith, true≢false, if◌then◌else◌}
 use Rattle.std.specs.Prelude.{find, slice_get, option_map, unwrap_or, nat_lt, reverse, slice_range, codes}
-use Rattle.std.specs.List.{position_or_len}
+use Rattle.std.specs.List.{position_or_len, slice_index_or}
 use Rattle.std.specs.Str.{bytes_eq}
 use Rattle.std.proofs.lemmas.Bool.{or_left, or_right}
 use Rattle.std.proofs.lemmas.List.{length-map, get_or-reverse, length-reverse}
 use Rattle.std.proofs.lemmas.Option.{same_Some, slice_get_within, slice_get_read, get_or_from_slice_get}
 use Rattle.std.proofs.lemmas.Slice.Eq.{bytes_eq-Decides}
+use Rattle.std.specs.Option.{option_map_or}
 use Rattle.script_lang.specs.declared.function.Function.{Function}
 use Rattle.script_lang.specs.declared.piece.Piece.{Piece}
 use Rattle.script_lang.specs.declared.piece.Piece.TheVariants.{Text, Include, Call}
@@ -20,9 +21,9 @@ use Rattle.generators.specs.Text.{capture_text}
 use Rattle.app_events.specs.Part.{Moment}
 use Rattle.web_pages.specs.Requests.{Wanted, wanted}
 use Rattle.web_pages.specs.Requests.Wanted.{NotYet, Refused, Name}
-use Rattle.web_pages.specs.Pieces.{Say, says, piece_bytes, body_of, missing_body, missing_head, found_head, kind_line, reply_to, reply_pieces}
+use Rattle.web_pages.specs.Pieces.{Say, says, bytes_or, body_of, missing_head, found_head, kind_line, reply_to, reply_pieces}
 use Rattle.web_pages.specs.Pieces.Say.{Plain, Made}
-use Rattle.web_pages.specs.Pages.{takes_capture, place_of, number_at, made_text, page_text, reach_end, page_for, whole_for}
+use Rattle.web_pages.specs.Pages.{takes_capture, place_of, made_text, page_text, reach_end, page_for, whole_for}
 use Rattle.web_pages.specs.Claims.{UpgradeKeepsPages}
 use Rattle.web_pages.proofs.Found.{found_there}
 
@@ -49,11 +50,11 @@ place_upgraded words files name =
     let counted : length (upgraded words files) ≡ length files = length-map files (retyped words) in
     λ i. if nat_lt (first i) (counted i) then Some (first i) else None
 
-bytes_upgraded : (words : List KindContent) (file : Option File) → piece_bytes (option_map (retyped words) file) ≡ piece_bytes file
+bytes_upgraded : (words : List KindContent) (file : Option File) → bytes_or [] (option_map (retyped words) file) ≡ bytes_or [] file
 bytes_upgraded words None = refl
 bytes_upgraded words (Some file) = refl
 
-missing_upgraded : (words : List KindContent) (file : Option File) → missing_body (option_map (retyped words) file) ≡ missing_body file
+missing_upgraded : (words : List KindContent) (file : Option File) → bytes_or (codes "not found\n") (option_map (retyped words) file) ≡ bytes_or (codes "not found\n") file
 missing_upgraded words None = refl
 missing_upgraded words (Some file) = refl
 
@@ -63,7 +64,7 @@ says_upgraded : (words : List KindContent) (files : List File) (script : List �
 says_upgraded words files script (Text at len) = refl
 says_upgraded words files script (Include at len) =
     let name = slice_range script at (at + len) in
-    ap (λ bytes. Plain bytes) (ap piece_bytes (named_upgraded words files name) ∙ bytes_upgraded words (file_named files name))
+    ap (λ bytes. Plain bytes) (ap (bytes_or []) (named_upgraded words files name) ∙ bytes_upgraded words (file_named files name))
 says_upgraded words files script (Call function at len) = refl
 
 all_upgraded : (words : List KindContent) (files : List File) (script : List ℕ) (found : List Found)
@@ -137,7 +138,7 @@ found_upgraded : (words : List KindContent) (files : List File) (name : List ℕ
     → reply_to (upgraded words files) (option_map (retyped words) found) ≡ reply_to files found
 found_upgraded words files name None none e =
     let file = named_upgraded words files (codes "/404.html") in
-    let body = ap missing_body file ∙ missing_upgraded words (file_named files (codes "/404.html")) in
+    let body = ap (bytes_or (codes "not found\n")) file ∙ missing_upgraded words (file_named files (codes "/404.html")) in
     ap (λ text. Plain missing_head ∷ Plain (kind_line (codes "text/html")) ∷ Plain text ∷ []) body
 found_upgraded words files name (Some file) none e =
     let there = found_there files name file e in
@@ -153,7 +154,7 @@ reply_upgraded words files name none =
 made_upgraded : (words : List KindContent) (files : List File) (function : Function) (argument : List ℕ) (moment : Moment)
     → made_text (upgraded words files) function argument moment ≡ made_text files function argument moment
 made_upgraded words files function argument moment =
-    ap (λ place. capture_text (capture_of function (number_at moment.numbers place) moment.now)) (place_upgraded words files argument)
+    ap (λ place. capture_text (capture_of function (option_map_or (λ at. slice_index_or moment.numbers at 0) place 0) moment.now)) (place_upgraded words files argument)
 
 text_upgraded : (words : List KindContent) (files : List File) (said : List Say) (captures : List Moment) → page_text (upgraded words files) said captures ≡ page_text files said captures
 text_upgraded words files [] captures = refl

@@ -3,6 +3,8 @@ use Rattle.std.proofs.Common.{◌≡◌, ℕ, zero, suc, ◌≤◌, true, false,
 use Rattle.std.specs.List.{flat_map, list_any}
 use Rattle.std.proofs.lemmas.Bool.{or_right}
 use Rattle.std.proofs.lemmas.List.Folds.{list_any-append}
+use Rattle.std.specs.Option.{option_map_or}
+use Rattle.std.specs.List.{slice_index_or}
 use Rattle.script_lang.specs.declared.function.Function.{Function}
 use Rattle.script_lang.specs.declared.function.Function.TheVariants.{FileStats, TcpConnections, NetStats, Ticks, Unknown}
 use Rattle.generators.specs.Captures.{capture_of}
@@ -15,14 +17,14 @@ use Rattle.web_pages.specs.Requests.{Wanted, wanted, wanted_by, has_ended}
 use Rattle.web_pages.specs.Requests.Wanted.{NotYet, Refused, Name}
 use Rattle.web_pages.specs.Pieces.{Say, reply_pieces}
 use Rattle.web_pages.specs.Pieces.Say.{Plain, Made}
-use Rattle.web_pages.specs.Pages.{takes_capture, number_at, place_of, made_text, page_text, page_for}
+use Rattle.web_pages.specs.Pages.{takes_capture, place_of, made_text, page_text, page_for}
 use Rattle.web_pages.specs.ZeroPages.{zero_moment, zero_said, zero_reply, request_for, zero_page, most_captures}
 use Rattle.web_pages.specs.Lemmas.Growing.{silent_text, made_first}
 use Rattle.web_pages.specs.Lemmas.Deciding.{decided_by_target}
 
 -- ---- the text
 
-no_number : (place : Option ℕ) → number_at [] place ≡ 0
+no_number : (place : Option ℕ) → option_map_or (λ at. slice_index_or zero_moment.numbers at 0) place 0 ≡ 0
 no_number None = refl
 no_number (Some place) = refl
 

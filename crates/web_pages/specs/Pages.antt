@@ -2,6 +2,7 @@
 -- such call that has none left, and it is whole where nothing stopped it.
 use Rattle.std.specs.Prelude.{ℕ, Bool, true, false, List, [], ◌∷◌, ◌++◌, if◌then◌else◌, Option, None, Some, position}
 use Rattle.std.specs.List.{slice_index_or}
+use Rattle.std.specs.Option.{option_map_or}
 use Rattle.std.specs.Str.{bytes_eq}
 use Rattle.script_lang.specs.declared.function.Function.{Function}
 use Rattle.script_lang.specs.declared.function.Function.TheVariants.{Unknown}
@@ -20,18 +21,13 @@ abbrev pub takes_capture : Function → Bool
 takes_capture Unknown = false
 takes_capture _ = true
 
--- the number of a file among the numbers of all files, 0 where there is no file
-abbrev pub number_at : List ℕ → Option ℕ → ℕ
-number_at numbers None = 0
-number_at numbers (Some place) = slice_index_or numbers place 0
-
 -- where the file of a name stands among the files
 abbrev pub place_of : List File → List ℕ → Option ℕ
 place_of files name = position (λ file. bytes_eq file.name name) files
 
--- the hit count of the file that the argument names
+-- the hit count of the file that the argument names, 0 where there is no such file
 abbrev pub hits_of : List File → List ℕ → List ℕ → ℕ
-hits_of files hits argument = number_at hits (place_of files argument)
+hits_of files hits argument = option_map_or (λ place. slice_index_or hits place 0) (place_of files argument) 0
 
 -- what a call says at a moment
 abbrev pub made_text : List File → Function → List ℕ → Moment → List ℕ
@@ -55,9 +51,8 @@ reach_end (Made function argument ∷ more) (capture ∷ later) =
     if takes_capture function then reach_end more later else reach_end more (capture ∷ later)
 
 abbrev pub page_for : List File → Wanted → List Moment → List ℕ
-page_for files NotYet captures = []
-page_for files Refused captures = []
 page_for files (Name name) captures = page_text files (reply_pieces files name) captures
+page_for files _ captures = []
 
 abbrev pub whole_for : List File → Wanted → List Moment → Bool
 whole_for files NotYet captures = false

@@ -1,7 +1,8 @@
 -- What each call does to a connection of the web server. Its text is the page of the bytes that were heard and of the captures
 -- that were taken. The numbers are the hits of the files, in their order.
-use Rattle.std.specs.Prelude.{ℕ, ◌+◌, ◌-◌, ◌%◌, ◌^◌, ◌==◌, Bool, ◌&&◌, false, not, List, [], ◌∷◌, ◌++◌, length, min, nat_lt, slice_set, if◌then◌else◌, Option, None, Some}
+use Rattle.std.specs.Prelude.{ℕ, ◌+◌, ◌-◌, ◌%◌, ◌^◌, ◌==◌, Bool, ◌&&◌, false, not, List, [], ◌∷◌, ◌++◌, length, min, nat_lt, slice_set, if◌then◌else◌, Option}
 use Rattle.std.specs.List.{slice_index_or}
+use Rattle.std.specs.Option.{option_map_or}
 use Rattle.app_events.specs.Part.{Part, Meaning}
 use Rattle.app_events.specs.declared.want.Want.{Want}
 use Rattle.app_events.specs.declared.want.Want.TheVariants.{Nothing, Send, Close, Abort}
@@ -13,8 +14,7 @@ use Rattle.web_pages.specs.declared.TheConstants.{MOST_POLLS, LARGEST_SEGMENT}
 
 -- a hit of the file at a place: its count rises by one modulo 2^32
 abbrev pub hit_at : List ℕ → Option ℕ → List ℕ
-hit_at hits None = hits
-hit_at hits (Some place) = slice_set hits place ((slice_index_or hits place 0 + 1) % 2 ^ 32)
+hit_at hits found = option_map_or (λ place. slice_set hits place ((slice_index_or hits place 0 + 1) % 2 ^ 32)) found hits
 
 -- the hits where what is decided was open before: the file that is asked for is hit
 abbrev pub hits_by : List File → List ℕ → Wanted → Wanted → List ℕ
@@ -34,16 +34,14 @@ waits_for_capture files _ part = false
 abbrev pub left_of : List File → Part → ℕ
 left_of files part = length (page files part.heard part.captures) - part.acked
 
--- It closes when the whole page is acknowledged, and sends what is left of the page so far.
-abbrev pub open_want : List File → Part → Want
-open_want files part =
-    if is_page_whole files part.heard part.captures && is_acknowledged files part then Close
+-- It gives up after so many ticks with nothing to send, closes when the whole page is acknowledged, and sends what is left of the
+-- page so far.
+abbrev pub web_want : List File → Part → Want
+web_want files part =
+    if part.polls == MOST_POLLS then Abort
+    else if is_page_whole files part.heard part.captures && is_acknowledged files part then Close
     else if nat_lt 0 (left_of files part) then Send (min LARGEST_SEGMENT (left_of files part))
     else Nothing
-
--- It gives up after so many ticks with nothing to send.
-abbrev pub web_want : List File → Part → Want
-web_want files part = if part.polls == MOST_POLLS then Abort else open_want files part
 
 abbrev pub web_meaning : List File → Meaning
 web_meaning files = record {

@@ -6,7 +6,7 @@ use Rattle.generators.specs.Captures.{capture_of}
 use Rattle.generators.specs.Text.{capture_text}
 use Rattle.site_image.specs.Files.{File}
 use Rattle.web_pages.specs.Requests.{Wanted, wanted}
-use Rattle.web_pages.specs.Requests.Wanted.{NotYet, Refused, Name}
+use Rattle.web_pages.specs.Requests.Wanted.{Name}
 use Rattle.web_pages.specs.Pieces.{Say, reply_to, reply_pieces}
 use Rattle.web_pages.specs.Pieces.Say.{Plain, Made}
 use Rattle.web_pages.specs.Pages.{page}
@@ -20,9 +20,8 @@ request_for target = codes "GET " ++ target ++ codes "\n"
 
 -- no page takes more captures than it has pieces
 abbrev pub most_captures : List File → Wanted → ℕ
-most_captures files NotYet = 0
-most_captures files Refused = 0
 most_captures files (Name name) = length (reply_pieces files name)
+most_captures files _ = 0
 
 abbrev pub zero_page : List File → List ℕ → List ℕ
 zero_page files target = page files (request_for target) (replicate (most_captures files (wanted (request_for target))) zero_moment)

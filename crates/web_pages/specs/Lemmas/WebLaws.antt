@@ -9,7 +9,7 @@ use Rattle.app_events.specs.declared.want.Want.{Want}
 use Rattle.app_events.specs.declared.want.Want.TheVariants.{Nothing, Send, Close, Abort}
 use Rattle.web_pages.specs.Requests.{wanted}
 use Rattle.web_pages.specs.Pages.{page, is_page_whole, pages_of}
-use Rattle.web_pages.specs.WebMeaning.{web_meaning, open_want, web_want, is_acknowledged, waits_for_capture, left_of}
+use Rattle.web_pages.specs.WebMeaning.{web_meaning, web_want, is_acknowledged, waits_for_capture, left_of}
 use Rattle.web_pages.specs.Lemmas.Growing.{page_grows, same_prefix}
 use Rattle.web_pages.specs.declared.TheConstants.{MOST_POLLS, LARGEST_SEGMENT}
 
@@ -49,7 +49,7 @@ wants_by : (files : List File) (part : Part) (P : Want → Type 0) → P Abort �
     → (is_page_whole files part.heard part.captures ≡ true → part.acked ≡ length (page files part.heard part.captures) → P Close)
     → ((n : ℕ) → 1 ≤ n → n ≤ left_of files part → P (Send n)) → P (web_want files part)
 wants_by files part P abort nothing close send =
-    by_polls (part.polls == MOST_POLLS) (by_end (is_page_whole files part.heard part.captures && is_acknowledged files part) refl)
+    by_polls (part.polls == MOST_POLLS) _ (by_end (is_page_whole files part.heard part.captures && is_acknowledged files part) refl)
   where
     by_left : (b : Bool) → nat_lt 0 (left_of files part) ≡ b → P (if b then Send (min LARGEST_SEGMENT (left_of files part)) else Nothing)
     by_left true e =
@@ -64,9 +64,9 @@ wants_by files part P abort nothing close send =
         close both.0 (eqb-true part.acked (length (page files part.heard part.captures)) both.1)
     by_end false e = by_left (nat_lt 0 (left_of files part)) refl
 
-    by_polls : (b : Bool) → P (open_want files part) → P (if b then Abort else open_want files part)
-    by_polls true rest = abort
-    by_polls false rest = rest
+    by_polls : (b : Bool) (want : Want) → P want → P (if b then Abort else want)
+    by_polls true want rest = abort
+    by_polls false want rest = rest
 
 pub may_want : (files : List File) (part : Part) → MayWant (pages_of files) part (web_want files part)
 may_want files part =

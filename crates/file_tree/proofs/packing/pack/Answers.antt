@@ -7,7 +7,8 @@ use Rattle.site_image.specs.Grammar.{image}
 use Rattle.site_image.specs.Faults.{scripts, read_image}
 use Rattle.site_image.specs.Places.{files_in}
 use Rattle.file_tree.specs.Answers.{Fails}
-use Rattle.file_tree.specs.Packing.{EntryContent, file_of, listed, named, packed}
+use Rattle.uip_edge.specs.Shelving.{HeldFile}
+use Rattle.file_tree.specs.Packing.{file_of, listed, named, packed}
 use Rattle.file_tree.proofs.PackLemmas.{fine}
 use Rattle.file_tree.proofs.PackedLemmas.{packed-long, packed-many, packed-names, packed-scripts, packed-reads, are-listed}
 use Rattle.file_tree.proofs.ReadLemmas.{gives-fault, gives-same}
@@ -21,13 +22,13 @@ pub returns-then-list-gt-MOST_FILES-clause-exact : goal.returns-then-list-gt-MOS
 returns-then-list-gt-MOST_FILES-clause-exact c =
     let list = c.args.list.now in
     packed-many (listed list) (omega (arith, c.in-Some.ensures.fits.0, c.in-Some.ensures.fits.1))
-    (omega (arith, c.if-list-gt-MOST_FILES.true, length-map list (λ (x : EntryContent). file_of x.name x.content)))
+    (omega (arith, c.if-list-gt-MOST_FILES.true, length-map list (λ (x : HeldFile). file_of x.name x.content)))
 
 size : (c : Else-list-gt-MOST_FILES) → length (image One (listed c.args.list.now)) ≤ LONGEST_IMAGE
 size c = omega (arith, c.in-Some.ensures.fits.0, c.in-Some.ensures.fits.1)
 
 few : (c : Else-list-gt-MOST_FILES) → length (listed c.args.list.now) ≤ MOST_FILES
-few c = omega (arith, c.if-list-gt-MOST_FILES.false, length-map c.args.list.now (λ (x : EntryContent). file_of x.name x.content))
+few c = omega (arith, c.if-list-gt-MOST_FILES.false, length-map c.args.list.now (λ (x : HeldFile). file_of x.name x.content))
 
 pub returns-in_err-push_all-clause-exact : goal.returns-in_err-push_all-clause-exact
 returns-in_err-push_all-clause-exact c =

@@ -4,7 +4,8 @@ use Rattle.std.proofs.lemmas.List.{length-map}
 use Rattle.site_image.specs.Faults.{unless}
 use Rattle.site_image.specs.Places.{files_in}
 use Rattle.file_tree.specs.Answers.{Fails}
-use Rattle.file_tree.specs.Packing.{EntryContent, file_of, listed, listed_fault, named}
+use Rattle.uip_edge.specs.Shelving.{HeldFile}
+use Rattle.file_tree.specs.Packing.{file_of, listed, listed_fault, named}
 use Rattle.file_tree.proofs.PackLemmas.{fine, room-at, more-at, fail-at, packs-end}
 use Rattle.file_tree.proofs.ReadLemmas.{gives-same}
 use Rattle.file_tree.proofs.packing.push_all.Goals as goal
@@ -36,4 +37,4 @@ pub returns-clause-names : goal.returns-clause-names
 returns-clause-names c =
     let list = c.args.list.now in
     (packs-end (listed list) c.loop-entry.entry-index c.loop-entry.draft.image.items c.loop-entry.draft.files.items c.loop-entry.draft.order.items c.loop-entry.invariant
-    (omega (arith, length-map list (λ (x : EntryContent). file_of x.name x.content), c.loop-entry-test.false))).names
+    (omega (arith, length-map list (λ (x : HeldFile). file_of x.name x.content), c.loop-entry-test.false))).names

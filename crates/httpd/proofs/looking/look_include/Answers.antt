@@ -1,5 +1,5 @@
 use Rattle.std.proofs.Common.{[], ◌∷◌, sym, ap, subst, arith}
-use Rattle.web_pages.specs.Pieces.{piece_bytes}
+use Rattle.web_pages.specs.Pieces.{bytes_or}
 use Rattle.web_pages.specs.Pieces.Say.{Plain}
 use Rattle.httpd.specs.Reply.{body_from, left_from, reply_in}
 use Rattle.httpd.specs.Places.{Fits}
@@ -20,14 +20,14 @@ pub returns-in-Some-clause-sees : goal.returns-in-Some-clause-sees
 unfolding left_from
 returns-in-Some-clause-sees c =
     let r = reply_in c.args.site.now c.args.found c.args.capture.now in
-    subst (λ o. Sees r (Plain (piece_bytes o) ∷ body_from r c.args.next) c.look_inside.result) c.in-Some.ensures.file c.look_inside.ensures.sees
+    subst (λ o. Sees r (Plain (bytes_or [] o) ∷ body_from r c.args.next) c.look_inside.result) c.in-Some.ensures.file c.look_inside.ensures.sees
 
 pub returns-in-None-clause-sees : goal.returns-in-None-clause-sees
 unfolding left_from Fits
 returns-in-None-clause-sees c =
     let r = reply_in c.args.site.now c.args.found c.args.capture.now in
     let more = body_from r c.args.next in
-    subst (λ o. Sees r (Plain (piece_bytes o) ∷ more) c.look_nothing.result) c.in-None.ensures.file
+    subst (λ o. Sees r (Plain (bytes_or [] o) ∷ more) c.look_nothing.result) c.in-None.ensures.file
     (nothing_seen r (Plain []) more c.look_nothing.result c.look_nothing.ensures.nothing
     (ap (λ t. left_from r t) c.look_nothing.ensures.next) (subst (λ t. Fits r t) (sym c.look_nothing.ensures.next) c.requires.inner.goes_on)
     (keeps_all r (Body c.args.next) c.look_nothing.result.next c.look_nothing.ensures.next (λ captures. tt))

@@ -4,23 +4,21 @@ use Rattle.httpd.specs.Web.{WebContent}
 use Rattle.httpd.specs.Reply.{left_from, reply_in}
 use Rattle.httpd.specs.Kept.{KeepsOn}
 use Rattle.httpd.specs.Looking.{IsPast}
-use Rattle.httpd.specs.Places.{Fits, IsFound}
+use Rattle.httpd.specs.Places.{Fits}
 use Rattle.httpd.specs.HttpdStands.{HttpdStands}
 use Rattle.httpd.specs.Lemmas.SameLeft.{left_in}
 use Rattle.httpd.specs.declared.stage.Stage.TheVariants as stage
-use Rattle.httpd.proofs.Standing.{can_say, quiet_acked, reply_acked, reply_fits, reply_found, some_part}
+use Rattle.httpd.proofs.Standing.{can_say, quiet_acked, reply_acked, fits_inside, found_inside, some_part}
 use Rattle.httpd.proofs.httpd.HttpdApp.acked.Goals as goal
 use Rattle.httpd.proofs.httpd.HttpdApp.acked.Goals.{in-Reply, in_default}
 
 pub acked_reply-self-requires-clause-found : goal.acked_reply-self-requires-clause-found
 acked_reply-self-requires-clause-found c =
-    subst (λ site. IsFound (files_of site) c.in-Reply.found) (sym (ap (λ (w : WebContent). w.site) c.shared.view_is))
-    (reply_found c.args.self.now c.args.shared.now.site c.in-Reply.found c.in-Reply.is (some_part c.args.self.now c.args.shared.now.site c.args.count c.requires))
+    found_inside c.args.self.now c.args.shared.now.site _ c.in-Reply.found (ap (λ (w : WebContent). w.site) c.shared.view_is) c.in-Reply.is (some_part c.args.self.now c.args.shared.now.site c.args.count c.requires)
 
 pub acked_reply-self-requires-clause-fits : goal.acked_reply-self-requires-clause-fits
 acked_reply-self-requires-clause-fits c =
-    subst (λ site. Fits (reply_in site c.in-Reply.found c.args.self.now.capture) c.args.self.now.thread) (sym (ap (λ (w : WebContent). w.site) c.shared.view_is))
-    (reply_fits c.args.self.now c.args.shared.now.site c.in-Reply.found c.in-Reply.is (some_part c.args.self.now c.args.shared.now.site c.args.count c.requires))
+    fits_inside c.args.self.now c.args.shared.now.site _ c.in-Reply.found (ap (λ (w : WebContent). w.site) c.shared.view_is) c.in-Reply.is (some_part c.args.self.now c.args.shared.now.site c.args.count c.requires)
 
 pub acked_reply-self-requires-clause-enough : goal.acked_reply-self-requires-clause-enough
 acked_reply-self-requires-clause-enough c =

@@ -1,22 +1,17 @@
-use Rattle.std.proofs.Common.{◌≡◌, ◌≤◌, ℕ, List, [], ◌∷◌, length, take, sym, ap, subst, ◌∙◌, arith, Option}
-use Rattle.file_tree.specs.Site.{files_of}
+use Rattle.std.proofs.Common.{◌≡◌, ◌≤◌, ℕ, List, [], ◌∷◌, length, take, sym, ap, subst, ◌∙◌, arith}
 use Rattle.httpd.specs.Web.{WebContent}
-use Rattle.httpd.specs.Reply.{reply_in}
-use Rattle.httpd.specs.Places.{Fits, IsFound}
 use Rattle.httpd.specs.Lemmas.SameLeft.{left_in}
 use Rattle.httpd.specs.declared.stage.Stage.TheVariants as stage
-use Rattle.httpd.proofs.Standing.{can_say, quiet_zero, reply_fits, reply_found, some_part}
+use Rattle.httpd.proofs.Standing.{can_say, quiet_zero, fits_inside, found_inside, some_part}
 use Rattle.httpd.proofs.httpd.HttpdApp.fill.Goals as goal
 
 pub fill_reply-requires-clause-found : goal.fill_reply-requires-clause-found
 fill_reply-requires-clause-found c =
-    subst (λ site. IsFound (files_of site) c.in-Reply.found) (sym (ap (λ (w : WebContent). w.site) c.shared.view_is))
-    (reply_found c.args.self.now c.args.shared.now.site c.in-Reply.found c.in-Reply.is (some_part c.args.self.now c.args.shared.now.site (length c.args.out.now) c.requires))
+    found_inside c.args.self.now c.args.shared.now.site _ c.in-Reply.found (ap (λ (w : WebContent). w.site) c.shared.view_is) c.in-Reply.is (some_part c.args.self.now c.args.shared.now.site (length c.args.out.now) c.requires)
 
 pub fill_reply-requires-clause-fits : goal.fill_reply-requires-clause-fits
 fill_reply-requires-clause-fits c =
-    subst (λ site. Fits (reply_in site c.in-Reply.found c.args.self.now.capture) c.args.self.now.thread) (sym (ap (λ (w : WebContent). w.site) c.shared.view_is))
-    (reply_fits c.args.self.now c.args.shared.now.site c.in-Reply.found c.in-Reply.is (some_part c.args.self.now c.args.shared.now.site (length c.args.out.now) c.requires))
+    fits_inside c.args.self.now c.args.shared.now.site _ c.in-Reply.found (ap (λ (w : WebContent). w.site) c.shared.view_is) c.in-Reply.is (some_part c.args.self.now c.args.shared.now.site (length c.args.out.now) c.requires)
 
 pub fill_reply-requires-clause-enough : goal.fill_reply-requires-clause-enough
 fill_reply-requires-clause-enough c =

@@ -1,24 +1,21 @@
-use Rattle.std.proofs.Common.{sym, ap, subst, ◌∙◌}
+use Rattle.std.proofs.Common.{ap, subst, ◌∙◌}
 use Rattle.file_tree.specs.Site.{files_of}
 use Rattle.generators.specs.Captures.{capture_of}
 use Rattle.web_pages.specs.Pages.{hits_of}
 use Rattle.httpd.specs.Web.{WebContent}
 use Rattle.httpd.specs.Reply.{reply_in}
-use Rattle.httpd.specs.Places.{Fits, IsFound}
 use Rattle.httpd.specs.Saying.{IsDueReply, IsNotDue}
-use Rattle.httpd.proofs.Standing.{reply_fits, reply_found}
+use Rattle.httpd.proofs.Standing.{fits_inside, found_inside}
 use Rattle.httpd.proofs.Asking.{due_stands, not_due}
 use Rattle.httpd.proofs.httpd.HttpdApp.prepare.Goals as goal
 
 pub due_call-requires-clause-found : goal.due_call-requires-clause-found
 due_call-requires-clause-found c =
-    subst (λ site. IsFound (files_of site) c.in-Reply.found) (sym (ap (λ (w : WebContent). w.site) c.shared.view_is))
-    (reply_found c.args.self.now c.args.shared.now.site c.in-Reply.found c.in-Reply.is c.requires)
+    found_inside c.args.self.now c.args.shared.now.site _ c.in-Reply.found (ap (λ (w : WebContent). w.site) c.shared.view_is) c.in-Reply.is c.requires
 
 pub due_call-requires-clause-fits : goal.due_call-requires-clause-fits
 due_call-requires-clause-fits c =
-    subst (λ site. Fits (reply_in site c.in-Reply.found c.args.self.now.capture) c.args.self.now.thread) (sym (ap (λ (w : WebContent). w.site) c.shared.view_is))
-    (reply_fits c.args.self.now c.args.shared.now.site c.in-Reply.found c.in-Reply.is c.requires)
+    fits_inside c.args.self.now c.args.shared.now.site _ c.in-Reply.found (ap (λ (w : WebContent). w.site) c.shared.view_is) c.in-Reply.is c.requires
 
 pub returns-in-Some : goal.returns-in-Some
 returns-in-Some c = λ p s.

@@ -1,7 +1,6 @@
 use Rattle.std.proofs.Common.{◌≡◌}
 use Rattle.app_events.specs.Part.{Meaning}
-use Rattle.file_tree.specs.Site.{files_of}
-use Rattle.telnet_shell.proofs.DeskParts.{web_part, shell_part, web_has, shell_has, on_web, on_shell}
+use Rattle.telnet_shell.proofs.DeskParts.{web_has, shell_has, by_web, by_shell}
 use Rattle.telnet_shell.proofs.desk.DeskApp.want.Goals as goal
 
 pub want-requires : goal.want-requires
@@ -12,10 +11,10 @@ want-requires-in-Shell c = shell_has c.args.self.now c.in-Shell.shell c.args.sha
 
 pub returns-in-Web : goal.returns-in-Web
 returns-in-Web c = λ p s.
-    let at = web_part c.args.self.now c.in-Web.web c.args.shared.now.site p c.in-Web.is s in
-    on_web (λ (m : Meaning). c.want.result ≡ m.want c.args.shared.now.hits p) (files_of c.args.shared.now.site) p at.port (c.want.ensures p at.stands)
+    by_web (λ (m : Meaning). c.want.result ≡ m.want c.args.shared.now.hits p) c.args.self.now c.in-Web.web c.args.shared.now.site p c.in-Web.is s
+    (λ at. c.want.ensures p at.stands)
 
 pub returns-in-Shell : goal.returns-in-Shell
 returns-in-Shell c = λ p s.
-    let at = shell_part c.args.self.now c.in-Shell.shell c.args.shared.now.site p c.in-Shell.is s in
-    on_shell (λ (m : Meaning). c.want-in-Shell.result ≡ m.want c.args.shared.now.hits p) (files_of c.args.shared.now.site) p at.port (c.want-in-Shell.ensures p at.stands)
+    by_shell (λ (m : Meaning). c.want-in-Shell.result ≡ m.want c.args.shared.now.hits p) c.args.self.now c.in-Shell.shell c.args.shared.now.site p c.in-Shell.is s
+    (λ at. c.want-in-Shell.ensures p at.stands)
