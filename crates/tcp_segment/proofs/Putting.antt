@@ -5,21 +5,12 @@ use borrow.Rule.Slice.PartMut.{put_mid}
 use Rattle.uip_wire.proofs.Writing.{same_four}
 use Rattle.uip_wire.specs.Checksum.{checksum_of}
 use Rattle.uip_wire.specs.Fields.{word_bytes, written}
+use Rattle.uip_ipv4.proofs.Back.{four}
 use Rattle.uip_ipv4.specs.Head.{head_bytes}
 use Rattle.uip_ipv4.specs.declared.proto.Proto.TheVariants.{Tcp}
 use Rattle.tcp_segment.specs.Segments.{datagram_bytes, pseudo_header, segment_bytes, segment_with}
 use Rattle.tcp_segment.specs.Sent.{around, datagram_of, fixed_bytes, header_around, sum_around}
 use Rattle.tcp_segment.specs.declared.out.Out.{Out}
-
--- four bytes, one by one
-four : (bytes : List ℕ) → length bytes ≡ 4
-    → bytes ≡ slice_index_or bytes 0 0 ∷ slice_index_or bytes 1 0 ∷ slice_index_or bytes 2 0 ∷ slice_index_or bytes 3 0 ∷ []
-four [] h = absurd (omega arith)
-four (a ∷ []) h = absurd (omega arith)
-four (a ∷ b ∷ []) h = absurd (omega arith)
-four (a ∷ b ∷ c ∷ []) h = absurd (omega arith)
-four (a ∷ b ∷ c ∷ d ∷ []) h = refl
-four (a ∷ b ∷ c ∷ d ∷ e ∷ rest) h = absurd (omega arith)
 
 -- the pseudo header, byte by byte
 pub pseudo_is : (source target : List ℕ) (high low len : ℕ) → length source ≡ 4 → length target ≡ 4 → high ≡ len / 256 → low ≡ len % 256

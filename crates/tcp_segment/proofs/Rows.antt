@@ -1,6 +1,8 @@
 -- Options, received segments and sent datagrams worked by hand: options in every order and cut, each fate at its first and last
 -- length, and the datagrams of a reset, a SYN with ACK and a text.
-use Rattle.std.proofs.Common.{◌≡◌, ℕ, List, [], ◌∷◌, ◌++◌, Ok, Err, Some, None, refl}
+use Rattle.std.proofs.Common.{◌≡◌, ℕ, List, [], ◌∷◌, ◌++◌, map, Result, Ok, Err, Some, None, refl}
+use Rattle.tcp_segment.specs.declared.fate.TcpFate.{TcpFate}
+use Rattle.tcp_segment.specs.declared.segment.Segment.{Segment}
 use Rattle.std.specs.Prelude.{codes}
 use Rattle.uip_ipv4.specs.Head.{head_bytes}
 use Rattle.uip_wire.specs.Checksum.{folded}
@@ -78,53 +80,26 @@ kind_2_of_length_3 = refl
 kind_2_of_length_6 : mss_in (2 ∷ 6 ∷ 0 ∷ 0 ∷ 0 ∷ 0 ∷ 2 ∷ 4 ∷ 5 ∷ 0xb4 ∷ []) ≡ Some 1460
 kind_2_of_length_6 = refl
 
-plain_syn : segment_in peer own (4 ∷ 1 ∷ 0 ∷ 0x51 ∷ 0 ∷ 0 ∷ 3 ∷ 0xe8 ∷ 0 ∷ 0 ∷ 0 ∷ 0 ∷ 0x50 ∷ 2 ∷ 0x20 ∷ 0 ∷ 0x73 ∷ 0xa6 ∷ 0 ∷ 0 ∷ []) ≡ Ok (record { from = record { 0 = 1025 }; to = record { 0 = 81 }; seq = record { 0 = 1000 }; ack = record { 0 = 0 }; flags = 2; window = 8192; mss = None; text_at = 40; text_len = 0 })
-unfolding segment_in folded
-plain_syn = refl
+-- Payloads, and the segment that each is or its fate.
+abbrev segment_rows : List (List ℕ × Result Segment TcpFate)
+segment_rows =
+    (4 ∷ 1 ∷ 0 ∷ 0x51 ∷ 0 ∷ 0 ∷ 3 ∷ 0xe8 ∷ 0 ∷ 0 ∷ 0 ∷ 0 ∷ 0x50 ∷ 2 ∷ 0x20 ∷ 0 ∷ 0x73 ∷ 0xa6 ∷ 0 ∷ 0 ∷ [], Ok (record { from = record { 0 = 1025 }; to = record { 0 = 81 }; seq = record { 0 = 1000 }; ack = record { 0 = 0 }; flags = 2; window = 8192; mss = None; text_at = 40; text_len = 0 }))  -- plain syn
+    ∷ (4 ∷ 1 ∷ 0 ∷ 0x50 ∷ 0 ∷ 0 ∷ 3 ∷ 0xe8 ∷ 0 ∷ 0 ∷ 0 ∷ 0 ∷ 0xa0 ∷ 2 ∷ 0xfa ∷ 0xf0 ∷ 0x32 ∷ 0xc1 ∷ 0 ∷ 0 ∷ 2 ∷ 4 ∷ 3 ∷ 0xc6 ∷ 4 ∷ 2 ∷ 8 ∷ 0x0a ∷ 0 ∷ 0 ∷ 0 ∷ 1 ∷ 0 ∷ 0 ∷ 0 ∷ 0 ∷ 1 ∷ 3 ∷ 3 ∷ 7 ∷ [], Ok (record { from = record { 0 = 1025 }; to = record { 0 = 80 }; seq = record { 0 = 1000 }; ack = record { 0 = 0 }; flags = 2; window = 64240; mss = Some 966; text_at = 60; text_len = 0 }))  -- usual syn
+    ∷ (4 ∷ 1 ∷ 0 ∷ 0x50 ∷ 0 ∷ 0 ∷ 3 ∷ 0xe9 ∷ 0 ∷ 0 ∷ 0 ∷ 1 ∷ 0x50 ∷ 0x18 ∷ 0x20 ∷ 0 ∷ 0xfb ∷ 0x8d ∷ 0 ∷ 0 ∷ 0x78 ∷ [], Ok (record { from = record { 0 = 1025 }; to = record { 0 = 80 }; seq = record { 0 = 1001 }; ack = record { 0 = 1 }; flags = 24; window = 8192; mss = None; text_at = 40; text_len = 1 }))  -- odd text
+    ∷ (4 ∷ 1 ∷ 0 ∷ 0x51 ∷ 0 ∷ 0 ∷ 3 ∷ 0xe8 ∷ 0 ∷ 0 ∷ 0 ∷ 0 ∷ 0x50 ∷ 0xe2 ∷ 0x20 ∷ 0 ∷ 0x72 ∷ 0xc6 ∷ 0 ∷ 0 ∷ [], Ok (record { from = record { 0 = 1025 }; to = record { 0 = 81 }; seq = record { 0 = 1000 }; ack = record { 0 = 0 }; flags = 34; window = 8192; mss = None; text_at = 40; text_len = 0 }))  -- six flags alone
+    ∷ ([], Err Short)  -- short empty
+    ∷ (4 ∷ 1 ∷ 0 ∷ 0x51 ∷ 0 ∷ 0 ∷ 3 ∷ 0xe8 ∷ 0 ∷ 0 ∷ 0 ∷ 0 ∷ 0x50 ∷ 2 ∷ 0x20 ∷ 0 ∷ 0x73 ∷ 0xa6 ∷ 0 ∷ [], Err Short)  -- short at 19
+    ∷ (4 ∷ 1 ∷ 0 ∷ 0x51 ∷ 0 ∷ 0 ∷ 3 ∷ 0xe8 ∷ 0 ∷ 0 ∷ 0 ∷ 0 ∷ 0x40 ∷ 2 ∷ 0x20 ∷ 0 ∷ 0x83 ∷ 0xa6 ∷ 0 ∷ 0 ∷ [], Err Offset)  -- offset 4
+    ∷ (4 ∷ 1 ∷ 0 ∷ 0x51 ∷ 0 ∷ 0 ∷ 3 ∷ 0xe8 ∷ 0 ∷ 0 ∷ 0 ∷ 0 ∷ 0x60 ∷ 2 ∷ 0x20 ∷ 0 ∷ 0x63 ∷ 0xa6 ∷ 0 ∷ 0 ∷ [], Err Offset)  -- offset 6 of 20
+    ∷ (4 ∷ 1 ∷ 0 ∷ 0x51 ∷ 0 ∷ 0 ∷ 3 ∷ 0xe8 ∷ 0 ∷ 0 ∷ 0 ∷ 0 ∷ 0x60 ∷ 2 ∷ 0x20 ∷ 0 ∷ 0x63 ∷ 0xa3 ∷ 0 ∷ 0 ∷ 0 ∷ 0 ∷ 0 ∷ [], Err Offset)  -- offset 6 of 23
+    ∷ (4 ∷ 1 ∷ 0 ∷ 0x51 ∷ 0 ∷ 0 ∷ 3 ∷ 0xe8 ∷ 0 ∷ 0 ∷ 0 ∷ 0 ∷ 0x60 ∷ 2 ∷ 0x20 ∷ 0 ∷ 0x63 ∷ 0xa2 ∷ 0 ∷ 0 ∷ 0 ∷ 0 ∷ 0 ∷ 0 ∷ [], Ok (record { from = record { 0 = 1025 }; to = record { 0 = 81 }; seq = record { 0 = 1000 }; ack = record { 0 = 0 }; flags = 2; window = 8192; mss = None; text_at = 44; text_len = 0 }))  -- offset 6 of 24
+    ∷ (4 ∷ 1 ∷ 0 ∷ 0x51 ∷ 0 ∷ 0 ∷ 3 ∷ 0xe8 ∷ 0 ∷ 0 ∷ 0 ∷ 0 ∷ 0x50 ∷ 2 ∷ 0x20 ∷ 0 ∷ 0x73 ∷ 0xa6 ∷ 0 ∷ 1 ∷ [], Err Checksum)  -- sum off by one
+    ∷ (4 ∷ 1 ∷ 0 ∷ 0x51 ∷ 0 ∷ 0 ∷ 3 ∷ 0xe8 ∷ 0 ∷ 0 ∷ 0 ∷ 0 ∷ 0x40 ∷ 2 ∷ 0x20 ∷ 0 ∷ 0x73 ∷ 0xa6 ∷ 0 ∷ 0 ∷ [], Err Offset)  -- offset before sum
+    ∷ []
 
-usual_syn : segment_in peer own (4 ∷ 1 ∷ 0 ∷ 0x50 ∷ 0 ∷ 0 ∷ 3 ∷ 0xe8 ∷ 0 ∷ 0 ∷ 0 ∷ 0 ∷ 0xa0 ∷ 2 ∷ 0xfa ∷ 0xf0 ∷ 0x32 ∷ 0xc1 ∷ 0 ∷ 0 ∷ 2 ∷ 4 ∷ 3 ∷ 0xc6 ∷ 4 ∷ 2 ∷ 8 ∷ 0x0a ∷ 0 ∷ 0 ∷ 0 ∷ 1 ∷ 0 ∷ 0 ∷ 0 ∷ 0 ∷ 1 ∷ 3 ∷ 3 ∷ 7 ∷ []) ≡ Ok (record { from = record { 0 = 1025 }; to = record { 0 = 80 }; seq = record { 0 = 1000 }; ack = record { 0 = 0 }; flags = 2; window = 64240; mss = Some 966; text_at = 60; text_len = 0 })
+segments : map (λ row. segment_in peer own row.0) segment_rows ≡ map (λ row. row.1) segment_rows
 unfolding segment_in folded
-usual_syn = refl
-
-odd_text : segment_in peer own (4 ∷ 1 ∷ 0 ∷ 0x50 ∷ 0 ∷ 0 ∷ 3 ∷ 0xe9 ∷ 0 ∷ 0 ∷ 0 ∷ 1 ∷ 0x50 ∷ 0x18 ∷ 0x20 ∷ 0 ∷ 0xfb ∷ 0x8d ∷ 0 ∷ 0 ∷ 0x78 ∷ []) ≡ Ok (record { from = record { 0 = 1025 }; to = record { 0 = 80 }; seq = record { 0 = 1001 }; ack = record { 0 = 1 }; flags = 24; window = 8192; mss = None; text_at = 40; text_len = 1 })
-unfolding segment_in folded
-odd_text = refl
-
-six_flags_alone : segment_in peer own (4 ∷ 1 ∷ 0 ∷ 0x51 ∷ 0 ∷ 0 ∷ 3 ∷ 0xe8 ∷ 0 ∷ 0 ∷ 0 ∷ 0 ∷ 0x50 ∷ 0xe2 ∷ 0x20 ∷ 0 ∷ 0x72 ∷ 0xc6 ∷ 0 ∷ 0 ∷ []) ≡ Ok (record { from = record { 0 = 1025 }; to = record { 0 = 81 }; seq = record { 0 = 1000 }; ack = record { 0 = 0 }; flags = 34; window = 8192; mss = None; text_at = 40; text_len = 0 })
-unfolding segment_in folded
-six_flags_alone = refl
-
-short_empty : segment_in peer own ([]) ≡ Err Short
-unfolding segment_in folded
-short_empty = refl
-
-short_at_19 : segment_in peer own (4 ∷ 1 ∷ 0 ∷ 0x51 ∷ 0 ∷ 0 ∷ 3 ∷ 0xe8 ∷ 0 ∷ 0 ∷ 0 ∷ 0 ∷ 0x50 ∷ 2 ∷ 0x20 ∷ 0 ∷ 0x73 ∷ 0xa6 ∷ 0 ∷ []) ≡ Err Short
-unfolding segment_in folded
-short_at_19 = refl
-
-offset_4 : segment_in peer own (4 ∷ 1 ∷ 0 ∷ 0x51 ∷ 0 ∷ 0 ∷ 3 ∷ 0xe8 ∷ 0 ∷ 0 ∷ 0 ∷ 0 ∷ 0x40 ∷ 2 ∷ 0x20 ∷ 0 ∷ 0x83 ∷ 0xa6 ∷ 0 ∷ 0 ∷ []) ≡ Err Offset
-unfolding segment_in folded
-offset_4 = refl
-
-offset_6_of_20 : segment_in peer own (4 ∷ 1 ∷ 0 ∷ 0x51 ∷ 0 ∷ 0 ∷ 3 ∷ 0xe8 ∷ 0 ∷ 0 ∷ 0 ∷ 0 ∷ 0x60 ∷ 2 ∷ 0x20 ∷ 0 ∷ 0x63 ∷ 0xa6 ∷ 0 ∷ 0 ∷ []) ≡ Err Offset
-unfolding segment_in folded
-offset_6_of_20 = refl
-
-offset_6_of_23 : segment_in peer own (4 ∷ 1 ∷ 0 ∷ 0x51 ∷ 0 ∷ 0 ∷ 3 ∷ 0xe8 ∷ 0 ∷ 0 ∷ 0 ∷ 0 ∷ 0x60 ∷ 2 ∷ 0x20 ∷ 0 ∷ 0x63 ∷ 0xa3 ∷ 0 ∷ 0 ∷ 0 ∷ 0 ∷ 0 ∷ []) ≡ Err Offset
-unfolding segment_in folded
-offset_6_of_23 = refl
-
-offset_6_of_24 : segment_in peer own (4 ∷ 1 ∷ 0 ∷ 0x51 ∷ 0 ∷ 0 ∷ 3 ∷ 0xe8 ∷ 0 ∷ 0 ∷ 0 ∷ 0 ∷ 0x60 ∷ 2 ∷ 0x20 ∷ 0 ∷ 0x63 ∷ 0xa2 ∷ 0 ∷ 0 ∷ 0 ∷ 0 ∷ 0 ∷ 0 ∷ []) ≡ Ok (record { from = record { 0 = 1025 }; to = record { 0 = 81 }; seq = record { 0 = 1000 }; ack = record { 0 = 0 }; flags = 2; window = 8192; mss = None; text_at = 44; text_len = 0 })
-unfolding segment_in folded
-offset_6_of_24 = refl
-
-sum_off_by_one : segment_in peer own (4 ∷ 1 ∷ 0 ∷ 0x51 ∷ 0 ∷ 0 ∷ 3 ∷ 0xe8 ∷ 0 ∷ 0 ∷ 0 ∷ 0 ∷ 0x50 ∷ 2 ∷ 0x20 ∷ 0 ∷ 0x73 ∷ 0xa6 ∷ 0 ∷ 1 ∷ []) ≡ Err Checksum
-unfolding segment_in folded
-sum_off_by_one = refl
-
-offset_before_sum : segment_in peer own (4 ∷ 1 ∷ 0 ∷ 0x51 ∷ 0 ∷ 0 ∷ 3 ∷ 0xe8 ∷ 0 ∷ 0 ∷ 0 ∷ 0 ∷ 0x40 ∷ 2 ∷ 0x20 ∷ 0 ∷ 0x73 ∷ 0xa6 ∷ 0 ∷ 0 ∷ []) ≡ Err Offset
-unfolding segment_in folded
-offset_before_sum = refl
+segments = refl
 
 reset : datagram_bytes (record { source = own; target = peer; from = 81; to = 1025; id = 1; segment = record { seq = 0; ack = 1001; flags = 20; window = 0; mss = None; text = [] } }) ≡ 0x45 ∷ 0 ∷ 0 ∷ 0x28 ∷ 0 ∷ 1 ∷ 0 ∷ 0 ∷ 0x40 ∷ 6 ∷ 0x66 ∷ 0xcd ∷ 0x0a ∷ 0 ∷ 0 ∷ 1 ∷ 0x0a ∷ 0 ∷ 0 ∷ 2 ∷ 0 ∷ 0x51 ∷ 4 ∷ 1 ∷ 0 ∷ 0 ∷ 0 ∷ 0 ∷ 0 ∷ 0 ∷ 3 ∷ 0xe9 ∷ 0x50 ∷ 0x14 ∷ 0 ∷ 0 ∷ 0x93 ∷ 0x93 ∷ 0 ∷ 0 ∷ []
 unfolding datagram_bytes head_bytes folded

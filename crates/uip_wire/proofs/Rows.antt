@@ -1,53 +1,35 @@
 -- The definitions on examples worked by hand: that of RFC 1071, section 3, and texts that are or are not dotted quads.
-use Rattle.std.proofs.Common.{◌≡◌, [], ◌∷◌, None, Some, refl}
+use Rattle.std.proofs.Common.{◌≡◌, ℕ, List, [], ◌∷◌, map, Option, None, Some, refl}
 use Rattle.std.specs.Prelude.{codes}
 use Rattle.uip_wire.specs.Addr.{quad_of}
 use Rattle.uip_wire.specs.Checksum.{checksum_of, folded}
 
-rfc1071 : checksum_of (0x00 ∷ 0x01 ∷ 0xf2 ∷ 0x03 ∷ 0xf4 ∷ 0xf5 ∷ 0xf6 ∷ 0xf7 ∷ []) ≡ 0x220d
+-- Bytes, and the checksum of each.
+abbrev checksum_rows : List (List ℕ × ℕ)
+checksum_rows =
+    (0x00 ∷ 0x01 ∷ 0xf2 ∷ 0x03 ∷ 0xf4 ∷ 0xf5 ∷ 0xf6 ∷ 0xf7 ∷ [], 0x220d)  -- that of RFC 1071
+    ∷ (0xff ∷ 0xff ∷ 0x01 ∷ [], 0xfeff)  -- odd last
+    ∷ ([], 0xffff)  -- no bytes
+    ∷ []
+
+checksums : map (λ row. checksum_of row.0) checksum_rows ≡ map (λ row. row.1) checksum_rows
 unfolding folded
-rfc1071 = refl
+checksums = refl
 
-odd_last : checksum_of (0xff ∷ 0xff ∷ 0x01 ∷ []) ≡ 0xfeff
-unfolding folded
-odd_last = refl
+-- Texts, and the dotted quad that each is.
+abbrev quad_rows : List (List ℕ × Option (List ℕ))
+quad_rows =
+    (codes "10.0.0.1", Some (10 ∷ 0 ∷ 0 ∷ 1 ∷ []))  -- plain
+    ∷ (codes "255.255.255.255", Some (255 ∷ 255 ∷ 255 ∷ 255 ∷ []))  -- greatest
+    ∷ (codes "10.0.0.256", None)  -- too great
+    ∷ (codes "10.0.0.01", None)  -- leading zero
+    ∷ (codes "10.0.0", None)  -- three numbers
+    ∷ (codes "10.0.0.1.2", None)  -- five numbers
+    ∷ (codes "10..0.1", None)  -- no number
+    ∷ (codes "1000.0.0.1", None)  -- four digits
+    ∷ ([], None)  -- empty
+    ∷ []
 
-no_bytes : checksum_of [] ≡ 0xffff
-unfolding folded
-no_bytes = refl
-
-quad : quad_of (codes "10.0.0.1") ≡ Some (10 ∷ 0 ∷ 0 ∷ 1 ∷ [])
+quads : map (λ row. quad_of row.0) quad_rows ≡ map (λ row. row.1) quad_rows
 unfolding quad_of
-quad = refl
-
-greatest : quad_of (codes "255.255.255.255") ≡ Some (255 ∷ 255 ∷ 255 ∷ 255 ∷ [])
-unfolding quad_of
-greatest = refl
-
-too_great : quad_of (codes "10.0.0.256") ≡ None
-unfolding quad_of
-too_great = refl
-
-leading_zero : quad_of (codes "10.0.0.01") ≡ None
-unfolding quad_of
-leading_zero = refl
-
-three_numbers : quad_of (codes "10.0.0") ≡ None
-unfolding quad_of
-three_numbers = refl
-
-five_numbers : quad_of (codes "10.0.0.1.2") ≡ None
-unfolding quad_of
-five_numbers = refl
-
-no_number : quad_of (codes "10..0.1") ≡ None
-unfolding quad_of
-no_number = refl
-
-four_digits : quad_of (codes "1000.0.0.1") ≡ None
-unfolding quad_of
-four_digits = refl
-
-empty : quad_of [] ≡ None
-unfolding quad_of
-empty = refl
+quads = refl
