@@ -1,6 +1,6 @@
 -- The schedule that a number makes.
 use Rattle.std.specs.Prelude.{ℕ, ◌+◌, ◌/◌, ◌%◌, ◌==◌, Bool, List, [], ◌∷◌, ◌++◌, map, flat_map, replicate, if◌then◌else◌, codes, slice_get, unwrap_or}
-use Rattle.std.specs.List.{range_with_len}
+use Rattle.std.specs.List.{enumerate_from, range_with_len}
 use Rattle.rand_core.specs.Steps.{first_words}
 use Rattle.rand_pcg.specs.Lcg.{increment_of, started}
 use Rattle.rand_pcg.specs.Pcg.{multiplier_64, pcg32}
@@ -42,8 +42,7 @@ events_of seed clients =
 
 -- lines from a number on
 abbrev pub numbered_from : ℕ → List Event → List Line
-numbered_from number [] = []
-numbered_from number (event ∷ events) = record { at = number; event = event } ∷ numbered_from (number + 1) events
+numbered_from number events = map (λ p. record { at = p.0; event = p.1 }) (enumerate_from number events)
 
 -- the lines stand behind those of the clients
 abbrev pub workload_of : ℕ → ℕ → SchedulePlan
