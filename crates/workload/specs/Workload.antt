@@ -10,16 +10,13 @@ use Rattle.link_schedule.specs.declared.line.Line.{Line}
 use Rattle.link_schedule.specs.Clients.{Plan}
 use Rattle.link_schedule.specs.Reading.{SchedulePlan}
 
--- the page that a client asks for: an odd one the front page, an even one the script
-abbrev pub request_by : Bool → List ℕ
-request_by odd = if odd then codes "GET / HTTP/1.0\r\n\r\n" else codes "GET /stats.shtml HTTP/1.0\r\n\r\n"
-
--- client k, at 10.0.1.k and port 1024 + k: an odd one tells no segment size, an even one tells 200
+-- client k, at 10.0.1.k and port 1024 + k: an odd one tells no segment size, and asks for the front page; an even one tells 200, and
+-- asks for the script
 abbrev pub client_of : ℕ → Plan
 client_of k = record {
   side =
       record { addr = record { 0 = 10 ∷ 0 ∷ 1 ∷ k ∷ [] }; port = record { 0 = 1024 + k }; mss = if k % 2 == 1 then 0 else 200; seg = 16 };
-  request = request_by (k % 2 == 1);
+  request = if k % 2 == 1 then codes "GET / HTTP/1.0\r\n\r\n" else codes "GET /stats.shtml HTTP/1.0\r\n\r\n";
 }
 
 -- three of eight words let all through, and the others disturb the link
