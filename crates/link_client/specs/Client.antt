@@ -115,16 +115,11 @@ sends_next owed c =
     else if owed then steps_with c (ack_of c)
     else keeps c
 
--- what was out of the FIN is acknowledged
-abbrev pub fin_heard : FinAt → FinAt
-fin_heard FinAt.Out = FinAt.Acked
-fin_heard fin = fin
-
 -- what is outstanding is acknowledged where the number is its next own one
 abbrev pub hears_ack : AbstractClient → PlainSegment → AbstractClient
 hears_ack c s =
     if has_ack s.flags && (has_outstanding c && (s.ack == next_own c))
-    then record c { acked = c.acked + c.out; out = 0; fin = fin_heard c.fin }
+    then record c { acked = c.acked + c.out; out = 0; fin = (if fin_out c.fin then FinAt.Acked else c.fin) }
     else c
 
 -- the state after the server's FIN

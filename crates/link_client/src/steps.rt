@@ -5,7 +5,7 @@ ghost use Rattle.tcp_segment.specs.Received.{plain_of};
 ghost use Rattle.tcp_machine.specs.Segments.{has_place};
 ghost use Rattle.tcp_machine.specs.Stands.{plain};
 ghost use Rattle.link_client.specs.Calls.{Did, IsClient, has_more_to_send, received_with, standing};
-ghost use Rattle.link_client.specs.Client.{after_fin, client_takes, fin_heard, fin_sent, hears_ack, is_receiving, is_reset_by, may_finish, sends_next, takes_by, takes_in_order, takes_text, has_outstanding};
+ghost use Rattle.link_client.specs.Client.{after_fin, client_takes, fin_out, fin_sent, hears_ack, is_receiving, is_reset_by, may_finish, sends_next, takes_by, takes_in_order, takes_text, has_outstanding};
 
 use crate::client::Client;
 use crate::client_state::ClientState;
@@ -67,7 +67,7 @@ pub(crate) fn took(segment: &Segment, heard: Heard) -> Took
 
 /// What was out of the FIN is acknowledged.
 fn fin_heard(fin: FinAt) -> FinAt
-    ensures { result ≡ fin_heard fin }
+    ensures { result ≡ (if fin_out fin then FinAt.Acked else fin) }
 {
     match fin {
         FinAt::NotSent => FinAt::NotSent,

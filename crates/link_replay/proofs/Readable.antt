@@ -1,8 +1,8 @@
 -- What is known of the datagrams of a world of a replay.
-use Rattle.std.proofs.Common.{◌≡◌, ℕ, Bool, refl, subst, Some, slice_get, List}
+use Rattle.std.proofs.Common.{◌≡◌, ℕ, ◌-◌, ◌<◌, Bool, refl, subst, ◌∙◌, Some, get_or, length, slice_get, List}
 use Rattle.app_events.specs.Part.{Meaning}
 use Rattle.link_world.specs.Bytes.{bytes_by, sent_bytes}
-use Rattle.link_world.specs.World.{World, Sent, Content}
+use Rattle.link_world.specs.World.{World, Sent, Content, numbered}
 use Rattle.link_world.specs.World.Content.{OfSegment, OfPing, OfEcho}
 use Rattle.link_world.specs.declared.who.Who.{Who}
 use Rattle.link_world.specs.declared.who.Who.TheVariants.{FromClient, FromNode, Pinger}
@@ -12,6 +12,10 @@ use Rattle.link_world.proofs.Runs.{reached_sound}
 use Rattle.link_world.proofs.Senders.{sent_to_clients}
 use Rattle.link_world.proofs.SoundWorlds.{SoundWorld}
 use Rattle.link_replay.specs.Reaching.{IsAt}
+use Rattle.link_replay.specs.Stands.{LinkStands, SentStands}
+use Rattle.link_replay.specs.declared.link.Link.{Link}
+use Rattle.link_replay.specs.declared.sent.Sent.{Sent as CodeSent}
+use Rattle.link_replay.proofs.Pairs.{numbered_at, partner, there_is}
 use Rattle.link_replay.proofs.Reaching.{reached_at}
 
 bytes_mark : (w : World) (k : ℕ) (who : Who) (content : Content) → bytes_by (record w { mark = k }) who content ≡ bytes_by w who content
@@ -47,3 +51,16 @@ module _ (m : Meaning) (served : ℕ → Bool) (w : World) (h : IsAt m served w)
 
   pub sound_at : SoundWorld w
   sound_at = let s = reached_sound m h.pages h.lawful h.bytes (record w { mark = 0 }) (reached_at m served w h) in record { addr = s.addr; conns = s.conns; sides = s.sides; sent = s.sent }
+
+-- the datagram at a number, as the code and the world have it
+pub record SentThere (w : World) (number : ℕ) (code : CodeSent) : Type 0 where
+  pub other : Sent
+  pub get : slice_get w.sent (number - 1) ≡ Some other
+  pub there : numbered w.sent number ≡ Some other
+  pub pair : SentStands w code other
+
+pub sent_there : (link : Link) (w : World) (number : ℕ) (code : CodeSent) → 0 < number → code ≡ get_or link.sent.items (number - 1) code → number - 1 < length link.sent.items
+    → LinkStands link w → SentThere w number code
+sent_there link w number code above read inside h =
+    let p = partner (SentStands w) link.sent.items w.sent (number - 1) code h.sent (there_is link.sent.items (number - 1) code read inside) in
+    record { other = p.other; get = p.get; there = numbered_at w.sent number above ∙ p.get; pair = p.pair }

@@ -16,7 +16,7 @@ use Rattle.link_world.proofs.Hearing.{same_hearing}
 use Rattle.uip_node.specs.Counters.{ticks_of}
 use Rattle.link_world.specs.Acts.{handed}
 use Rattle.link_world.specs.Bytes.{bytes_by, client_bytes}
-use Rattle.link_world.specs.World.{World, Side, numbered, epoch, era_of, becomes_opened, client_stepped, posts_of_client, with_client, with_side}
+use Rattle.link_world.specs.World.{World, Side, at_side, numbered, epoch, era_of, becomes_opened, client_stepped, posts_of_client, with_client, with_side}
 use Rattle.link_world.specs.World.Content.{OfSegment}
 use Rattle.link_world.specs.declared.who.Who.TheVariants.{FromClient}
 use Rattle.link_world.proofs.Tables.{get_set_same, set_same}
@@ -29,6 +29,7 @@ use Rattle.link_replay.specs.declared.sent.Sent.{Sent as CodeSent}
 use Rattle.link_replay.specs.Stands.{LinkStands, SideStands, SentStands, IsLink}
 use Rattle.link_replay.specs.declared.link.Link.{Link}
 use Rattle.link_replay.specs.declared.side.Side.{Side as CodeSide}
+use Rattle.link_replay.proofs.Pairs.{partner}
 use Rattle.link_replay.proofs.Places.{link_put, side_put}
 
 -- nothing is sent
@@ -145,6 +146,13 @@ module _ (link : Link) (w : World) (number n : ℕ) (old new : CodeSide) (s : Si
       (subst (λ (x : Setup). Sends x step.sent answer area) (sym (setup_stays step answer area p)) p.sent) in
       posted (with_side w number new_side) new_side step.sent
       (stands_too (record link { sides = with_item link.sides n new }) other (with_side w number new_side) a b (step_put step answer area p)) (numbered_new new_side) sends t
+
+-- what is done to the client at a number is done in the world
+pub done_at : (link after : Link) (w : World) (number n : ℕ) (old : CodeSide) (act : Side → World) → number ≡ suc n → LinkStands link w → slice_get link.sides.items n ≡ Some old
+    → ((s : Side) → slice_get w.sides n ≡ Some s → SideStands old s → LinkStands after (act s)) → LinkStands after (at_side w number act)
+done_at link after w number n old act is h at done =
+    let p = partner SideStands link.sides.items w.sides n old h.sides at in
+    subst (λ (x : Option Side). LinkStands after (option_map_or act x w)) (sym (ap (numbered w.sides) is ∙ p.get)) (done p.other p.get p.pair)
 
 stays : (st : ClientState) → becomes_opened st st ≡ false
 stays Idle = refl

@@ -1,5 +1,6 @@
 -- The world before the first line: the server, and the clients of a schedule.
-use Rattle.std.specs.Prelude.{◌≡◌, ℕ, suc, ◌+◌, ◌*◌, List, [], ◌∷◌, length, Some, slice_get}
+use Rattle.std.specs.List.{enumerate_from}
+use Rattle.std.specs.Prelude.{◌≡◌, ℕ, suc, ◌*◌, List, [], ◌∷◌, length, map, Some, slice_get}
 use Rattle.uip_wire.specs.declared.addr.Addr.{Addr}
 use Rattle.uip_wire.specs.declared.port.TheConstants.{WEB_PORT}
 use Rattle.link_client.specs.Calls.{IsClient}
@@ -30,8 +31,7 @@ planned number plan = record {
 
 -- clients in order, numbered from a number on
 abbrev pub plan_from : ℕ → List Plan → List Planned
-plan_from number [] = []
-plan_from number (plan ∷ plans) = planned number plan ∷ plan_from (number + 1) plans
+plan_from number plans = map (λ p. planned p.0 p.1) (enumerate_from number plans)
 
 -- every client idle, and no datagram sent
 abbrev pub opening_for : List ℕ → List Plan → World

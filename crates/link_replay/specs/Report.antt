@@ -71,10 +71,6 @@ client_line show number state len first_stale =
     codes "client " ++ decimal number ++ codes " " ++ state_word state ++ codes " " ++ decimal len ++ codes " "
     ++ clean_words show first_stale ++ codes "\n"
 
--- number, state, how many bytes of its page it received, and whether it is clean
-abbrev pub line_of_client : Bool → ℕ → Side → List ℕ
-line_of_client show number side = client_line show number side.client.state (length side.client.received) side.first_stale
-
 -- bytes as pairs of digits
 abbrev pub digits_or_dash : List ℕ → List ℕ
 digits_or_dash [] = codes "-"
@@ -83,9 +79,11 @@ digits_or_dash (byte ∷ bytes) = encode_lower (byte ∷ bytes)
 abbrev pub text_line : List ℕ → List ℕ
 text_line bytes = codes "text " ++ digits_or_dash bytes ++ codes "\n"
 
--- where all is shown, the bytes that a client received stand on a line of their own
+-- number, state, how many bytes of its page it received, and whether it is clean; where all is shown, these bytes stand on a line of
+-- their own
 abbrev pub lines_of_client : Bool → ℕ → Side → List ℕ
-lines_of_client show number side = line_of_client show number side ++ word_if show (text_line side.client.received)
+lines_of_client show number side =
+    client_line show number side.client.state (length side.client.received) side.first_stale ++ word_if show (text_line side.client.received)
 
 abbrev pub counts_line : ℕ → ℕ → List ℕ
 counts_line ticks datagrams = codes "ticks " ++ decimal ticks ++ codes " datagrams " ++ decimal datagrams ++ codes "\n"

@@ -1,6 +1,6 @@
 -- How far a client's request has come: what its steps add to what it said, and what a step of the connection takes of it. No
 -- premise on the other side.
-use Rattle.std.proofs.Common.{◌≡◌, ℕ, ◌+◌, ◌-◌, ◌<◌, ◌≤◌, min, Bool, true, false, not, ◌&&◌, ◌||◌, ◌⊎◌, inl, inr, List, length, length-append, drop, refl, sym, ap, ◌∙◌, arith, Some, eqb, ltb, length-take}
+use Rattle.std.proofs.Common.{◌≡◌, ℕ, ◌+◌, ◌-◌, ◌<◌, ◌≤◌, min, Bool, true, false, not, ◌&&◌, ◌||◌, ◌⊎◌, inl, inr, List, length, length-append, drop, refl, sym, ap, ◌∙◌, arith, Some, eqb, ltb, length-take, if◌then◌else◌}
 use Rattle.uip_wire.specs.Numbers.{wrap}
 use Rattle.tcp_segment.specs.Segments.{PlainSegment, has_syn, has_fin, has_rst, has_ack}
 use Rattle.rexmit_timer.specs.declared.timer.Beat.{Beat}
@@ -15,7 +15,7 @@ use Rattle.tcp_machine.specs.Ask.{Outcome, ask, asked, prepared}
 use Rattle.tcp_machine.specs.OnSegment.{is_out_of_order, is_acked, has_text, hears, connects, in_established, peer_closes, goes_on, fin_acked, fin_waits, in_fin_wait_2, by_state, on_segment}
 use Rattle.tcp_machine.specs.OnTick.{by_beat, on_tick}
 use Rattle.tcp_machine.specs.declared.step.Step.{Step}
-use Rattle.link_client.specs.Client.{AbstractClient, ClientStep, ack_of, client_aborts, client_again, client_closes, client_opens, client_takes, fin_heard, fin_out, fin_sent, has_outstanding, hears_ack, is_receiving, keeps, may_finish, next_own, one_if, opened_by, own_fin, own_first, own_request, own_reset, sends_next, steps_with, syn_of, takes_in_order, takes_text, tells_window}
+use Rattle.link_client.specs.Client.{AbstractClient, ClientStep, ack_of, client_aborts, client_again, client_closes, client_opens, client_takes, fin_out, fin_sent, has_outstanding, hears_ack, is_receiving, keeps, may_finish, next_own, one_if, opened_by, own_fin, own_first, own_request, own_reset, sends_next, steps_with, syn_of, takes_in_order, takes_text, tells_window}
 use Rattle.link_client.specs.declared.client_state.ClientState.{ClientState}
 use Rattle.link_client.specs.declared.client_state.ClientState.TheVariants as Is
 use Rattle.link_client.specs.declared.fin_at.FinAt.{FinAt}
@@ -134,7 +134,7 @@ as_asked c d s t u b f a g = record {
 keeps_asked : (c d : AbstractClient) (s : PlainSegment) → used d ≡ used c → asked_bytes d ≡ asked_bytes c → own_first d ≡ own_first c → d.acked ≡ c.acked → AsksOn c s (keeps d)
 keeps_asked c d s u b f a = record { more = omega (arith, u); further = omega (arith, b); acked = inl a; first = f; early = λ y. u; ends = λ st x p. absurd (cc) }
 
-fin_stays : (f : FinAt) → fin_sent (fin_heard f) ≡ fin_sent f
+fin_stays : (f : FinAt) → fin_sent (if fin_out f then FinAt.Acked else f) ≡ fin_sent f
 fin_stays FinAt.NotSent = refl
 fin_stays FinAt.Out = refl
 fin_stays FinAt.Acked = refl

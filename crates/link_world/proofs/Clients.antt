@@ -7,7 +7,7 @@ use Rattle.app_events.specs.Part.{Moment, Meaning}
 use Rattle.app_events.specs.Pages.{Pages, IsPaged, IsMoment}
 use Rattle.tcp_machine.specs.Connection.{Connection, is_live}
 use Rattle.tcp_machine.specs.Segments.{has_place}
-use Rattle.link_client.specs.Client.{AbstractClient, ClientStep, sends_next, has_outstanding, is_receiving, may_finish, has_closed, own_request, ack_of, syn_of, own_fin, own_reset, keeps, steps_with, hears_ack, fin_heard, fin_sent, fin_out, takes_in_order, takes_text, takes_by, client_takes, is_reset_by, opened_by, opens_by, again_by, closes_by, aborts_by, after_fin, one_if, next_own, own_first}
+use Rattle.link_client.specs.Client.{AbstractClient, ClientStep, sends_next, has_outstanding, is_receiving, may_finish, has_closed, own_request, ack_of, syn_of, own_fin, own_reset, keeps, steps_with, hears_ack, fin_sent, fin_out, takes_in_order, takes_text, takes_by, client_takes, is_reset_by, opened_by, opens_by, again_by, closes_by, aborts_by, after_fin, one_if, next_own, own_first}
 use Rattle.link_client.specs.declared.client_state.ClientState.{ClientState}
 use Rattle.link_client.specs.declared.client_state.ClientState.TheVariants as Is
 use Rattle.link_client.specs.declared.fin_at.FinAt.{FinAt}
@@ -114,7 +114,7 @@ module _ (m : Meaning) (pages : Pages) (lawful : IsPaged m pages) (past : List E
   hears_ack_is : (c : AbstractClient) (s : PlainSegment) → c.acked + c.out ≤ length c.request → Hearing c (hears_ack c s)
   hears_ack_is c s h =
       choose (λ x. Hearing c x) (has_ack s.flags && (has_outstanding c && eqb s.ack (next_own c))) _ _
-      (λ e. record { acked = c.acked + c.out; out = 0; fin = fin_heard c.fin; is = refl; fits = omega arith })
+      (λ e. record { acked = c.acked + c.out; out = 0; fin = (if fin_out c.fin then FinAt.Acked else c.fin); is = refl; fits = omega arith })
       (λ e. record { acked = c.acked; out = c.out; fin = c.fin; is = refl; fits = h })
 
   -- text and FIN at the expected number

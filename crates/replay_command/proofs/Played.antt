@@ -10,7 +10,8 @@ use Rattle.web_pages.specs.Pages.{pages_of}
 use Rattle.web_pages.specs.WebMeaning.{web_meaning}
 use Rattle.web_pages.proofs.PageLaws.{keeps_page_laws}
 use Rattle.link_schedule.specs.Answer.{ReadsSchedule}
-use Rattle.link_schedule.specs.Reading.{SchedulePlan, read_text}
+use Rattle.std.specs.Prelude.{MatchResult}
+use Rattle.link_schedule.specs.Reading.{BadText, SchedulePlan, read_text}
 use Rattle.link_schedule.specs.declared.read_schedule.ReadSchedule.{ReadSchedule}
 use Rattle.link_schedule.specs.declared.read_schedule.ReadSchedule.TheVariants.{Bad, NoMemory}
 use Rattle.link_world.specs.Headline.{HasBytes}
@@ -81,22 +82,16 @@ module _ (site : SiteContent) (loaded : IsLoaded site) (bytes : All IsByte site.
         (subst (λ (h : List ℕ). Refuses content.lines (outcome_from h (files_of site) content) line why) none refuses, refl) in
         inl (bad_schedule line why, ends.BadSchedule line why, due, wrote)
 
--- what is due for the schedule that a text spells is due for the text
-text_due : (files : List File) (bytes : List ℕ) (content : SchedulePlan) (show : Bool) → read_text bytes ≡ Ok content → (text : List ℕ) (end : ReplayEnd)
-    → IsPlayDue files content (Report show) text end → IsTextDue files bytes show text end
-text_due files bytes content show reads text ends.Done due = record {
-  world = due.world;
-  played = record { content = content; reads = reads; plays = due.plays };
-  told = due.told;
-  promises = due.promises;
-}
-text_due files bytes content show reads text (ends.BadSchedule line why) due = (inr (record { content = content; reads = reads; refuses = due.0 }), due.1)
-text_due files bytes content show reads text _ due = absurd due
+-- what is due where a text reads so
+abbrev ReadDue : List File → Bool → List ℕ → ReplayEnd → Result SchedulePlan BadText → Type 0
+ReadDue files show text end r =
+    MatchResult r (λ content. IsPlayDue files content (Report show) text end) (λ bad. (end ≡ ends.BadSchedule bad.line bad.why) × (text ≡ bad_schedule bad.line bad.why))
 
 pub text_answers : (files : List File) (bytes : List ℕ) (content : SchedulePlan) (show : Bool) → read_text bytes ≡ Ok content
     → (old new : SinkTold) (result : ReplayEnd) → WritesDue (IsPlayDue files content (Report show)) old new result
     → WritesDue (IsTextDue files bytes show) old new result
-text_answers files bytes content show reads old new result (inl told) = inl (told.0, told.1, text_due files bytes content show reads told.0 told.1 told.2, told.3)
+text_answers files bytes content show reads old new result (inl told) =
+    inl (told.0, told.1, subst (ReadDue files show told.0 told.1) {x = Ok content} (sym reads) told.2, told.3)
 text_answers files bytes content show reads old new result (inr short) = inr short
 
 -- the text does not read, and its first bad line is told
@@ -106,4 +101,9 @@ pub text_refused : (files : List File) (bytes : List ℕ) (show : Bool) (fault :
 text_refused files bytes show NoMemory reads old new result short = inr short
 text_refused files bytes show (Bad line why) reads old new result (inr short) = inr short
 text_refused files bytes show (Bad line why) reads old new result (inl wrote) =
-    inl (bad_schedule line why, ends.BadSchedule line why, (inl reads, refl), wrote)
+    inl (
+      bad_schedule line why,
+      ends.BadSchedule line why,
+      subst (ReadDue files show (bad_schedule line why) (ends.BadSchedule line why)) {x = Err (record { line = line; why = why })} (sym reads) (refl, refl),
+      wrote,
+    )

@@ -1,6 +1,6 @@
 -- The front of a text that is read of its file shows all that the whole text does.
-use Rattle.std.proofs.Common.{◌≡◌, ℕ, ◌+◌, List, length, take, Ok, Err, Option, Some, None, sym, ap, ◌∙◌, inl, inr, Bool, arith}
-use Rattle.std.specs.Prelude.{IsSomeAnd, nat_le, ◌==◌, if◌then◌else◌}
+use Rattle.std.proofs.Common.{◌≡◌, ℕ, ◌+◌, List, length, take, Result, Ok, Err, Option, Some, None, refl, sym, ap, subst, ◌∙◌, inl, inr, Bool, arith}
+use Rattle.std.specs.Prelude.{IsSomeAnd, nat_le, ◌==◌, if◌then◌else◌, MatchResult, ⊤}
 use Rattle.std.specs.List.{slice_split}
 use Rattle.std.proofs.lemmas.Bool.{cases_lt, lt-leb}
 use Rattle.std.proofs.lemmas.List.{take_all, length-take-le}
@@ -8,13 +8,13 @@ use Rattle.file_tree.specs.Loading.{HoldsFile}
 use Rattle.site_image.specs.Files.{File}
 use Rattle.file_tree.specs.Opening.{IsRead, site_read}
 use Rattle.uip_edge.specs.Shelving.{Files}
-use Rattle.link_world.specs.World.{World}
-use Rattle.link_schedule.specs.Reading.{nothing_yet, read_lines, read_text}
-use Rattle.link_schedule.specs.declared.why.Why.{Why}
+use Rattle.link_schedule.specs.Reading.{BadText, SchedulePlan, nothing_yet, read_lines, read_text}
 use Rattle.link_schedule.specs.declared.why.Why.TheVariants.{Long}
-use Rattle.replay_command.specs.Playing.{IsFirstBad, IsPlayed}
+use Rattle.replay_command.specs.Playing.{bad_schedule}
 use Rattle.replay_command.specs.Ending.{IsReplayText}
-use Rattle.replay_command.specs.Telling.{IsTextDue}
+use Rattle.replay_command.specs.Telling.{IsPlayDue, IsTextDue}
+use Rattle.replay_command.specs.declared.telling.Telling.{Telling}
+use Rattle.replay_command.specs.declared.telling.Telling.TheVariants.{Report}
 use Rattle.replay_command.specs.declared.replay_end.ReplayEnd.{ReplayEnd}
 use Rattle.replay_command.specs.declared.replay_end.ReplayEnd.TheVariants as ends
 
@@ -34,14 +34,6 @@ pub text_front : (content : List ℕ) → read_text (take 4194305 content) ≡ r
 unfolding read_text
 text_front content = cut_at 4194304 (λ t. read_lines 1 nothing_yet (slice_split (λ c. c == 10) t)) (Err (record { line = 0; why = Long })) content
 
--- what one text does, another does that reads alike
-played_alike : (files : List File) (s t : List ℕ) (w : World) → read_text s ≡ read_text t → IsPlayed files s w → IsPlayed files t w
-played_alike files s t w e h = record { content = h.content; reads = sym e ∙ h.reads; plays = h.plays }
-
-bad_alike : (files : List File) (s t : List ℕ) (line : ℕ) (why : Why) → read_text s ≡ read_text t → IsFirstBad files s line why → IsFirstBad files t line why
-bad_alike files s t line why e (inl bad) = inl (sym e ∙ bad)
-bad_alike files s t line why e (inr refused) = inr (record { content = refused.content; reads = sym e ∙ refused.reads; refuses = refused.refuses })
-
 -- another fact of a file's content
 holds_content : (P Q : List ℕ → Type 0) → ((content : List ℕ) → P content → Q content) → (o : Option (List ℕ)) → IsSomeAnd o P → IsSomeAnd o Q
 holds_content P Q f None h = h
@@ -58,24 +50,42 @@ IsFrontOf bytes content = bytes ≡ take 4194305 content
 reads_alike : (bytes content : List ℕ) → IsFrontOf bytes content → read_text bytes ≡ read_text content
 reads_alike bytes content e = ap read_text e ∙ text_front content
 
+-- an end that goes with the text of a schedule
+abbrev IsPlayEnd : ReplayEnd → Type 0
+IsPlayEnd ends.Done = ⊤
+IsPlayEnd (ends.BadSchedule line why) = ⊤
+IsPlayEnd _ = ⊥
+
+play_ends : (files : List File) (content : SchedulePlan) (telling : Telling) (text : List ℕ) (end : ReplayEnd) → IsPlayDue files content telling text end → IsPlayEnd end
+play_ends files content telling text ends.Done due = tt
+play_ends files content telling text (ends.BadSchedule line why) due = tt
+play_ends files content telling text _ due = due
+
+pub text_ends : (files : List File) (bytes : List ℕ) (show : Bool) (text : List ℕ) (end : ReplayEnd) → IsTextDue files bytes show text end → IsPlayEnd end
+text_ends files bytes show text end due = go (read_text bytes) due
+  where
+    go : (r : Result SchedulePlan BadText) → MatchResult r (λ content. IsPlayDue files content (Report show) text end) (λ bad. (end ≡ ends.BadSchedule bad.line bad.why) × (text ≡ bad_schedule bad.line bad.why)) → IsPlayEnd end
+    go (Ok content) p = play_ends files content (Report show) text end p
+    go (Err bad) p = subst IsPlayEnd (sym p.0) tt
+
+-- the shelf's files, and the content whose front was read
+record Held (held : Option Files) (schedule : List ℕ) (files : List File) (show : Bool) (text : List ℕ) (end : ReplayEnd) : Type 0 where
+  bytes : List ℕ
+  holds : HoldsFile held schedule (λ content. content ≡ bytes)
+  due : IsTextDue files bytes show text end
+
+held_text : (held : Option Files) (schedule : List ℕ) (files : List File) (show : Bool) (bytes text : List ℕ) (end : ReplayEnd)
+    → HoldsFile held schedule (IsFrontOf bytes) → IsTextDue files bytes show text end → Held held schedule files show text end
+held_text None schedule files show bytes text end front due = record { bytes = bytes; holds = tt; due = due }
+held_text (Some named) schedule files show bytes text end front due = let h = go (named schedule) front in record { bytes = h.0; holds = h.1; due = h.2 }
+  where
+    go : (o : Option (List ℕ)) → IsSomeAnd o (IsFrontOf bytes) → (content : List ℕ) × IsSomeAnd o (λ c. c ≡ content) × IsTextDue files content show text end
+    go None f = absurd f
+    go (Some content) f =
+        (content, refl, subst (λ r. MatchResult r (λ c. IsPlayDue files c (Report show) text end) (λ bad. (end ≡ ends.BadSchedule bad.line bad.why) × (text ≡ bad_schedule bad.line bad.why))) (reads_alike bytes content f) due)
+
 -- what is due for the bytes that were read is due for the shelf's files
 pub is_text : (site schedule : List ℕ) (show : Bool) (held : Option Files) (files : List File) (bytes text : List ℕ) (end : ReplayEnd) → IsRead (site_read site) held (Ok files)
     → HoldsFile held schedule (IsFrontOf bytes) → IsTextDue files bytes show text end → IsReplayText site schedule show held text end
-is_text site schedule show held files bytes text ends.Done read front due = record {
-  files = files;
-  world = due.world;
-  read = read;
-  played = holds_file (IsFrontOf bytes) (λ content. IsPlayed files content due.world)
-      (λ content e. played_alike files bytes content due.world (reads_alike bytes content e) due.played) held schedule front;
-  told = due.told;
-  promises = due.promises;
-}
-is_text site schedule show held files bytes text (ends.BadSchedule line why) read front due = (
-  files,
-  read,
-  holds_file (IsFrontOf bytes) (λ content. IsFirstBad files content line why)
-      (λ content e. bad_alike files bytes content line why (reads_alike bytes content e) due.0) held schedule front,
-  due.1,
-)
-is_text site schedule show held files bytes text (ends.BadSite error) read front due = absurd due
-is_text site schedule show held files bytes text _ read front due = absurd due
+is_text site schedule show held files bytes text (ends.BadSite error) read front due = absurd (text_ends files bytes show text (ends.BadSite error) due)
+is_text site schedule show held files bytes text end read front due = let h = held_text held schedule files show bytes text end front due in (files, h.bytes, read, h.holds, h.due)

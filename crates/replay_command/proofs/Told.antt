@@ -13,7 +13,7 @@ use Rattle.replay_command.specs.declared.replay_end.ReplayEnd.{ReplayEnd}
 use Rattle.replay_command.specs.declared.replay_end.ReplayEnd.TheVariants as ends
 use Rattle.replay_command.specs.declared.telling.Telling.TheVariants.{Summary}
 use Rattle.workload.specs.Workload.{workload_of}
-use Rattle.replay_command.proofs.Texts.{IsFrontOf, holds_file, is_text}
+use Rattle.replay_command.proofs.Texts.{IsFrontOf, holds_file, is_text, text_ends}
 use Rattle.uip_edge.specs.Told.{WorkTold}
 use Rattle.uip_edge.specs.Writing.{WritesEnd, WritesAll}
 
@@ -55,7 +55,9 @@ module _ (site schedule : List ℕ) (show : Bool) (old new : WorkTold) (held : n
   only_text text ends.Done is = tt
   only_text text (ends.BadSite error) is = tt
   only_text text (ends.BadSchedule line why) is = tt
-  only_text text _ is = absurd is
+  only_text text ends.ShelfFault is = absurd (text_ends is.0 is.1 show text ends.ShelfFault is.4)
+  only_text text ends.WriteFault is = absurd (text_ends is.0 is.1 show text ends.WriteFault is.4)
+  only_text text ends.NoMemory is = absurd (text_ends is.0 is.1 show text ends.NoMemory is.4)
 
   -- the bytes that were read of the schedule's file
   pub schedule_ends : (files : List File) (bytes : List ℕ) (result : ReplayEnd) → IsRead (site_read site) old.shelf.held (Ok files) → HoldsFile old.shelf.held schedule (IsFrontOf bytes)

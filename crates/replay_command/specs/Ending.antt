@@ -7,11 +7,7 @@ use Rattle.site_commands.specs.Report.{bad_line}
 use Rattle.uip_edge.specs.Causes.{Rose}
 use Rattle.uip_edge.specs.Shelving.{Files, IsMissing}
 use Rattle.uip_edge.specs.Writing.{WritesAll, WritesFront}
-use Rattle.link_world.specs.World.{World}
-use Rattle.link_replay.specs.Report.{report}
-use Rattle.replay_command.specs.Playing.{IsFirstBad, IsPlayed, bad_schedule}
-use Rattle.replay_command.specs.Promises.{KeepsPromises}
-use Rattle.replay_command.specs.Telling.{IsPlayDue}
+use Rattle.replay_command.specs.Telling.{IsPlayDue, IsTextDue}
 use Rattle.replay_command.specs.declared.replay_end.ReplayEnd.{ReplayEnd}
 use Rattle.replay_command.specs.declared.replay_end.ReplayEnd.TheVariants as ends
 use Rattle.replay_command.specs.declared.telling.Telling.TheVariants.{Summary}
@@ -46,24 +42,14 @@ EndsWith Is Missing old new ends.ShelfFault = Lacks (Missing old.shelf.held) old
 EndsWith Is Missing old new ends.NoMemory = new ≡ old
 EndsWith Is Missing old new end = Told (Is old.shelf.held) old new end
 
--- The text that is due for these files, with the end that goes with it. For a schedule that is played to its end it is the report of the
--- world that is reached, of which the promises are kept.
-pub record IsReport (site schedule : List ℕ) (show : Bool) (held : Option Files) (text : List ℕ) : Type 0 where
-  pub files : List File
-  pub world : World
-  pub read : IsRead (site_read site) held (Ok files)
-  pub played : HoldsFile held schedule (λ bytes. IsPlayed files bytes world)
-  pub told : text ≡ report show world
-  pub promises : KeepsPromises files world
-
+-- The text that is due for these files, with the end that goes with it: the line of a bad image, or what the site's server and the
+-- schedule's text give.
 abbrev pub IsReplayText : List ℕ → List ℕ → Bool → Option Files → List ℕ → ReplayEnd → Type 0
-IsReplayText site schedule show held text ends.Done = IsReport site schedule show held text
 IsReplayText site schedule show held text (ends.BadSite error) =
     IsRead (site_read site) held (Err error) × HoldsFile held schedule (λ bytes. ⊤) × (text ≡ bad_line error)
-IsReplayText site schedule show held text (ends.BadSchedule line why) =
-    (files : List File) × IsRead (site_read site) held (Ok files)
-    × HoldsFile held schedule (λ bytes. IsFirstBad files bytes line why) × (text ≡ bad_schedule line why)
-IsReplayText site schedule show held text _ = ⊥
+IsReplayText site schedule show held text end =
+    (files : List File) × (bytes : List ℕ) × IsRead (site_read site) held (Ok files) × HoldsFile held schedule (λ content. content ≡ bytes)
+    × IsTextDue files bytes show text end
 
 -- the shelf tells its files, and lacks the site or the schedule
 abbrev pub LacksEither : List ℕ → List ℕ → Option Files → Type 0

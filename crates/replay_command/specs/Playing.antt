@@ -1,5 +1,5 @@
 -- What a schedule's text does with the web server of a site.
-use Rattle.std.specs.Prelude.{◌≡◌, ◌⊎◌, ◌++◌, ℕ, List, codes, decimal, map, Result, Ok, Err}
+use Rattle.std.specs.Prelude.{◌≡◌, ◌++◌, ℕ, List, codes, decimal, map, Result, Ok}
 use Rattle.site_image.specs.Files.{File}
 use Rattle.web_pages.specs.Serving.{is_served, no_hits}
 use Rattle.web_pages.specs.WebMeaning.{web_meaning}
@@ -9,7 +9,7 @@ use Rattle.link_schedule.specs.Reading.{SchedulePlan, read_text}
 use Rattle.link_schedule.specs.declared.why.Why.{Why}
 use Rattle.link_schedule.specs.declared.why.Why.TheVariants as why
 use Rattle.link_replay.specs.Opening.{opening_for}
-use Rattle.link_replay.specs.Playing.{event_at, Refuses}
+use Rattle.link_replay.specs.Playing.{event_at}
 
 -- what the lines reach from the opening world on, or the first that is refused
 abbrev pub outcome : List File → SchedulePlan → Result World BadLine
@@ -20,15 +20,6 @@ pub record IsPlayed (files : List File) (text : List ℕ) (w : World) : Type 0 w
   pub content : SchedulePlan
   pub reads : read_text text ≡ Ok content
   pub plays : outcome files content ≡ Ok w
-
--- this line of the text is the first that does not read, or else the first that is refused
-pub record IsRefused (files : List File) (text : List ℕ) (line : ℕ) (reason : Why) : Type 0 where
-  pub content : SchedulePlan
-  pub reads : read_text text ≡ Ok content
-  pub refuses : Refuses content.lines (outcome files content) line reason
-
-abbrev pub IsFirstBad : List File → List ℕ → ℕ → Why → Type 0
-IsFirstBad files text line reason = (read_text text ≡ Err (record { line = line; why = reason })) ⊎ IsRefused files text line reason
 
 -- the word of a reason
 abbrev pub reason_word : Why → List ℕ

@@ -1,16 +1,16 @@
 -- What the sink gets of a text, and how a replay ends with it.
-use Rattle.std.specs.Prelude.{◌≡◌, ◌⊎◌, ℕ, Bool, List, Ok}
+use Rattle.std.specs.Prelude.{◌≡◌, ◌⊎◌, ℕ, Bool, List, MatchResult, Ok}
 use Rattle.site_image.specs.Files.{File}
 use Rattle.uip_edge.specs.Told.{SinkTold}
 use Rattle.uip_edge.specs.Writing.{WritesEnd}
 use Rattle.link_world.specs.World.{World}
-use Rattle.link_schedule.specs.Reading.{SchedulePlan}
+use Rattle.link_schedule.specs.Reading.{BadText, SchedulePlan, read_text}
 use Rattle.link_schedule.specs.declared.read_schedule.ReadSchedule.{ReadSchedule}
 use Rattle.link_schedule.specs.declared.read_schedule.ReadSchedule.TheVariants.{Bad, NoMemory}
 use Rattle.link_replay.specs.Playing.{Refuses}
 use Rattle.link_replay.specs.Report.{report}
 use Rattle.link_replay.specs.Summary.{summary_of}
-use Rattle.replay_command.specs.Playing.{IsFirstBad, IsPlayed, bad_schedule, outcome}
+use Rattle.replay_command.specs.Playing.{bad_schedule, outcome}
 use Rattle.replay_command.specs.Promises.{KeepsPromises}
 use Rattle.replay_command.specs.declared.replay_end.ReplayEnd.{ReplayEnd}
 use Rattle.replay_command.specs.declared.replay_end.ReplayEnd.TheVariants as ends
@@ -37,18 +37,12 @@ IsPlayDue files content telling text (ends.BadSchedule line why) =
     Refuses content.lines (outcome files content) line why × (text ≡ bad_schedule line why)
 IsPlayDue files content telling text _ = ⊥
 
--- the schedule's text is played to its end by the server of these files, and this reports the world that is reached
-pub record IsPlayReport (files : List File) (bytes : List ℕ) (show : Bool) (text : List ℕ) : Type 0 where
-  pub world : World
-  pub played : IsPlayed files bytes world
-  pub told : text ≡ report show world
-  pub promises : KeepsPromises files world
-
--- the text that is due with an end, for the files of a site and the text of a schedule
+-- The text that is due with an end, for the files of a site and the text of a schedule: what is due for the schedule that the text
+-- spells, or the line of its first bad line.
 abbrev pub IsTextDue : List File → List ℕ → Bool → List ℕ → ReplayEnd → Type 0
-IsTextDue files bytes show text ends.Done = IsPlayReport files bytes show text
-IsTextDue files bytes show text (ends.BadSchedule line why) = IsFirstBad files bytes line why × (text ≡ bad_schedule line why)
-IsTextDue files bytes show text _ = ⊥
+IsTextDue files bytes show text end =
+    MatchResult (read_text bytes) (λ content. IsPlayDue files content (Report show) text end)
+    (λ bad. (end ≡ ends.BadSchedule bad.line bad.why) × (text ≡ bad_schedule bad.line bad.why))
 
 -- memory was wanting, and nothing was written
 abbrev pub IsShort : SinkTold → SinkTold → ReplayEnd → Type 0

@@ -1,7 +1,7 @@
 -- What the schedule that a number makes keeps.
 use Rattle.std.proofs.Common.{◌≡◌, ℕ, suc, zero, ◌+◌, ◌-◌, ◌*◌, ◌/◌, ◌%◌, ◌<◌, ◌≤◌, ◌==◌, ◌&&◌, ◌||◌, nat_le, Bool, true, false, not, List, [], ◌∷◌, ◌++◌, length, map, replicate, refl, sym, ap, subst, arith, ◌∙◌, if◌then◌else◌, Result, Ok, Err, OnOk}
 use Rattle.std.proofs.lemmas.Grind.{common_steps}
-use Rattle.std.specs.Prelude.{flat_map}
+use Rattle.std.specs.Prelude.{codes, flat_map}
 use Rattle.std.specs.List.{list_all, list_any, range_with_len}
 use Rattle.std.specs.Str.{bytes_eq}
 use Rattle.std.proofs.lemmas.List.{length-append}
@@ -17,7 +17,7 @@ use Rattle.link_schedule.specs.declared.line.Line.{Line}
 use Rattle.link_schedule.specs.Clients.{Plan}
 use Rattle.link_schedule.specs.Reading.{SchedulePlan, meets}
 use Rattle.link_schedule.specs.Kept.{Keeps, are_apart, client_in_range, event_in_range, is_between}
-use Rattle.workload.specs.Workload.{client_of, event_drawn, events_of, happens, numbered_from, request_by, words_from, workload_of}
+use Rattle.workload.specs.Workload.{client_of, event_drawn, events_of, happens, numbered_from, words_from, workload_of}
 
 pub on_ok_by : {T E P Q : Type 0} (r : Result T E) → (P → Q) → OnOk r P → OnOk r Q
 on_ok_by (Ok x) f p = f p
@@ -58,6 +58,10 @@ all_apart a zero = refl
 all_apart a (suc m) =
     both (not (list_any (λ later. meets (client_of a) later) (map client_of (range_with_len (a + 1) m)))) (are_apart (map client_of (range_with_len (a + 1) m)))
     (ap not (no_meeting a (a + 1) m (omega arith))) (all_apart (a + 1) m)
+
+-- the page that a client asks for
+abbrev request_by : Bool → List ℕ
+request_by odd = if odd then codes "GET / HTTP/1.0\r\n\r\n" else codes "GET /stats.shtml HTTP/1.0\r\n\r\n"
 
 request_fits : (odd : Bool) → is_between 1 4096 (length (request_by odd)) ≡ true
 request_fits true = refl

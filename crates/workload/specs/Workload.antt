@@ -1,6 +1,6 @@
 -- The schedule that a number makes.
 use Rattle.std.specs.Prelude.{ℕ, ◌+◌, ◌/◌, ◌%◌, ◌==◌, Bool, List, [], ◌∷◌, ◌++◌, map, flat_map, replicate, if◌then◌else◌, codes, slice_get, unwrap_or}
-use Rattle.std.specs.List.{range_with_len}
+use Rattle.std.specs.List.{enumerate_from, range_with_len}
 use Rattle.rand_core.specs.Steps.{first_words}
 use Rattle.rand_pcg.specs.Lcg.{increment_of, started}
 use Rattle.rand_pcg.specs.Pcg.{multiplier_64, pcg32}
@@ -10,16 +10,13 @@ use Rattle.link_schedule.specs.declared.line.Line.{Line}
 use Rattle.link_schedule.specs.Clients.{Plan}
 use Rattle.link_schedule.specs.Reading.{SchedulePlan}
 
--- the page that a client asks for: an odd one the front page, an even one the script
-abbrev pub request_by : Bool → List ℕ
-request_by odd = if odd then codes "GET / HTTP/1.0\r\n\r\n" else codes "GET /stats.shtml HTTP/1.0\r\n\r\n"
-
--- client k, at 10.0.1.k and port 1024 + k: an odd one tells no segment size, an even one tells 200
+-- client k, at 10.0.1.k and port 1024 + k: an odd one tells no segment size, and asks for the front page; an even one tells 200, and
+-- asks for the script
 abbrev pub client_of : ℕ → Plan
 client_of k = record {
   side =
       record { addr = record { 0 = 10 ∷ 0 ∷ 1 ∷ k ∷ [] }; port = record { 0 = 1024 + k }; mss = if k % 2 == 1 then 0 else 200; seg = 16 };
-  request = request_by (k % 2 == 1);
+  request = if k % 2 == 1 then codes "GET / HTTP/1.0\r\n\r\n" else codes "GET /stats.shtml HTTP/1.0\r\n\r\n";
 }
 
 -- three of eight words let all through, and the others disturb the link
@@ -42,8 +39,7 @@ events_of seed clients =
 
 -- lines from a number on
 abbrev pub numbered_from : ℕ → List Event → List Line
-numbered_from number [] = []
-numbered_from number (event ∷ events) = record { at = number; event = event } ∷ numbered_from (number + 1) events
+numbered_from number events = map (λ p. record { at = p.0; event = p.1 }) (enumerate_from number events)
 
 -- the lines stand behind those of the clients
 abbrev pub workload_of : ℕ → ℕ → SchedulePlan

@@ -1,8 +1,8 @@
-ghost use Rattle.std.specs.Prelude.{◌≡◌, ◌≤◌, IfOk, if◌then◌else◌, map};
+ghost use Rattle.std.specs.Prelude.{◌≡◌, ◌≤◌, IfOk, codes, if◌then◌else◌, map};
 ghost use Rattle.std.specs.List.{range_with_len};
 ghost use Rattle.link_schedule.specs.Answer.{content_at};
 ghost use Rattle.link_schedule.specs.Stands.{plan_at};
-ghost use Rattle.workload.specs.Workload.{client_of as client_meant, request_by as request_meant, workload_of};
+ghost use Rattle.workload.specs.Workload.{client_of as client_meant, workload_of};
 
 use crate::events::{lines_from, push_drawn, push_opens, push_rounds};
 use link_schedule::{ClientPlan, Schedule};
@@ -61,7 +61,7 @@ fn client_of(alloc: Global, number: u8) -> Result<ClientPlan, NoMemory>
 
 /// The page that a client asks for.
 fn request_by(odd: bool) -> &'static [u8]
-    ensures { result.now ≡ request_meant odd }
+    ensures { result.now ≡ (if odd then codes "GET / HTTP/1.0\r\n\r\n" else codes "GET /stats.shtml HTTP/1.0\r\n\r\n") }
 {
     if odd {
         b"GET / HTTP/1.0\r\n\r\n"

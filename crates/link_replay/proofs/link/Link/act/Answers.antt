@@ -1,10 +1,7 @@
-use Rattle.std.proofs.Common.{◌≡◌, ℕ, ◌-◌, suc, Option, refl, sym, ap, ◌∙◌, arith, subst, length, List, ◌≤◌}
-use Rattle.std.specs.Option.{option_map_or}
-use Rattle.link_world.specs.World.{World, Side, client_stepped, numbered}
+use Rattle.std.proofs.Common.{◌≡◌, ℕ, ◌-◌, suc, refl, sym, ap, ◌∙◌, arith, subst, length, List, ◌≤◌}
+use Rattle.link_world.specs.World.{client_stepped}
 use Rattle.link_replay.specs.Owning.{own_step}
-use Rattle.link_replay.specs.Stands.{LinkStands, SideStands}
-use Rattle.link_replay.specs.declared.side.Side.{Side as CodeSide}
-use Rattle.link_replay.proofs.Pairs.{there_is, partner}
+use Rattle.link_replay.proofs.Pairs.{there_is}
 use Rattle.link_replay.proofs.Sending
 use Rattle.link_replay.proofs.link.Link.act.Goals as goal
 
@@ -33,8 +30,7 @@ pub returns-clause-acted : goal.returns-clause-acted
 returns-clause-acted c = λ w h t.
     let n : ℕ = c.from-place.result - 1 in
     let is : c.args.number ≡ suc n = omega arith in
-    let old : CodeSide = c.index_mut.result.now in
-    let p = partner SideStands c.args.self.now.sides.items w.sides n old h.sides (there_is c.args.self.now.sides.items n old c.index_mut.ensures.value (omega arith)) in
-    subst (λ (x : Option Side). LinkStands c.post_front.new.self (option_map_or (λ o. client_stepped w c.args.number o (own_step c.args.own o.client)) x w)) (sym (ap (numbered w.sides) is ∙ p.get))
-    (Sending.step_posted c.args.self.now w c.args.number n old c.act-sent.new.self p.other is h p.get p.pair c.act-sent.ensures.setup (own_step c.args.own p.other.client) c.act-sent.result c.act-sent.new.area
-    _ c.post_front.new.self c.args.tick (c.act-sent.ensures.step p.other p.pair) refl refl (Sending.area_is c.act-sent.new.area c.args.self.now.area.items c.args.self.now.area.len (c.act-sent.ensures.room ∙ ap length c.as_mut_slice.ensures.value) (sym c.as_mut_slice.ensures.len ∙ ap length c.as_mut_slice.ensures.value)) c.in_ok-post_front.ensures.posted t)
+    Sending.done_at c.args.self.now c.post_front.new.self w c.args.number n c.index_mut.result.now (λ s. client_stepped w c.args.number s (own_step c.args.own s.client)) is h
+    (there_is c.args.self.now.sides.items n c.index_mut.result.now c.index_mut.ensures.value (omega arith))
+    (λ s g o. Sending.step_posted c.args.self.now w c.args.number n c.index_mut.result.now c.act-sent.new.self s is h g o c.act-sent.ensures.setup (own_step c.args.own s.client) c.act-sent.result c.act-sent.new.area
+    _ c.post_front.new.self c.args.tick (c.act-sent.ensures.step s o) refl refl (Sending.area_is c.act-sent.new.area c.args.self.now.area.items c.args.self.now.area.len (c.act-sent.ensures.room ∙ ap length c.as_mut_slice.ensures.value) (sym c.as_mut_slice.ensures.len ∙ ap length c.as_mut_slice.ensures.value)) c.in_ok-post_front.ensures.posted t)

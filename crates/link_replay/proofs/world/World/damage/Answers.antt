@@ -12,7 +12,8 @@ use Rattle.link_replay.specs.Stands.{SentStands, WorldStands}
 use Rattle.link_replay.specs.Telling.{AnswersTo}
 use Rattle.link_replay.specs.declared.sent.Sent.{Sent as CodeSent}
 use Rattle.link_replay.proofs.Damaging.{damage_answers}
-use Rattle.link_replay.proofs.Pairs.{numbered_at, partner, there_is}
+use Rattle.link_replay.proofs.Pairs.{there_is}
+use Rattle.link_replay.proofs.Readable.{sent_there}
 use Rattle.link_replay.proofs.Sending.{area_is}
 use Rattle.link_replay.proofs.world.World.damage.Goals as goal
 
@@ -20,15 +21,8 @@ pub returns-clause-damaged : goal.returns-clause-damaged
 returns-clause-damaged g c = λ w h f s.
     let a = g.A.App in
     let m = a.meaning (a.kept c.args.self.now.node.shared) in
-    let sent : List CodeSent = c.args.self.now.link.sent.items in
-    let number : ℕ = c.args.number in
-    let n : ℕ = number - 1 in
-    let above : 0 < number = omega arith in
-    let code : CodeSent = c.index-sent.result.now in
-    let at : slice_get sent n ≡ Some code = there_is sent n code c.index-sent.ensures (omega arith) in
-    let p = partner (SentStands w) sent w.sent n code s.link.sent at in
+    let p = sent_there c.args.self.now.link w c.args.number c.index-sent.result.now (omega arith) c.index-sent.ensures (omega arith) s.link in
     let e : Sent = p.other in
-    let there : numbered w.sent number ≡ Some e = numbered_at w.sent number above ∙ p.get in
     let items : c.in-Ok.bytes.items ≡ c.as_slice.result.now = search (rules, tests) in
     let old : c.as_mut_slice.result.now ≡ sent_bytes w e = c.as_mut_slice.ensures.value ∙ items ∙ c.as_slice.ensures.value ∙ p.pair.bytes in
     let whole = area_is c.change.new.bytes c.in-Ok.bytes.items c.in-Ok.bytes.len (c.change.auto.bytes ∙ ap length c.as_mut_slice.ensures.value) (sym c.as_mut_slice.ensures.len ∙ ap length c.as_mut_slice.ensures.value) in
@@ -37,12 +31,12 @@ returns-clause-damaged g c = λ w h f s.
     let low : 1 ≤ c.args.mask = c.requires.mask in
     let high : c.args.mask < 256 = omega arith in
     let answer : Option Reply = (step m a.served w.node (event_of w.node.addr c.as_slice-2.result.now)).sent in
-    let answers : AnswersTo w code.who answer
+    let answers : AnswersTo w c.index-sent.result.now.who answer
     = subst (λ (who : Who). AnswersTo w who answer) (sym p.pair.who)
     (subst (λ (b : List ℕ). AnswersTo w e.who (step m a.served w.node (event_of w.node.addr b)).sent) (sym bytes)
-    (damage_answers m a.served w number c.args.at c.args.mask e h low high f there)) in
-    let same : hands_over m a.served w c.as_slice-2.result.now code.who ≡ does m a.served w (Act.Damage number c.args.at c.args.mask)
-    = ap (λ (b : List ℕ). hands_over m a.served w b code.who) bytes
+    (damage_answers m a.served w c.args.number c.args.at c.args.mask e h low high f p.there)) in
+    let same : hands_over m a.served w c.as_slice-2.result.now c.index-sent.result.now.who ≡ does m a.served w (Act.Damage c.args.number c.args.at c.args.mask)
+    = ap (λ (b : List ℕ). hands_over m a.served w b c.index-sent.result.now.who) bytes
     ∙ ap (λ (who : Who). hands_over m a.served w (changed (sent_bytes w e) c.args.at c.args.mask) who) p.pair.who
-    ∙ sym (ap (λ (x : Option Sent). damaged m a.served w c.args.at c.args.mask x) there) in
+    ∙ sym (ap (λ (x : Option Sent). damaged m a.served w c.args.at c.args.mask x) p.there) in
     subst (λ (u : World). WorldStands a c.hand.new.self u) same (c.in_ok-hand.ensures.handed w s answers)

@@ -13,8 +13,8 @@ use Rattle.link_replay.specs.Stands.{LinkStands, SentStands, WorldStands}
 use Rattle.link_replay.specs.Telling.{AnswersTo, client_told, sees}
 use Rattle.link_replay.specs.declared.sent.Sent.{Sent as CodeSent}
 use Rattle.link_replay.proofs.Delivered.{answers_seen, hands, seen, speaks_to}
-use Rattle.link_replay.proofs.Pairs.{numbered_at, partner, there_is}
-use Rattle.link_replay.proofs.Readable.{read_at, sent_at}
+use Rattle.link_replay.proofs.Pairs.{there_is}
+use Rattle.link_replay.proofs.Readable.{read_at, sent_at, sent_there}
 use Rattle.link_replay.proofs.Handling.{still_kept}
 use Rattle.link_replay.proofs.world.World.give.Goals as goal
 
@@ -34,30 +34,24 @@ pub returns-clause-given : goal.returns-clause-given
 returns-clause-given g c = λ w h s.
     let a = g.A.App in
     let m = a.meaning (a.kept c.args.self.now.node.shared) in
-    let sent : List CodeSent = c.args.self.now.link.sent.items in
-    let number : ℕ = c.args.number in
-    let n : ℕ = number - 1 in
-    let above : 0 < number = omega arith in
-    let code : CodeSent = c.index-sent.result.now in
-    let at : slice_get sent n ≡ Some code = there_is sent n code c.index-sent.ensures (omega arith) in
-    let p = partner (SentStands w) sent w.sent n code s.link.sent at in
+    let p = sent_there c.args.self.now.link w c.args.number c.index-sent.result.now (omega arith) c.index-sent.ensures (omega arith) s.link in
     let e : Sent = p.other in
     let items : c.in-Ok.bytes.items ≡ c.as_slice.result.now = search (rules, tests) in
     let bytes : c.as_slice-2.result.now ≡ sent_bytes w e = c.as_slice-2.ensures.value ∙ items ∙ c.as_slice.ensures.value ∙ p.pair.bytes in
     let client : c.client_of.result ≡ client_told e.who = c.client_of.ensures ∙ ap client_told p.pair.who in
-    let v : World = sees w (client_told e.who) number e (numbered w.sides (client_told e.who)) in
-    let facts = hands m a.served w number e (speaks_to c.args.self.now.link w s.link s.home) e.who e.content (sent_bytes w e) (read_at m a.served w h n e p.get) (sent_at m a.served w h n e p.get) in
+    let v : World = sees w (client_told e.who) c.args.number e (numbered w.sides (client_told e.who)) in
+    let facts = hands m a.served w c.args.number e (speaks_to c.args.self.now.link w s.link s.home) e.who e.content (sent_bytes w e) (read_at m a.served w h (c.args.number - 1) e p.get) (sent_at m a.served w h (c.args.number - 1) e p.get) in
     let stands : WorldStands a (record c.args.self.now { link = c.see.new.self }) v
-    = seen a c.args.self.now c.see.new.self w (client_told e.who) number e (numbered w.sides (client_told e.who)) s
-    (subst (λ k. LinkStands c.see.new.self (sees w k number e (numbered w.sides k))) client (c.see.ensures.stands w e s.link p.pair.epoch)) (c.see.ensures.kept w.node.addr s.home) in
+    = seen a c.args.self.now c.see.new.self w (client_told e.who) c.args.number e (numbered w.sides (client_told e.who)) s
+    (subst (λ k. LinkStands c.see.new.self (sees w k c.args.number e (numbered w.sides k))) client (c.see.ensures.stands w e s.link p.pair.epoch)) (c.see.ensures.kept w.node.addr s.home) in
     let answer : Option Reply = (step m a.served v.node (event_of v.node.addr c.as_slice-2.result.now)).sent in
-    let answers : AnswersTo v code.who answer
+    let answers : AnswersTo v c.index-sent.result.now.who answer
     = subst (λ (who : Who). AnswersTo v who answer) (sym p.pair.who)
     (subst (λ (b : List ℕ). AnswersTo v e.who (step m a.served v.node (event_of v.node.addr b)).sent) (sym bytes)
-    (answers_seen m a.served w (client_told e.who) number e (numbered w.sides (client_told e.who)) e.who (sent_bytes w e) facts.answers)) in
-    let same : hands_over m a.served v c.as_slice-2.result.now code.who ≡ does m a.served w (Act.Give number)
-    = ap (λ (b : List ℕ). hands_over m a.served v b code.who) bytes
+    (answers_seen m a.served w (client_told e.who) c.args.number e (numbered w.sides (client_told e.who)) e.who (sent_bytes w e) facts.answers)) in
+    let same : hands_over m a.served v c.as_slice-2.result.now c.index-sent.result.now.who ≡ does m a.served w (Act.Give c.args.number)
+    = ap (λ (b : List ℕ). hands_over m a.served v b c.index-sent.result.now.who) bytes
     ∙ ap (λ (who : Who). hands_over m a.served v (sent_bytes w e) who) p.pair.who
     ∙ facts.same
-    ∙ sym (ap (λ (x : Option Sent). option_map_or (λ d. delivers m a.served w number d d.who d.content) x w) (numbered_at w.sent number above ∙ p.get)) in
+    ∙ sym (ap (λ (x : Option Sent). option_map_or (λ d. delivers m a.served w c.args.number d d.who d.content) x w) p.there) in
     subst (λ (u : World). WorldStands a c.hand.new.self u) same (c.in_ok-hand.ensures.handed v stands answers)
