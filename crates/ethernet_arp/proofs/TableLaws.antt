@@ -87,14 +87,19 @@ module _ (acts : List Act) (act : Act) (pair : Pair) (is : taught act ≡ Some p
   abbrev now : List Act
   now = acts ++ act ∷ []
 
+  -- how many other addresses there are then, by whether the pair's is among them
+  sized : (l : Learning) (front : List (List ℕ)) (b : Bool) → IsAlike (addresses_of l.later) front → among pair.addr front ≡ b
+      → length (addresses_of (l.later ++ act ∷ [])) ≡ length front + (if b then 0 else 1)
+  sized l front b e there =
+      let one = (addresses-learnt l.later act pair is).size ∙ ap (λ v. length (addresses_of l.later) + (if v then 0 else 1)) (e.same pair.addr ∙ there) in
+      let s = e.size in omega arith
+
   grown : (l : Learning) (front front' : List (List ℕ)) → IsAlike (addresses_of l.later) front → among pair.addr front ≡ false → IsAlike (pair.addr ∷ front) front'
       → IsAlike (addresses_of (l.later ++ act ∷ [])) front'
   grown l front front' e new f =
-      let h = addresses-learnt l.later act pair is in
-      let none : among pair.addr (addresses_of l.later) ≡ false = e.same pair.addr ∙ new in
       record {
-        size = let one = h.size ∙ ap (λ v. length (addresses_of l.later) + (if v then 0 else 1)) none in let s = e.size in let t = f.size in omega arith;
-        same = λ y. h.same y ∙ ap (λ v. v || bytes_eq pair.addr y) (e.same y) ∙ or_comm (among y front) (bytes_eq pair.addr y) ∙ f.same y;
+        size = let one = sized l front false e new in let t = f.size in omega arith;
+        same = λ y. (addresses-learnt l.later act pair is).same y ∙ ap (λ v. v || bytes_eq pair.addr y) (e.same y) ∙ or_comm (among y front) (bytes_eq pair.addr y) ∙ f.same y;
       }
     where
       or_comm : (a b : Bool) → (a || b) ≡ (b || a)
@@ -106,12 +111,10 @@ module _ (acts : List Act) (act : Act) (pair : Pair) (is : taught act ≡ Some p
   kept : (l : Learning) (front front' : List (List ℕ)) → IsAlike (addresses_of l.later) front → among pair.addr front ≡ true → IsAlike front front'
       → IsAlike (addresses_of (l.later ++ act ∷ [])) front'
   kept l front front' e old f =
-      let h = addresses-learnt l.later act pair is in
-      let some : among pair.addr (addresses_of l.later) ≡ true = e.same pair.addr ∙ old in
       record {
-        size = let one = h.size ∙ ap (λ v. length (addresses_of l.later) + (if v then 0 else 1)) some in let s = e.size in let t = f.size in omega arith;
-        same = λ y. h.same y ∙ or_known (among y (addresses_of l.later)) (bytes_eq pair.addr y)
-            (λ b. ap (λ z. among z (addresses_of l.later)) (sym (is_same pair.addr y b)) ∙ some)
+        size = let one = sized l front true e old in let t = f.size in omega arith;
+        same = λ y. (addresses-learnt l.later act pair is).same y ∙ or_known (among y (addresses_of l.later)) (bytes_eq pair.addr y)
+            (λ b. ap (λ z. among z (addresses_of l.later)) (sym (is_same pair.addr y b)) ∙ e.same pair.addr ∙ old)
             ∙ e.same y ∙ f.same y;
       }
     where

@@ -14,7 +14,7 @@ use Rattle.telnet_shell.specs.declared.shell.Shell.{Shell}
 use Rattle.telnet_shell.specs.Transcript.{function_of, needs_capture, said_with, transcript}
 use Rattle.telnet_shell.specs.Saying.{IsBehind, IsInFront, Shows, stops_at, is_taken, left_said, due}
 use Rattle.telnet_shell.specs.Lemmas.Speaking.{talk_is, waiting_is, said_some, held_goes}
-use Rattle.telnet_shell.specs.ShellMeaning.{talk, is_talk_acknowledged, is_settled, is_stopped, talk_has_ended, left_of_talk, shell_want, take_capture, hear_byte, hear_all}
+use Rattle.telnet_shell.specs.ShellMeaning.{talk, is_settled, is_stopped, talk_has_ended, left_of_talk, shell_want, take_capture, hear_byte, hear_all}
 use Rattle.telnet_shell.specs.ShellStands.{ShellStands}
 use Rattle.telnet_shell.proofs.Standing.{own_is}
 
@@ -33,12 +33,12 @@ eq_no a b h = elim (a == b) as (λ t. (a == b) ≡ t → t ≡ false) [
 talk_size : (q : List Command) (capture : Capture) (at : ℕ) (p : Part) (b : IsBehind q capture at p) → length (talk p) ≡ length (transcript b.before b.spoken) + length (left_said q capture)
 talk_size q capture at p b = ap (λ (xs : List ℕ). length xs) (talk_is q capture at p b) ∙ length-append (transcript b.before b.spoken) (left_said q capture)
 
-acknowledged : (q : List Command) (capture : Capture) (at : ℕ) (p : Part) → IsBehind q capture at p → at ≡ length (left_said q capture) → is_talk_acknowledged p ≡ true
+acknowledged : (q : List Command) (capture : Capture) (at : ℕ) (p : Part) → IsBehind q capture at p → at ≡ length (left_said q capture) → (p.acked == length (talk p)) ≡ true
 acknowledged q capture at p b e =
     let size = talk_size q capture at p b in let at_is = b.acked in
     eq_yes p.acked (length (talk p)) (omega (arith, e, size, at_is))
 
-unacknowledged : (q : List Command) (capture : Capture) (at : ℕ) (p : Part) → IsBehind q capture at p → at < length (left_said q capture) → is_talk_acknowledged p ≡ false
+unacknowledged : (q : List Command) (capture : Capture) (at : ℕ) (p : Part) → IsBehind q capture at p → at < length (left_said q capture) → (p.acked == length (talk p)) ≡ false
 unacknowledged q capture at p b l =
     let size = talk_size q capture at p b in let at_is = b.acked in
     eq_no p.acked (length (talk p)) (λ f. omega (arith, l, size, at_is, f))
@@ -102,7 +102,7 @@ taken (c ∷ cs) capture held at p numbers function now d e b i =
 
 pub not_taken : (q : List Command) (capture : Capture) (at : ℕ) (p : Part) → due q capture ≡ None → IsBehind q capture at p → IsInFront q capture at → is_stopped p ≡ false
 not_taken [] capture at p d b i =
-    ap (λ (ds : List Command). is_talk_acknowledged p && not (length ds == 0)) (waiting_is [] capture at p b i) ∙ no_and (is_talk_acknowledged p)
+    ap (λ (ds : List Command). (p.acked == length (talk p)) && not (length ds == 0)) (waiting_is [] capture at p b i) ∙ no_and (p.acked == length (talk p))
 not_taken (c ∷ cs) capture at p d b i = goes_on_not c cs capture at p b i (due_none (stops_at c capture) (function_of c) d)
 
 pub prepared : (a : Shell) (p : Part) (held : Capture) (numbers : List ℕ) (function : Function) (now : Now) → due a.queue.items a.capture ≡ Some function → held ≡ capture_of function 0 now

@@ -33,16 +33,13 @@ abbrev pub hear_all : Part → List ℕ → Part
 hear_all part [] = part
 hear_all part (byte ∷ more) = hear_all (hear_byte part byte) more
 
-abbrev pub is_talk_acknowledged : Part → Bool
-is_talk_acknowledged part = part.acked == length (talk part)
-
 -- every command is wholly acknowledged
 abbrev pub is_settled : Part → Bool
 is_settled part = length (waiting part) == 0
 
 -- all that was said is acknowledged, and a command is left: it waits for its capture
 abbrev pub is_stopped : Part → Bool
-is_stopped part = is_talk_acknowledged part && not (is_settled part)
+is_stopped part = part.acked == length (talk part) && not (is_settled part)
 
 -- the text has come to the end of that of `quit`, and all of it is acknowledged
 abbrev pub talk_has_ended : Part → Bool

@@ -26,14 +26,11 @@ quad_text address =
     decimal (slice_index address 0) ++ codes "." ++ decimal (slice_index address 1) ++ codes "."
     ++ decimal (slice_index address 2) ++ codes "." ++ decimal (slice_index address 3)
 
-abbrev pub letter_if : Bool → List ℕ → List ℕ
-letter_if set letter = if set then letter else []
-
 -- the letters of the flags that are set (RFC 793, section 3.1), URG left out
 abbrev pub letters_of : ℕ → List ℕ
 letters_of flags =
-    letter_if (has_syn flags) (codes "S") ++ letter_if (has_ack flags) (codes "A") ++ letter_if (has_psh flags) (codes "P")
-    ++ letter_if (has_fin flags) (codes "F") ++ letter_if (has_rst flags) (codes "R")
+    (if has_syn flags then codes "S" else []) ++ (if has_ack flags then codes "A" else []) ++ (if has_psh flags then codes "P" else [])
+    ++ (if has_fin flags then codes "F" else []) ++ (if has_rst flags then codes "R" else [])
 
 -- a dash stands for none
 abbrev pub letters_or_dash : List ℕ → List ℕ

@@ -24,8 +24,7 @@ impl Model for Area {
 }
 
 impl Area {
-    ghost use Rattle.std.specs.Prelude.{◌≡◌, ◌+◌, ◌≤◌, ◌++◌, [], decimal, length};
-    ghost use Rattle.trace.specs.DumpText.{letter_if};
+    ghost use Rattle.std.specs.Prelude.{◌≡◌, ◌+◌, ◌≤◌, ◌++◌, [], decimal, length, if◌then◌else◌};
 
     /// An area without a byte.
     pub fn new() -> Area
@@ -72,7 +71,7 @@ impl Area {
     /// Adds bytes where they are told.
     pub fn put_if(&mut self, told: bool, piece: &[u8])
         requires { length self.old + length piece.now ≤ LONGEST_RECORD }
-        ensures text { self.new ≡ self.old ++ letter_if told piece.now }
+        ensures text { self.new ≡ self.old ++ (if told then piece.now else []) }
         ensures len { length self.new ≤ length self.old + length piece.now }
     {
         if told {
