@@ -1,19 +1,26 @@
 -- Each event is counted, and its answer counts as sent again exactly where it is.
-use Rattle.std.proofs.Common.{◌≡◌, ℕ, ◌+◌, Bool, true, false, not, if◌then◌else◌, ◌&&◌, List, ◌∷◌, refl, ap, ◌∙◌, Option, Some, None, position, eqb, arith}
+use Rattle.std.proofs.Common.{◌≡◌, ℕ, ◌+◌, ◌==◌, Bool, true, false, not, if◌then◌else◌, ◌&&◌, List, ◌∷◌, refl, ap, ◌∙◌, Option, Some, None, position, eqb, arith}
+use Rattle.uip_node.specs.Events.Reply.{Tcp}
+use Rattle.std.specs.Prelude.{option_map}
+use Rattle.std.specs.Option.{option_map_or}
+use Rattle.std.specs.List.{list_any}
 use Rattle.std.proofs.lemmas.Grind.{common_steps}
 use Rattle.uip_wire.specs.Numbers.{wrap}
 use Rattle.tcp_segment.specs.Segments.{PlainSegment, has_rst}
+use Rattle.uip_ipv4.specs.declared.fate.IpFate.TheVariants as Ip
+use Rattle.icmp_echo.specs.declared.fate.IcmpFate.TheVariants as Icmp
+use Rattle.tcp_segment.specs.declared.fate.TcpFate.TheVariants as Tcp
 use Rattle.app_events.specs.Part.{Meaning}
 use Rattle.tcp_machine.specs.Connection.{Sockets, Connection, serves}
 use Rattle.tcp_machine.specs.Ask.{Outcome, asked}
 use Rattle.tcp_machine.specs.OnSegment.{accept, on_segment}
 use Rattle.tcp_machine.specs.OnTick.{on_tick}
 use Rattle.tcp_machine.specs.Segments.{is_plain_syn, is_again, segment_of}
-use Rattle.uip_node.specs.Counters.{initial_number, is_spoken_again, times}
+use Rattle.uip_node.specs.Counters.{initial_number, raised_by_answer, raises, times}
 use Rattle.uip_node.specs.Events.{Answer, Event, Past}
 use Rattle.uip_node.specs.Events.Event.{IpRefused, IcmpRefused, TcpRefused, EchoAsked, Arrived, Overlong, Periodic}
 use Rattle.uip_node.specs.Events.Answer.{Silent, NoSlot, EchoReplied, Spoke}
-use Rattle.uip_node.specs.Node.{AbstractNode, NodeStep, answer_of, arrives_at, connection_in, from_stranger, happened, moment, opens, opens_in, passes, reply_of, slot_for_syn, step}
+use Rattle.uip_node.specs.Node.{AbstractNode, NodeStep, arrives_at, connection_in, from_stranger, happened, moment, opens, opens_in, passes, slot_for_syn, step}
 use Rattle.link_world.proofs.Basics.{choose}
 use Rattle.link_replay.specs.Noting.{is_sent_again, resent}
 
@@ -21,21 +28,32 @@ use Rattle.link_replay.specs.Noting.{is_sent_again, resent}
 record Told (n : AbstractNode) (r : NodeStep) : Type 0 where
   pub last : Past
   pub is : r.node.past ≡ last ∷ n.past
-  pub again : is_spoken_again last.answer ≡ is_sent_again r.sent
+  pub again : raises 19 last ≡ is_sent_again r.sent
 
-answered : (said : Option PlainSegment) (again : Bool) (sockets : Sockets) (id : ℕ) → is_spoken_again (answer_of said again) ≡ is_sent_again (reply_of said sockets id again)
+-- no event raises the counter of what is sent again
+abbrev was_again : Answer → Bool
+was_again answer = list_any (λ n. n == 19) (raised_by_answer answer)
+
+by_answer : (event : Event) (answer : Answer) → raises 19 (record { event = event; answer = answer }) ≡ was_again answer
+by_answer (IpRefused Ip.Short) answer = refl
+by_answer (IcmpRefused Icmp.Short) answer = refl
+by_answer (TcpRefused Tcp.Short) answer = refl
+by_answer event answer = refl
+
+answered : (said : Option PlainSegment) (again : Bool) (sockets : Sockets) (id : ℕ) → was_again (option_map_or (λ s. Spoke again) said Silent) ≡ is_sent_again (option_map (λ s. Tcp sockets id again s) said)
 answered None again sockets id = refl
-answered (Some s) again sockets id = refl
+answered (Some s) true sockets id = refl
+answered (Some s) false sockets id = refl
 
-passed : (n : AbstractNode) (event : Event) (answer : Answer) → is_spoken_again answer ≡ false → Told n (passes n event answer)
-passed n event answer e = record { last = record { event = event; answer = answer }; is = refl; again = e }
+passed : (n : AbstractNode) (event : Event) (answer : Answer) → was_again answer ≡ false → Told n (passes n event answer)
+passed n event answer e = record { last = record { event = event; answer = answer }; is = refl; again = by_answer event answer ∙ e }
 
 told_happened : (m : Meaning) (n : AbstractNode) (event : Event) (slot : ℕ) (old : Connection) (o : Outcome) → Told n (happened m n event slot old o)
 unfolding happened
 told_happened m n event slot old o = record {
-  last = record { event = event; answer = answer_of (segment_of m o.connection o.step) (is_again o.step) };
+  last = record { event = event; answer = option_map_or (λ s. Spoke (is_again o.step)) (segment_of m o.connection o.step) Silent };
   is = refl;
-  again = answered (segment_of m o.connection o.step) (is_again o.step) o.connection.sockets _;
+  again = by_answer event _ ∙ answered (segment_of m o.connection o.step) (is_again o.step) o.connection.sockets _;
 }
 
 told_opens : (m : Meaning) (n : AbstractNode) (sockets : Sockets) (s : PlainSegment) (slot : Option ℕ) → Told n (opens m n sockets s slot)
@@ -77,5 +95,5 @@ pub resent_differs : (m : Meaning) (served : ℕ → Bool) (n : AbstractNode) (e
 resent_differs m served n event =
     let t = told m served n event in
     ap (λ (p : List Past). not (eqb (resent n.past) (resent p))) t.is
-    ∙ rises (is_spoken_again t.last.answer) (times (λ p. is_spoken_again p.answer) n.past)
+    ∙ rises (raises 19 t.last) (times (raises 19) n.past)
     ∙ t.again

@@ -5,7 +5,7 @@ use Rattle.app_events.specs.Part.{Meaning}
 use Rattle.app_events.specs.declared.app.App.{Ghosts}
 use Rattle.tcp_table.specs.Connections.{is_at}
 use Rattle.tcp_table.specs.declared.conn.Conn.{Conn}
-use Rattle.tcp_machine.specs.Connection.{Sockets, Connection, closed, is_live, same_sockets, serves}
+use Rattle.tcp_machine.specs.Connection.{Sockets, Connection, closed, is_live, serves}
 use Rattle.tcp_machine.specs.Ask.{Outcome, asked}
 use Rattle.tcp_machine.specs.OnSegment.{accepted, on_segment}
 use Rattle.tcp_machine.specs.OnTick.{on_tick}

@@ -1,5 +1,6 @@
 -- To whom the node speaks: to the sender of a segment, and at a periodic call to the peer of the connection, which lives.
 use Rattle.std.proofs.Common.{◌≡◌, ℕ, Bool, true, false, ◌&&◌, ◌+◌, List, refl, sym, ap, ◌∙◌, subst, arith, Option, Some, None, position, slice_index_or}
+use Rattle.std.specs.Prelude.{option_map}
 use Rattle.tcp_segment.specs.Segments.{PlainSegment, has_rst}
 use Rattle.app_events.specs.Part.{Meaning}
 use Rattle.app_events.specs.declared.now.Now.{Now}
@@ -12,7 +13,7 @@ use Rattle.uip_node.specs.Counters.{initial_number}
 use Rattle.uip_node.specs.Events.{Event, Reply}
 use Rattle.uip_node.specs.Events.Event.{Arrived, Periodic}
 use Rattle.uip_node.specs.Events.Reply.{Tcp}
-use Rattle.uip_node.specs.Node.{AbstractNode, NodeStep, arrives_at, connection_in, from_stranger, happened, moment, opens, opens_in, refuses, reply_of, slot_for_syn, step}
+use Rattle.uip_node.specs.Node.{AbstractNode, NodeStep, arrives_at, connection_in, from_stranger, happened, moment, opens, opens_in, refuses, slot_for_syn, step}
 use Rattle.link_world.proofs.Basics.{and_true, both_ways, choose}
 use Rattle.link_world.proofs.Peers.{asked_keeps, on_segment_keeps, on_tick_closed, on_tick_keeps}
 use Rattle.link_world.proofs.SocketPairs.{same_is}
@@ -34,7 +35,7 @@ pub record SaidBy (c : Connection) (r : Reply) : Type 0 where
 abbrev pub SaysTo : Sockets → Option Reply → Type 0
 SaysTo sockets sent = (r : Reply) → sent ≡ Some r → SaidTo sockets r
 
-says : (said : Option PlainSegment) (sockets : Sockets) (id : ℕ) (again : Bool) → SaysTo sockets (reply_of said sockets id again)
+says : (said : Option PlainSegment) (sockets : Sockets) (id : ℕ) (again : Bool) → SaysTo sockets (option_map (λ s. Tcp sockets id again s) said)
 says None sockets id again r h = absurd (cc)
 says (Some s) sockets id again r h = record { id = id; again = again; segment = s; is = (let e : Tcp sockets id again s ≡ r = cc in sym e) }
 

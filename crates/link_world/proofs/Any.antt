@@ -1,7 +1,8 @@
 -- The world's acts, for any fact G about one client: what the acts do to the sides, the table and the list is done once.
 use Rattle.std.specs.Option.{option_map_or}
 use Rattle.std.specs.List.{All}
-use Rattle.std.proofs.Common.{◌≡◌, ℕ, zero, suc, Bool, true, false, not, ◌&&◌, List, [], ◌∷◌, ◌++◌, length, map, set, refl, sym, ap, ◌∙◌, subst, arith, Option, Some, None, slice_get, slice_index_or, position, eqb, if◌then◌else◌}
+use Rattle.std.specs.Prelude.{option_map}
+use Rattle.std.proofs.Common.{◌≡◌, ℕ, zero, suc, Bool, true, false, not, ◌&&◌, List, [], ◌∷◌, ◌++◌, length, map, set, refl, sym, ap, ◌∙◌, subst, arith, Option, Some, None, slice_get, slice_index_or, if◌then◌else◌}
 use Rattle.tcp_segment.specs.Segments.{PlainSegment, has_syn, has_fin, has_rst}
 use Rattle.app_events.specs.Part.{Meaning}
 use Rattle.link_world.specs.Steady.{IsSteady}
@@ -18,7 +19,7 @@ use Rattle.uip_node.specs.Events.Event.{EchoAsked, Arrived, Periodic}
 use Rattle.uip_node.specs.Events.Answer.{Silent, NoSlot, EchoReplied}
 use Rattle.uip_node.specs.Events.Reply.{Echo, Tcp}
 use Rattle.uip_node.specs.Counters.{initial_number, ticks_of}
-use Rattle.uip_node.specs.Node.{AbstractNode, NodeStep, reply_of, gone_by, moment, happened, slot_for_syn, opens_in, opens, refuses, from_stranger, arrives_at, step, passes}
+use Rattle.uip_node.specs.Node.{AbstractNode, NodeStep, gone_by, moment, happened, slot_for_syn, opens_in, opens, refuses, from_stranger, arrives_at, step, passes}
 use Rattle.link_client.specs.declared.setup.Setup.{Setup}
 use Rattle.link_client.specs.Client.{AbstractClient, ClientStep, client_takes, client_opens, client_again, client_closes, client_aborts, tells_window}
 use Rattle.link_world.specs.World.{World, Side, Sent, Content, numbered, client_sockets, buries, buries_in, addressed, epoch, epoch_of, posts, posts_reply, node_stepped, node_handles, with_client, with_side, posts_of_client, client_stepped, marked, delivers, is_clean, era_of}
@@ -86,7 +87,7 @@ pub record Reaction (r : NodeStep) (peer : Sockets) (x : Reacted) : Type 0 where
   pub gone : r.gone ≡ x.gone
   pub sends : Sends peer r.sent x.said
 
-reply_sends : (said : Option PlainSegment) (sockets peer : Sockets) (id : ℕ) (again : Bool) → sockets ≡ peer → Sends peer (reply_of said sockets id again) (speech_of said again)
+reply_sends : (said : Option PlainSegment) (sockets peer : Sockets) (id : ℕ) (again : Bool) → sockets ≡ peer → Sends peer (option_map (λ s. Tcp sockets id again s) said) (speech_of said again)
 reply_sends None sockets peer id again e = sends_none refl refl
 reply_sends (Some s) sockets peer id again e = sends_tcp id (speech again s) (ap (λ p. Some (Tcp p id again s)) e) refl
 

@@ -12,7 +12,7 @@ use Rattle.app_events.specs.declared.state.State.TheVariants.{Closed, SynRcvd, E
 use Rattle.tcp_machine.specs.Connection.{Connection, rcv_nxt}
 use Rattle.tcp_machine.specs.Segments.{has_place, segment_of}
 use Rattle.tcp_machine.specs.Ask.{Outcome, ask, asked, prepared}
-use Rattle.tcp_machine.specs.OnSegment.{is_out_of_order, is_acked, has_text, hears, connects, in_established, peer_closes, goes_on, fin_acked, fin_waits, in_fin_wait_2, by_state, on_segment}
+use Rattle.tcp_machine.specs.OnSegment.{is_out_of_order, is_acked, has_text, hears, connects, in_established, peer_closes, goes_on, fin_acked, fin_waits, by_state, on_segment}
 use Rattle.tcp_machine.specs.OnTick.{by_beat, on_tick}
 use Rattle.tcp_machine.specs.declared.step.Step.{Step}
 use Rattle.link_client.specs.Client.{AbstractClient, ClientStep, ack_of, client_aborts, client_again, client_closes, client_opens, client_takes, fin_out, fin_sent, has_outstanding, hears_ack, is_receiving, keeps, may_finish, next_own, one_if, opened_by, own_fin, own_first, own_request, own_reset, sends_next, steps_with, syn_of, takes_in_order, takes_text, tells_window}
@@ -295,7 +295,7 @@ module _ (m : Meaning) (pages : Pages) (lawful : IsPaged m pages) where
   let_go_text c d s p t h = row_text c d s p t (omega (arith, as_long c.part d.part h))
 
   by_state_row : (st : State) (acked : Bool) (c : Connection) (numbers : List ℕ) (s : PlainSegment) → Row c (by_state m st acked c numbers s).connection s
-  unfolding fin_acked fin_waits in_fin_wait_2
+  unfolding fin_acked fin_waits
   by_state_row SynRcvd true c numbers s = row_text c _ s refl refl (connects_at_most c numbers s)
   by_state_row SynRcvd false c numbers s = row_none c _ s record { peer = refl; taken = refl; heard = refl }
   by_state_row Established true c numbers s = established_row true c _ (m.acked numbers c.part c.len).numbers s record { peer = refl; taken = refl; heard = lawful.acked_like numbers c.part c.len }

@@ -1,5 +1,6 @@
 -- A fact about a step of a connection by its cases: each walk is made once, for every law.
 use Rattle.std.proofs.Common.{◌≡◌, ℕ, ◌+◌, Bool, true, false, List, refl, ap, eqb, ltb}
+use Rattle.tcp_machine.specs.declared.ticking.TheConstants.{REST_TIME}
 use Rattle.rexmit_timer.specs.Ages.{beat_at}
 use Rattle.rexmit_timer.specs.declared.timer.Beat.{Beat}
 use Rattle.app_events.specs.Part.{Meaning}
@@ -10,7 +11,7 @@ use Rattle.app_events.specs.declared.want.Want.{Want}
 use Rattle.app_events.specs.declared.want.Want.TheVariants.{Nothing, Send, Close, Abort}
 use Rattle.tcp_machine.specs.Connection.{Connection, is_live, is_resting}
 use Rattle.tcp_machine.specs.Ask.{Outcome, after_own_fin, leaves, closes, peer_has_closed, idles, does_as_wanted, ask, asked_for, asked}
-use Rattle.tcp_machine.specs.OnTick.{limit_of, grows_older, outstanding, by_beat, rests_on, rest_time, polls, ticks_established, tick_by, on_tick}
+use Rattle.tcp_machine.specs.OnTick.{limit_of, grows_older, outstanding, by_beat, rests_on, polls, ticks_established, tick_by, on_tick}
 use Rattle.tcp_machine.specs.declared.step.Step.{Step}
 use Rattle.link_world.proofs.Basics.{choose, ltb-zero}
 
@@ -100,13 +101,13 @@ module _ (m : Meaning) where
   pub record OfTick (P : Outcome → Type 0) (c : Connection) (numbers : List ℕ) : Type 0 where
     pub none : P (leaves c numbers Step.Drop)
     pub beats : is_resting c.state ≡ false → (b : Beat) → P (by_beat m b c numbers)
-    pub rested : eqb (c.age + 1) rest_time ≡ false → P (leaves (grows_older c) numbers Step.Drop)
+    pub rested : eqb (c.age + 1) REST_TIME ≡ false → P (leaves (grows_older c) numbers Step.Drop)
     pub ends : P (leaves (closes c) numbers Step.Drop)
     pub polled : c.state ≡ Established → c.len ≡ 0 → P (polls m c numbers)
 
   by_rest : (P : Outcome → Type 0) (c : Connection) (numbers : List ℕ) → OfTick P c numbers → P (rests_on c numbers)
   unfolding rests_on
-  by_rest P c numbers g = choose P (eqb (c.age + 1) rest_time) _ _ (λ e. g.ends) (λ e. g.rested e)
+  by_rest P c numbers g = choose P (eqb (c.age + 1) REST_TIME) _ _ (λ e. g.ends) (λ e. g.rested e)
 
   by_poll : (P : Outcome → Type 0) (c : Connection) (numbers : List ℕ) → c.state ≡ Established → OfTick P c numbers → P (ticks_established m c numbers)
   unfolding ticks_established

@@ -1,5 +1,7 @@
 -- One changed byte: a datagram that passed every check is refused at every address.
 use Rattle.std.specs.List.{All}
+use Rattle.uip_node.specs.Events.Event.{IcmpRefused, EchoAsked}
+use Rattle.std.specs.Option.{option_map_or}
 use Rattle.std.proofs.Common.{◌≡◌, ◌≢◌, ℕ, zero, suc, ◌+◌, ◌-◌, ◌*◌, ◌%◌, ◌<◌, ◌≤◌, Bool, true, false, not, ◌||◌, ◌⊎◌, inl, inr, List, [], ◌∷◌, ◌++◌, length, take, drop, set, refl, sym, ap, ◌∙◌, subst, arith, Option, Some, None, Result, Ok, Err, slice_index, length-append, length-drop, eqb, ltb, bytes_eq, bit_xor, append_assoc, if◌then◌else◌}
 use Rattle.std.proofs.lemmas.Bool.{eqb-true, ne_eqb}
 use Rattle.std.proofs.lemmas.Slice.Eq.{bytes_eq-Decides}
@@ -24,7 +26,7 @@ use Rattle.tcp_segment.specs.Segments.{pseudo_header}
 use Rattle.tcp_segment.specs.declared.segment.Segment.{Segment}
 use Rattle.tcp_segment.specs.declared.fate.TcpFate.TheVariants as TcpFate
 use Rattle.app_events.specs.Pages.{IsByte}
-use Rattle.uip_node.specs.Edge.{event_of, by_head, by_proto, by_echo, by_segment}
+use Rattle.uip_node.specs.Edge.{event_of, by_head, by_proto, by_segment}
 use Rattle.link_world.specs.Bytes.{changed}
 use Rattle.link_world.specs.Headline.{PassesBy, IsWholeDatagram, is_refused}
 use Rattle.link_world.proofs.Basics.{both_ways, choose, append_nothing}
@@ -197,10 +199,10 @@ segment_refused head bytes payload e n =
     choose (λ r. is_refused (by_segment head bytes r) ≡ true) (not (eqb (checksum_of (pseudo_header head.source.0 head.target.0 (length payload) ++ payload)) 0)) _ _ (λ z. refl)
     (λ z. absurd (n (is_zero (checksum_of (pseudo_header head.source.0 head.target.0 (length payload) ++ payload)) z))))))
 
-echo_refused : (head : IpHead) (bytes message : List ℕ) → checksum_of message ≢ 0 → is_refused (by_echo head bytes (echo_fate message)) ≡ true
+echo_refused : (head : IpHead) (bytes message : List ℕ) → checksum_of message ≢ 0 → is_refused (option_map_or IcmpRefused (echo_fate message) (EchoAsked (take head.total bytes))) ≡ true
 echo_refused head bytes message n =
-    choose (λ r. is_refused (by_echo head bytes r) ≡ true) (ltb (length message) 8) _ _ (λ z. refl) (λ z.
-    choose (λ r. is_refused (by_echo head bytes r) ≡ true) (not (eqb (checksum_of message) 0)) _ _ (λ z. refl) (λ z. absurd (n (is_zero (checksum_of message) z))))
+    choose (λ r. is_refused (option_map_or IcmpRefused r (EchoAsked (take head.total bytes))) ≡ true) (ltb (length message) 8) _ _ (λ z. refl) (λ z.
+    choose (λ r. is_refused (option_map_or IcmpRefused r (EchoAsked (take head.total bytes))) ≡ true) (not (eqb (checksum_of message) 0)) _ _ (λ z. refl) (λ z. absurd (n (is_zero (checksum_of message) z))))
 
 payload_is : (head : IpHead) (front back : List ℕ) (v : ℕ) → head.total ≡ length (front ++ v ∷ back) → 20 ≤ length front → payload_of head (front ++ v ∷ back) ≡ drop 20 front ++ v ∷ back
 payload_is head front back v t l =
@@ -230,7 +232,7 @@ late_refused Icmp head front back one other a b n l t p =
     let now : payload_of head (front ++ other ∷ back) ≡ tail ++ other ∷ back = payload_is head front back other (t ∙ len) l in
     let zero_was : checksum_of (tail ++ one ∷ back) ≡ 0 = echo_sum (tail ++ one ∷ back) (ap echo_fate (sym was) ∙ p) in
     let tells = one_byte tail back one other a b n in
-    subst (λ x. is_refused (by_echo head (front ++ other ∷ back) (echo_fate x)) ≡ true) (sym now)
+    subst (λ x. is_refused (option_map_or IcmpRefused (echo_fate x) (EchoAsked (take head.total (front ++ other ∷ back)))) ≡ true) (sym now)
     (echo_refused head (front ++ other ∷ back) (tail ++ other ∷ back) (λ z. tells (zero_was ∙ sym z)))
 
 byte_in : (front back : List ℕ) (one : ℕ) → All IsByte (front ++ one ∷ back) → one < 256

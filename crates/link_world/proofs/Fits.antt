@@ -1,5 +1,5 @@
 -- Every capture that was ever taken is of a moment that a node makes. This holds of all connections, clean or not.
-use Rattle.std.specs.List.{All}
+use Rattle.std.specs.List.{All, range_with_len}
 use Rattle.std.proofs.Common.{◌≡◌, ℕ, zero, suc, ◌+◌, ◌-◌, ◌<◌, ◌≤◌, Bool, true, false, not, ◌&&◌, List, [], ◌∷◌, ◌++◌, length, map, set, get_or, refl, sym, subst, ap, arith, Option, Some, None, slice_get, slice_index, slice_index_or, position, count_by, nat_le, eqb, ltb, length-set, if◌then◌else◌, ◌∙◌}
 use Rattle.std.proofs.lemmas.List.Elements.{All-push, All-map}
 use Rattle.std.proofs.lemmas.List.Sums.{count_by-le-length}
@@ -20,11 +20,11 @@ use Rattle.app_events.specs.declared.want.Want.{Want}
 use Rattle.app_events.specs.declared.want.Want.TheVariants.{Nothing, Send, Close, Abort}
 use Rattle.tcp_machine.specs.Connection.{Sockets, Connection, is_live, is_resting, tries_of, count_of, row_of, rows_from}
 use Rattle.tcp_machine.specs.Ask.{Outcome, closes, after_own_fin, peer_has_closed, idles, does_as_wanted, ask, asked}
-use Rattle.tcp_machine.specs.OnSegment.{accepted, told_end, is_out_of_order, is_acked, rests, has_text, hears, takes, with_part, in_state, with_window, peer_closes, goes_on, in_established, fin_acked, fin_waits, in_fin_wait_2, by_state, on_segment}
+use Rattle.tcp_machine.specs.OnSegment.{accepted, told_end, is_out_of_order, is_acked, rests, has_text, hears, takes, with_part, in_state, with_window, peer_closes, goes_on, in_established, fin_acked, fin_waits, by_state, on_segment}
 use Rattle.tcp_machine.specs.OnTick.{by_beat, grows_older, on_tick, polls}
 use Rattle.uip_node.specs.Events.{Event, Past}
 use Rattle.uip_node.specs.Events.Answer.{Silent}
-use Rattle.uip_node.specs.Counters.{counters, raised, times}
+use Rattle.uip_node.specs.Counters.{counters, raises, times}
 use Rattle.uip_node.specs.Node.{AbstractNode, moment}
 use Rattle.link_world.proofs.Cases.{asked_by, by_own_fin, on_tick_by}
 use Rattle.link_world.proofs.Basics.{choose, wrap_low}
@@ -89,7 +89,7 @@ pub set_conns : (table : List Connection) (i : ℕ) (new : Connection) → FitCo
 set_conns table i new f h j c x = elim (get_set table i new j c x) [ here e q ↦ subst (λ z. FitConn z) q f | there n g ↦ h j c g ]
 
 pub counters_fit : (past : List Past) → All IsWord (counters past)
-counters_fit past = All-map IsWord (λ test. wrap (times test past)) raised (λ k d l. wrap_low _)
+counters_fit past = All-map IsWord (λ k. wrap (times (raises k) past)) (range_with_len 1 20) (λ k d l. wrap_low _)
 
 pub moment_fits : (n : AbstractNode) (event : Event) (slot : ℕ) (c : Connection) → length n.connections ≤ 10 → ((j : ℕ) (x : Connection) → slice_get n.connections j ≡ Some x → FitConn x) → FitConn c → IsNow (moment n event slot c)
 moment_fits n event slot c l h f =
@@ -186,7 +186,7 @@ module _ (m : Meaning) (steady : IsSteady m) where
   acked_fits c numbers f = fit_like c _ refl (steady.acked_captures numbers c.part c.len) (λ r. omega arith) f
 
   by_state_fits : (st : State) (acked : Bool) (c : Connection) (numbers : List ℕ) (s : PlainSegment) → FitConn c → All IsWord numbers → FitOut (by_state m st acked c numbers s)
-  unfolding fin_acked fin_waits in_fin_wait_2
+  unfolding fin_acked fin_waits
   by_state_fits Closed acked c numbers s f n = record { conn = f; numbers = n }
   by_state_fits SynRcvd true c numbers s f n =
       let port : ℕ = c.sockets.own_port.0 in

@@ -1,5 +1,6 @@
 -- What a client's code hears in a datagram is what the world says that it hears.
 use Rattle.std.specs.Prelude.{ℕ, List, Option, Some, None, Result, Ok, Err}
+use Rattle.std.specs.Option.{option_map_or}
 use Rattle.std.proofs.Common.{◌≡◌, refl}
 use Rattle.uip_ipv4.specs.Head.{head_or_fate, payload_of}
 use Rattle.uip_ipv4.specs.declared.fate.IpFate.{IpFate}
@@ -11,7 +12,9 @@ use Rattle.icmp_echo.specs.declared.fate.IcmpFate.{IcmpFate}
 use Rattle.tcp_segment.specs.Received.{segment_or_fate}
 use Rattle.tcp_segment.specs.declared.fate.TcpFate.{TcpFate}
 use Rattle.tcp_segment.specs.declared.segment.Segment.{Segment}
-use Rattle.uip_node.specs.Edge.{by_echo, by_head, by_proto, by_segment}
+use Rattle.uip_node.specs.Events.Event.{EchoAsked, IcmpRefused}
+use Rattle.std.specs.Prelude.{take}
+use Rattle.uip_node.specs.Edge.{by_head, by_proto, by_segment}
 use Rattle.link_client.specs.declared.setup.Setup.{Setup}
 use Rattle.link_client.specs.Calls.{heard_in, heard_by_proto, heard_by_head, client_hears}
 use Rattle.link_world.specs.Bytes.{heard_by, hears_datagram as world_hears}
@@ -20,7 +23,7 @@ of_segment : (setup : Setup) (head : IpHead) (bytes : List ℕ) (r : Result Segm
 of_segment setup head bytes (Ok s) = refl
 of_segment setup head bytes (Err fate) = refl
 
-of_echo : (setup : Setup) (head : IpHead) (bytes : List ℕ) (o : Option IcmpFate) → heard_by_proto Icmp setup head bytes ≡ heard_by setup (by_echo head bytes o)
+of_echo : (setup : Setup) (head : IpHead) (bytes : List ℕ) (o : Option IcmpFate) → heard_by_proto Icmp setup head bytes ≡ heard_by setup (option_map_or IcmpRefused o (EchoAsked (take head.total bytes)))
 of_echo setup head bytes None = refl
 of_echo setup head bytes (Some fate) = refl
 

@@ -1,6 +1,8 @@
 -- The node at the other end of a link that loses nothing: one connection, which at each segment of its client says what the
 -- application has to say next.
 use Rattle.std.specs.List.{All, position_from}
+use Rattle.std.specs.Prelude.{option_map}
+use Rattle.std.specs.Option.{option_map_or}
 use Rattle.std.proofs.Common.{◌≡◌, ℕ, zero, suc, ◌+◌, ◌<◌, ◌≤◌, min, Bool, true, false, if◌then◌else◌, cond, not, ◌&&◌, ◌⊎◌, inl, inr, List, [], ◌∷◌, ◌++◌, length, take, drop, replicate, refl, sym, ap, ◌∙◌, subst, arith, Option, Some, None, eqb, ltb, position, slice_get}
 use Rattle.std.proofs.lemmas.Bool.{eq-eqb, cases_lt}
 use Rattle.std.proofs.lemmas.List.{take-append-drop, take_all}
@@ -28,7 +30,7 @@ use Rattle.uip_node.specs.Events.Event.{Arrived}
 use Rattle.uip_node.specs.Events.Answer.{Silent, Spoke}
 use Rattle.uip_node.specs.Events.Reply.{Tcp}
 use Rattle.uip_node.specs.Counters.{ident_of, initial_number}
-use Rattle.uip_node.specs.Node.{AbstractNode, NodeStep, opening, moment, slot_for_syn, opens, passes, refuses, answer_of, reply_of, gone_by, happened, opens_in, from_stranger, arrives_at, arrives}
+use Rattle.uip_node.specs.Node.{AbstractNode, NodeStep, opening, moment, slot_for_syn, opens, passes, refuses, gone_by, happened, opens_in, from_stranger, arrives_at, arrives}
 use Rattle.link_client.specs.Client.{offered, syn_of}
 use Rattle.link_client.specs.declared.client_state.ClientState.TheVariants as Is
 use Rattle.link_client.specs.declared.fin_at.FinAt.{FinAt}
@@ -105,8 +107,8 @@ module _ (m : Meaning) (pages : Pages) (lawful : IsPaged m pages) (served : ℕ 
   unfolding happened
   answered old k before numbers past event step t own e l =
       let step_with : Option PlainSegment → Sockets → Option Connection → NodeStep = λ said sk gone.
-      (let now : List Past = record { event = event; answer = answer_of said (is_again step) } ∷ past in
-      record { node = node_at numbers now k; sent = reply_of said sk (ident_of now) (is_again step); gone = gone }) in
+      (let now : List Past = record { event = event; answer = option_map_or (λ s. Spoke (is_again step)) said Silent } ∷ past in
+      record { node = node_at numbers now k; sent = option_map (λ s. Tcp sk (ident_of now) (is_again step) s) said; gone = gone }) in
       ap (λ said. step_with said k.sockets (gone_by old k)) e
       ∙ ap (λ sk. step_with (Some t) sk (gone_by old k)) own
       ∙ ap (λ b. step_with (Some t) sockets (if is_live old.state && not b then Some k else None)) l

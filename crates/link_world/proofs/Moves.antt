@@ -8,7 +8,7 @@ use Rattle.app_events.specs.declared.state.State.{State}
 use Rattle.app_events.specs.declared.state.State.TheVariants.{Closed, SynRcvd, Established, CloseWait, FinWait1, FinWait2, Closing, TimeWait, LastAck}
 use Rattle.tcp_machine.specs.Connection.{Connection}
 use Rattle.tcp_machine.specs.Ask.{Outcome, ask, asked, closes, prepared}
-use Rattle.tcp_machine.specs.OnSegment.{is_out_of_order, is_acked, rests, has_text, with_part, in_established, peer_closes, goes_on, fin_acked, fin_waits, in_fin_wait_2, by_state, on_segment}
+use Rattle.tcp_machine.specs.OnSegment.{is_out_of_order, is_acked, rests, has_text, with_part, in_established, peer_closes, goes_on, fin_acked, fin_waits, by_state, on_segment}
 use Rattle.tcp_machine.specs.OnTick.{by_beat, grows_older, on_tick, polls}
 use Rattle.link_world.proofs.Basics.{choose, ltb-zero}
 use Rattle.link_world.proofs.Cases.{asked_by, is_ask, no_ask_again, on_tick_by, wanted_unmoved}
@@ -59,7 +59,7 @@ module _ (m : Meaning) where
       (λ g. record { moves = like acked c b _ h refl refl (omega arith); idle = λ z. ltb-zero b.len g })))
 
   by_state_moves : (st : State) (acked : Bool) (c : Connection) (numbers : List ℕ) (s : PlainSegment) → OutMoves acked c (by_state m st acked c numbers s)
-  unfolding fin_acked fin_waits in_fin_wait_2
+  unfolding fin_acked fin_waits
   by_state_moves Closed acked c numbers s = record { moves = stays acked c c refl refl (omega arith); idle = λ z. absurd (cc) }
   by_state_moves SynRcvd true c numbers s = record { moves = goes c _ refl refl; idle = λ z. refl }
   by_state_moves SynRcvd false c numbers s = record { moves = stays false c c refl refl (omega arith); idle = λ z. absurd (cc) }

@@ -8,7 +8,7 @@ use Rattle.app_events.specs.declared.state.State.{State}
 use Rattle.app_events.specs.declared.state.State.TheVariants.{Closed, SynRcvd, Established, CloseWait, FinWait1, FinWait2, Closing, TimeWait, LastAck}
 use Rattle.tcp_machine.specs.Connection.{Connection, is_live}
 use Rattle.tcp_machine.specs.Ask.{Outcome, leaves, prepared, asked}
-use Rattle.tcp_machine.specs.OnSegment.{is_out_of_order, is_acked, has_text, peer_closes, goes_on, in_established, fin_acked, fin_waits, in_fin_wait_2, by_state, on_segment, with_part, rests}
+use Rattle.tcp_machine.specs.OnSegment.{is_out_of_order, is_acked, has_text, peer_closes, goes_on, in_established, fin_acked, fin_waits, by_state, on_segment, with_part, rests}
 use Rattle.tcp_machine.specs.OnTick.{by_beat, tick_by, on_tick}
 use Rattle.tcp_machine.specs.declared.step.Step.{Step}
 use Rattle.link_world.proofs.Basics.{choose}
@@ -30,7 +30,7 @@ module _ (m : Meaning) where
       (λ e. choose (λ o. Keeps c o) (not acked && not (has_text s)) _ _ (λ f. refl) (λ f. choose (λ o. Keeps c o) (ltb 0 c.len) _ _ (λ g. refl) (λ g. refl)))
 
   by_state_keeps : (st : State) (acked : Bool) (c : Connection) (numbers : List ℕ) (s : PlainSegment) → Keeps c (by_state m st acked c numbers s)
-  unfolding fin_acked fin_waits in_fin_wait_2
+  unfolding fin_acked fin_waits
   by_state_keeps Closed acked c numbers s = refl
   by_state_keeps SynRcvd true c numbers s = refl
   by_state_keeps SynRcvd false c numbers s = refl

@@ -8,8 +8,8 @@ use Rattle.tcp_segment.specs.ReadBack.{IsReadBack, head_of}
 use Rattle.tcp_segment.specs.Segments.{PlainSegment, Datagram, datagram_bytes}
 use Rattle.app_events.specs.Pages.{IsAddr}
 use Rattle.tcp_machine.specs.Connection.{Sockets}
-use Rattle.uip_node.specs.Events.Event.{EchoAsked, Arrived}
-use Rattle.uip_node.specs.Edge.{event_of, by_head, by_echo, by_segment, datagram_to}
+use Rattle.uip_node.specs.Events.Event.{EchoAsked, Arrived, IcmpRefused}
+use Rattle.uip_node.specs.Edge.{event_of, by_head, by_segment, datagram_to}
 use Rattle.link_client.specs.declared.setup.Setup.{Setup}
 use Rattle.link_world.specs.World.{World, Side, Content, client_sockets}
 use Rattle.link_world.specs.World.Content.{OfSegment, OfPing, OfEcho}
@@ -71,7 +71,7 @@ client_reads addr side id s a l g c e =
 ping_reads : (source addr : Addr) → IsPingBack source addr → event_of addr (ping_from source addr) ≡ EchoAsked (ping_from source addr)
 ping_reads source addr b =
     ap (by_head (ping_from source addr)) b.head
-    ∙ ap (by_echo (ping_head source addr) (ping_from source addr)) b.passes
+    ∙ ap (λ o. option_map_or IcmpRefused o (EchoAsked (take (ping_head source addr).total (ping_from source addr)))) b.passes
     ∙ ap (λ n. EchoAsked (take n (ping_from source addr))) (sym b.long)
     ∙ ap EchoAsked (take-length (ping_from source addr))
 

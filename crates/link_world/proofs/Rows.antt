@@ -4,7 +4,7 @@ use Rattle.tcp_segment.specs.declared.flags.TheConstants.{FIN, SYN, RST, PSH, AC
 use Rattle.app_events.specs.declared.row.Row.{Row}
 use Rattle.app_events.specs.Part.{Moment}
 use Rattle.tcp_machine.specs.Ask.{idles}
-use Rattle.tcp_machine.specs.OnSegment.{peer_closes, goes_on, in_established, fin_acked, fin_waits, in_fin_wait_2, on_segment}
+use Rattle.tcp_machine.specs.OnSegment.{peer_closes, goes_on, in_established, fin_acked, fin_waits, on_segment}
 use Rattle.tcp_machine.specs.OnTick.{rests_on, ticks_established}
 use Rattle.uip_node.specs.Counters.{ticks_of}
 use Rattle.uip_node.specs.Node.{happened, opens_in, from_stranger}
@@ -120,7 +120,7 @@ client_says flags seq len = record { tick = 0; who = FromClient 1; flags = flags
 a_page_shown : all_shown (played (text_of 86) usual (Opens 1 ∷ rounds 12))
     ≡ client_says SYN 1000 0 ∷ node_says 0 (SYN + ACK) 0 0 false ∷ client_says (ACK + PSH) 1001 18 ∷ node_says 0 (ACK + PSH) 1 86 false
     ∷ client_says ACK 1019 0 ∷ node_says 0 (FIN + ACK) 87 0 false ∷ client_says (FIN + ACK) 1019 0 ∷ node_says 0 ACK 88 0 false ∷ []
-unfolding idles peer_closes goes_on in_established fin_acked fin_waits in_fin_wait_2 on_segment rests_on ticks_established happened opens_in from_stranger sends_next takes_in_order takes_by client_takes opens_by again_by closes_by aborts_by
+unfolding idles peer_closes goes_on in_established fin_acked fin_waits on_segment rests_on ticks_established happened opens_in from_stranger sends_next takes_in_order takes_by client_takes opens_by again_by closes_by aborts_by
 a_page_shown = refl
 
 abbrev lost_segment_run : Result World BadLine
@@ -228,7 +228,7 @@ endings =
     ∷ []
 
 endings_hold : map (λ row. report_of row.0) endings ≡ map (λ row. row.1) endings
-unfolding idles peer_closes goes_on in_established fin_acked fin_waits in_fin_wait_2 on_segment rests_on ticks_established happened opens_in from_stranger sends_next takes_in_order takes_by client_takes opens_by again_by closes_by aborts_by ping_from
+unfolding idles peer_closes goes_on in_established fin_acked fin_waits on_segment rests_on ticks_established happened opens_in from_stranger sends_next takes_in_order takes_by client_takes opens_by again_by closes_by aborts_by ping_from
 endings_hold = refl
 
 -- the numbers of datagrams in runs, and what is shown of each
@@ -249,7 +249,7 @@ datagrams =
     ∷ []
 
 datagrams_hold : map (λ row. shown row.0 row.1) datagrams ≡ map (λ row. Some row.2) datagrams
-unfolding idles peer_closes goes_on in_established fin_acked fin_waits in_fin_wait_2 on_segment rests_on ticks_established happened opens_in from_stranger sends_next takes_in_order takes_by client_takes opens_by again_by closes_by aborts_by
+unfolding idles peer_closes goes_on in_established fin_acked fin_waits on_segment rests_on ticks_established happened opens_in from_stranger sends_next takes_in_order takes_by client_takes opens_by again_by closes_by aborts_by
 datagrams_hold = refl
 
 -- datagrams whose text is told
@@ -263,7 +263,7 @@ texts =
     ∷ []
 
 texts_hold : map (λ row. said_in row.0 row.1) texts ≡ map (λ row. row.2) texts
-unfolding idles peer_closes goes_on in_established fin_acked fin_waits in_fin_wait_2 on_segment rests_on ticks_established happened opens_in from_stranger sends_next takes_in_order takes_by client_takes opens_by again_by closes_by aborts_by ping_from
+unfolding idles peer_closes goes_on in_established fin_acked fin_waits on_segment rests_on ticks_established happened opens_in from_stranger sends_next takes_in_order takes_by client_takes opens_by again_by closes_by aborts_by ping_from
 texts_hold = refl
 
 -- runs with damage, and acts that are refused
@@ -279,9 +279,9 @@ damages =
     ∷ []
 
 damages_hold : map (λ row. report_of row.0) damages ≡ map (λ row. row.1) damages
-unfolding idles peer_closes goes_on in_established fin_acked fin_waits in_fin_wait_2 on_segment rests_on ticks_established happened opens_in from_stranger sends_next takes_in_order takes_by client_takes opens_by again_by closes_by aborts_by folded head_or_fate head_bytes datagram_bytes segment_in
+unfolding idles peer_closes goes_on in_established fin_acked fin_waits on_segment rests_on ticks_established happened opens_in from_stranger sends_next takes_in_order takes_by client_takes opens_by again_by closes_by aborts_by folded head_or_fate head_bytes datagram_bytes segment_in
 damages_hold = refl
 
 damaged_again : shown 5 (damaged_run 45) ≡ Some (node_says 4 (ACK + PSH) 1 86 true)
-unfolding idles peer_closes goes_on in_established fin_acked fin_waits in_fin_wait_2 on_segment rests_on ticks_established happened opens_in from_stranger sends_next takes_in_order takes_by client_takes opens_by again_by closes_by aborts_by folded head_or_fate head_bytes datagram_bytes segment_in
+unfolding idles peer_closes goes_on in_established fin_acked fin_waits on_segment rests_on ticks_established happened opens_in from_stranger sends_next takes_in_order takes_by client_takes opens_by again_by closes_by aborts_by folded head_or_fate head_bytes datagram_bytes segment_in
 damaged_again = refl

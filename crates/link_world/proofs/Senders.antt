@@ -1,5 +1,7 @@
 -- Each datagram is a client's, a pinger's or the node's, and the node speaks to clients alone.
 use Rattle.std.proofs.Common.{◌≡◌, ℕ, zero, suc, Bool, true, false, ◌&&◌, List, [], ◌∷◌, ◌++◌, map, set, refl, sym, ap, ◌∙◌, subst, arith, Option, Some, None, slice_get, slice_index_or}
+use Rattle.std.specs.Prelude.{option_map}
+use Rattle.std.specs.Option.{option_map_or}
 use Rattle.std.proofs.lemmas.Option.{slice_get-map}
 use Rattle.tcp_segment.specs.Segments.{PlainSegment, has_rst}
 use Rattle.app_events.specs.Part.{Meaning}
@@ -15,7 +17,7 @@ use Rattle.uip_node.specs.Events.Event.{Arrived, EchoAsked, Periodic}
 use Rattle.uip_node.specs.Events.Answer.{Silent, Spoke, NoSlot}
 use Rattle.uip_node.specs.Events.Reply.{Echo, Tcp}
 use Rattle.uip_node.specs.Counters.{initial_number, ident_of}
-use Rattle.uip_node.specs.Node.{AbstractNode, NodeStep, answer_of, reply_of, moment, happened, connection_in, slot_for_syn, passes, refuses, opens_in, opens, from_stranger, arrives_at, step}
+use Rattle.uip_node.specs.Node.{AbstractNode, NodeStep, moment, happened, connection_in, slot_for_syn, passes, refuses, opens_in, opens, from_stranger, arrives_at, step}
 use Rattle.link_client.specs.Client.{AbstractClient, ClientStep, client_takes, client_opens, client_again, client_closes, client_aborts, tells_window}
 use Rattle.link_client.specs.declared.setup.Setup.{Setup}
 use Rattle.link_world.specs.World.{World, Side, Sent, Content, numbered, client_sockets, buries, buries_in, addressed, posts, posts_reply, node_stepped, node_handles, with_client, with_side, posts_of_client, client_stepped, marked, delivers}
@@ -182,7 +184,7 @@ module _ (sides : List Side) (sent : List Sent) where
   index_client (c ∷ cs) zero h l = h zero c refl l
   index_client (c ∷ cs) (suc i) h l = index_client cs i (λ j x g. h (suc j) x g) l
 
-  replies_from : (said : Option PlainSegment) (sockets : Sockets) (id : ℕ) (again : Bool) → ((s : PlainSegment) → said ≡ Some s → HasClient sides sockets) → (x : Reply) → reply_of said sockets id again ≡ Some x → MaySay sides sent x
+  replies_from : (said : Option PlainSegment) (sockets : Sockets) (id : ℕ) (again : Bool) → ((s : PlainSegment) → said ≡ Some s → HasClient sides sockets) → (x : Reply) → option_map (λ s. Tcp sockets id again s) said ≡ Some x → MaySay sides sent x
   replies_from None sockets id again f x e = absurd (cc)
   replies_from (Some s) sockets id again f x e = only_some (λ r. MaySay sides sent r) (Tcp sockets id again s) x e (f s refl)
 
@@ -192,7 +194,7 @@ module _ (sides : List Side) (sent : List Sent) where
     unfolding happened
     happened_from n event slot old o f g h = record {
       conns = set_clients n.connections slot o.connection f h;
-      said = (let past : List Past = record { event = event; answer = answer_of (segment_of m o.connection o.step) (is_again o.step) } ∷ n.past in
+      said = (let past : List Past = record { event = event; answer = option_map_or (λ s. Spoke (is_again o.step)) (segment_of m o.connection o.step) Silent } ∷ n.past in
           replies_from (segment_of m o.connection o.step) o.connection.sockets (ident_of past) (is_again o.step) g);
     }
 

@@ -17,7 +17,7 @@ use Rattle.app_events.specs.declared.want.Want.TheVariants.{Nothing, Send, Close
 use Rattle.tcp_machine.specs.Connection.{Sockets, Connection, closed}
 use Rattle.tcp_machine.specs.Segments.{bare_ack, syn_ack, text_segment, fin_of, reset_of, reset_to_none, segment_of}
 use Rattle.tcp_machine.specs.Ask.{Outcome, peer_has_closed, idles, does_as_wanted, prepared, asked_for, asked}
-use Rattle.tcp_machine.specs.OnSegment.{first_mss, accepted, is_out_of_order, is_acked, rests, has_text, with_part, peer_closes, goes_on, in_established, fin_acked, fin_waits, in_fin_wait_2, by_state, on_segment}
+use Rattle.tcp_machine.specs.OnSegment.{first_mss, accepted, is_out_of_order, is_acked, rests, has_text, with_part, peer_closes, goes_on, in_established, fin_acked, fin_waits, by_state, on_segment}
 use Rattle.tcp_machine.specs.OnTick.{by_beat, on_tick}
 use Rattle.tcp_machine.specs.declared.step.Step.{Step}
 use Rattle.link_client.specs.Client.{AbstractClient, ClientStep, aborts_by, ack_of, again_by, client_aborts, client_again, client_closes, client_opens, client_takes, closes_by, fin_out, fin_sent, has_outstanding as client_waits, hears_ack, is_receiving, is_reset_by, keeps, may_finish, next_own, offered, opened_by, opens_by, own_first, own_request, sends_next, syn_of, takes_by, takes_in_order, takes_text}
@@ -88,7 +88,7 @@ module _ (m : Meaning) where
       (λ f. choose (λ (o : Outcome). Lens o.connection) (ltb 0 c.len) _ _ (λ g. record { len = h.len; mss = w; initial = h.initial }) (λ g. record { len = h.len; mss = w; initial = h.initial })))
 
   by_state_lens : (st : State) (acked : Bool) (c : Connection) (numbers : List ℕ) (s : PlainSegment) → Lens c → Lens (by_state m st acked c numbers s).connection
-  unfolding fin_acked fin_waits in_fin_wait_2
+  unfolding fin_acked fin_waits
   by_state_lens Closed acked c numbers s h = h
   by_state_lens SynRcvd true c numbers s h = record { len = omega arith; mss = h.mss; initial = h.initial }
   by_state_lens SynRcvd false c numbers s h = h

@@ -1,5 +1,7 @@
 -- A step of the node keeps what it sends sound.
 use Rattle.std.proofs.Common.{◌≡◌, ℕ, zero, suc, ◌<◌, Bool, false, ◌&&◌, List, [], ◌∷◌, set, refl, subst, arith, Option, Some, None, slice_get, slice_index_or, position}
+use Rattle.std.specs.Prelude.{option_map}
+use Rattle.std.specs.Option.{option_map_or}
 use Rattle.tcp_segment.specs.Segments.{PlainSegment, has_rst}
 use Rattle.app_events.specs.Part.{Meaning}
 use Rattle.app_events.specs.Pages.{Pages, IsPaged, IsAddr}
@@ -13,7 +15,7 @@ use Rattle.uip_node.specs.Events.Event.{Arrived, Periodic}
 use Rattle.uip_node.specs.Events.Answer.{Silent, Spoke, NoSlot}
 use Rattle.uip_node.specs.Events.Reply.{Echo, Tcp}
 use Rattle.uip_node.specs.Counters.{initial_number, ident_of}
-use Rattle.uip_node.specs.Node.{AbstractNode, NodeStep, answer_of, reply_of, moment, happened, connection_in, slot_for_syn, passes, refuses, opens_in, opens, from_stranger, arrives_at, step}
+use Rattle.uip_node.specs.Node.{AbstractNode, NodeStep, moment, happened, connection_in, slot_for_syn, passes, refuses, opens_in, opens, from_stranger, arrives_at, step}
 use Rattle.link_world.specs.Headline.{HasBytes}
 use Rattle.link_world.proofs.Steadiness.{steady_of}
 use Rattle.link_world.proofs.Basics.{choose, only_some}
@@ -43,7 +45,7 @@ index_lens (c ∷ cs) (suc i) h = index_lens cs i (λ j x g. h (suc j) x g)
 set_lens : (table : List Connection) (i : ℕ) (new : Connection) → Lens new → LensAll table → LensAll (set table i new)
 set_lens table i new f h j c x = elim (get_set table i new j c x) [ here e q ↦ subst (λ z. Lens z) q f | there n g ↦ h j c g ]
 
-replies : (said : Option PlainSegment) (sockets : Sockets) (id : ℕ) (again : Bool) → id < 65536 → ((s : PlainSegment) → said ≡ Some s → IsSoundSegment s) → (x : Reply) → reply_of said sockets id again ≡ Some x → SoundReply x
+replies : (said : Option PlainSegment) (sockets : Sockets) (id : ℕ) (again : Bool) → id < 65536 → ((s : PlainSegment) → said ≡ Some s → IsSoundSegment s) → (x : Reply) → option_map (λ s. Tcp sockets id again s) said ≡ Some x → SoundReply x
 replies None sockets id again l f x e = absurd (cc)
 replies (Some s) sockets id again l f x e = only_some (λ r. SoundReply r) (Tcp sockets id again s) x e (l, f s refl)
 
@@ -59,7 +61,7 @@ module _ (m : Meaning) (pages : Pages) (lawful : IsPaged m pages) (page : HasByt
   happened_sound n event slot old o l h f = record {
     addr = refl;
     conns = set_lens n.connections slot o.connection h l;
-    said = (let past : List Past = record { event = event; answer = answer_of (segment_of m o.connection o.step) (is_again o.step) } ∷ n.past in
+    said = (let past : List Past = record { event = event; answer = option_map_or (λ s. Spoke (is_again o.step)) (segment_of m o.connection o.step) Silent } ∷ n.past in
         replies (segment_of m o.connection o.step) o.connection.sockets (ident_of past) (is_again o.step) (ident_low past) (λ s e. step_sound m pages lawful page o.connection o.step s f h e));
   }
 

@@ -13,8 +13,8 @@ use Rattle.app_events.specs.declared.want.Want.{Want}
 use Rattle.app_events.specs.declared.want.Want.TheVariants.{Nothing, Send, Close, Abort}
 use Rattle.tcp_machine.specs.Connection.{Connection, is_live, rcv_nxt}
 use Rattle.tcp_machine.specs.Segments.{bare_ack, syn_ack, text_segment, fin_of, reset_of}
-use Rattle.tcp_machine.specs.Ask.{Outcome, leaves, closes, sends_text, sends_fin, after_own_fin, peer_has_closed, idles, does_as_wanted, prepared, ask, asked_for, asked}
-use Rattle.tcp_machine.specs.OnSegment.{is_out_of_order, is_acked, rests, has_text, hears, takes, with_part, in_state, with_window, connects, peer_closes, goes_on, in_established, fin_acked, fin_waits, in_fin_wait_2, by_state, on_segment}
+use Rattle.tcp_machine.specs.Ask.{Outcome, leaves, closes, after_own_fin, peer_has_closed, idles, does_as_wanted, prepared, ask, asked_for, asked}
+use Rattle.tcp_machine.specs.OnSegment.{is_out_of_order, is_acked, rests, has_text, hears, takes, with_part, in_state, with_window, connects, peer_closes, goes_on, in_established, fin_acked, fin_waits, by_state, on_segment}
 use Rattle.tcp_machine.specs.OnTick.{outstanding, grows_older, by_beat, on_tick}
 use Rattle.tcp_machine.specs.declared.step.Step.{Step}
 use Rattle.link_client.specs.Client.{AbstractClient, own_first}
@@ -137,11 +137,11 @@ module _ (m : Meaning) (pages : Pages) (lawful : IsPaged m pages) where
     unfolding idles
     wanted_good Abort fresh c numbers o g h w = move_says c (closes c) (reset_of (closes c)) (closes_good c c refl refl) (says_reset (closes c) (closes c))
     wanted_good Close fresh c numbers o g h w =
-        let d : Connection = sends_fin (after_own_fin c.state) c in
+        let d : Connection = record c { state = after_own_fin c.state; len = 1; age = 0 } in
         let a : AtFin pages opened client d = record { opened_is = h.opened_is; ends = front_all m pages lawful client c.part.heard c.part.captures c.part.acked h.heard w.0 w.1; count = h.count; heard = h.heard } in
         move_says c d (fin_of d) (turns c d refl refl g.peer_first (fin_state d c.state a)) (says_fin d (fin_lives c.state) a)
     wanted_good (Send n) fresh c numbers o g h w =
-        let d : Connection = sends_text (min n c.mss) c in
+        let d : Connection = record c { len = min n c.mss; age = 0 } in
         let t : AtText pages opened client d = like_text c d refl refl h.count (omega (arith, w.1)) h in
         move_says c d (text_segment m d) (turns c d refl refl g.peer_first (text_state c d c.state o g.state t refl refl)) (says_text d (open_live c.state o) t)
     wanted_good Nothing fresh c numbers o g h w =
@@ -308,7 +308,7 @@ module _ (m : Meaning) (pages : Pages) (lawful : IsPaged m pages) where
     by_state_good : (at_epoch : ℕ) (st : State) (acked : Bool) (c : Connection) (numbers : List ℕ) (s : PlainSegment) → Steady client → ClientSaid client opened at_epoch s → has_rst s.flags ≡ false →
         c.state ≡ st → c.peer_first ≡ own_first client → StateGood pages opened client c st → is_acked c s ≡ acked → (0 < length s.text → s.seq ≡ rcv_nxt c) → is_live st ≡ true →
         OutGood c (by_state m st acked c numbers s)
-    unfolding fin_acked fin_waits in_fin_wait_2
+    unfolding fin_acked fin_waits
     by_state_good at_epoch Closed acked c numbers s steady said nr st pf h ac e lv = absurd (cc)
     by_state_good at_epoch SynRcvd true c numbers s steady said nr st pf h ac e lv = connects_good at_epoch c numbers s steady said nr (and_true _ _ ac).0 pf h e
     by_state_good at_epoch SynRcvd false c numbers s steady said nr st pf h ac e lv = move_silent c c (stays_good c record { peer_first = pf; state = state_at c SynRcvd st h })

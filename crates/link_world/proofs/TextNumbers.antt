@@ -10,8 +10,8 @@ use Rattle.app_events.specs.declared.state.State.TheVariants.{Closed, SynRcvd, E
 use Rattle.app_events.specs.declared.want.Want.{Want}
 use Rattle.app_events.specs.declared.want.Want.TheVariants.{Nothing, Send, Close, Abort}
 use Rattle.tcp_machine.specs.Connection.{Connection, Sockets, closed, is_live}
-use Rattle.tcp_machine.specs.Ask.{Outcome, after_own_fin, closes, peer_has_closed, idles, does_as_wanted, prepared, asked, sends_fin}
-use Rattle.tcp_machine.specs.OnSegment.{accepted, hears, is_out_of_order, is_acked, rests, has_text, in_state, takes, with_part, with_window, in_established, peer_closes, goes_on, fin_acked, fin_waits, in_fin_wait_2, by_state, on_segment}
+use Rattle.tcp_machine.specs.Ask.{Outcome, after_own_fin, closes, peer_has_closed, idles, does_as_wanted, prepared, asked}
+use Rattle.tcp_machine.specs.OnSegment.{accepted, hears, is_out_of_order, is_acked, rests, has_text, in_state, takes, with_part, with_window, in_established, peer_closes, goes_on, fin_acked, fin_waits, by_state, on_segment}
 use Rattle.tcp_machine.specs.OnTick.{grows_older, by_beat, on_tick}
 use Rattle.tcp_machine.specs.declared.step.Step.{Step}
 use Rattle.link_world.specs.Nodes.{HasTextNumbers}
@@ -69,7 +69,7 @@ module _ (m : Meaning) (pages : Pages) (lawful : IsPaged m pages) where
   wanted_num : (w : Want) (fresh : Bool) (c : Connection) (numbers : List ℕ) → is_open c.state ≡ true → Num c → Num (does_as_wanted w fresh c numbers).connection
   unfolding idles
   wanted_num Abort fresh c numbers o g = closes_num c
-  wanted_num Close fresh c numbers o g = record { at = fin_num (sends_fin (after_own_fin c.state) c) c.state (low_num c c.state (open_live c.state o) g.at) }
+  wanted_num Close fresh c numbers o g = record { at = fin_num (record c { state = after_own_fin c.state; len = 1; age = 0 }) c.state (low_num c c.state (open_live c.state o) g.at) }
   wanted_num (Send n) fresh c numbers o g = record { at = open_num c (does_as_wanted (Send n) fresh c numbers).connection c.state o refl refl refl refl g.at }
   wanted_num Nothing fresh c numbers o g =
       choose (λ (x : Outcome). Num x.connection) (peer_has_closed c.state) _ _ (λ e. closes_num c)
@@ -114,7 +114,7 @@ module _ (m : Meaning) (pages : Pages) (lawful : IsPaged m pages) where
   still c st s numbers e q h = record { num = num_at c st e h; open_there = λ z. absurd (let y : true ≡ false = sym z ∙ q in cc) }
 
   by_state_num : (st : State) (acked : Bool) (c : Connection) (numbers : List ℕ) (s : PlainSegment) → c.state ≡ st → AtNumbers st c → OutNum (by_state m st acked c numbers s)
-  unfolding fin_acked fin_waits in_fin_wait_2
+  unfolding fin_acked fin_waits
   by_state_num Closed acked c numbers s e h = still c Closed Step.Drop numbers e refl h
   by_state_num SynRcvd true c numbers s e h =
       let port : ℕ = c.sockets.own_port.0 in

@@ -1,5 +1,10 @@
 -- An expired timer sends in that tick.
 use Rattle.std.proofs.Common.{◌≡◌, ℕ, ◌+◌, ◌<◌, ◌≤◌, true, List, [], ◌∷◌, ◌++◌, length, cond, count_by, refl, sym, ap, ◌∙◌, subst, arith, Option, Some, nat_le, ltb, if◌then◌else◌, ◌⊎◌, inl, inr}
+use Rattle.std.specs.Option.{option_map_or}
+use Rattle.std.specs.Prelude.{option_map}
+use Rattle.uip_node.specs.Counters.{ident_of}
+use Rattle.uip_node.specs.Events.Answer.{Spoke, Silent}
+use Rattle.uip_node.specs.Events.Reply.{Tcp}
 use Rattle.std.specs.List.{list_all}
 use Rattle.std.proofs.lemmas.List.Recursion.{is_count_by}
 use Rattle.std.proofs.lemmas.Grind.{common_steps}
@@ -17,9 +22,9 @@ use Rattle.tcp_machine.specs.Segments.{segment_of, is_again, syn_ack, text_segme
 use Rattle.tcp_machine.specs.Ask.{leaves, asked}
 use Rattle.tcp_machine.specs.OnTick.{limit_of, outstanding, grows_older, by_beat, waits_for_ack, ticks_established, tick_by, on_tick}
 use Rattle.tcp_machine.specs.declared.step.Step.{Step}
-use Rattle.uip_node.specs.Events.{Event, Reply}
+use Rattle.uip_node.specs.Events.{Event}
 use Rattle.uip_node.specs.Events.Event.{Periodic}
-use Rattle.uip_node.specs.Node.{AbstractNode, moment, happened, connection_in, step}
+use Rattle.uip_node.specs.Node.{AbstractNode, moment, happened}
 use Rattle.link_world.specs.Headline.{may_wait, IsExpired, SendsAgain, Tick}
 use Rattle.link_world.proofs.Basics.{and_true, ltb-yes}
 use Rattle.link_world.proofs.Tables.{index_of}
@@ -122,8 +127,8 @@ module _ (m : Meaning) where
   sends_it n event slot c s x e a o = record {
     id = _;
     segment = x;
-    sends = ap (λ (z : Option PlainSegment). Rattle.uip_node.specs.Node.reply_of z c.sockets (Rattle.uip_node.specs.Counters.ident_of (record { event = event; answer = Rattle.uip_node.specs.Node.answer_of (segment_of m (grows_older c) s) (is_again s) } ∷ n.past)) (is_again s)) e
-        ∙ ap (λ b. Some (Rattle.uip_node.specs.Events.Reply.Tcp c.sockets (Rattle.uip_node.specs.Counters.ident_of (record { event = event; answer = Rattle.uip_node.specs.Node.answer_of (segment_of m (grows_older c) s) (is_again s) } ∷ n.past)) b x)) a;
+    sends = ap (λ (z : Option PlainSegment). option_map (λ t. Tcp c.sockets (ident_of (record { event = event; answer = option_map_or (λ t. Spoke (is_again s)) (segment_of m (grows_older c) s) Silent } ∷ n.past)) (is_again s) t) z) e
+        ∙ ap (λ b. Some (Tcp c.sockets (ident_of (record { event = event; answer = option_map_or (λ t. Spoke (is_again s)) (segment_of m (grows_older c) s) Silent } ∷ n.past)) b x)) a;
     is = o;
   }
 

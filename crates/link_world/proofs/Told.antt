@@ -1,5 +1,6 @@
 -- What a step tells of what is outstanding: it stays the same until it is acknowledged, and is sent again as it was.
 use Rattle.std.specs.List.{All}
+use Rattle.tcp_machine.specs.declared.ticking.TheConstants.{REST_TIME}
 use Rattle.std.proofs.Common.{◌≡◌, ℕ, ◌+◌, ◌<◌, ◌≤◌, min, Bool, true, false, not, ◌&&◌, ◌||◌, ◌⊎◌, inl, inr, List, [], ◌∷◌, ◌++◌, length, take, drop, length-drop, refl, sym, ap, ◌∙◌, subst, arith, Option, Some, None, eqb, ltb, if◌then◌else◌}
 use Rattle.std.proofs.lemmas.Grind.{common_steps}
 use Rattle.uip_wire.specs.Numbers.{wrap}
@@ -16,9 +17,9 @@ use Rattle.app_events.specs.declared.want.Want.{Want}
 use Rattle.app_events.specs.declared.want.Want.TheVariants.{Nothing, Send, Close, Abort}
 use Rattle.tcp_machine.specs.Connection.{Connection, is_live, snd_nxt}
 use Rattle.tcp_machine.specs.Segments.{has_place, bare_ack, syn_ack, text_segment, fin_of, reset_of, segment_of, is_again}
-use Rattle.tcp_machine.specs.Ask.{Outcome, leaves, closes, sends_text, sends_fin, after_own_fin, peer_has_closed, idles, does_as_wanted, prepared, ask, asked_for, asked}
-use Rattle.tcp_machine.specs.OnSegment.{is_out_of_order, is_acked, rests, has_text, hears, takes, with_part, in_state, with_window, peer_closes, goes_on, in_established, fin_acked, fin_waits, in_fin_wait_2, by_state, on_segment}
-use Rattle.tcp_machine.specs.OnTick.{outstanding, limit_of, grows_older, by_beat, waits_for_ack, rests_on, rest_time, ticks_established, tick_by, on_tick}
+use Rattle.tcp_machine.specs.Ask.{Outcome, leaves, closes, after_own_fin, peer_has_closed, idles, does_as_wanted, prepared, ask, asked_for, asked}
+use Rattle.tcp_machine.specs.OnSegment.{is_out_of_order, is_acked, rests, has_text, hears, takes, with_part, in_state, with_window, peer_closes, goes_on, in_established, fin_acked, fin_waits, by_state, on_segment}
+use Rattle.tcp_machine.specs.OnTick.{outstanding, limit_of, grows_older, by_beat, waits_for_ack, rests_on, ticks_established, tick_by, on_tick}
 use Rattle.tcp_machine.specs.declared.step.Step.{Step}
 use Rattle.link_world.specs.Headline.{Alike}
 use Rattle.link_world.specs.Steady.{IsSteady}
@@ -248,12 +249,12 @@ module _ (m : Meaning) (steady : IsSteady m) (Low : ℕ → Type 0) (low_text : 
   unfolding idles
   wanted_tells Abort fresh c numbers o z ms ini h fit w = reset_tells c c
   wanted_tells Close fresh c numbers o z ms ini h fit w =
-      let d : Connection = sends_fin (after_own_fin c.state) c in
+      let d : Connection = record c { state = after_own_fin c.state; len = 1; age = 0 } in
       new_tells c d (fin_of d) (onto_idle c d refl z refl) (fin_lives c.state)
       record { mss = ms; initial = ini; state = fin_safe d c.state record { len = refl; low = record { at = length (m.said c.part); low = low_text c.part fit; near = omega (arith, h.count, h.fits) } } }
       record { len = omega arith; seq = refl; alike = fin_due d c.state } (λ x. absurd (omega (arith, x, z))) refl
   wanted_tells (Send n) fresh c numbers o z ms ini h fit w =
-      let d : Connection = sends_text (min n c.mss) c in
+      let d : Connection = record c { len = min n c.mss; age = 0 } in
       let some : 0 < d.len = omega (arith, w.0, ms) in
       let t : TextSafe d = record { fits = omega (arith, w.0, w.1, length-drop c.part.acked (m.said c.part)); count = h.count } in
       new_tells c d (text_segment m d) (onto_idle c d refl z refl) (open_live c.state o)
@@ -391,7 +392,7 @@ module _ (m : Meaning) (steady : IsSteady m) (Low : ℕ → Type 0) (low_text : 
 
   by_state_tells : (st : State) (acked : Bool) (c : Connection) (numbers : List ℕ) (s : PlainSegment) → c.state ≡ st → is_acked c s ≡ acked → 0 < c.mss → 0 < c.initial_mss → SafeState c st →
       (let o : Outcome = by_state m st acked c numbers s in OutTells c o.connection o.step)
-  unfolding fin_acked fin_waits in_fin_wait_2
+  unfolding fin_acked fin_waits
   by_state_tells Closed acked c numbers s e ac ms ini h = absurd h
   by_state_tells SynRcvd true c numbers s e ac ms ini h =
       let port : ℕ = c.sockets.own_port.0 in
@@ -505,7 +506,7 @@ module _ (m : Meaning) (steady : IsSteady m) (Low : ℕ → Type 0) (low_text : 
 
   rests_tell : (c : Connection) (numbers : List ℕ) → Safe c → (let o : Outcome = rests_on c numbers in OutTells c o.connection o.step)
   unfolding rests_on
-  rests_tell c numbers f = choose (λ (y : Outcome). OutTells c y.connection y.step) (eqb (c.age + 1) rest_time) _ _ (λ e. dead_tells c c) (λ e. silent_tells c (grows_older c) (older_onto c) (λ x. older_is_safe c f) (λ z. record { some = z; same = refl }))
+  rests_tell c numbers f = choose (λ (y : Outcome). OutTells c y.connection y.step) (eqb (c.age + 1) REST_TIME) _ _ (λ e. dead_tells c c) (λ e. silent_tells c (grows_older c) (older_onto c) (λ x. older_is_safe c f) (λ z. record { some = z; same = refl }))
 
   polls_tell : (c : Connection) (numbers : List ℕ) → c.state ≡ Established → Safe c → TextSafe c → (let o : Outcome = ticks_established m c numbers in OutTells c o.connection o.step)
   unfolding ticks_established

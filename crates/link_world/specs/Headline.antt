@@ -16,15 +16,13 @@ use Rattle.uip_node.specs.Events.{Event as NodeEvent, Reply}
 use Rattle.uip_node.specs.Events.Event.{IpRefused, IcmpRefused, TcpRefused, EchoAsked, Arrived, Overlong, Periodic}
 use Rattle.uip_node.specs.Events.Answer.{Silent}
 use Rattle.uip_node.specs.Events.Reply.{Tcp as TcpReply}
-use Rattle.uip_node.specs.Counters.{ticks_of, initial_number, ident_of, counters, ip_order}
+use Rattle.uip_node.specs.Counters.{ticks_of, initial_number, ident_of, counters, raised_by}
 use Rattle.uip_node.specs.Node.{AbstractNode, step}
 use Rattle.uip_ipv4.specs.Head.{IsHeadOf, payload_of}
 use Rattle.uip_ipv4.specs.declared.head.IpHead.{IpHead}
 use Rattle.uip_ipv4.specs.declared.proto.Proto.{Proto}
 use Rattle.uip_ipv4.specs.declared.proto.Proto.TheVariants.{Icmp as IcmpProto, Tcp as TcpProto}
 use Rattle.icmp_echo.specs.Echo.{echo_fate}
-use Rattle.icmp_echo.specs.declared.fate.IcmpFate.TheVariants as Icmp
-use Rattle.tcp_segment.specs.declared.fate.TcpFate.TheVariants as Tcp
 use Rattle.tcp_segment.specs.Received.{segment_or_fate}
 use Rattle.tcp_segment.specs.declared.segment.Segment.{Segment}
 use Rattle.link_world.specs.Bytes.{sent_bytes}
@@ -259,18 +257,6 @@ is_refused (EchoAsked datagram) = false
 is_refused (Arrived sockets s) = false
 is_refused Overlong = false
 is_refused (Periodic place) = false
-
--- The numbers of the counters, from 1, that a refused datagram raises: the datagrams taken in, the ICMP messages or TCP segments
--- among them, and one fate.
-abbrev pub raised_by : NodeEvent → List ℕ
-raised_by (IpRefused fate) = 1 ∷ (4 + ip_order fate) ∷ []
-raised_by (IcmpRefused Icmp.Short) = 1 ∷ 11 ∷ 13 ∷ []
-raised_by (IcmpRefused Icmp.NotEcho) = 1 ∷ 11 ∷ 13 ∷ []
-raised_by (IcmpRefused Icmp.Checksum) = 1 ∷ 11 ∷ 14 ∷ []
-raised_by (TcpRefused Tcp.Short) = 1 ∷ 15 ∷ 17 ∷ []
-raised_by (TcpRefused Tcp.Offset) = 1 ∷ 15 ∷ 17 ∷ []
-raised_by (TcpRefused Tcp.Checksum) = 1 ∷ 15 ∷ 18 ∷ []
-raised_by _ = []
 
 -- the counters from number n on, where those of these numbers rise by one
 abbrev pub rise : List ℕ → ℕ → List ℕ → List ℕ

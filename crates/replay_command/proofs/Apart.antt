@@ -1,5 +1,5 @@
 -- Giving up and closing never meet at a connection of the web server.
-use Rattle.std.proofs.Common.{◌≡◌, ℕ, zero, suc, ◌+◌, ◌-◌, ◌<◌, ◌≤◌, Bool, true, false, not, ◌&&◌, List, [], ◌∷◌, ◌++◌, length, length-append, replicate, set, refl, sym, ap, ◌∙◌, subst, arith, eqb, eq-eqb, ltb, Option, Some, None, slice_get}
+use Rattle.std.proofs.Common.{◌≡◌, ℕ, zero, suc, ◌+◌, ◌-◌, ◌<◌, Bool, true, false, not, ◌&&◌, List, [], ◌∷◌, ◌++◌, length, length-append, replicate, set, refl, sym, ap, ◌∙◌, subst, arith, eqb, eq-eqb, ltb, Some, slice_get}
 use Rattle.std.specs.Prelude.{decimal, flat_map}
 use Rattle.std.proofs.lemmas.List.{length-replicate}
 use Rattle.std.proofs.Math.Bool.{and-false}
@@ -12,12 +12,11 @@ use Rattle.app_events.specs.declared.now.Now.{Now}
 use Rattle.app_events.specs.declared.row.Row.{Row}
 use Rattle.app_events.specs.declared.state.State.{State}
 use Rattle.app_events.specs.declared.state.State.TheVariants.{Closed, SynRcvd, Established, CloseWait, FinWait1, FinWait2, Closing, TimeWait, LastAck}
-use Rattle.generators.specs.Captures.{capture_of}
-use Rattle.generators.specs.Text.{capture_text, counter_line, in_ten_places, row_parts, row_text}
+use Rattle.generators.specs.Text.{counter_line, in_ten_places, row_parts, row_text}
 use Rattle.site_image.specs.Files.{File}
 use Rattle.tcp_machine.specs.Connection.{Connection, Sockets, closed, is_live, rows_from}
-use Rattle.tcp_machine.specs.Ask.{Outcome, after_own_fin, ask, asked, asked_for, closes, does_as_wanted, idles, peer_has_closed, prepared}
-use Rattle.tcp_machine.specs.OnSegment.{accepted, by_state, fin_acked, fin_waits, goes_on, has_text, hears, in_established, in_fin_wait_2, is_acked, is_out_of_order, on_segment, peer_closes, rests, with_part}
+use Rattle.tcp_machine.specs.Ask.{Outcome, after_own_fin, asked, asked_for, closes, does_as_wanted, idles, peer_has_closed, prepared}
+use Rattle.tcp_machine.specs.OnSegment.{accepted, by_state, fin_acked, fin_waits, goes_on, has_text, hears, in_established, is_acked, is_out_of_order, on_segment, peer_closes, rests, with_part}
 use Rattle.tcp_machine.specs.OnTick.{by_beat, on_tick, outstanding}
 use Rattle.tcp_machine.specs.declared.step.Step.{Step}
 use Rattle.uip_node.specs.Events.{Event}
@@ -194,7 +193,7 @@ module _ (files : List File) where
       (λ g. choose (λ (o : Outcome). Leaves o) (ltb 0 c.len) _ _ (λ l. record { idle = λ st z. absurd (let y : ltb 0 0 ≡ true = subst (λ n. ltb 0 n ≡ true) z l in cc); apart = heard }) (λ l. (lives, heard))))
 
   state_apart : (st : State) (acked : Bool) (c : Connection) (numbers : List ℕ) (s : PlainSegment) → c.state ≡ st → ClosesInTime files c → Leaves (by_state m st acked c numbers s)
-  unfolding fin_acked fin_waits in_fin_wait_2
+  unfolding fin_acked fin_waits
   state_apart SynRcvd true c numbers s e h =
       let start : After = m.connected numbers c.sockets.own_port.0 in
       (refl, heard_apart start.numbers start.part s.text (moved_apart start.part refl))

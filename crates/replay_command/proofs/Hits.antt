@@ -1,8 +1,8 @@
 -- A file's hits as a count over the events of a node.
-use Rattle.std.proofs.Common.{◌≡◌, ℕ, zero, suc, ◌+◌, ◌%◌, ◌^◌, ◌<◌, ◌≤◌, Bool, true, false, not, ◌&&◌, ◌||◌, cond, if◌then◌else◌, List, [], ◌∷◌, ◌++◌, length, get_or, set, replicate, refl, sym, ap, ◌∙◌, subst, arith, eqb, eq-eqb, ltb, Option, Some, None, slice_get, slice_index_or, position, length-set}
+use Rattle.std.proofs.Common.{◌≡◌, ℕ, zero, suc, ◌+◌, ◌%◌, ◌^◌, ◌<◌, Bool, true, false, not, ◌&&◌, ◌||◌, if◌then◌else◌, List, [], ◌∷◌, length, get_or, set, replicate, refl, sym, ap, ◌∙◌, subst, arith, eqb, eq-eqb, ltb, Option, Some, None, slice_get, slice_index_or, position, length-set}
+use Rattle.tcp_machine.specs.declared.ticking.TheConstants.{REST_TIME}
 use Rattle.std.proofs.lemmas.List.{get_or-set_other, get_or-set_same}
 use Rattle.uip_wire.specs.Numbers.{wrap}
-use Rattle.uip_wire.specs.declared.addr.Addr.{Addr}
 use Rattle.tcp_segment.specs.Segments.{PlainSegment, has_fin, has_rst}
 use Rattle.rexmit_timer.specs.Ages.{beat_at}
 use Rattle.rexmit_timer.specs.declared.timer.Beat.{Beat}
@@ -14,22 +14,22 @@ use Rattle.app_events.specs.declared.state.State.TheVariants.{Closed, SynRcvd, E
 use Rattle.app_events.specs.declared.want.Want.{Want}
 use Rattle.app_events.specs.declared.want.Want.TheVariants.{Nothing, Send, Close, Abort}
 use Rattle.site_image.specs.Files.{File}
-use Rattle.tcp_machine.specs.Connection.{Connection, Sockets, closed, is_live, serves}
+use Rattle.tcp_machine.specs.Connection.{Connection, Sockets, closed, serves}
 use Rattle.tcp_machine.specs.Segments.{is_plain_syn}
 use Rattle.tcp_machine.specs.Ask.{Outcome, after_own_fin, closes, peer_has_closed, idles, does_as_wanted, prepared, asked_for, asked}
-use Rattle.tcp_machine.specs.OnSegment.{accept, accepted, in_state, takes, told_end, with_window, hears, is_out_of_order, is_acked, rests, has_text, in_established, peer_closes, goes_on, fin_acked, fin_waits, in_fin_wait_2, with_part, by_state, on_segment}
-use Rattle.tcp_machine.specs.OnTick.{grows_older, limit_of, outstanding, by_beat, waits_for_ack, rests_on, rest_time, ticks_established, tick_by, on_tick}
+use Rattle.tcp_machine.specs.OnSegment.{accept, in_state, takes, told_end, with_window, hears, is_out_of_order, is_acked, rests, has_text, in_established, peer_closes, goes_on, fin_acked, fin_waits, with_part, by_state, on_segment}
+use Rattle.tcp_machine.specs.OnTick.{grows_older, limit_of, outstanding, by_beat, rests_on, ticks_established, tick_by, on_tick}
 use Rattle.tcp_machine.specs.declared.step.Step.{Step}
 use Rattle.uip_node.specs.Counters.{initial_number}
 use Rattle.uip_node.specs.Events.{Event}
 use Rattle.uip_node.specs.Events.Event.{IpRefused, IcmpRefused, TcpRefused, EchoAsked, Arrived, Overlong, Periodic}
 use Rattle.uip_node.specs.Node.{AbstractNode, NodeStep, arrives_at, connection_in, from_stranger, happened, moment, opening, opens, opens_in, run, slot_for_syn, step}
-use Rattle.web_pages.specs.Pages.{is_page_whole, place_of}
+use Rattle.web_pages.specs.Pages.{place_of}
 use Rattle.web_pages.specs.Requests.{Wanted, wanted}
 use Rattle.web_pages.specs.Requests.Wanted.{NotYet, Refused, Name}
 use Rattle.web_pages.specs.Serving.{is_served, no_hits}
 use Rattle.web_pages.specs.WebMeaning.{hit_at, hits_by, is_acknowledged, waits_for_capture, web_meaning}
-use Rattle.link_world.proofs.Basics.{choose, eqb-eq, only_some, wrap_wrap}
+use Rattle.link_world.proofs.Basics.{choose, eqb-eq, wrap_wrap}
 use Rattle.link_world.proofs.FitWorlds.{Inside, position_in, slot_inside}
 use Rattle.link_world.proofs.Runs.{all_closed}
 use Rattle.link_world.proofs.Tables.{get_set, index_none, index_of, set_past}
@@ -138,7 +138,7 @@ module _ (files : List File) where
   established_counts acked c numbers s st = choose (λ (o : Outcome). Counts (asks c) numbers o) (has_fin s.flags) _ _ (λ e. closes_in c numbers s) (λ e. goes_on_in acked c numbers s st)
 
   by_state_counts : (st : State) (acked : Bool) (c : Connection) (numbers : List ℕ) (s : PlainSegment) → c.state ≡ st → Fresh st c → Counts (asks c) numbers (by_state m st acked c numbers s)
-  unfolding fin_acked fin_waits in_fin_wait_2
+  unfolding fin_acked fin_waits
   by_state_counts Closed acked c numbers s e f = quiet c c numbers Step.Drop refl (at_state c Closed e tt)
   by_state_counts SynRcvd true c numbers s e f =
       let start : After = m.connected numbers c.sockets.own_port.0 in
@@ -188,7 +188,7 @@ module _ (files : List File) where
   rests_counts : (c : Connection) (numbers : List ℕ) → Fresh c.state c → Counts (asks c) numbers (rests_on c numbers)
   unfolding rests_on
   rests_counts c numbers f =
-      choose (λ (o : Outcome). Counts (asks c) numbers o) (eqb (c.age + 1) rest_time) _ _ (λ e. quiet c (closes c) numbers Step.Drop refl tt)
+      choose (λ (o : Outcome). Counts (asks c) numbers o) (eqb (c.age + 1) REST_TIME) _ _ (λ e. quiet c (closes c) numbers Step.Drop refl tt)
       (λ e. quiet c (grows_older c) numbers Step.Drop refl (late c.state c (grows_older c) refl f))
 
   tick_by_counts : (st : State) (c : Connection) (numbers : List ℕ) → c.state ≡ st → Fresh c.state c → Counts (asks c) numbers (tick_by m st c numbers)

@@ -21,13 +21,6 @@ leaves c numbers step = record { connection = c; numbers = numbers; step = step 
 abbrev pub closes : Connection → Connection
 closes c = record c { state = Closed }
 
--- the first sending of a text, and of the FIN
-abbrev pub sends_text : ℕ → Connection → Connection
-sends_text n c = record c { len = n; age = 0 }
-
-abbrev pub sends_fin : State → Connection → Connection
-sends_fin state c = record c { state = state; len = 1; age = 0 }
-
 -- the state after an own FIN
 abbrev pub after_own_fin : State → State
 after_own_fin CloseWait = LastAck
@@ -37,20 +30,17 @@ abbrev pub peer_has_closed : State → Bool
 peer_has_closed CloseWait = true
 peer_has_closed _ = false
 
-abbrev pub resets : Connection → List ℕ → Outcome
-resets c numbers = leaves (closes c) numbers Step.Reset
-
 -- Nothing is wanted: after the peer's FIN nothing more can come, so the connection is given up.
 unfoldable pub idles : Bool → Connection → List ℕ → Outcome
 idles fresh c numbers =
-    if peer_has_closed c.state then resets c numbers
+    if peer_has_closed c.state then leaves (closes c) numbers Step.Reset
     else if fresh then leaves c numbers Step.Ack
     else leaves c numbers Step.Drop
 
 abbrev pub does_as_wanted : Want → Bool → Connection → List ℕ → Outcome
-does_as_wanted Abort fresh c numbers = resets c numbers
-does_as_wanted Close fresh c numbers = leaves (sends_fin (after_own_fin c.state) c) numbers (Step.Fin false)
-does_as_wanted (Send n) fresh c numbers = leaves (sends_text (min n c.mss) c) numbers (Step.Text false)
+does_as_wanted Abort fresh c numbers = leaves (closes c) numbers Step.Reset
+does_as_wanted Close fresh c numbers = leaves (record c { state = after_own_fin c.state; len = 1; age = 0 }) numbers (Step.Fin false)
+does_as_wanted (Send n) fresh c numbers = leaves (record c { len = min n c.mss; age = 0 }) numbers (Step.Text false)
 does_as_wanted Nothing fresh c numbers = idles fresh c numbers
 
 abbrev pub prepared : Meaning → Now → Connection → List ℕ → Connection

@@ -1,5 +1,6 @@
 -- A segment at a connection (RFC 793, section 3.9, SEGMENT ARRIVES): four checks, and then the row of the state.
-use Rattle.std.specs.Prelude.{ℕ, ◌+◌, min, Bool, true, false, not, List, [], ◌∷◌, length, nat_lt, ◌==◌, ◌&&◌, if◌then◌else◌, Option, Some, None}
+use Rattle.std.specs.Prelude.{ℕ, ◌+◌, min, Bool, true, false, not, List, [], ◌∷◌, length, nat_lt, ◌==◌, ◌&&◌, if◌then◌else◌, Option}
+use Rattle.std.specs.Option.{option_map_or}
 use Rattle.uip_wire.specs.Numbers.{wrap}
 use Rattle.uip_wire.specs.declared.sizes.TheConstants.{OWN_MSS}
 use Rattle.tcp_segment.specs.Segments.{PlainSegment, has_fin, has_rst, has_ack}
@@ -7,8 +8,8 @@ use Rattle.app_events.specs.Part.{Part, After, Meaning}
 use Rattle.app_events.specs.declared.ending.Ending.{Ending}
 use Rattle.app_events.specs.declared.ending.Ending.TheVariants.{Reset}
 use Rattle.app_events.specs.declared.state.State.{State}
-use Rattle.app_events.specs.declared.state.State.TheVariants.{Closed, SynRcvd, Established, CloseWait, FinWait1, FinWait2, Closing, TimeWait, LastAck}
-use Rattle.tcp_machine.specs.Connection.{Sockets, Connection, snd_nxt, rcv_nxt}
+use Rattle.app_events.specs.declared.state.State.TheVariants.{SynRcvd, Established, CloseWait, FinWait1, FinWait2, Closing, TimeWait, LastAck}
+use Rattle.tcp_machine.specs.Connection.{Sockets, Connection, closed, snd_nxt, rcv_nxt}
 use Rattle.tcp_machine.specs.Segments.{has_place}
 use Rattle.tcp_machine.specs.Ask.{Outcome, leaves, closes}
 use Rattle.tcp_machine.specs.declared.opening.TheConstants.{DEFAULT_MSS}
@@ -16,23 +17,19 @@ use Rattle.tcp_machine.specs.declared.step.Step.{Step}
 
 -- The largest text that the peer takes: 536 where its SYN does not say (RFC 1122, section 4.2.2.6).
 abbrev pub first_mss : Option ℕ → ℕ
-first_mss None = DEFAULT_MSS
-first_mss (Some n) = if n == 0 then DEFAULT_MSS else min OWN_MSS n
+first_mss mss = option_map_or (λ n. if n == 0 then DEFAULT_MSS else min OWN_MSS n) mss DEFAULT_MSS
 
 -- A plain SYN opens a connection in SYN-RECEIVED; its text is not taken.
 abbrev pub accepted : ℕ → Sockets → PlainSegment → Connection
-accepted first sockets s = record {
+accepted first sockets s = record closed {
   state = SynRcvd;
   sockets = sockets;
   peer_first = s.seq;
-  taken = 0;
   first = first;
-  acked = 0;
   len = 1;
   initial_mss = first_mss s.mss;
   mss = first_mss s.mss;
-  age = 0;
-  part = record { port = sockets.own_port.0; heard = []; captures = []; acked = 0; polls = 0; own = 0 };
+  part = record closed.part { port = sockets.own_port.0 };
 }
 
 abbrev pub accept : ℕ → Sockets → PlainSegment → List ℕ → Outcome
@@ -110,15 +107,10 @@ fin_acked c numbers s =
     if has_fin s.flags then leaves (in_state TimeWait (takes (length s.text + 1) (rests c))) numbers Step.Ack
     else leaves (in_state FinWait2 (takes (length s.text) (rests c))) numbers Step.Drop
 
-unfoldable pub fin_waits : Connection → List ℕ → PlainSegment → Outcome
-fin_waits c numbers s =
-    if has_fin s.flags then leaves (in_state Closing (takes (length s.text + 1) c)) numbers Step.Ack
-    else if has_text s then leaves (takes (length s.text) c) numbers Step.Ack
-    else leaves c numbers Step.Drop
-
-unfoldable pub in_fin_wait_2 : Connection → List ℕ → PlainSegment → Outcome
-in_fin_wait_2 c numbers s =
-    if has_fin s.flags then leaves (record (in_state TimeWait (takes (length s.text + 1) c)) { age = 0 }) numbers Step.Ack
+-- after the own FIN: text is let go, and a FIN makes a connection that is given
+unfoldable pub fin_waits : Connection → Connection → List ℕ → PlainSegment → Outcome
+fin_waits closed_by_peer c numbers s =
+    if has_fin s.flags then leaves closed_by_peer numbers Step.Ack
     else if has_text s then leaves (takes (length s.text) c) numbers Step.Ack
     else leaves c numbers Step.Drop
 
@@ -126,7 +118,6 @@ in_fin_wait_2 c numbers s =
 -- acknowledgement first.
 abbrev pub by_state : Meaning → State → Bool → Connection → List ℕ → PlainSegment → Outcome
 by_state m SynRcvd true c numbers s = connects m c numbers s
-by_state m SynRcvd false c numbers s = leaves c numbers Step.Drop
 by_state m Established true c numbers s =
     let told : After = m.acked numbers c.part c.len in
     in_established m true (with_part told.part (rests c)) told.numbers s
@@ -136,14 +127,12 @@ by_state m CloseWait true c numbers s =
     leaves (with_window s.window (with_part told.part (rests c))) told.numbers (Step.Ask false)
 by_state m CloseWait false c numbers s = leaves (with_window s.window c) numbers Step.Drop
 by_state m FinWait1 true c numbers s = fin_acked c numbers s
-by_state m FinWait1 false c numbers s = fin_waits c numbers s
-by_state m FinWait2 acked c numbers s = in_fin_wait_2 c numbers s
+by_state m FinWait1 false c numbers s = fin_waits (in_state Closing (takes (length s.text + 1) c)) c numbers s
+by_state m FinWait2 acked c numbers s = fin_waits (record (in_state TimeWait (takes (length s.text + 1) c)) { age = 0 }) c numbers s
 by_state m Closing true c numbers s = leaves (in_state TimeWait (rests c)) numbers Step.Drop
-by_state m Closing false c numbers s = leaves c numbers Step.Drop
 by_state m LastAck true c numbers s = leaves (closes (rests c)) numbers Step.Drop
-by_state m LastAck false c numbers s = leaves c numbers Step.Drop
 by_state m TimeWait acked c numbers s = leaves c numbers Step.Ack
-by_state m Closed acked c numbers s = leaves c numbers Step.Drop
+by_state m _ acked c numbers s = leaves c numbers Step.Drop
 
 -- Check 1 is the RST: it closes without a look at numbers.
 unfoldable pub on_segment : Meaning → Connection → List ℕ → PlainSegment → Outcome

@@ -14,10 +14,6 @@ use Rattle.tcp_machine.specs.OnSegment.{told_end, with_part}
 use Rattle.tcp_machine.specs.declared.step.Step.{Step}
 use Rattle.tcp_machine.specs.declared.ticking.TheConstants.{REST_TIME}
 
--- how many ticks FIN-WAIT-2 and TIME-WAIT last
-abbrev pub rest_time : ℕ
-rest_time = REST_TIME
-
 -- how often what is outstanding is sent again
 abbrev pub limit_of : State → ℕ
 limit_of SynRcvd = SYN_ACK_LIMIT
@@ -45,10 +41,10 @@ by_beat m GiveUp c numbers = leaves (closes c) (told_end m TimedOut c.state c.pa
 abbrev pub waits_for_ack : Meaning → Connection → List ℕ → Outcome
 waits_for_ack m c numbers = by_beat m (beat_at (limit_of c.state) (c.age + 1)) c numbers
 
--- a tick of rest
+-- a tick of rest in FIN-WAIT-2 and TIME-WAIT
 unfoldable pub rests_on : Connection → List ℕ → Outcome
 rests_on c numbers =
-    if c.age + 1 == rest_time then leaves (closes c) numbers Step.Drop
+    if c.age + 1 == REST_TIME then leaves (closes c) numbers Step.Drop
     else leaves (grows_older c) numbers Step.Drop
 
 -- ESTABLISHED with nothing outstanding: the application hears of the tick and is asked
@@ -62,14 +58,10 @@ ticks_established m c numbers = if nat_lt 0 c.len then waits_for_ack m c numbers
 
 abbrev pub tick_by : Meaning → State → Connection → List ℕ → Outcome
 tick_by m Closed c numbers = leaves c numbers Step.Drop
-tick_by m SynRcvd c numbers = waits_for_ack m c numbers
 tick_by m Established c numbers = ticks_established m c numbers
-tick_by m CloseWait c numbers = waits_for_ack m c numbers
-tick_by m FinWait1 c numbers = waits_for_ack m c numbers
 tick_by m FinWait2 c numbers = rests_on c numbers
-tick_by m Closing c numbers = waits_for_ack m c numbers
 tick_by m TimeWait c numbers = rests_on c numbers
-tick_by m LastAck c numbers = waits_for_ack m c numbers
+tick_by m _ c numbers = waits_for_ack m c numbers
 
 abbrev pub on_tick : Meaning → Connection → List ℕ → Outcome
 on_tick m c numbers = tick_by m c.state c numbers

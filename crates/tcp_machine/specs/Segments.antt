@@ -39,13 +39,12 @@ reset_to_none s = record { seq = s.ack; ack = wrap (s.seq + 1); flags = RST + AC
 
 -- what is sent for a step, where c is the connection after it
 abbrev pub segment_of : Meaning → Connection → Step → Option PlainSegment
-segment_of m c Step.Drop = None
 segment_of m c Step.Ack = Some (bare_ack c)
 segment_of m c (Step.SynAck again) = Some (syn_ack c)
 segment_of m c (Step.Text again) = Some (text_segment m c)
 segment_of m c (Step.Fin again) = Some (fin_of c)
 segment_of m c Step.Reset = Some (reset_of c)
-segment_of m c (Step.Ask fresh) = None
+segment_of m c _ = None
 
 -- it sends again what is outstanding
 abbrev pub is_again : Step → Bool

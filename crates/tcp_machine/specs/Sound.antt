@@ -7,8 +7,9 @@ use Rattle.app_events.specs.declared.state.State.{State}
 use Rattle.app_events.specs.declared.state.State.TheVariants.{Closed, SynRcvd, Established, CloseWait, FinWait1, FinWait2, Closing, TimeWait, LastAck}
 use Rattle.tcp_table.specs.declared.conn.Conn.{Conn}
 use Rattle.tcp_machine.specs.Connection.{is_live}
-use Rattle.tcp_machine.specs.OnTick.{limit_of, rest_time}
+use Rattle.tcp_machine.specs.OnTick.{limit_of}
 use Rattle.tcp_machine.specs.Stands.{is_open}
+use Rattle.tcp_machine.specs.declared.ticking.TheConstants.{REST_TIME}
 
 -- how much is outstanding in a state: a SYN or a FIN is one number, and after both nothing is
 abbrev pub LenFits : State → ℕ → Type 0
@@ -29,7 +30,7 @@ pub record HasSoundNumbers {A : Type 0} (c : Conn A) : Type 0 where
   pub initial_low : 1 ≤ c.initial_mss
   pub initial_high : c.initial_mss ≤ OWN_MSS
   pub tries : c.timer.tries ≤ limit_of c.state
-  pub count : c.timer.count < rest_time
+  pub count : c.timer.count < REST_TIME
   pub len : LenFits c.state c.len
 
 -- while the application may speak it has said what is outstanding

@@ -1,13 +1,13 @@
 //! The states in which the application has no more to say: after an own FIN.
 
-ghost use Rattle.std.specs.Prelude.{◌≡◌, ℕ, ◌≤◌, true, false, List, length};
+ghost use Rattle.std.specs.Prelude.{◌≡◌, ◌≤◌, Bool, true, false, length};
 ghost use Rattle.tcp_segment.specs.Segments.{PlainSegment};
 ghost use Rattle.app_events.specs.Part.{Meaning};
-ghost use Rattle.tcp_machine.specs.Connection.{Connection, is_live};
-ghost use Rattle.tcp_machine.specs.Fits.{SameSockets, StepFits};
-ghost use Rattle.tcp_machine.specs.OnSegment.{fin_acked, fin_waits, in_fin_wait_2, by_state};
+ghost use Rattle.tcp_machine.specs.Connection.{is_live};
+ghost use Rattle.tcp_machine.specs.OnSegment.{fin_acked, by_state};
 ghost use Rattle.tcp_machine.specs.Sound.{HasSoundNumbers};
-ghost use Rattle.tcp_machine.specs.Stands.{MeetsAlone, NumbersStand, is_open, plain};
+ghost use Rattle.tcp_machine.specs.Stands.{plain};
+ghost use Rattle.tcp_machine.specs.Takes.{TakesAlone};
 
 use crate::moves::{begin_time_wait, enter, rest, take};
 use crate::step::Step;
@@ -22,11 +22,7 @@ fn fin_acked<A>(conn: &mut Conn<A>, seg: &Segment, piece: &[u8]) -> Step
     requires sound { HasSoundNumbers conn.old }
     requires short { length piece.now ≤ 1500 }
     ensures sound { HasSoundNumbers conn.new }
-    ensures closed_to_it { is_open conn.new.state ≡ false }
-    ensures place { SameSockets conn.old conn.new }
-    ensures fits { StepFits conn.new result }
-    ensures meets { (a : Connection) (ns : List ℕ) → NumbersStand conn.old a
-        → MeetsAlone conn.new ns result (fin_acked a ns (plain seg.now piece.now)) }
+    ensures takes { TakesAlone (λ a ns. fin_acked a ns (plain seg.now piece.now)) conn.old conn.new result }
 {
     rest(conn);
     let count = piece.len() as u32;
@@ -47,11 +43,7 @@ fn fin_waits<A>(conn: &mut Conn<A>, seg: &Segment, piece: &[u8]) -> Step
     requires sound { HasSoundNumbers conn.old }
     requires short { length piece.now ≤ 1500 }
     ensures sound { HasSoundNumbers conn.new }
-    ensures closed_to_it { is_open conn.new.state ≡ false }
-    ensures place { SameSockets conn.old conn.new }
-    ensures fits { StepFits conn.new result }
-    ensures meets { (a : Connection) (ns : List ℕ) → NumbersStand conn.old a
-        → MeetsAlone conn.new ns result (fin_waits a ns (plain seg.now piece.now)) }
+    ensures takes { (m : Meaning) → TakesAlone (λ a ns. by_state m State.FinWait1 false a ns (plain seg.now piece.now)) conn.old conn.new result }
 {
     let count = piece.len() as u32;
     if seg.has_fin() {
@@ -67,17 +59,14 @@ fn fin_waits<A>(conn: &mut Conn<A>, seg: &Segment, piece: &[u8]) -> Step
 }
 
 /// FIN_WAIT_2: text is let go, and a FIN begins TIME_WAIT.
-#[tactic(auto, unfolding(crate::specs::OnSegment::in_fin_wait_2))]
+#[tactic(auto, unfolding(crate::specs::OnSegment::fin_waits))]
 pub(crate) fn in_fin_wait_2<A>(conn: &mut Conn<A>, seg: &Segment, piece: &[u8]) -> Step
     requires state { conn.old.state ≡ State.FinWait2 }
     requires sound { HasSoundNumbers conn.old }
     requires short { length piece.now ≤ 1500 }
     ensures sound { HasSoundNumbers conn.new }
-    ensures closed_to_it { is_open conn.new.state ≡ false }
-    ensures place { SameSockets conn.old conn.new }
-    ensures fits { StepFits conn.new result }
-    ensures meets { (a : Connection) (ns : List ℕ) → NumbersStand conn.old a
-        → MeetsAlone conn.new ns result (in_fin_wait_2 a ns (plain seg.now piece.now)) }
+    ensures takes { (m : Meaning) (acked : Bool)
+        → TakesAlone (λ a ns. by_state m State.FinWait2 acked a ns (plain seg.now piece.now)) conn.old conn.new result }
 {
     let count = piece.len() as u32;
     if seg.has_fin() {
@@ -98,11 +87,7 @@ pub(crate) fn in_fin_wait_1<A>(conn: &mut Conn<A>, seg: &Segment, piece: &[u8], 
     requires sound { HasSoundNumbers conn.old }
     requires short { length piece.now ≤ 1500 }
     ensures sound { HasSoundNumbers conn.new }
-    ensures closed_to_it { is_open conn.new.state ≡ false }
-    ensures place { SameSockets conn.old conn.new }
-    ensures fits { StepFits conn.new result }
-    ensures meets { (m : Meaning) (a : Connection) (ns : List ℕ) → NumbersStand conn.old a
-        → MeetsAlone conn.new ns result (by_state m State.FinWait1 acked a ns (plain seg.now piece.now)) }
+    ensures takes { (m : Meaning) → TakesAlone (λ a ns. by_state m State.FinWait1 acked a ns (plain seg.now piece.now)) conn.old conn.new result }
 {
     if acked {
         fin_acked(conn, seg, piece)
@@ -116,11 +101,7 @@ pub(crate) fn in_closing<A>(conn: &mut Conn<A>, acked: bool) -> Step
     requires state { conn.old.state ≡ State.Closing }
     requires sound { HasSoundNumbers conn.old }
     ensures sound { HasSoundNumbers conn.new }
-    ensures closed_to_it { is_open conn.new.state ≡ false }
-    ensures place { SameSockets conn.old conn.new }
-    ensures fits { StepFits conn.new result }
-    ensures meets { (m : Meaning) (a : Connection) (ns : List ℕ) (s : PlainSegment) → NumbersStand conn.old a
-        → MeetsAlone conn.new ns result (by_state m State.Closing acked a ns s) }
+    ensures takes { (m : Meaning) (s : PlainSegment) → TakesAlone (λ a ns. by_state m State.Closing acked a ns s) conn.old conn.new result }
 {
     if acked {
         rest(conn);
@@ -134,11 +115,7 @@ pub(crate) fn in_last_ack<A>(conn: &mut Conn<A>, acked: bool) -> Step
     requires state { conn.old.state ≡ State.LastAck }
     requires sound { HasSoundNumbers conn.old }
     ensures sound { is_live conn.new.state ≡ true → HasSoundNumbers conn.new }
-    ensures closed_to_it { is_open conn.new.state ≡ false }
-    ensures place { SameSockets conn.old conn.new }
-    ensures fits { StepFits conn.new result }
-    ensures meets { (m : Meaning) (a : Connection) (ns : List ℕ) (s : PlainSegment) → NumbersStand conn.old a
-        → MeetsAlone conn.new ns result (by_state m State.LastAck acked a ns s) }
+    ensures takes { (m : Meaning) (s : PlainSegment) → TakesAlone (λ a ns. by_state m State.LastAck acked a ns s) conn.old conn.new result }
 {
     if acked {
         rest(conn);

@@ -1,7 +1,8 @@
 -- A step that is answered, or not.
-use Rattle.std.proofs.Common.{ℕ, ◌≡◌, ◌+◌, ◌%◌, Bool, length, List, ◌∷◌, Option, Some, None, sym, ap, ◌∙◌, subst, refl}
-use Rattle.std.specs.Prelude.{slice_set}
-use Rattle.std.proofs.Math.Nat.{mod-add-mod}
+use Rattle.std.proofs.Common.{ℕ, ◌≡◌, ◌+◌, ◌%◌, length, List, ◌∷◌, Option, Some, None, sym, ap, ◌∙◌, subst, refl}
+use Rattle.uip_node.specs.Events.Reply.{Tcp}
+use Rattle.std.specs.Option.{option_map_or}
+use Rattle.std.specs.Prelude.{slice_set, option_map}
 use Rattle.app_events.specs.Part.{Meaning}
 use Rattle.app_events.specs.declared.app.App.{Ghosts}
 use Rattle.tcp_segment.specs.Segments.{PlainSegment, datagram_bytes}
@@ -10,30 +11,28 @@ use Rattle.tcp_machine.specs.Connection.{Connection}
 use Rattle.tcp_machine.specs.Segments.{is_again, segment_of}
 use Rattle.tcp_machine.specs.declared.step.Step.{Step}
 use Rattle.uip_node.specs.Counted.{CountsStand, seen}
-use Rattle.uip_node.specs.Counters.{ident_of, initial_number, is_spoken, times}
+use Rattle.uip_node.specs.Counters.{ident_of, initial_number}
 use Rattle.uip_node.specs.Edge.{datagram_to}
-use Rattle.uip_node.specs.Events.{Event, Past}
-use Rattle.uip_node.specs.Events.Answer.{Spoke}
-use Rattle.uip_node.specs.Node.{AbstractNode, NodeStep, answer_of, gone_by, happened, reply_of}
+use Rattle.uip_node.specs.Events.{Event}
+use Rattle.uip_node.specs.Events.Answer.{Spoke, Silent}
+use Rattle.uip_node.specs.Node.{AbstractNode, NodeStep, gone_by, happened}
 use Rattle.uip_node.specs.Slots.{MeetsAt, SlotsStand}
 use Rattle.uip_node.specs.Spoken.{IsSpoken}
 use Rattle.uip_node.specs.StandsFor.{Steps}
 use Rattle.uip_node.specs.declared.counts.Counts.{Counts}
 use Rattle.uip_node.specs.declared.node.Node.{Node}
+use Rattle.uip_node.proofs.Twice.{next_ident}
 
 -- what is answered to an event of which so much is said
 abbrev answered_node : AbstractNode → Event → ℕ → Outcome → Option PlainSegment → AbstractNode
-answered_node n event slot o said = record n { numbers = o.numbers; connections = slice_set n.connections slot o.connection; past = record { event = event; answer = answer_of said (is_again o.step) } ∷ n.past }
+answered_node n event slot o said = record n { numbers = o.numbers; connections = slice_set n.connections slot o.connection; past = record { event = event; answer = option_map_or (λ s. Spoke (is_again o.step)) said Silent } ∷ n.past }
 
 abbrev answered : AbstractNode → Event → ℕ → Outcome → Option Connection → Option PlainSegment → NodeStep
 answered n event slot o gone said = record {
   node = answered_node n event slot o said;
-  sent = reply_of said o.connection.sockets (ident_of (answered_node n event slot o said).past) (is_again o.step);
+  sent = option_map (λ s. Tcp o.connection.sockets (ident_of (answered_node n event slot o said).past) (is_again o.step) s) said;
   gone = gone;
 }
-
-pub next_ident : (counts : Counts) (event : Event) (again : Bool) (past : List Past) → CountsStand counts (seen event past) → (counts.ident + 1) % 65536 ≡ ident_of (record { event = event; answer = Spoke again } ∷ past)
-next_ident counts event again past h = ap (λ (n : ℕ). (n + 1) % 65536) h.ident ∙ mod-add-mod (times (λ p. is_spoken p.answer) past) 65536 1
 
 spoken_by : {A S : Type 0} (g : Ghosts A S) (node : Node A S) (len : ℕ) (id : ℕ) (n : AbstractNode) (event : Event) (slot : ℕ) (o : Outcome) (gone : Option Connection) (said : Option PlainSegment) (result : Option ℕ) →
     node.addr ≡ n.addr → node.table.iss ≡ initial_number (seen event n.past) → CountsStand node.counts (record { event = event; answer = Spoke (is_again o.step) } ∷ n.past) →

@@ -1,5 +1,6 @@
 -- What stands on all segments of a connection, after a step.
 use Rattle.std.proofs.Common.{ℕ, ◌≡◌, ◌+◌, ◌&&◌, ◌==◌, Bool, true, false, List, inl, inr, ◌⊎◌, refl, sym, ap, ◌∙◌, nat_lt, if◌then◌else◌, not}
+use Rattle.tcp_machine.specs.declared.ticking.TheConstants.{REST_TIME}
 use Rattle.app_events.specs.Part.{Meaning}
 use Rattle.app_events.specs.declared.app.App.{Ghosts}
 use Rattle.app_events.specs.States.{is_live}
@@ -11,11 +12,11 @@ use Rattle.rexmit_timer.specs.Ages.{beat_at}
 use Rattle.rexmit_timer.specs.declared.timer.Beat.{Beat}
 use Rattle.tcp_segment.specs.Segments.{PlainSegment, has_fin, has_rst}
 use Rattle.tcp_table.specs.declared.conn.Conn.{Conn}
-use Rattle.tcp_machine.specs.Ask.{Outcome, ask, closes, does_as_wanted, idles, leaves, peer_has_closed, prepared, resets}
+use Rattle.tcp_machine.specs.Ask.{Outcome, ask, closes, does_as_wanted, idles, leaves, peer_has_closed, prepared}
 use Rattle.tcp_machine.specs.Connection.{Connection, rcv_nxt, snd_nxt}
 use Rattle.tcp_machine.specs.Fits.{SameNumbers, SameSockets}
-use Rattle.tcp_machine.specs.OnSegment.{by_state, fin_acked, fin_waits, goes_on, has_text, in_established, in_fin_wait_2, is_acked, is_out_of_order, on_segment, peer_closes}
-use Rattle.tcp_machine.specs.OnTick.{by_beat, grows_older, limit_of, on_tick, polls, rest_time, rests_on, tick_by, ticks_established, waits_for_ack}
+use Rattle.tcp_machine.specs.OnSegment.{by_state, fin_acked, fin_waits, goes_on, has_text, in_established, is_acked, is_out_of_order, on_segment, peer_closes}
+use Rattle.tcp_machine.specs.OnTick.{by_beat, grows_older, limit_of, on_tick, polls, rests_on, tick_by, ticks_established, waits_for_ack}
 use Rattle.tcp_machine.specs.Stands.{ConnStands, IsLike, Meets}
 use Rattle.tcp_machine.specs.declared.step.Step.{Step}
 use Rattle.uip_node.specs.Slots.{IsNamed}
@@ -57,7 +58,7 @@ either a false x y p q = q
 idles_same : (fresh : Bool) (a : Connection) (ns : List ℕ) → SameNames a (idles fresh a ns).connection
 unfolding idles
 idles_same fresh a ns =
-    either a (peer_has_closed a.state) (resets a ns) (if fresh then leaves a ns Step.Ack else leaves a ns Step.Drop) (gone a)
+    either a (peer_has_closed a.state) (leaves (closes a) ns Step.Reset) (if fresh then leaves a ns Step.Ack else leaves a ns Step.Drop) (gone a)
     (either a fresh (leaves a ns Step.Ack) (leaves a ns Step.Drop) (same a) (same a))
 
 wanted_same : (w : Want) (fresh : Bool) (a : Connection) (ns : List ℕ) → SameNames a (does_as_wanted w fresh a ns).connection
@@ -81,7 +82,7 @@ waits_same m a ns = beat_same m (beat_at (limit_of a.state) (a.age + 1)) a ns
 
 rests_same : (a : Connection) (ns : List ℕ) → SameNames a (rests_on a ns).connection
 unfolding rests_on
-rests_same a ns = either a (a.age + 1 == rest_time) (leaves (closes a) ns Step.Drop) (leaves (grows_older a) ns Step.Drop) (gone a) (older a)
+rests_same a ns = either a (a.age + 1 == REST_TIME) (leaves (closes a) ns Step.Drop) (leaves (grows_older a) ns Step.Drop) (gone a) (older a)
 
 established_same : (m : Meaning) (a : Connection) (ns : List ℕ) → SameNames a (ticks_established m a ns).connection
 unfolding ticks_established
@@ -130,13 +131,9 @@ acked_lives : (a : Connection) (ns : List ℕ) (s : PlainSegment) → Lives (fin
 unfolding fin_acked
 acked_lives a ns s = either_lives (has_fin s.flags) _ _ (inr refl) (inr refl)
 
-waits_lives : (a : Connection) (ns : List ℕ) (s : PlainSegment) → is_live a.state ≡ true → Lives (fin_waits a ns s)
+waits_lives : (d a : Connection) (ns : List ℕ) (s : PlainSegment) → is_live d.state ≡ true → is_live a.state ≡ true → Lives (fin_waits d a ns s)
 unfolding fin_waits
-waits_lives a ns s live = either_lives (has_fin s.flags) _ _ (inr refl) (either_lives (has_text s) _ _ (inr live) (inr live))
-
-two_lives : (a : Connection) (ns : List ℕ) (s : PlainSegment) → is_live a.state ≡ true → Lives (in_fin_wait_2 a ns s)
-unfolding in_fin_wait_2
-two_lives a ns s live = either_lives (has_fin s.flags) _ _ (inr refl) (either_lives (has_text s) _ _ (inr live) (inr live))
+waits_lives d a ns s there live = either_lives (has_fin s.flags) _ _ (inr there) (either_lives (has_text s) _ _ (inr live) (inr live))
 
 state_lives : (m : Meaning) (state : State) (acked : Bool) (a : Connection) (ns : List ℕ) (s : PlainSegment) → is_live a.state ≡ true → Lives (by_state m state acked a ns s)
 state_lives m SynRcvd true a ns s live = inr refl
@@ -146,8 +143,8 @@ state_lives m Established false a ns s live = established_lives m false a ns s l
 state_lives m CloseWait true a ns s live = inr live
 state_lives m CloseWait false a ns s live = inl refl
 state_lives m FinWait1 true a ns s live = acked_lives a ns s
-state_lives m FinWait1 false a ns s live = waits_lives a ns s live
-state_lives m FinWait2 acked a ns s live = two_lives a ns s live
+state_lives m FinWait1 false a ns s live = waits_lives _ a ns s refl live
+state_lives m FinWait2 acked a ns s live = waits_lives _ a ns s refl live
 state_lives m Closing true a ns s live = inr refl
 state_lives m Closing false a ns s live = inl refl
 state_lives m LastAck true a ns s live = inl refl

@@ -1,11 +1,12 @@
 -- Counters raised together, place by place, and as counts.
 use Rattle.std.proofs.Common.{◌≡◌, ℕ, suc, ◌+◌, ◌<◌, ◌==◌, ◌||◌, Bool, true, false, List, [], ◌∷◌, if◌then◌else◌, length, get_or, map, refl, sym, ap, ◌∙◌, arith}
+use Rattle.std.specs.List.{range_with_len}
 use Rattle.std.proofs.lemmas.Bool.{agree_below_at, eqb-true}
 use Rattle.std.proofs.lemmas.List.{get_or-map}
 use Rattle.std.proofs.Math.Nat.{mod-add-mod}
 use Rattle.uip_wire.specs.Numbers.{wrap}
 use Rattle.uip_node.specs.Raising.{marks, raise, twenty}
-use Rattle.uip_node.specs.Counters.{counters, raised, times}
+use Rattle.uip_node.specs.Counters.{counters, raises, times}
 use Rattle.uip_node.specs.Events.{Past}
 
 pub raise_by_place : (bs : List Bool) (ns ms : List ℕ) → length ms ≡ length ns → length bs ≡ length ns →
@@ -24,17 +25,21 @@ one_more : (b : Bool) (n : ℕ) → wrap (if b then n + 1 else n) ≡ (if b then
 one_more true n = sym (mod-add-mod n 4294967296 1)
 one_more false n = refl
 
--- one event more raises the counters whose tests it passes
-counts_more : (tests : List (Past → Bool)) (p : Past) (past : List Past) →
-    map (λ test. wrap (times test (p ∷ past))) tests ≡ raise (map (λ test. test p) tests) (map (λ test. wrap (times test past)) tests)
+-- one event more raises the counters that are its own
+counts_more : (numbers : List ℕ) (p : Past) (past : List Past) →
+    map (λ k. wrap (times (raises k) (p ∷ past))) numbers ≡ raise (map (λ k. raises k p) numbers) (map (λ k. wrap (times (raises k) past)) numbers)
 counts_more [] p past = refl
-counts_more (test ∷ tests) p past =
-    let tail = counts_more tests p past in
-    let head : wrap (times test (p ∷ past)) ≡ (if test p then wrap (wrap (times test past) + 1) else wrap (times test past)) = one_more (test p) (times test past) in
+counts_more (k ∷ numbers) p past =
+    let tail = counts_more numbers p past in
+    let head : wrap (times (raises k) (p ∷ past)) ≡ (if raises k p then wrap (wrap (times (raises k) past) + 1) else wrap (times (raises k) past)) = one_more (raises k p) (times (raises k) past) in
     cc
 
-pub counters_more : (p : Past) (past : List Past) → counters (p ∷ past) ≡ raise (map (λ test. test p) raised) (counters past)
-counters_more p past = counts_more raised p past
+-- which of the twenty an event of the past raised
+abbrev pub raised_at : Past → List Bool
+raised_at p = map (λ k. raises k p) (range_with_len 1 20)
+
+pub counters_more : (p : Past) (past : List Past) → counters (p ∷ past) ≡ raise (raised_at p) (counters past)
+counters_more p past = counts_more (range_with_len 1 20) p past
 
 -- the twenty places in their order
 abbrev in_order : ℕ → Bool

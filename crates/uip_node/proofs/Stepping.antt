@@ -1,6 +1,6 @@
 -- The cases of a node's step.
 use Rattle.std.proofs.Common.{ℕ, zero, suc, ◌≡◌, ◌+◌, ◌-◌, ◌%◌, ◌&&◌, ◌<◌, ◌≤◌, Bool, true, false, List, [], ◌∷◌, ◌++◌, length, take, drop, Option, Some, None, refl, sym, ap, ◌∙◌, subst, arith, nat_lt, slice_range, length-take, length-drop, length-append}
-use Rattle.std.specs.Prelude.{slice_get, slice_set}
+use Rattle.std.specs.Prelude.{is_some, slice_get, slice_set}
 use Rattle.std.proofs.Math.Nat.{mod-add-mod}
 use Rattle.std.proofs.Math.Seq.{take-append_seam}
 use Rattle.std.proofs.lemmas.Bool.{ltb-false}
@@ -22,7 +22,7 @@ use Rattle.tcp_machine.specs.OnTick.{on_tick, tick_by}
 use Rattle.tcp_machine.specs.Segments.{is_plain_syn}
 use Rattle.tcp_machine.specs.declared.step.Step.{Step}
 use Rattle.uip_node.specs.Counted.{CountsStand, seen}
-use Rattle.uip_node.specs.Counters.{initial_number, is_periodic, times}
+use Rattle.uip_node.specs.Counters.{called_by, initial_number, times}
 use Rattle.uip_node.specs.Events.{Past}
 use Rattle.uip_node.specs.Events.Event.{Arrived, Periodic}
 use Rattle.uip_node.specs.Events.Answer.{Silent}
@@ -55,7 +55,7 @@ stranger_refused m served n s seg h r = cc
 
 -- the initial number rises by one at each periodic call
 pub next_first : (past : List Past) (slot : ℕ) → (initial_number past + 1) % 4294967296 ≡ initial_number (seen (Periodic slot) past)
-next_first past slot = mod-add-mod (times (λ p. is_periodic p.event) past) 4294967296 1
+next_first past slot = mod-add-mod (times (λ p. is_some (called_by p.event)) past) 4294967296 1
 
 -- a CLOSED connection does nothing at a tick
 by_state : (m : Meaning) (state : State) (a : Connection) (ns : List ℕ) → is_live state ≡ false → tick_by m state a ns ≡ leaves a ns Step.Drop

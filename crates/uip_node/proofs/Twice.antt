@@ -1,24 +1,59 @@
 -- The counters after an event, and after its answer.
-use Rattle.std.proofs.Common.{◌≡◌, ℕ, ◌+◌, ◌||◌, ◌&&◌, not, Bool, true, false, List, [], ◌∷◌, if◌then◌else◌, map, refl, sym, ap, ◌∙◌}
+use Rattle.std.proofs.Common.{◌≡◌, ℕ, ◌+◌, ◌%◌, ◌==◌, ◌||◌, ◌&&◌, not, Bool, true, false, List, [], ◌∷◌, if◌then◌else◌, refl, sym, ap, ◌∙◌, Option, None}
+use Rattle.std.specs.List.{list_any}
+use Rattle.std.specs.Option.{option_map_or}
 use Rattle.std.proofs.lemmas.Bool.{and_parts}
+use Rattle.std.proofs.Math.Nat.{mod-add-mod}
 use Rattle.uip_wire.specs.Numbers.{wrap}
+use Rattle.uip_ipv4.specs.declared.fate.IpFate.TheVariants as Ip
+use Rattle.icmp_echo.specs.declared.fate.IcmpFate.TheVariants as Icmp
+use Rattle.tcp_segment.specs.declared.fate.TcpFate.TheVariants as Tcp
 use Rattle.uip_node.specs.Raising.{marks, raise}
-use Rattle.uip_node.specs.Counted.{seen}
-use Rattle.uip_node.specs.Counters.{counters, raised}
+use Rattle.uip_node.specs.Counted.{CountsStand, again_place, icmp_place, ip_place, seen, tcp_place}
+use Rattle.uip_node.specs.Counters.{called_by, counters, ident_of, raised_by_answer, times}
+use Rattle.uip_node.specs.declared.counts.Counts.{Counts}
 use Rattle.uip_node.specs.Events.{Answer, Event, Past}
-use Rattle.uip_node.specs.Events.Answer.{Silent}
-use Rattle.uip_node.proofs.Raises.{counters_more}
+use Rattle.uip_node.specs.Events.Event.{IpRefused, IcmpRefused, TcpRefused, EchoAsked, Arrived, Overlong, Periodic}
+use Rattle.uip_node.specs.Events.Answer.{NoSlot, Silent, Spoke}
+use Rattle.uip_node.proofs.Raises.{counters_more, raised_at}
 
-abbrev pub tests_at : Past → List Bool
-tests_at p = map (λ test. test p) raised
+abbrev with_answer : Event → Answer → Past
+with_answer event answer = record { event = event; answer = answer }
 
-abbrev pub ors : List Bool → List Bool → List Bool
+-- the places that an event marks
+abbrev pub marks_of : Event → List Bool
+marks_of (IpRefused fate) = marks 0 (ip_place fate) 20
+marks_of (IcmpRefused fate) = marks 0 10 (icmp_place fate)
+marks_of (TcpRefused fate) = marks 0 14 (tcp_place fate)
+marks_of (EchoAsked datagram) = marks 0 10 20
+marks_of (Arrived sockets segment) = marks 0 14 20
+marks_of Overlong = marks 2 20 20
+marks_of (Periodic place) = marks 20 20 20
+
+marked : (event : Event) → raised_at (with_answer event Silent) ≡ marks_of event
+marked (IpRefused Ip.Short) = refl
+marked (IcmpRefused Icmp.Short) = refl
+marked (TcpRefused Tcp.Short) = refl
+marked _ = refl
+
+-- an event that is no periodic call was counted
+pub counted : (event : Event) (past : List Past) (counts : Counts) (net : List ℕ) → called_by event ≡ None → CountsStand counts past → net ≡ raise (marks_of event) counts.net →
+    CountsStand (record counts { net = net }) (seen event past)
+counted event past counts net uncalled h e =
+    let ticks : ℕ = times (λ p. option_map_or (λ place. place == 0) (called_by p.event) false) past in
+    record {
+      net = e ∙ ap (raise (marks_of event)) h.net ∙ ap (λ (bs : List Bool). raise bs (counters past)) (sym (marked event)) ∙ sym (counters_more (with_answer event Silent) past);
+      ticks = h.ticks ∙ ap (λ (o : Option ℕ). wrap (if option_map_or (λ place. place == 0) o false then ticks + 1 else ticks)) (sym uncalled);
+      ident = h.ident;
+    }
+
+abbrev ors : List Bool → List Bool → List Bool
 ors [] cs = []
 ors (b ∷ bs) [] = []
 ors (b ∷ bs) (c ∷ cs) = (b || c) ∷ ors bs cs
 
 -- nothing is marked in both
-abbrev pub are_apart : List Bool → List Bool → Bool
+abbrev are_apart : List Bool → List Bool → Bool
 are_apart [] [] = true
 are_apart [] (c ∷ cs) = false
 are_apart (b ∷ bs) [] = false
@@ -40,17 +75,37 @@ raise_raise (b ∷ bs) (c ∷ cs) (n ∷ ns) h =
     let tail = raise_raise bs cs ns p.1 in
     cc
 
-pub first : (p : Past) (past : List Past) (a b c : ℕ) (net new : List ℕ) → tests_at p ≡ marks a b c → net ≡ counters past → new ≡ raise (marks a b c) net → new ≡ counters (p ∷ past)
-first p past a b c net new m n e =
-    e ∙ ap (raise (marks a b c)) n ∙ ap (λ (bs : List Bool). raise bs (counters past)) (sym m) ∙ sym (counters_more p past)
+-- The places that an answer marks are none that its event marked, and are added to these.
+pub record Adds (event : Event) (answer : Answer) (a b c : ℕ) : Type 0 where
+  pub apart : are_apart (marks a b c) (raised_at (with_answer event Silent)) ≡ true
+  pub both : ors (marks a b c) (raised_at (with_answer event Silent)) ≡ raised_at (with_answer event answer)
 
-pub second : (event : Event) (answer : Answer) (past : List Past) (a b c : ℕ) (net new : List ℕ) →
-    are_apart (marks a b c) (tests_at (record { event = event; answer = Silent })) ≡ true →
-    ors (marks a b c) (tests_at (record { event = event; answer = Silent })) ≡ tests_at (record { event = event; answer = answer }) →
+pub speaks : (again : Bool) (event : Event) → Adds event (Spoke again) 1 15 (again_place again)
+speaks true (IpRefused Ip.Short) = record { apart = refl; both = refl }
+speaks true (IcmpRefused Icmp.Short) = record { apart = refl; both = refl }
+speaks true (TcpRefused Tcp.Short) = record { apart = refl; both = refl }
+speaks true _ = record { apart = refl; both = refl }
+speaks false (IpRefused Ip.Short) = record { apart = refl; both = refl }
+speaks false (IcmpRefused Icmp.Short) = record { apart = refl; both = refl }
+speaks false (TcpRefused Tcp.Short) = record { apart = refl; both = refl }
+speaks false _ = record { apart = refl; both = refl }
+
+pub turns_away : (event : Event) → Adds event NoSlot 19 20 20
+turns_away (IpRefused Ip.Short) = record { apart = refl; both = refl }
+turns_away (IcmpRefused Icmp.Short) = record { apart = refl; both = refl }
+turns_away (TcpRefused Tcp.Short) = record { apart = refl; both = refl }
+turns_away _ = record { apart = refl; both = refl }
+
+-- the answer was counted after the event
+pub second : (event : Event) (answer : Answer) (past : List Past) (a b c : ℕ) (net new : List ℕ) → Adds event answer a b c →
     net ≡ counters (seen event past) → new ≡ raise (marks a b c) net → new ≡ counters (record { event = event; answer = answer } ∷ past)
-second event answer past a b c net new apart both n e =
-    let silent : Past = record { event = event; answer = Silent } in
+second event answer past a b c net new adds n e =
+    let silent : Past = with_answer event Silent in
     e ∙ ap (raise (marks a b c)) n ∙ ap (raise (marks a b c)) (counters_more silent past)
-    ∙ raise_raise (marks a b c) (tests_at silent) (counters past) apart
-    ∙ ap (λ (bs : List Bool). raise bs (counters past)) both
-    ∙ sym (counters_more (record { event = event; answer = answer }) past)
+    ∙ raise_raise (marks a b c) (raised_at silent) (counters past) adds.apart
+    ∙ ap (λ (bs : List Bool). raise bs (counters past)) adds.both
+    ∙ sym (counters_more (with_answer event answer) past)
+
+-- the next identification
+pub next_ident : (counts : Counts) (event : Event) (again : Bool) (past : List Past) → CountsStand counts (seen event past) → (counts.ident + 1) % 65536 ≡ ident_of (with_answer event (Spoke again) ∷ past)
+next_ident counts event again past h = ap (λ (n : ℕ). (n + 1) % 65536) h.ident ∙ mod-add-mod (times (λ p. list_any (λ n. n == 16) (raised_by_answer p.answer)) past) 65536 1

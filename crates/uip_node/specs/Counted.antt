@@ -1,11 +1,12 @@
 -- What a node counts stands for its past.
-use Rattle.std.specs.Prelude.{ℕ, ◌≡◌, ◌+◌, Bool, List, ◌∷◌, if◌then◌else◌}
+use Rattle.std.specs.Prelude.{ℕ, ◌≡◌, Bool, List, ◌∷◌, if◌then◌else◌}
 use Rattle.uip_ipv4.specs.declared.fate.IpFate.{IpFate}
+use Rattle.uip_ipv4.specs.declared.fate.IpFate.TheVariants as Ip
 use Rattle.icmp_echo.specs.declared.fate.IcmpFate.{IcmpFate}
 use Rattle.icmp_echo.specs.declared.fate.IcmpFate.TheVariants as Icmp
 use Rattle.tcp_segment.specs.declared.fate.TcpFate.{TcpFate}
 use Rattle.tcp_segment.specs.declared.fate.TcpFate.TheVariants as Tcp
-use Rattle.uip_node.specs.Counters.{counters, ident_of, ip_order, ticks_of}
+use Rattle.uip_node.specs.Counters.{counters, ident_of, ticks_of}
 use Rattle.uip_node.specs.Events.{Event, Past}
 use Rattle.uip_node.specs.Events.Answer.{Silent}
 use Rattle.uip_node.specs.declared.counts.Counts.{Counts}
@@ -17,7 +18,13 @@ pub record CountsStand (counts : Counts) (past : List Past) : Type 0 where
 
 -- the places of the fates' counters, counted from 0
 abbrev pub ip_place : IpFate → ℕ
-ip_place fate = 3 + ip_order fate
+ip_place Ip.Short = 3
+ip_place Ip.Version = 4
+ip_place Ip.Length = 5
+ip_place Ip.Fragment = 6
+ip_place Ip.Checksum = 7
+ip_place Ip.NotOurs = 8
+ip_place Ip.Protocol = 9
 
 abbrev pub icmp_place : IcmpFate → ℕ
 icmp_place Icmp.Short = 12

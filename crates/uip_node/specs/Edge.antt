@@ -1,5 +1,6 @@
 -- The edge of a node, where bytes stand: which event a received datagram is, and the bytes of what is sent.
-use Rattle.std.specs.Prelude.{ℕ, List, take, Option, Some, None, Result, Ok, Err}
+use Rattle.std.specs.Prelude.{ℕ, List, take, Result, Ok, Err}
+use Rattle.std.specs.Option.{option_map_or}
 use Rattle.uip_wire.specs.declared.addr.Addr.{Addr}
 use Rattle.uip_ipv4.specs.Head.{head_or_fate, payload_of}
 use Rattle.uip_ipv4.specs.declared.fate.IpFate.{IpFate}
@@ -7,7 +8,6 @@ use Rattle.uip_ipv4.specs.declared.head.IpHead.{IpHead}
 use Rattle.uip_ipv4.specs.declared.proto.Proto.{Proto}
 use Rattle.uip_ipv4.specs.declared.proto.Proto.TheVariants.{Icmp, Tcp}
 use Rattle.icmp_echo.specs.Echo.{echo_fate, echo_reply}
-use Rattle.icmp_echo.specs.declared.fate.IcmpFate.{IcmpFate}
 use Rattle.tcp_segment.specs.Received.{segment_or_fate, plain_of}
 use Rattle.tcp_segment.specs.Segments.{PlainSegment, Datagram, datagram_bytes}
 use Rattle.tcp_segment.specs.declared.fate.TcpFate.{TcpFate}
@@ -25,12 +25,8 @@ abbrev pub by_segment : IpHead → List ℕ → Result Segment TcpFate → Event
 by_segment head bytes (Ok s) = Arrived (sockets_of head.source s) (plain_of s bytes)
 by_segment head bytes (Err fate) = TcpRefused fate
 
-abbrev pub by_echo : IpHead → List ℕ → Option IcmpFate → Event
-by_echo head bytes None = EchoAsked (take head.total bytes)
-by_echo head bytes (Some fate) = IcmpRefused fate
-
 abbrev pub by_proto : Proto → IpHead → List ℕ → Event
-by_proto Icmp head bytes = by_echo head bytes (echo_fate (payload_of head bytes))
+by_proto Icmp head bytes = option_map_or IcmpRefused (echo_fate (payload_of head bytes)) (EchoAsked (take head.total bytes))
 by_proto Tcp head bytes = by_segment head bytes (segment_or_fate head bytes)
 
 abbrev pub by_head : List ℕ → Result IpHead IpFate → Event

@@ -1,5 +1,6 @@
 -- The abstract node, and its step at each event.
-use Rattle.std.specs.Prelude.{ℕ, ◌&&◌, Bool, false, not, List, [], ◌∷◌, replicate, position, slice_set, slice_index_or, Option, Some, None, if◌then◌else◌}
+use Rattle.std.specs.Prelude.{ℕ, ◌&&◌, Bool, false, not, List, [], ◌∷◌, replicate, position, slice_set, slice_index_or, Option, Some, None, option_map, if◌then◌else◌}
+use Rattle.std.specs.Option.{option_map_or}
 use Rattle.uip_wire.specs.declared.addr.Addr.{Addr}
 use Rattle.tcp_segment.specs.Segments.{PlainSegment, has_rst}
 use Rattle.app_events.specs.Part.{Meaning}
@@ -11,7 +12,7 @@ use Rattle.tcp_machine.specs.Ask.{Outcome, asked}
 use Rattle.tcp_machine.specs.OnSegment.{accept, on_segment}
 use Rattle.tcp_machine.specs.OnTick.{on_tick}
 use Rattle.uip_node.specs.Events.{Event, Answer, Past, Reply}
-use Rattle.uip_node.specs.Events.Event.{IpRefused, IcmpRefused, TcpRefused, EchoAsked, Arrived, Overlong, Periodic}
+use Rattle.uip_node.specs.Events.Event.{EchoAsked, Arrived, Periodic}
 use Rattle.uip_node.specs.Events.Answer.{Silent, NoSlot, EchoReplied, Spoke}
 use Rattle.uip_node.specs.Events.Reply.{Echo, Tcp}
 use Rattle.uip_node.specs.Counters.{counters, ticks_of, initial_number, ident_of}
@@ -45,14 +46,6 @@ moment n event slot c =
     let seen : List Past = record { event = event; answer = Silent } ∷ n.past in
     record { ticks = ticks_of seen; net = counters seen; rows = rows_from 0 (slice_set n.connections slot c) }
 
-abbrev pub answer_of : Option PlainSegment → Bool → Answer
-answer_of None again = Silent
-answer_of (Some s) again = Spoke again
-
-abbrev pub reply_of : Option PlainSegment → Sockets → ℕ → Bool → Option Reply
-reply_of None sockets id again = None
-reply_of (Some s) sockets id again = Some (Tcp sockets id again s)
-
 -- the connection that was in a slot is CLOSED now
 abbrev pub gone_by : Connection → Connection → Option Connection
 gone_by old new = if is_live old.state && not (is_live new.state) then Some new else None
@@ -61,10 +54,11 @@ gone_by old new = if is_live old.state && not (is_live new.state) then Some new 
 unfoldable pub happened : Meaning → AbstractNode → Event → ℕ → Connection → Outcome → NodeStep
 happened m n event slot old o =
     let said : Option PlainSegment = segment_of m o.connection o.step in
-    let past : List Past = record { event = event; answer = answer_of said (is_again o.step) } ∷ n.past in
+    let again : Bool = is_again o.step in
+    let past : List Past = record { event = event; answer = option_map_or (λ s. Spoke again) said Silent } ∷ n.past in
     record {
       node = record n { numbers = o.numbers; connections = slice_set n.connections slot o.connection; past = past };
-      sent = reply_of said o.connection.sockets (ident_of past) (is_again o.step);
+      sent = option_map (λ s. Tcp o.connection.sockets (ident_of past) again s) said;
       gone = gone_by old o.connection;
     }
 
@@ -115,14 +109,11 @@ periodic m n slot =
     happened m n (Periodic slot) slot c (asked m (moment n (Periodic slot) slot) (on_tick m c n.numbers))
 
 abbrev pub step : Meaning → (ℕ → Bool) → AbstractNode → Event → NodeStep
-step m served n (IpRefused fate) = passes n (IpRefused fate) Silent
-step m served n (IcmpRefused fate) = passes n (IcmpRefused fate) Silent
-step m served n (TcpRefused fate) = passes n (TcpRefused fate) Silent
 step m served n (EchoAsked datagram) =
     record { node = remembers n (EchoAsked datagram) EchoReplied; sent = Some (Echo datagram); gone = None }
 step m served n (Arrived sockets s) = arrives m served n sockets s
-step m served n Overlong = passes n Overlong Silent
 step m served n (Periodic slot) = periodic m n slot
+step m served n event = passes n event Silent
 
 abbrev pub joined : {X : Type 0} → Option X → List X → List X
 joined None xs = xs

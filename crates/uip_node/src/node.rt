@@ -57,11 +57,10 @@ impl<A: App> Node<A> {
     ghost use Rattle.tcp_machine.specs.OnSegment.{accept, on_segment};
     ghost use Rattle.tcp_machine.specs.Stands.{plain};
     ghost use Rattle.tcp_segment.specs.Received.{plain_of, segment_or_fate};
-    ghost use Rattle.icmp_echo.specs.Echo.{echo_fate};
-    ghost use Rattle.uip_ipv4.specs.Head.{IsHeadOf, payload_of};
+    ghost use Rattle.uip_ipv4.specs.Head.{IsHeadOf};
     ghost use Rattle.uip_node.specs.Counted.{CountsStand, seen};
     ghost use Rattle.uip_node.specs.Counters.{counters, initial_number, ticks_of};
-    ghost use Rattle.uip_node.specs.Edge.{by_echo, by_segment, event_of, sockets_of};
+    ghost use Rattle.uip_node.specs.Edge.{by_proto, by_segment, event_of, sockets_of};
     ghost use Rattle.uip_node.specs.Events.{Event};
     ghost use Rattle.uip_node.specs.Events.Event.{Arrived, Overlong, Periodic};
     ghost use Rattle.uip_node.specs.Node.{AbstractNode, arrives, connection_in, from_stranger, happened, moment, opening, opens, refuses, slot_for_syn, step};
@@ -325,9 +324,7 @@ impl<A: App> Node<A> {
         requires head { IsHeadOf head.now (datagram_in self.old.packet) }
         requires most { head.now.total ≤ length (datagram_in self.old.packet) }
         ensures { Takes A.App
-            (λ m served n. step m served n
-            (by_echo head.now (datagram_in self.old.packet)
-            (echo_fate (payload_of head.now (datagram_in self.old.packet))))) self.old self.new result }
+            (λ m served n. step m served n (by_proto Proto.Icmp head.now (datagram_in self.old.packet))) self.old self.new result }
     {
         match reply(&mut self.packet, head) {
             Err(fate) => {

@@ -8,7 +8,7 @@ use lib.Lanes.{mask_l, top, zip2}
 use Rattle.std.specs.Prelude.{slice_range}
 use Rattle.std.specs.List.{list_all}
 use Rattle.std.proofs.lemmas.Bool.{cases_lt}
-use Rattle.uip_slip.specs.Frames.{is_mark, is_plain}
+use Rattle.uip_slip.specs.Frames.{IsPlainFront, is_mark, is_plain}
 use Rattle.uip_slip.proofs.PlainLaws.{none_marked}
 
 or_top : (a b : Bool) → top 7 (bit_or (cond a 255 0) (cond b 255 0)) ≡ (a || b)
@@ -75,3 +75,13 @@ none_before bytes at n r w before k h = elim (cases_lt k at) [ inl early ↦ bef
 
 pub all_plain : (bytes : List ℕ) (n : ℕ) → n ≤ length bytes → ((k : ℕ) → k < n → is_mark (get_or bytes k 0) ≡ false) → list_all is_plain (take n bytes) ≡ true
 all_plain bytes n h none = none_marked n bytes h (λ k less e. true≢false (sym e ∙ none k less))
+
+-- a mark stands in the window at the front
+pub front_alone : (bytes : List ℕ) (n r : ℕ) → 0 + n ≤ length bytes → r ≡ prefix_len (λ b. not (is_mark b)) (slice_range bytes 0 (0 + n)) → r < n → IsPlainFront bytes r
+front_alone bytes n r room e h =
+    let w = window bytes 0 n r room e in
+    record {
+      within = omega (arith, w.le, room);
+      plain = all_plain bytes r (omega (arith, w.le, room)) (front_plain bytes n r w);
+      marked = λ _. front_stops bytes n r w h;
+    }

@@ -1,6 +1,6 @@
 -- The frames of a serial line (RFC 1055). END is 192 and ESC is 219.
-use Rattle.std.specs.List.{flat_map, slice_split}
-use Rattle.std.specs.Prelude.{ℕ, Bool, true, false, ◌==◌, ◌||◌, nat_le, if◌then◌else◌, List, [], ◌∷◌, length}
+use Rattle.std.specs.List.{flat_map, list_all, slice_split}
+use Rattle.std.specs.Prelude.{◌≡◌, ◌<◌, ◌≤◌, ℕ, Bool, true, false, ◌==◌, ◌||◌, nat_le, if◌then◌else◌, List, [], ◌∷◌, length, slice_index, take}
 use Rattle.uip_wire.specs.declared.sizes.TheConstants.{LARGEST_DATAGRAM}
 
 -- the bytes that are escaped inside a datagram
@@ -10,6 +10,12 @@ is_mark b = b == 192 || b == 219
 -- all others stand for themselves
 abbrev pub is_plain : ℕ → Bool
 is_plain b = if is_mark b then false else true
+
+-- So many bytes of a front have no mark, and a mark is behind them if anything is.
+pub record IsPlainFront (bytes : List ℕ) (count : ℕ) : Type 0 where
+  pub within : count ≤ length bytes
+  pub plain : list_all is_plain (take count bytes) ≡ true
+  pub marked : count < length bytes → is_mark (slice_index bytes count) ≡ true
 
 -- the byte that stands behind an ESC: 220 means END, 221 means ESC, and any other byte itself
 abbrev pub meant : ℕ → ℕ

@@ -1,5 +1,5 @@
 -- What is written for a datagram (RFC 1055).
-use Rattle.std.specs.Prelude.{ℕ, ◌==◌, if◌then◌else◌, List, [], ◌∷◌, ◌++◌}
+use Rattle.std.specs.Prelude.{◌≡◌, ◌<◌, ◌≤◌, ℕ, ◌+◌, ◌*◌, ◌==◌, if◌then◌else◌, List, [], ◌∷◌, ◌++◌, length, take}
 use Rattle.std.specs.List.{flat_map}
 
 -- END is written as ESC 220, ESC as ESC 221, and any other byte as it is
@@ -12,3 +12,11 @@ escaped datagram = flat_map escaped_byte datagram
 -- END, the escaped bytes, END
 abbrev pub slip_text : List ℕ → List ℕ
 slip_text datagram = 192 ∷ escaped datagram ++ 192 ∷ []
+
+-- A front of so many bytes was put, escaped, behind a text of `len` bytes at the front of an area; the text has `end` bytes then.
+pub record PutsFront (piece : List ℕ) (len : ℕ) (old : List ℕ) (count end : ℕ) (new : List ℕ) : Type 0 where
+  pub long : length new ≡ length old
+  pub some : 0 < count
+  pub within : count ≤ length piece
+  pub bound : end ≤ len + 2 * count
+  pub text : take end new ≡ take len old ++ escaped (take count piece)

@@ -53,7 +53,7 @@ fn still_dense(dense: usize, count: usize, last: u8) -> usize {
 }
 
 impl Decoder {
-    ghost use Rattle.uip_slip.specs.Decoding.{WasFed, told_by, Leaves};
+    ghost use Rattle.uip_slip.specs.Decoding.{FeedsFront, Leaves, WasFed, told_by};
     ghost use Rattle.uip_slip.specs.Steps.{reopened, taken, pushed, joined_parts, Closes};
 
     /// A decoder that was fed nothing.
@@ -89,11 +89,7 @@ impl Decoder {
     /// END and ESC is copied as a whole.
     pub fn feed_run(&mut self, bytes: &[u8]) -> FedRun
         requires { 0 < length bytes.now }
-        ensures some { 0 < result.count }
-        ensures within { result.count ≤ length bytes.now }
-        ensures frames { (before : List ℕ) → WasFed before self.old → WasFed (before ++ take result.count bytes.now) self.new
-            × (frames (before ++ take result.count bytes.now) ≡ frames before ++ told_by result.fed self.new) }
-        ensures leaves { Leaves result.fed self.new }
+        ensures { FeedsFront self.old bytes.now result self.new }
     {
         if bytes[0] != END {
             return self.feed_parts(bytes);
@@ -113,11 +109,7 @@ impl Decoder {
     /// The same, part by part.
     fn feed_parts(&mut self, bytes: &[u8]) -> FedRun
         requires { 0 < length bytes.now }
-        ensures some { 0 < result.count }
-        ensures within { result.count ≤ length bytes.now }
-        ensures frames { (before : List ℕ) → WasFed before self.old → WasFed (before ++ take result.count bytes.now) self.new
-            × (frames (before ++ take result.count bytes.now) ≡ frames before ++ told_by result.fed self.new) }
-        ensures leaves { Leaves result.fed self.new }
+        ensures { FeedsFront self.old bytes.now result self.new }
     {
         let mut count = 0;
         let mut dense = 0;
@@ -143,11 +135,7 @@ impl Decoder {
     #[inline(always)]
     fn feed_part(&mut self, bytes: &[u8], is_dense: bool) -> FedRun
         requires { 0 < length bytes.now }
-        ensures some { 0 < result.count }
-        ensures within { result.count ≤ length bytes.now }
-        ensures frames { (before : List ℕ) → WasFed before self.old → WasFed (before ++ take result.count bytes.now) self.new
-            × (frames (before ++ take result.count bytes.now) ≡ frames before ++ told_by result.fed self.new) }
-        ensures leaves { Leaves result.fed self.new }
+        ensures { FeedsFront self.old bytes.now result self.new }
     {
         if is_dense {
             let fed = self.feed(bytes[0]);
@@ -160,11 +148,7 @@ impl Decoder {
     #[inline(always)]
     fn feed_front(&mut self, bytes: &[u8]) -> FedRun
         requires { 0 < length bytes.now }
-        ensures some { 0 < result.count }
-        ensures within { result.count ≤ length bytes.now }
-        ensures frames { (before : List ℕ) → WasFed before self.old → WasFed (before ++ take result.count bytes.now) self.new
-            × (frames (before ++ take result.count bytes.now) ≡ frames before ++ told_by result.fed self.new) }
-        ensures leaves { Leaves result.fed self.new }
+        ensures { FeedsFront self.old bytes.now result self.new }
     {
         self.reopen();
         let count = self.join_plain(bytes);
@@ -185,11 +169,7 @@ impl Decoder {
     #[inline(always)]
     fn feed_mark(&mut self, bytes: &[u8]) -> FedRun
         requires { 0 < length bytes.now }
-        ensures some { 0 < result.count }
-        ensures within { result.count ≤ length bytes.now }
-        ensures frames { (before : List ℕ) → WasFed before self.old → WasFed (before ++ take result.count bytes.now) self.new
-            × (frames (before ++ take result.count bytes.now) ≡ frames before ++ told_by result.fed self.new) }
-        ensures leaves { Leaves result.fed self.new }
+        ensures { FeedsFront self.old bytes.now result self.new }
     {
         match self.feed(bytes[0]) {
             Fed::More if bytes.len() > 1 => FedRun {

@@ -1,6 +1,6 @@
 ghost use Rattle.std.specs.Prelude.{◌≡◌, ℕ, ◌≤◌, ◌+◌, ◌*◌, length, take, not, true, false, ◌<◌, slice_index, slice_range};
 ghost use Rattle.std.specs.List.{list_all, prefix_len};
-ghost use Rattle.uip_slip.specs.Frames.{is_mark, is_plain, meant as meant_of};
+ghost use Rattle.uip_slip.specs.Frames.{IsPlainFront, is_mark, is_plain, meant as meant_of};
 
 use std::simd::prelude::*;
 
@@ -25,9 +25,7 @@ const WIDE: usize = 64;
 /// The length of the front without END and ESC.
 #[inline(always)]
 pub fn plain_len(bytes: &[u8]) -> usize
-    ensures within { result ≤ length bytes.now }
-    ensures plain { list_all is_plain (take result bytes.now) ≡ true }
-    ensures marked { result < length bytes.now → is_mark (slice_index bytes.now result) ≡ true }
+    ensures { IsPlainFront bytes.now result }
 {
     match bytes.len() {
         0..8 => plain_of_few(bytes),
@@ -44,9 +42,7 @@ fn plain_of_some<const N: usize>(bytes: &[u8]) -> usize
     requires lanes { N ≤ 64 }
     requires least { N ≤ length bytes.now }
     requires most { length bytes.now ≤ 2 * N }
-    ensures within { result ≤ length bytes.now }
-    ensures plain { list_all is_plain (take result bytes.now) ≡ true }
-    ensures marked { result < length bytes.now → is_mark (slice_index bytes.now result) ≡ true }
+    ensures { IsPlainFront bytes.now result }
 {
     let front = plain_lanes::<N>(bytes, 0);
     if front < N {
@@ -60,9 +56,7 @@ fn plain_of_some<const N: usize>(bytes: &[u8]) -> usize
 #[inline(always)]
 fn plain_of_many(bytes: &[u8]) -> usize
     requires { WIDE ≤ length bytes.now }
-    ensures within { result ≤ length bytes.now }
-    ensures plain { list_all is_plain (take result bytes.now) ≡ true }
-    ensures marked { result < length bytes.now → is_mark (slice_index bytes.now result) ≡ true }
+    ensures { IsPlainFront bytes.now result }
 {
     let front = plain_lanes::<LANES>(bytes, 0);
     if front < LANES {
@@ -75,9 +69,7 @@ fn plain_of_many(bytes: &[u8]) -> usize
 fn plain_behind(bytes: &[u8]) -> usize
     requires many { WIDE ≤ length bytes.now }
     requires front { (k : ℕ) → k < LANES → is_mark (slice_index bytes.now k) ≡ false }
-    ensures within { result ≤ length bytes.now }
-    ensures plain { list_all is_plain (take result bytes.now) ≡ true }
-    ensures marked { result < length bytes.now → is_mark (slice_index bytes.now result) ≡ true }
+    ensures { IsPlainFront bytes.now result }
 {
     let last = bytes.len() - WIDE;
     let mut at = LANES;
@@ -94,9 +86,7 @@ fn plain_behind(bytes: &[u8]) -> usize
 /// The same of a few bytes, one by one.
 #[inline(never)]
 fn plain_of_few(bytes: &[u8]) -> usize
-    ensures within { result ≤ length bytes.now }
-    ensures plain { list_all is_plain (take result bytes.now) ≡ true }
-    ensures marked { result < length bytes.now → is_mark (slice_index bytes.now result) ≡ true }
+    ensures { IsPlainFront bytes.now result }
 {
     for (at, byte) in bytes.iter().enumerate() {
         if *byte == END || *byte == ESC {

@@ -2,7 +2,7 @@
 //! for its end and copied as a whole, so that no line is much dearer than another.
 
 ghost use Rattle.std.specs.Prelude.{◌≡◌, ◌≤◌, ◌<◌, ◌+◌, ◌*◌, ◌/◌, ◌%◌, ◌++◌, [], ◌∷◌, length, take};
-ghost use Rattle.uip_slip.specs.Text.{escaped, escaped_byte, slip_text};
+ghost use Rattle.uip_slip.specs.Text.{PutsFront, escaped, escaped_byte, slip_text};
 
 use crate::marks::{END, plain_len};
 
@@ -92,11 +92,7 @@ fn put_bytes(out: &mut [u8], len: usize, piece: &[u8]) -> usize
 fn put_run(out: &mut [u8], len: usize, piece: &[u8]) -> Run
     requires some { 0 < length piece.now }
     requires room { len + 2 * length piece.now ≤ length out.old }
-    ensures long { length out.new ≡ length out.old }
-    ensures some { 0 < result.count }
-    ensures within { result.count ≤ length piece.now }
-    ensures bound { result.len ≤ len + 2 * result.count }
-    ensures text { take result.len out.new ≡ take len out.old ++ escaped (take result.count piece.now) }
+    ensures { PutsFront piece.now len out.old result.count result.len out.new }
 {
     let plain = plain_len(piece);
     let end = put(out, len, &piece[..plain]);
@@ -117,11 +113,7 @@ fn put_run(out: &mut [u8], len: usize, piece: &[u8]) -> Run
 fn put_front(out: &mut [u8], len: usize, piece: &[u8], is_dense: bool) -> Run
     requires some { 0 < length piece.now }
     requires room { len + 2 * length piece.now ≤ length out.old }
-    ensures long { length out.new ≡ length out.old }
-    ensures some { 0 < result.count }
-    ensures within { result.count ≤ length piece.now }
-    ensures bound { result.len ≤ len + 2 * result.count }
-    ensures text { take result.len out.new ≡ take len out.old ++ escaped (take result.count piece.now) }
+    ensures { PutsFront piece.now len out.old result.count result.len out.new }
 {
     if !is_dense {
         return put_run(out, len, piece);

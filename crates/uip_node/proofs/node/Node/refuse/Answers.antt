@@ -6,7 +6,7 @@ use Rattle.tcp_segment.specs.Segments.{datagram_bytes}
 use Rattle.uip_node.specs.Edge.{datagram_to, sockets_of}
 use Rattle.uip_node.specs.Events.{Event}
 use Rattle.uip_node.specs.Events.Event.{Arrived}
-use Rattle.uip_node.proofs.Answering.{next_ident}
+use Rattle.uip_node.proofs.Twice.{next_ident}
 use Rattle.uip_node.proofs.node.Node.refuse.Goals as goal
 
 pub returns-clause-step : goal.returns-clause-step

@@ -1,13 +1,18 @@
-use Rattle.std.proofs.Common.{◌∙◌, ◌++◌, ◌-◌, ap, append-nil, arith, drop, length, length-drop, length-take, subst}
+use Rattle.std.proofs.Common.{◌∙◌, ◌++◌, ◌-◌, ap, append-nil, arith, drop, length, length-drop, length-take, rules, subst}
 use Rattle.uip_slip.proofs.DecoderLaws.{fed_on}
 use Rattle.uip_slip.specs.Decoding.{Leaves, told_by}
 use Rattle.uip_slip.specs.Frames.{frames}
 use Rattle.uip_slip.proofs.decoder.Decoder.feed_parts.Goals as goal
 
-pub returns-in_default-clause-frames : goal.returns-in_default-clause-frames
-returns-in_default-clause-frames c = λ before f.
-    let so_far = c.loop-count.invariant.frames before f in
-    fed_on before c.args.bytes.now c.loop-count.count c.feed_part-front.result.count c.loop-count.self c.feed_part-front.new.self _ so_far c.feed_part-front.ensures.frames
+pub returns-in_default : goal.returns-in_default
+returns-in_default c = record {
+  some = search rules;
+  within = search rules;
+  frames = λ before f.
+      fed_on before c.args.bytes.now c.loop-count.count c.feed_part-front.result.count c.loop-count.self c.feed_part-front.new.self _
+      (c.loop-count.invariant.frames before f) c.feed_part-front.ensures.frames;
+  leaves = search rules;
+}
 
 pub loop-count-preserved : goal.loop-count-preserved
 loop-count-preserved c =

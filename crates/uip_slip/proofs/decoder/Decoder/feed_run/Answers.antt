@@ -1,14 +1,19 @@
-use Rattle.std.proofs.Common.{◌≡◌, ◌∙◌, ◌++◌, ◌∷◌, [], ap, append-nil, get_or, subst, sym, take}
+use Rattle.std.proofs.Common.{◌≡◌, ◌∙◌, ◌++◌, ◌∷◌, [], ap, append-nil, get_or, rules, subst, sym, take}
 use Rattle.uip_slip.proofs.DecoderLaws.{fed_on, take_first}
 use Rattle.uip_slip.specs.Decoding.{WasFed}
 use Rattle.uip_slip.specs.Frames.{frames}
 use Rattle.uip_slip.proofs.decoder.Decoder.feed_run.Goals as goal
 
-pub returns-in-More-clause-frames : goal.returns-in-More-clause-frames
-returns-in-More-clause-frames c = λ before f.
-    let one = c.in-More.ensures.frames before f in
-    let whole : before ++ take 1 c.args.bytes.now ≡ before ++ get_or c.args.bytes.now 0 0 ∷ [] =
-    ap (λ l. before ++ l) (take_first c.args.bytes.now c.requires) in
-    fed_on before c.args.bytes.now 1 c.feed_parts-parts.result.count c.feed.new.self c.feed_parts-parts.new.self _
-    (subst (λ l. WasFed l c.feed.new.self) (sym whole) one.0, ap frames whole ∙ one.1 ∙ append-nil (frames before))
-    c.feed_parts-parts.ensures.frames
+pub returns-in-More : goal.returns-in-More
+returns-in-More c = record {
+  some = search rules;
+  within = search rules;
+  frames = λ before f.
+      let one = c.in-More.ensures.frames before f in
+      let whole : before ++ take 1 c.args.bytes.now ≡ before ++ get_or c.args.bytes.now 0 0 ∷ [] =
+      ap (λ l. before ++ l) (take_first c.args.bytes.now c.requires) in
+      fed_on before c.args.bytes.now 1 c.feed_parts-parts.result.count c.feed.new.self c.feed_parts-parts.new.self _
+      (subst (λ l. WasFed l c.feed.new.self) (sym whole) one.0, ap frames whole ∙ one.1 ∙ append-nil (frames before))
+      c.feed_parts-parts.ensures.frames;
+  leaves = search rules;
+}
