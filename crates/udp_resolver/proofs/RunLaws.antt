@@ -1,5 +1,5 @@
 -- What a run knows after one more item.
-use Rattle.std.proofs.Common.{◌≡◌, ℕ, zero, suc, ◌+◌, ◌<◌, ◌≤◌, Bool, true, false, not, ◌&&◌, leb, if◌then◌else◌, List, [], ◌∷◌, ◌++◌, length, map, take, replicate, get_or, refl, sym, ap, ◌∙◌, arith, append-nil, append_assoc, subst, None, Option}
+use Rattle.std.proofs.Common.{◌≡◌, ℕ, zero, suc, ◌+◌, ◌<◌, ◌≤◌, Bool, true, false, not, ◌&&◌, leb, if◌then◌else◌, List, [], ◌∷◌, ◌++◌, length, map, take, replicate, get_or, refl, sym, ap, ◌∙◌, arith, append-nil, append_assoc, subst, None, Option, Result}
 use Rattle.std.proofs.lemmas.List.{drop_all, length-map, length-take-le, map-append, take_more}
 use Rattle.std.proofs.Math.Seq.{take-length}
 use Rattle.std.specs.List.{flat_map, list_any, refill}
@@ -16,7 +16,7 @@ use Rattle.udp_resolver.specs.Asked.{last_ident, line_text, open_ones, queries, 
 use Rattle.udp_resolver.specs.Fates.{Question, all_settled, answer_among, fate_of, is_given_up, next_asking, questions, silences}
 use Rattle.udp_resolver.specs.LineEvents.{LineEvent, Came, Silence, by_byte, by_frame, events, came_behind}
 use Rattle.udp_resolver.specs.Lines.{line_of, lines}
-use Rattle.udp_resolver.specs.Standing.{Adds, Knows}
+use Rattle.udp_resolver.specs.Standing.{Adds, Knows, WritesSome}
 use Rattle.udp_resolver.specs.Steps.{IsClockAt, asked_next, heard_now, is_due, lines_by, unanswered}
 use Rattle.udp_resolver.specs.declared.clock.Clock.{Clock}
 use Rattle.udp_resolver.specs.declared.run.Run.{Run}
@@ -26,7 +26,11 @@ use Rattle.udp_resolver.proofs.ItemLaws.{calm_bytes, events-append, events_byte}
 use Rattle.udp_resolver.proofs.QueryLaws.{queries_calm, queries_first, queries_silence}
 use Rattle.udp_resolver.proofs.StepLaws.{last_ident-append, query_texts-append}
 use Rattle.uip_edge.specs.Coming.{bytes_among}
+use Rattle.uip_edge.specs.Told.{SinkTold}
 use Rattle.uip_edge.proofs.Told.{bytes_among-append}
+
+pub writes_some_by : {T E : Type 0} (r : Result T E) (a b : SinkTold) (xs ys : List ℕ) → ys ≡ xs → WritesSome a b r xs → WritesSome a b r ys
+writes_some_by r a b xs ys e w = subst (λ (l : List ℕ). WritesSome a b r l) (sym e) w
 
 pub questions-length : (asking : Asking) (names : List (List ℕ)) → length (questions asking names) ≡ length names
 questions-length asking [] = refl

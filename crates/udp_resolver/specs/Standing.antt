@@ -1,9 +1,10 @@
 -- What a run of the resolver knows of the items that it took, and what its turns add.
-use Rattle.std.specs.Prelude.{◌≡◌, ◌<◌, ◌≤◌, ◌⊎◌, ℕ, List, [], ◌++◌, length, map, ⊤}
+use Rattle.std.specs.Prelude.{◌≡◌, ◌<◌, ◌≤◌, ◌⊎◌, ℕ, List, [], ◌++◌, length, map, ⊤, OnErr, Result}
 use Rattle.std.specs.Io.KnownBytes.{Appends}
 use Rattle.uip_edge.specs.Causes.{Rose}
 use Rattle.uip_edge.specs.Coming.{Consumes, bytes_among, TookAll}
-use Rattle.uip_edge.specs.Writing.{AppendsPrefix}
+use Rattle.uip_edge.specs.Told.{LineTold, IsCalm, SinkTold}
+use Rattle.uip_edge.specs.Writing.{AppendsPrefix, Writes}
 use Rattle.uip_edge.specs.declared.item.Item.{Item}
 use Rattle.uip_edge.specs.declared.serve_end.ServeEnd.{ServeEnd}
 use Rattle.uip_edge.specs.declared.serve_end.ServeEnd.TheVariants as ends
@@ -15,8 +16,12 @@ use Rattle.udp_resolver.specs.Resolving.{IsDone, IsOneAnswer, IsOpen, LastAsked}
 use Rattle.udp_resolver.specs.Steps.{IsClockAt}
 use Rattle.udp_resolver.specs.declared.run.Run.{Run}
 use Rattle.udp_resolver.specs.declared.run.Turn.{Turn}
-use Rattle.uip_edge.specs.Told.{LineTold, IsCalm}
 use Rattle.udp_resolver.specs.declared.run.Turn.TheVariants as turns
+
+-- the text was written whole, or a front of it where the sink failed, and it has bytes then
+pub record WritesSome {T E : Type 0} (old new : SinkTold) (result : Result T E) (text : List ℕ) : Type 0 where
+  pub writes : Writes old new result text
+  pub some : OnErr result (0 < length text)
 
 -- the run after these items
 pub record Knows (asked : List Question) (items : List Item) (run : Run) : Type 0 where

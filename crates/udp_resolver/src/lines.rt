@@ -1,8 +1,8 @@
-ghost use Rattle.std.specs.Prelude.{◌≡◌, ◌<◌, ◌≤◌, ◌+◌, ◌++◌, codes, decimal, length, OnOk, OnErr};
+ghost use Rattle.std.specs.Prelude.{◌≡◌, ◌<◌, ◌≤◌, ◌+◌, ◌++◌, codes, decimal, length};
 ghost use Rattle.uip_edge.specs.Telling.{sink_told};
-ghost use Rattle.uip_edge.specs.Writing.{Writes};
 ghost use Rattle.udp_resolver.specs.Fates.{fate_by};
 ghost use Rattle.udp_resolver.specs.Lines.{fate_text, line_of, quad_text};
+ghost use Rattle.udp_resolver.specs.Standing.{WritesSome};
 ghost use Rattle.udp_resolver.specs.Steps.{lines_by};
 
 use crate::fate::Fate;
@@ -120,8 +120,7 @@ pub(crate) fn tell_all<T: Sink>(
     tell: &mut T,
 ) -> Result<(), Failed>
     requires { length answers.now ≡ length names.now }
-    ensures writes { Writes (sink_told T.Sink tell.old) (sink_told T.Sink tell.new) result (lines_by names.now answers.now is_over) }
-    ensures some { OnErr result (0 < length (lines_by names.now answers.now is_over)) }
+    ensures { WritesSome (sink_told T.Sink tell.old) (sink_told T.Sink tell.new) result (lines_by names.now answers.now is_over) }
 {
     for at in 0..names.len() {
         tell.write_whole(&line_of(&names[at], fate_by(answers[at], is_over)))?;

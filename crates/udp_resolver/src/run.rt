@@ -1,8 +1,6 @@
-ghost use Rattle.std.specs.Prelude.{◌≡◌, ◌≤◌, ◌<◌, ◌∷◌, ◌++◌, [], List, None, false, length, map, not, replicate, OnOk, OnErr};
-ghost use Rattle.std.specs.Io.KnownBytes.{Appends};
+ghost use Rattle.std.specs.Prelude.{◌≡◌, ◌≤◌, ◌<◌, ◌∷◌, ◌++◌, [], List, None, false, length, map, not, replicate, OnOk};
 ghost use Rattle.rexmit_timer.specs.declared.timer.TheConstants.{TEXT_LIMIT};
 ghost use Rattle.uip_edge.specs.Causes.{HasCause};
-ghost use Rattle.uip_edge.specs.Writing.{AppendsPrefix, Writes};
 ghost use Rattle.uip_edge.specs.declared.item.Item.{Item};
 ghost use Rattle.uip_edge.specs.declared.item.Item.TheVariants.{Byte, Quiet};
 ghost use Rattle.uip_slip.specs.Decoding.{WasFed};
@@ -10,7 +8,7 @@ ghost use Rattle.udp_resolver.specs.Asked.{line_text, query_texts};
 ghost use Rattle.udp_resolver.specs.Fates.{all_settled, is_given_up, questions};
 ghost use Rattle.udp_resolver.specs.LineEvents.{events};
 ghost use Rattle.udp_resolver.specs.Resolving.{IsOpen};
-ghost use Rattle.udp_resolver.specs.Standing.{Asks, AskFits, Knows, Turns};
+ghost use Rattle.udp_resolver.specs.Standing.{Asks, AskFits, Knows, Turns, WritesSome};
 ghost use Rattle.udp_resolver.specs.Steps.{IsClockAt, asked_next};
 ghost use Rattle.uip_edge.specs.Telling.{line_told, sink_told};
 
@@ -76,9 +74,8 @@ impl Run {
         ensures area { length packet.new.area ≡ LARGEST_DATAGRAM }
         ensures each { length self.new.answers.items ≡ length names.now }
         ensures knows { OnOk result (Knows (questions asking names.now) [] self.new) }
-        ensures writes { Writes (sink_told K.Sink out.old) (sink_told K.Sink out.new) result
+        ensures writes { WritesSome (sink_told K.Sink out.old) (sink_told K.Sink out.new) result
             (line_text (questions asking names.now) []) }
-        ensures some { OnErr result (0 < length (line_text (questions asking names.now) [])) }
     {
         self.sender
             .send_open(packet, asking, names, self.answers.as_slice(), out)
@@ -140,17 +137,10 @@ impl Run {
         ensures each { length self.new.answers.items ≡ length names.now }
         ensures knows { OnOk result ((items : List Item) → is_given_up (events items) ≡ false
             → Knows (questions asking names.now) items self.old → Knows (questions asking names.now) (items ++ Quiet ∷ []) self.new) }
-        ensures ok { OnOk result ((items : List Item) → is_given_up (events items) ≡ false
+        ensures writes { (items : List Item) → is_given_up (events items) ≡ false
             → Knows (questions asking names.now) items self.old
-            → Appends (K.written out.old) (K.written out.new)
-            (query_texts self.old.sender.ident (asked_next (questions asking names.now) (events items)))) }
-        ensures err { OnErr result ((items : List Item) → is_given_up (events items) ≡ false
-            → Knows (questions asking names.now) items self.old
-            → AppendsPrefix (K.written out.old) (K.written out.new)
-            (query_texts self.old.sender.ident (asked_next (questions asking names.now) (events items)))) }
-        ensures some { OnErr result ((items : List Item) → is_given_up (events items) ≡ false
-            → Knows (questions asking names.now) items self.old
-            → 0 < length (query_texts self.old.sender.ident (asked_next (questions asking names.now) (events items)))) }
+            → WritesSome (sink_told K.Sink out.old) (sink_told K.Sink out.new) result
+            (query_texts self.old.sender.ident (asked_next (questions asking names.now) (events items))) }
         ensures cause { HasCause (K.faults out.old) (K.faults out.new) result }
     {
         if !self.clock.tick() {

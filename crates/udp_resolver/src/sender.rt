@@ -1,10 +1,11 @@
-ghost use Rattle.std.specs.Prelude.{◌≡◌, ◌<◌, ◌≤◌, length, OnOk, OnErr, [], ◌∷◌};
+ghost use Rattle.std.specs.Prelude.{◌≡◌, ◌≤◌, length, OnOk, [], ◌∷◌};
 ghost use Rattle.uip_edge.specs.Telling.{sink_told};
 ghost use Rattle.uip_edge.specs.Writing.{Writes};
 ghost use Rattle.uip_slip.specs.Text.{slip_text};
 ghost use Rattle.dns_message.specs.Replies.{query_datagram};
 ghost use Rattle.udp_resolver.specs.Asked.{last_ident, next_ident, query_texts};
 ghost use Rattle.udp_resolver.specs.Fates.{questions};
+ghost use Rattle.udp_resolver.specs.Standing.{WritesSome};
 ghost use Rattle.udp_resolver.specs.Steps.{unanswered, unless_answered};
 
 use crate::answers::next_asking;
@@ -64,10 +65,8 @@ impl Sender {
         ensures area { length packet.new.area ≡ LARGEST_DATAGRAM }
         ensures ident { self.new.ident
             ≡ last_ident self.old.ident (unless_answered (record { asking = asking; text = name.now }) answer) }
-        ensures writes { Writes (sink_told K.Sink out.old) (sink_told K.Sink out.new) result
+        ensures writes { WritesSome (sink_told K.Sink out.old) (sink_told K.Sink out.new) result
             (query_texts self.old.ident (unless_answered (record { asking = asking; text = name.now }) answer)) }
-        ensures some { OnErr result (0 < length
-            (query_texts self.old.ident (unless_answered (record { asking = asking; text = name.now }) answer))) }
     {
         if answer.is_some() {
             return Ok(());
@@ -89,9 +88,8 @@ impl Sender {
         ensures area { length packet.new.area ≡ LARGEST_DATAGRAM }
         ensures ident { OnOk result (self.new.ident
             ≡ last_ident self.old.ident (unanswered (questions asking names.now) answers.now)) }
-        ensures writes { Writes (sink_told K.Sink out.old) (sink_told K.Sink out.new) result
+        ensures writes { WritesSome (sink_told K.Sink out.old) (sink_told K.Sink out.new) result
             (query_texts self.old.ident (unanswered (questions asking names.now) answers.now)) }
-        ensures some { OnErr result (0 < length (query_texts self.old.ident (unanswered (questions asking names.now) answers.now))) }
     {
         let mut asking = asking;
         for at in 0..names.len() {

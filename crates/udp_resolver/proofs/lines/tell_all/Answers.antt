@@ -21,26 +21,20 @@ loop-at-preserved g c =
       calm = c.in_ok-write_whole.ensures.cause.same ∙ inv.calm;
     }
 
-pub returns-in_err-write_whole-clause-writes : goal.returns-in_err-write_whole-clause-writes
-returns-in_err-write_whole-clause-writes g c =
+pub returns-in_err-write_whole : goal.returns-in_err-write_whole
+returns-in_err-write_whole g c =
     let inv = c.loop-at.invariant in
     let at = c.loop-at.at in
     let name = c.index-names-at.result in
-    let one = line_of name (fate_by (get_or c.args.answers.now at None) c.args.is_over) in
+    let fate = fate_by (get_or c.args.answers.now at None) c.args.is_over in
+    let one = line_of name fate in
     let text : c.deref.result.now ≡ one = c.deref.ensures.0 ∙ c.line_of.ensures ∙ ap (λ f. line_of name f) c.fate_by.ensures in
-    writes_broken c.from_residual.result c.from_residual.ensures.0 c.in_err-write_whole.field-0.0
-    (sink_told g.T.Sink c.args.tell.now) (sink_told g.T.Sink c.loop-at.tell) (sink_told g.T.Sink c.write_whole.new.self)
-    inv.front one (lines_by (drop (at + 1) c.args.names.now) (drop (at + 1) c.args.answers.now) c.args.is_over)
-    (lines_by c.args.names.now c.args.answers.now c.args.is_over)
-    (sym (line_moves _ _ name at _ _ inv.front c.requires c.loop-at-test.true c.index-names-at.is inv.whole))
-    inv.wrote inv.calm (writes_by _ _ _ c.deref.result.now one (sym text) c.in_err-write_whole.ensures)
-
-pub returns-in_err-write_whole-clause-some : goal.returns-in_err-write_whole-clause-some
-returns-in_err-write_whole-clause-some g c =
-    let inv = c.loop-at.invariant in
-    let at = c.loop-at.at in
-    let name = c.index-names-at.result in
-    let one = line_of name (fate_by (get_or c.args.answers.now at None) c.args.is_over) in
     let later = lines_by (drop (at + 1) c.args.names.now) (drop (at + 1) c.args.answers.now) c.args.is_over in
+    let all = lines_by c.args.names.now c.args.answers.now c.args.is_over in
     let whole = line_moves _ _ name at _ _ inv.front c.requires c.loop-at-test.true c.index-names-at.is inv.whole in
-    on_err _ (some_moves inv.front one later (lines_by c.args.names.now c.args.answers.now c.args.is_over) whole (line_some name (fate_by (get_or c.args.answers.now at None) c.args.is_over)))
+    record {
+      writes = writes_broken c.from_residual.result c.from_residual.ensures.0 c.in_err-write_whole.field-0.0
+          (sink_told g.T.Sink c.args.tell.now) (sink_told g.T.Sink c.loop-at.tell) (sink_told g.T.Sink c.write_whole.new.self)
+          inv.front one later all (sym whole) inv.wrote inv.calm (writes_by _ _ _ c.deref.result.now one (sym text) c.in_err-write_whole.ensures);
+      some = on_err _ (some_moves inv.front one later all whole (line_some name fate));
+    }

@@ -1,10 +1,9 @@
-use Rattle.std.proofs.Common.{◌<◌, ℕ, List, ◌∙◌, ap, sym, length, subst}
-use Rattle.std.proofs.lemmas.Result.{on_err_weaker, on_ok_weaker}
-use Rattle.uip_edge.proofs.Writes.{writes_by}
+use Rattle.std.proofs.Common.{◌∙◌, ap, sym, length}
+use Rattle.std.proofs.lemmas.Result.{on_ok_weaker}
 use Rattle.udp_resolver.specs.Asked.{last_ident, query_texts}
 use Rattle.udp_resolver.specs.Fates.{questions}
 use Rattle.udp_resolver.specs.Steps.{unanswered}
-use Rattle.udp_resolver.proofs.RunLaws.{first_asked, none_yet, questions-length}
+use Rattle.udp_resolver.proofs.RunLaws.{first_asked, none_yet, questions-length, writes_some_by}
 use Rattle.udp_resolver.proofs.run.Run.send_first.Goals as goal
 
 pub returns-clause-knows : goal.returns-clause-knows
@@ -26,16 +25,6 @@ returns-clause-writes g c =
     let asked = questions c.args.asking c.args.names.now in
     let first = unanswered asked c.as_slice.result.now in
     let none = c.requires.answers ∙ none_yet asked (length c.args.names.now) (questions-length c.args.asking c.args.names.now) in
-    writes_by c.send_open.result _ _ _ _
+    writes_some_by c.send_open.result _ _ _ _
     (sym (ap (λ n. query_texts n first) c.requires.ident ∙ ap (λ l. query_texts 0 l) (first_asked asked c.as_slice.result.now (c.as_slice.ensures.value ∙ none))))
     c.send_open.ensures.writes
-
-pub returns-clause-some : goal.returns-clause-some
-returns-clause-some g c =
-    let asked = questions c.args.asking c.args.names.now in
-    let first = unanswered asked c.as_slice.result.now in
-    let none = c.requires.answers ∙ none_yet asked (length c.args.names.now) (questions-length c.args.asking c.args.names.now) in
-    on_err_weaker c.send_open.result
-    (λ some. subst (λ (l : List ℕ). 0 < length l)
-    (ap (λ n. query_texts n first) c.requires.ident ∙ ap (λ l. query_texts 0 l) (first_asked asked c.as_slice.result.now (c.as_slice.ensures.value ∙ none))) some)
-    c.send_open.ensures.some

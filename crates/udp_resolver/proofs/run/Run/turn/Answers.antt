@@ -27,7 +27,7 @@ returns-in-Ok-clause-turns g c = λ items is_open k.
           once = inl refl;
           text = query_texts c.args.self.now.sender.ident (asked_next asked (events items));
           adds = adds_quiet asked items c.args.self.now k;
-          out = done.ok items e k;
+          out = (done.writes items e k).writes.whole;
         },
       );
     }
@@ -48,8 +48,8 @@ returns-in-Err-tick-clause-turns g c = λ items is_open k.
         once = inl refl;
         text = query_texts c.args.self.now.sender.ident (asked_next asked (events items));
         adds = adds_quiet asked items c.args.self.now k;
-        some = failed.some items e k;
-        out = failed.err items e k;
+        some = (failed.writes items e k).some;
+        out = (failed.writes items e k).writes.front;
       };
     }
 
