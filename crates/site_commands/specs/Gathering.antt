@@ -1,5 +1,5 @@
 -- Reading the files of a list that is to be packed.
-use Rattle.std.specs.Prelude.{◌≡◌, ◌<◌, ◌≤◌, ◌⊎◌, ℕ, ◌-◌, List, [], ◌∷◌, ◌++◌, length, nat_lt, if◌then◌else◌, Option, None, Some, option_map, option_and_then, Result, Ok, Err, ⊤}
+use Rattle.std.specs.Prelude.{◌≡◌, ◌<◌, ◌≤◌, ◌⊎◌, ℕ, ◌-◌, List, [], ◌∷◌, ◌++◌, length, nat_lt, if◌then◌else◌, Option, Some, option_map, option_and_then, Result, Ok, Err, ⊤}
 use Rattle.uip_edge.specs.Causes.{Rose}
 use Rattle.uip_edge.specs.Shelving.{Files, HeldFile}
 use Rattle.site_image.specs.declared.TheConstants.{LONGEST_IMAGE}

@@ -1,14 +1,12 @@
 -- The value of a desk, told apart: what it stands for is what the application in it stands for.
-use Rattle.std.proofs.Common.{◌≡◌, ℕ, ◌==◌, ◌≤◌, true, false, List, length, sym, subst}
+use Rattle.std.proofs.Common.{◌≡◌, ℕ, ◌≤◌, List, length, sym, subst}
 use Rattle.std.proofs.Math.Logic.{∥∥₁_map}
 use Rattle.app_events.specs.Part.{Part, Meaning, text_left, HasPart, CanSay}
-use Rattle.site_image.specs.Files.{File}
 use Rattle.file_tree.specs.Site.{SiteContent, files_of}
 use Rattle.web_pages.specs.WebMeaning.{web_meaning}
 use Rattle.httpd.specs.declared.httpd.Httpd.{Httpd}
 use Rattle.httpd.specs.HttpdStands.{HttpdStands}
 use Rattle.telnet_shell.specs.declared.shell.Shell.{Shell}
-use Rattle.telnet_shell.specs.declared.shell.TheConstants.{TELNET_PORT}
 use Rattle.telnet_shell.specs.declared.desk.Desk.{Desk}
 use Rattle.telnet_shell.specs.declared.desk.Desk.TheVariants as desk
 use Rattle.telnet_shell.specs.ShellMeaning.{shell_meaning}

@@ -1,6 +1,6 @@
 -- What the shell says: the joined texts of its commands, each that needs a capture made from the next one. It stops before the
 -- first such command that has none left.
-use Rattle.std.specs.Prelude.{ℕ, ◌-◌, Bool, true, false, List, [], ◌∷◌, ◌++◌, codes, length, nat_le, if◌then◌else◌}
+use Rattle.std.specs.Prelude.{ℕ, ◌-◌, Bool, List, [], ◌∷◌, ◌++◌, codes, length, nat_le, if◌then◌else◌}
 use Rattle.script_lang.specs.declared.function.Function.{Function}
 use Rattle.script_lang.specs.declared.function.Function.TheVariants as function
 use Rattle.generators.specs.Captures.{capture_of}

@@ -4,7 +4,7 @@ use Rattle.std.specs.List.{flat_map}
 use Rattle.uip_edge.specs.declared.item.Item.{Item}
 use Rattle.uip_slip.specs.Frames.{Frame, Datagram, Overlong, frames}
 use Rattle.uip_wire.specs.Fields.{long_bytes}
-use Rattle.trace.specs.Seen.{Seen, seen_on}
+use Rattle.trace.specs.Seen.{seen_on}
 use Rattle.trace.specs.declared.byte_order.ByteOrder.{ByteOrder}
 use Rattle.trace.specs.declared.byte_order.ByteOrder.TheVariants.{Big, Little}
 use Rattle.uip_edge.specs.Coming.{bytes_among}

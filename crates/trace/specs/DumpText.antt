@@ -1,5 +1,5 @@
 -- The text of a dump: one line for each frame of a serial line.
-use Rattle.std.specs.Prelude.{ℕ, List, [], ◌∷◌, ◌++◌, length, slice_index, Option, Some, None, Result, Ok, Err, Bool, if◌then◌else◌, codes, decimal}
+use Rattle.std.specs.Prelude.{ℕ, List, [], ◌∷◌, ◌++◌, length, slice_index, Option, Some, Result, Ok, Err, if◌then◌else◌, codes, decimal}
 use Rattle.std.specs.List.{enumerate_from, flat_map}
 use Rattle.uip_wire.specs.Addr.{address_at}
 use Rattle.uip_ipv4.specs.Head.{head_or_fate, payload_of}

@@ -4,9 +4,9 @@ use Rattle.std.specs.Prelude.{◌⊎◌, ⊤}
 use Rattle.site_image.specs.Files.{File}
 use Rattle.file_tree.specs.declared.load_fault.LoadFault.{LoadFault}
 use Rattle.file_tree.specs.declared.load_fault.LoadFault.TheVariants as loads
-use Rattle.file_tree.specs.Opening.{FailsToOpen, LacksSite}
+use Rattle.file_tree.specs.Opening.{FailsToOpen, LacksFile, site_read}
 use Rattle.site_commands.specs.Due.{Due}
-use Rattle.site_commands.specs.Ending.{Ends, LacksFile}
+use Rattle.site_commands.specs.Ending.{Ends}
 use Rattle.site_commands.specs.declared.site_end.SiteEnd.{SiteEnd}
 use Rattle.site_commands.specs.declared.site_end.SiteEnd.TheVariants as sites
 use Rattle.replay_command.specs.Ending.{EndsWith, IsLoadText, IsReplayText, LacksEither}
@@ -27,10 +27,10 @@ use Rattle.uip_edge.specs.declared.serve_end.ServeEnd.TheVariants as serves
 use Rattle.uipd.specs.Completeness.{CaptureDone, Completes, ImageDone, LacksFor, LineDone, OrShort, ReplayDone, RunIsComplete, ServingDone}
 use Rattle.web_pages.specs.Serving.{no_hits}
 use Rattle.uipd.specs.Output.{meaning_of, output_of, ports_of}
-use Rattle.uipd.specs.Running.{SiteRuns, TaskRuns}
+use Rattle.uipd.specs.Running.{TaskRuns}
 use Rattle.uipd.specs.Serving.{ServeRuns, ServesBy}
 use Rattle.uipd.specs.SiteServing.{IsUndisturbed, SiteServes}
-use Rattle.uipd.specs.Statuses.{RunsAs, status_of_fault, status_of_replay, status_of_serving, status_of_slip}
+use Rattle.uipd.specs.Statuses.{RunsAs, status_of_fault, status_of_replay, status_of_serving, status_of_site, status_of_slip}
 use Rattle.uipd.specs.Words.{Task, Serves, Checks, Pages, Packs, Upgrades, Replays, Loads, Dumps, Captures, PlaysBack, task_of}
 use Rattle.uipd.specs.declared.words.ServedLine.{ServedLine}
 use Rattle.uipd.specs.declared.status.Status.{Status}
@@ -58,14 +58,14 @@ served files line old new result serves.Budget u e t = record { taken = t.taken;
 served files line old new result serves.LinkFault u e t = absurd (stayed old.link.faults new.link.faults u.link.same u.link.below t.ends.1)
 served files line old new result serves.WriteFault u e t = absurd (stayed old.sink.faults new.sink.faults u.sink.same u.sink.below t.ends.2)
 
-no_site : (site : List ℕ) (line : ServedLine) (old new : Outside) (result : Status) (fault : LoadFault) → IsUndisturbed old new → ¬ (LacksSite site old.shelf.held) → result ≡ status_of_fault fault
+no_site : (site : List ℕ) (line : ServedLine) (old new : Outside) (result : Status) (fault : LoadFault) → IsUndisturbed old new → ¬ (LacksFile (site_read site) old.shelf.held) → result ≡ status_of_fault fault
     → FailsToOpen site old.shelf.held old.shelf.faults new.shelf.faults fault → OrShort result (ServingDone site line old new result)
 no_site site line old new result loads.Shelf u there told (inl rose, later) = absurd (stayed old.shelf.faults new.shelf.faults u.shelf.same u.shelf.below rose)
 no_site site line old new result loads.Shelf u there told (inr gone, later) = absurd (there gone)
 no_site site line old new result (loads.Bad error) u there told (is, same) = inr (inr (error, is, told))
 no_site site line old new result loads.NoMemory u there told same = inl told
 
-serving : (site : List ℕ) (line : ServedLine) (old new : Outside) (result : Status) → SiteServes site line old new result → IsUndisturbed old new → ¬ (LacksSite site old.shelf.held) → OrShort result (ServingDone site line old new result)
+serving : (site : List ℕ) (line : ServedLine) (old new : Outside) (result : Status) → SiteServes site line old new result → IsUndisturbed old new → ¬ (LacksFile (site_read site) old.shelf.held) → OrShort result (ServingDone site line old new result)
 serving site line old new result (inl has) u there =
     elim has.done [
       | inl run ↦ inr (inl (has.files, has.read, served has.files line (line_in old) (line_in new) result run.0 u.line run.1 run.2))
@@ -75,7 +75,7 @@ serving site line old new result (inr none) u there = no_site site line old new 
 
 -- ---- an image
 
-image_by : (due : Files → Option Due) (old new : Outside) (result : Status) (end : SiteEnd) → Rattle.uipd.specs.Statuses.status_of_site end ≡ result → Ends due (work_in old) (work_in new) end → WorkUnfailed (work_in old) (work_in new)
+image_by : (due : Files → Option Due) (old new : Outside) (result : Status) (end : SiteEnd) → status_of_site end ≡ result → Ends due (work_in old) (work_in new) end → WorkUnfailed (work_in old) (work_in new)
     → ¬ (LacksFile due old.shelf.held) → OrShort result (ImageDone due old new result)
 image_by due old new result sites.Done e t c there = inr (record { text = t.0; fault = None }, t.1, t.2.whole, sym e)
 image_by due old new result (sites.Bad error) e t c there = inr (record { text = t.0; fault = Some error }, t.1, t.2.whole, sym e)
@@ -84,7 +84,7 @@ image_by due old new result sites.ShelfFault e t c there =
 image_by due old new result sites.WriteFault e t c there = absurd (stayed old.sink.faults new.sink.faults c.sink.same c.sink.below t.2.rose)
 image_by due old new result sites.NoMemory e t c there = inl (sym e)
 
-image : (due : Files → Option Due) (old new : Outside) (result : Status) → SiteRuns due (work_in old) (work_in new) result → IsUndisturbed old new → ¬ (LacksFile due old.shelf.held) → OrShort result (ImageDone due old new result)
+image : (due : Files → Option Due) (old new : Outside) (result : Status) → RunsAs status_of_site (Ends due (work_in old) (work_in new)) result → IsUndisturbed old new → ¬ (LacksFile due old.shelf.held) → OrShort result (ImageDone due old new result)
 image due old new result run u there = image_by due old new result run.0 (sym run.1) run.2 (calm old new u) there
 
 -- ---- a replay
@@ -116,7 +116,7 @@ by_task (Some (Packs files)) old new result run u there = image _ old new result
 by_task (Some (Upgrades site kinds)) old new result run u there = image _ old new result run.0 u there
 by_task (Some (Pages site target)) old new result run u there = image _ old new result run.0 u there
 by_task (Some (Replays site schedule show)) old new result run u there = replayed (IsReplayText site schedule show) (LacksEither site schedule) old new result run.0 u there
-by_task (Some (Loads site seed clients)) old new result run u there = replayed (IsLoadText site seed clients) (LacksSite site) old new result run.0 u there
+by_task (Some (Loads site seed clients)) old new result run u there = replayed (IsLoadText site seed clients) (LacksFile (site_read site)) old new result run.0 u there
 by_task (Some (Dumps n)) old new result run u there = (let r = run.0 in line_done _ n (line_in old) (line_in new) result r.0 u.line r.1 r.2)
 by_task (Some (Captures n)) old new result run u there = (let r = run.0 in line_done _ n (line_in old) (line_in new) result r.0 u.line r.1 r.2)
 by_task (Some (PlaysBack n)) old new result run u there = (let r = run.0 in capture_by n old new result r.0 r.1 r.2 u.line)

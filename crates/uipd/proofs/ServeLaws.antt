@@ -19,19 +19,24 @@ use Rattle.serve_loop.specs.Serving.{Serves as ServesNode, WroteBy}
 use Rattle.serve_loop.specs.DeedRuns.{Deed, FrontSaid, Station, after_deed, after_deeds, said, said_by_deed}
 use Rattle.serve_loop.specs.DeedServing.{IsStationed, SaidBy, ServesOver}
 use Rattle.serve_loop.specs.LineDeeds.{line_deeds}
+use Rattle.serve_loop.specs.SlipWay.{NoAct}
+use Rattle.serve_loop.proofs.SlipServeLaws.{said_on_line}
 use Rattle.serve_loop.proofs.RunLaws.{breaks_front, run-text-append, said-append, text_of-joined}
 use Rattle.line_medium.specs.Ways.{Way}
 use Rattle.ethernet_arp.specs.EtherWay.{ether_way}
 use Rattle.ethernet_arp.specs.Frames.{Host}
 use Rattle.ethernet_arp.specs.Learning.{Act}
 use Rattle.ethernet_arp.specs.declared.mac.Mac.{Mac}
-use Rattle.uipd.specs.Output.{host_at}
 use Rattle.uipd.specs.Serving.{RunsBy, ServesBy}
 use Rattle.uipd.specs.Statuses.{status_of_serving}
 use Rattle.uipd.specs.declared.words.ServedLine.{ServedLine}
 use Rattle.uipd.specs.declared.words.LineKind.TheVariants.{Ethernet, Serial}
 use Rattle.uip_edge.specs.Told.{LineTold}
 use Rattle.uip_edge.specs.Ending.{WrittenBy}
+
+-- the host at the address of a node
+abbrev host_at : Addr → Mac → Host
+host_at own mac = record { addr = own.0; mac = mac.0 }
 
 -- the output was written by the end, and a write failed only where there is some
 record PutsOut (end : ServeEnd) (a b : Option (List ℕ)) (text : List ℕ) : Type 0 where
@@ -84,7 +89,9 @@ served_line g shared line before after old new end is st it =
     let Q : AbstractNode → Type 0 = λ a. Stands g after a a.past in
     let one = subst (λ (s : _). WroteBy end (g.meaning (g.kept s)) g.served before.addr (line_events before.addr pace it.taken) P Q old.sink.written new.sink.written) is it.wrote in
     let two = subst (λ (o : Addr). WroteBy end m g.served o (line_events o pace it.taken) P Q old.sink.written new.sink.written) st.addr one in
-    let out = writes_by end m g.served (g.numbers shared) line.own pace it.taken P Q old.sink.written new.sink.written st two in
+    let first : Station NoAct = record { acts = []; node = opening line.own (g.numbers shared) } in
+    let out = subst (PutsOut end old.sink.written new.sink.written) (sym (said_on_line m g.served line.own pace it.taken first))
+    (writes_by end m g.served (g.numbers shared) line.own pace it.taken P Q old.sink.written new.sink.written st two) in
     inl (end, refl, record { taken = it.taken; consumed = it.consumed; ends = it.ends; written = out.written; some = out.some })
 
 -- the same over Ethernet frames

@@ -9,7 +9,7 @@ use Rattle.std.specs.Result.{result_ok, OkIff}
 use Rattle.std.specs.Str.Parse.{digits_value, ParsesUnsigned}
 use Rattle.std.proofs.lemmas.Bool.{ltb-true, lt-ltb}
 use Rattle.std.proofs.lemmas.Str.Parse.{IsNumeralModel, numerals_by_value, parse_digits}
-use Rattle.uipd.specs.Words.{ether_words, is_tty, limits_at, limits_of, load_words, says_tty}
+use Rattle.uipd.specs.Words.{ether_words, is_tty, limits_at, limits_of, says_tty}
 
 -- fewer than two words name no pace
 pub few : {A : Type 0} (f : A → List ℕ) (words : List A) → length words < 2 → limits_at 0 (map f words) ≡ limits_of (map f words)
@@ -30,9 +30,3 @@ last_told words found is =
     ap (λ o. is_tty (option_map string_bytes o)) is
     ∙ sym (ap is_tty (slice_get-map string_bytes words (length words - 1)))
     ∙ ap (λ n. is_tty (slice_get (map string_bytes words) (n - 1))) (sym (length-map words string_bytes))
-
--- fewer than two words name no seed
-pub no_seed : {A : Type 0} (f : A → List ℕ) (words : List A) → length words < 2 → None ≡ load_words (map f words)
-no_seed f [] h = refl
-no_seed f (a ∷ []) h = refl
-no_seed f (a ∷ b ∷ words) h = absurd (omega arith)

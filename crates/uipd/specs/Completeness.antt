@@ -1,11 +1,11 @@
 -- What a run comes to where nothing outside disturbs it: no count rises, and no file that the words ask for is missing.
 use Rattle.std.specs.Prelude.{◌≡◌, ◌<◌, ◌⊎◌, ℕ, List, length, Option, None, Some, Err, Ok, ⊤}
 use Rattle.std.specs.Io.KnownBytes.{Appends}
-use Rattle.file_tree.specs.Opening.{IsSiteRead, LacksSite}
+use Rattle.file_tree.specs.Opening.{IsRead, LacksFile, site_read}
 use Rattle.site_image.specs.Files.{File}
 use Rattle.site_image.specs.declared.site_error.SiteError.{SiteError}
 use Rattle.site_commands.specs.Due.{Due, check_due, page_due, pack_due, upgrade_due}
-use Rattle.site_commands.specs.Ending.{IsDue, LacksFile, end_of}
+use Rattle.site_commands.specs.Ending.{end_of}
 use Rattle.replay_command.specs.Ending.{IsLoadText, IsReplayText, LacksEither}
 use Rattle.replay_command.specs.declared.replay_end.ReplayEnd.{ReplayEnd}
 use Rattle.trace.specs.CaptureText.{capture_file}
@@ -29,13 +29,13 @@ use Rattle.uipd.specs.declared.words.ServedLine.{ServedLine}
 -- a shelf that tells its files lacks one that the words ask for
 abbrev pub LacksFor : Option Task → Option Files → Type 0
 LacksFor None held = ⊥
-LacksFor (Some (Serves site line)) held = LacksSite site held
+LacksFor (Some (Serves site line)) held = LacksFile (site_read site) held
 LacksFor (Some (Checks site)) held = LacksFile (check_due site) held
 LacksFor (Some (Packs files)) held = LacksFile (pack_due files) held
 LacksFor (Some (Upgrades site kinds)) held = LacksFile (upgrade_due site kinds) held
 LacksFor (Some (Pages site target)) held = LacksFile (page_due site target) held
 LacksFor (Some (Replays site schedule show)) held = LacksEither site schedule held
-LacksFor (Some (Loads site seed clients)) held = LacksSite site held
+LacksFor (Some (Loads site seed clients)) held = LacksFile (site_read site) held
 LacksFor (Some (Dumps n)) held = ⊥
 LacksFor (Some (Captures n)) held = ⊥
 LacksFor (Some (PlaysBack n)) held = ⊥
@@ -50,13 +50,13 @@ pub record LineDone (text : List Item → List ℕ) (n : ℕ) (old new : LineTol
 -- the line was served with the files of the site, or the site is bad
 abbrev pub ServingDone : List ℕ → ServedLine → Outside → Outside → Status → Type 0
 ServingDone site line old new result =
-    ((files : List File) × IsSiteRead site old.shelf.held (Ok files)
+    ((files : List File) × IsRead (site_read site) old.shelf.held (Ok files)
     × LineDone (output_of files line) line.limits.items (line_in old) (line_in new) result)
-    ⊎ ((error : SiteError) × IsSiteRead site old.shelf.held (Err error) × (result ≡ status.BadSite error))
+    ⊎ ((error : SiteError) × IsRead (site_read site) old.shelf.held (Err error) × (result ≡ status.BadSite error))
 
 -- the text that is due for the shelf's files was written, and the answer is the one that goes with it
 abbrev pub ImageDone : (Files → Option Due) → Outside → Outside → Status → Type 0
-ImageDone due old new result = (made : Due) × IsDue due old.shelf.held made
+ImageDone due old new result = (made : Due) × IsRead due old.shelf.held made
     × Appends old.sink.written new.sink.written made.text × (result ≡ status_of_site (end_of made.fault))
 
 abbrev pub ReplayDone : (List ℕ → ReplayEnd → Type 0) → Outside → Outside → Status → Type 0

@@ -1,7 +1,6 @@
 -- What a run does to the outside, by what the words ask for.
 use Rattle.std.specs.Prelude.{◌≡◌, ℕ, List, Option, None, Some}
-use Rattle.uip_edge.specs.Shelving.{Files}
-use Rattle.site_commands.specs.Due.{Due, check_due, page_due, pack_due, upgrade_due}
+use Rattle.site_commands.specs.Due.{check_due, page_due, pack_due, upgrade_due}
 use Rattle.site_commands.specs.Ending.{Ends}
 use Rattle.replay_command.specs.Ending.{LoadEnds, ReplayEnds}
 use Rattle.trace.specs.CaptureText.{capture_file}
@@ -14,15 +13,10 @@ use Rattle.uipd.specs.SiteServing.{SiteServes}
 use Rattle.uipd.specs.Statuses.{RunsAs, status_of_replay, status_of_serving, status_of_site, status_of_slip}
 use Rattle.uip_edge.specs.Told.{LineTold, Outside, WorkTold, line_in, work_in}
 use Rattle.uipd.specs.Words.{Task, Serves, Checks, Pages, Packs, Upgrades, Replays, Loads, Dumps, Captures, PlaysBack, task_of}
-use Rattle.uip_edge.specs.Told.{WorkTold}
 
--- a run of work on an image ends as the work does
-abbrev pub SiteRuns : (Files → Option Due) → WorkTold → WorkTold → Status → Type 0
-SiteRuns due old new result = RunsAs status_of_site (Ends due old new) result
-
--- work on an image, which leaves the line alone
-abbrev pub SiteWorks : (Files → Option Due) → Outside → Outside → Status → Type 0
-SiteWorks due old new result = SiteRuns due (work_in old) (work_in new) result × (new.link ≡ old.link)
+-- work on files, which leaves the line alone
+abbrev pub FileWorks : {E : Type 0} → (E → Status) → (WorkTold → WorkTold → E → Type 0) → Outside → Outside → Status → Type 0
+FileWorks status_of Ends old new result = RunsAs status_of (Ends (work_in old) (work_in new)) result × (new.link ≡ old.link)
 
 -- work on a line, which leaves the shelf alone
 abbrev pub LineWorks : {E : Type 0} → (E → Status) → (LineTold → LineTold → E → Type 0) → Outside → Outside → Status → Type 0
@@ -32,14 +26,12 @@ LineWorks status_of Ends old new result = RunsAs status_of (Ends (line_in old) (
 abbrev pub TaskRuns : Option Task → Outside → Outside → Status → Type 0
 TaskRuns None old new result = result ≡ BadWords
 TaskRuns (Some (Serves site line)) old new result = SiteServes site line old new result
-TaskRuns (Some (Checks site)) old new result = SiteWorks (check_due site) old new result
-TaskRuns (Some (Packs files)) old new result = SiteWorks (pack_due files) old new result
-TaskRuns (Some (Upgrades site kinds)) old new result = SiteWorks (upgrade_due site kinds) old new result
-TaskRuns (Some (Pages site target)) old new result = SiteWorks (page_due site target) old new result
-TaskRuns (Some (Replays site schedule show)) old new result =
-    RunsAs status_of_replay (ReplayEnds site schedule show (work_in old) (work_in new)) result × (new.link ≡ old.link)
-TaskRuns (Some (Loads site seed clients)) old new result =
-    RunsAs status_of_replay (LoadEnds site seed clients (work_in old) (work_in new)) result × (new.link ≡ old.link)
+TaskRuns (Some (Checks site)) old new result = FileWorks status_of_site (Ends (check_due site)) old new result
+TaskRuns (Some (Packs files)) old new result = FileWorks status_of_site (Ends (pack_due files)) old new result
+TaskRuns (Some (Upgrades site kinds)) old new result = FileWorks status_of_site (Ends (upgrade_due site kinds)) old new result
+TaskRuns (Some (Pages site target)) old new result = FileWorks status_of_site (Ends (page_due site target)) old new result
+TaskRuns (Some (Replays site schedule show)) old new result = FileWorks status_of_replay (ReplayEnds site schedule show) old new result
+TaskRuns (Some (Loads site seed clients)) old new result = FileWorks status_of_replay (LoadEnds site seed clients) old new result
 TaskRuns (Some (Dumps n)) old new result = LineWorks status_of_serving (TellsLine dump_text n) old new result
 TaskRuns (Some (Captures n)) old new result = LineWorks status_of_serving (TellsLine capture_file n) old new result
 TaskRuns (Some (PlaysBack n)) old new result = LineWorks status_of_slip (Converts n) old new result

@@ -4,7 +4,7 @@ use Rattle.std.specs.List.{list_all, list_any, before_first, after_first}
 use Rattle.std.specs.Str.{bytes_eq}
 use Rattle.std.specs.Str.Parse.{digits_value}
 use Rattle.uip_wire.specs.Numerals.{numeral}
-use Rattle.uip_wire.specs.Addr.{quad_of}
+use Rattle.uip_wire.specs.Addr.{◌>>=◌, quad_of}
 use Rattle.ethernet_arp.specs.Words.{mac_of_text}
 use Rattle.site_image.specs.Names.{is_kind}
 use Rattle.file_tree.specs.Upgrading.{KindContent}
@@ -87,12 +87,10 @@ says_tty words = is_tty (slice_get words (length words - 1))
 abbrev pub ends_here : List (List ℕ) → Bool
 ends_here [] = true
 ends_here (word ∷ []) = bytes_eq word (codes "tty")
-ends_here (word ∷ next ∷ words) = false
+ends_here words = false
 
 abbrev pub limited : ℕ → Option ℕ → Bool → Option Limits
-limited pace (Some items) true = Some (record { pace = pace; items = items })
-limited pace (Some items) false = None
-limited pace None whole = None
+limited pace items whole = items >>= λ n. if whole then Some (record { pace = pace; items = n }) else None
 
 -- behind the pace: optionally `items N`, then the end
 abbrev pub limits_at : ℕ → List (List ℕ) → Option Limits
@@ -100,35 +98,27 @@ limits_at pace (word ∷ number ∷ words) =
     if bytes_eq word (codes "items") then limited pace (numeral number) (ends_here words) else None
 limits_at pace words = limited pace (Some all_items) (ends_here words)
 
-abbrev pub limits_from : Option ℕ → List (List ℕ) → Option Limits
-limits_from (Some pace) words = limits_at pace words
-limits_from None words = None
-
 -- optionally `pace K`, then what stands behind the pace, which is 0 without these words
 abbrev pub limits_of : List (List ℕ) → Option Limits
 limits_of (word ∷ number ∷ words) =
-    if bytes_eq word (codes "pace") then limits_from (numeral number) words else limits_at 0 (word ∷ number ∷ words)
+    if bytes_eq word (codes "pace") then (numeral number >>= λ pace. limits_at pace words) else limits_at 0 (word ∷ number ∷ words)
 limits_of words = limits_at 0 words
-
-abbrev pub serve_at : List ℕ → Application → Option (List ℕ) → Option LineKind → Option Limits → Option Task
-serve_at site application (Some own) (Some kind) (Some limits) =
-    Some (Serves site (record { own = record { 0 = own }; kind = kind; application = application; limits = limits }))
-serve_at site application (Some own) (Some kind) None = None
-serve_at site application (Some own) None limits = None
-serve_at site application None kind limits = None
 
 -- `SITE ADDR`, and further words: over a serial line
 abbrev pub serve_words : Application → List (List ℕ) → Option Task
-serve_words application (site ∷ address ∷ words) = serve_at site application (quad_of address) (Some Serial) (limits_of words)
+serve_words application (site ∷ address ∷ words) = do
+  own ← quad_of address
+  limits ← limits_of words
+  Some (Serves site (record { own = record { 0 = own }; kind = Serial; application = application; limits = limits }))
 serve_words application words = None
 
 -- `SITE ADDR MAC`, and further words: over Ethernet frames
-abbrev pub frames_at : Option (List ℕ) → Option LineKind
-frames_at (Some mac) = Some (Ethernet (record { 0 = mac }))
-frames_at None = None
-
 abbrev pub ether_words : List (List ℕ) → Option Task
-ether_words (site ∷ address ∷ mac ∷ words) = serve_at site Web (quad_of address) (frames_at (mac_of_text mac)) (limits_of words)
+ether_words (site ∷ address ∷ mac ∷ words) = do
+  own ← quad_of address
+  mac ← mac_of_text mac
+  limits ← limits_of words
+  Some (Serves site (record { own = record { 0 = own }; kind = Ethernet (record { 0 = mac }); application = Web; limits = limits }))
 ether_words words = None
 
 -- `SITE`
@@ -157,31 +147,17 @@ replay_words (site ∷ schedule ∷ []) = Some (Replays site schedule false)
 replay_words (site ∷ schedule ∷ word ∷ []) = if bytes_eq word (codes "show") then Some (Replays site schedule true) else None
 replay_words words = None
 
--- a schedule is made for 1 to 64 clients
-abbrev pub load_at : List ℕ → ℕ → Option ℕ → Option Task
-load_at site seed (Some clients) = if nat_le 1 clients && nat_le clients 64 then Some (Loads site seed clients) else None
-load_at site seed None = None
-
--- `CLIENTS`, behind the seed
-abbrev pub load_with : List ℕ → Option ℕ → List (List ℕ) → Option Task
-load_with site (Some seed) (clients ∷ []) = load_at site seed (numeral clients)
-load_with site (Some seed) words = None
-load_with site None words = None
-
--- `SITE SEED CLIENTS`
+-- `SITE SEED CLIENTS`, where a schedule is made for 1 to 64 clients
 abbrev pub load_words : List (List ℕ) → Option Task
-load_words (site ∷ seed ∷ words) = load_with site (numeral seed) words
+load_words (site ∷ seed ∷ clients ∷ []) = do
+  seed ← numeral seed
+  clients ← numeral clients
+  if nat_le 1 clients && nat_le clients 64 then Some (Loads site seed clients) else None
 load_words words = None
 
 -- optionally `items N`, then optionally `tty`
 abbrev pub items_named : List (List ℕ) → Option ℕ
 items_named words = option_map (λ limits. limits.items) (limits_at 0 words)
-
-abbrev pub dump_words : List (List ℕ) → Option Task
-dump_words words = option_map Dumps (items_named words)
-
-abbrev pub pcap_words : List (List ℕ) → Option Task
-pcap_words words = option_map Captures (items_named words)
 
 -- optionally `items N`
 abbrev pub slip_words : List (List ℕ) → Option Task
@@ -202,7 +178,7 @@ task_of (command ∷ words) =
     else if bytes_eq command (codes "page") then page_words words
     else if bytes_eq command (codes "replay") then replay_words words
     else if bytes_eq command (codes "load") then load_words words
-    else if bytes_eq command (codes "dump") then dump_words words
-    else if bytes_eq command (codes "pcap") then pcap_words words
+    else if bytes_eq command (codes "dump") then option_map Dumps (items_named words)
+    else if bytes_eq command (codes "pcap") then option_map Captures (items_named words)
     else if bytes_eq command (codes "slip") then slip_words words
     else None

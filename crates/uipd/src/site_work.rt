@@ -1,7 +1,8 @@
 ghost use Rattle.std.specs.Prelude.{◌≡◌, ◌<◌, All, IsTrue, map, string_bytes};
 ghost use Rattle.site_image.specs.Names.{is_kind};
 ghost use Rattle.site_commands.specs.Due.{check_due, page_due, pack_due, upgrade_due};
-ghost use Rattle.uipd.specs.Running.{SiteRuns};
+ghost use Rattle.site_commands.specs.Ending.{Ends};
+ghost use Rattle.uipd.specs.Statuses.{RunsAs, status_of_site};
 ghost use Rattle.uipd.specs.Words.{back_part, kind_word, named_file};
 ghost use Rattle.uip_edge.specs.Telling.{work_told};
 
@@ -18,8 +19,8 @@ pub fn check_site<H: Shelf, K: Sink>(
     shelf: &mut H,
     out: &mut K,
 ) -> Status
-    ensures runs { SiteRuns (check_due site.now) (work_told H.Shelf K.Sink shelf.old out.old)
-        (work_told H.Shelf K.Sink shelf.new out.new) result }
+    ensures runs { RunsAs status_of_site (Ends (check_due site.now)
+        (work_told H.Shelf K.Sink shelf.old out.old) (work_told H.Shelf K.Sink shelf.new out.new)) result }
     ensures kept { H.held shelf.new ≡ H.held shelf.old }
 {
     Status::from(check(alloc, site.as_bytes(), shelf, out))
@@ -33,8 +34,8 @@ pub fn page_site<H: Shelf, K: Sink>(
     shelf: &mut H,
     out: &mut K,
 ) -> Status
-    ensures runs { SiteRuns (page_due site.now target.now) (work_told H.Shelf K.Sink shelf.old out.old)
-        (work_told H.Shelf K.Sink shelf.new out.new) result }
+    ensures runs { RunsAs status_of_site (Ends (page_due site.now target.now)
+        (work_told H.Shelf K.Sink shelf.old out.old) (work_told H.Shelf K.Sink shelf.new out.new)) result }
     ensures kept { H.held shelf.new ≡ H.held shelf.old }
 {
     Status::from(page(alloc, site.as_bytes(), target.as_bytes(), shelf, out))
@@ -47,8 +48,8 @@ pub fn pack_site<H: Shelf, K: Sink>(
     shelf: &mut H,
     out: &mut K,
 ) -> Status
-    ensures runs { SiteRuns (pack_due (map named_file (map string_bytes words.now))) (work_told H.Shelf K.Sink shelf.old out.old)
-        (work_told H.Shelf K.Sink shelf.new out.new) result }
+    ensures runs { RunsAs status_of_site (Ends (pack_due (map named_file (map string_bytes words.now)))
+        (work_told H.Shelf K.Sink shelf.old out.old) (work_told H.Shelf K.Sink shelf.new out.new)) result }
     ensures kept { H.held shelf.new ≡ H.held shelf.old }
 {
     match named_files(alloc, words) {
@@ -66,8 +67,8 @@ pub fn upgrade_site<H: Shelf, K: Sink>(
     out: &mut K,
 ) -> Status
     requires { All (λ word. IsTrue (is_kind (back_part (string_bytes word)))) words.now }
-    ensures runs { SiteRuns (upgrade_due site.now (map kind_word (map string_bytes words.now))) (work_told H.Shelf K.Sink shelf.old out.old)
-        (work_told H.Shelf K.Sink shelf.new out.new) result }
+    ensures runs { RunsAs status_of_site (Ends (upgrade_due site.now (map kind_word (map string_bytes words.now)))
+        (work_told H.Shelf K.Sink shelf.old out.old) (work_told H.Shelf K.Sink shelf.new out.new)) result }
     ensures kept { H.held shelf.new ≡ H.held shelf.old }
 {
     match kind_words(alloc, words) {

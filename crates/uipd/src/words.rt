@@ -1,8 +1,8 @@
 ghost use Rattle.std.specs.Prelude.{◌≡◌, Option, ℕ, Some, map, option_map, string_bytes, IfSome};
 ghost use Rattle.uipd.specs.Words.{task_meant, task_of, check_words as words_of_check, pack_words as words_of_pack, serve_words as words_of_serve, ether_words as words_of_ether};
 ghost use Rattle.uipd.specs.Words.{upgrade_words as words_of_upgrade};
-ghost use Rattle.uipd.specs.Words.{load_at as counted, load_with as words_with, load_words as words_of_load, page_words as words_of_page, replay_words as words_of_replay};
-ghost use Rattle.uipd.specs.Words.{dump_words as words_of_dump, pcap_words as words_of_pcap, slip_words as words_of_slip, items_named as items_spelled};
+ghost use Rattle.uipd.specs.Words.{load_words as words_of_load, page_words as words_of_page, replay_words as words_of_replay};
+ghost use Rattle.uipd.specs.Words.{Captures, Dumps, slip_words as words_of_slip, items_named as items_spelled};
 ghost use Rattle.uipd.specs.Words.{ends_here as no_more, limited as limits_meant, limits_at as limits_behind, limits_of as limits_spelled, says_tty as terminal_told};
 ghost use Rattle.uipd.specs.Allowed.{IsAllowed};
 ghost use Rattle.uip_wire.specs.Numerals.{numeral as number_meant};
@@ -246,49 +246,33 @@ fn replay_words(words: &[String]) -> Option<Command<'_>>
     }
 }
 
-/// The words behind `load`: the site, the seed, and the number of clients.
+/// The words behind `load`: the site, the seed, and the number of clients, from 1 to 64.
 fn load_words(words: &[String]) -> Option<Command<'_>>
     ensures task { option_map task_meant result ≡ words_of_load (map string_bytes words.now) }
     ensures allowed { IfSome result IsAllowed }
 {
     match words {
-        [site, seed, words @ ..] => load_with(site, number_of(seed)?, words),
+        [site, seed, clients] => {
+            let (seed, clients) = (number_of(seed)?, number_of(clients)?);
+            if 1 <= clients && clients <= 64 {
+                return Some(Command::Load(site, seed, clients as u8));
+            }
+            None
+        }
         _ => None,
     }
-}
-
-/// The words behind the seed: the number of clients.
-fn load_with<'a>(site: &'a str, seed: u64, words: &[String]) -> Option<Command<'a>>
-    ensures task { option_map task_meant result ≡ words_with site.now (Some seed) (map string_bytes words.now) }
-    ensures allowed { IfSome result IsAllowed }
-{
-    match words {
-        [clients] => load_at(site, seed, number_of(clients)?),
-        _ => None,
-    }
-}
-
-/// A seed, and a number of clients from 1 to 64.
-fn load_at(site: &str, seed: u64, clients: u64) -> Option<Command<'_>>
-    ensures task { option_map task_meant result ≡ counted site.now seed (Some clients) }
-    ensures allowed { IfSome result IsAllowed }
-{
-    if 1 <= clients && clients <= 64 {
-        return Some(Command::Load(site, seed, clients as u8));
-    }
-    None
 }
 
 /// The words behind `dump`.
 fn dump_words(words: &[String]) -> Option<Command<'_>>
-    ensures { option_map task_meant result ≡ words_of_dump (map string_bytes words.now) }
+    ensures { option_map task_meant result ≡ option_map Dumps (items_spelled (map string_bytes words.now)) }
 {
     Some(Command::Dump(items_of(words)?))
 }
 
 /// The words behind `pcap`.
 fn pcap_words(words: &[String]) -> Option<Command<'_>>
-    ensures { option_map task_meant result ≡ words_of_pcap (map string_bytes words.now) }
+    ensures { option_map task_meant result ≡ option_map Captures (items_spelled (map string_bytes words.now)) }
 {
     Some(Command::Pcap(items_of(words)?))
 }
