@@ -16,8 +16,11 @@ use Rattle.tcp_table.specs.declared.conn.Conn.{Conn}
 use Rattle.tcp_machine.specs.Connection.{Connection, Sockets, is_resting, serves, same_sockets}
 use Rattle.tcp_machine.specs.Sound.{HasSoundNumbers, IsSound, LenFits}
 use Rattle.tcp_machine.specs.Stands.{ConnStands, IsLike}
-use Rattle.uip_node.specs.Node.{slot_for_syn}
+use Rattle.tcp_segment.specs.Segments.{PlainSegment}
+use Rattle.uip_node.specs.Node.{AbstractNode, arrives, arrives_at, opens, slot_for_syn}
 use Rattle.uip_node.specs.Slots.{AllKept, SlotsStand}
+use Rattle.uip_node.specs.StandsFor.{Steps}
+use Rattle.uip_node.specs.declared.node.Node.{Node}
 use Rattle.std.specs.Option.{option_or}
 
 -- place by place the same
@@ -177,3 +180,15 @@ slot_within cs i h = within (λ c. c.state) (λ c. c.timer.count) cs i h
 
 pub syn_slot_within : (cs : List Connection) (i : ℕ) → slot_for_syn cs ≡ Some i → i < length cs
 syn_slot_within cs i h = within (λ c. c.state) (λ c. c.age) cs i h
+
+-- a segment comes to the slot that the code's table has for it
+pub arrives_by : {A S : Type 0} (g : Ghosts A S) (k : g.Kept) (cs : List (Conn A)) (n : AbstractNode) (s : Sockets) (seg : PlainSegment) (o : Option ℕ) (node : Node A S) (result : Option ℕ) →
+    SlotsStand g k cs n.connections → position (is_at s.peer s.peer_port s.own_port) cs ≡ o → Steps g node result (arrives_at (g.meaning k) g.served n s seg o) → Steps g node result (arrives (g.meaning k) g.served n s seg)
+arrives_by g k cs n s seg o node result stand here steps =
+    subst (λ (x : Option ℕ). Steps g node result (arrives_at (g.meaning k) g.served n s seg x)) (sym here ∙ find_agrees g k cs n.connections s stand) steps
+
+-- a plain SYN takes the slot that the code's table has for it
+pub opens_by : {A S : Type 0} (g : Ghosts A S) (k : g.Kept) (cs : List (Conn A)) (n : AbstractNode) (s : Sockets) (seg : PlainSegment) (o : Option ℕ) (node : Node A S) (result : Option ℕ) →
+    SlotsStand g k cs n.connections → AllKept g k cs → table.slot_to_take cs ≡ o → Steps g node result (opens (g.meaning k) n s seg o) → Steps g node result (opens (g.meaning k) n s seg (slot_for_syn n.connections))
+opens_by g k cs n s seg o node result stand kept here steps =
+    subst (λ (x : Option ℕ). Steps g node result (opens (g.meaning k) n s seg x)) (sym here ∙ slot_agrees g k cs n.connections stand kept) steps
