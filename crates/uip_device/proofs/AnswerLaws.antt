@@ -18,7 +18,7 @@ use Rattle.slip_node.proofs.CallLaws.{line_brought}
 use Rattle.slip_node.proofs.TellLaws.{tells_none, tells_then}
 use Rattle.uip_device.specs.declared.device.Device.{Device}
 use Rattle.uip_device.specs.Devices.{Answers, AnswersAll, AnswersAllDatagrams, AnswersDatagram, HasHeard, IsFreshDevice, StandsFor, left_text_of}
-use Rattle.uip_device.specs.Output.{web_output}
+use Rattle.uip_device.specs.Output.{call_output, datagram_output, web_output}
 
 -- a call before which nothing was left
 pub answers_by : (call : Call) (old new : Device) (text : List ℕ) → old.left ≡ None
@@ -57,7 +57,7 @@ tells_all before (call ∷ calls) a c (text ∷ texts) heard more =
     )
 
 pub all_told : (files : List File) (own : Addr) (calls : List Call) (old new : Device) (texts : List (List ℕ)) → IsFreshDevice files own old → AnswersAll calls old new texts
-    → concat texts ++ left_text_of new ≡ text_of own (run (web_meaning files) is_served (events_of_calls [] calls own) (opening own (no_hits files))).sent
+    → concat texts ++ left_text_of new ≡ call_output files own calls
 all_told files own calls old new texts fresh all =
     let it = tells_all [] calls old new texts fresh.heard all in
     let left : left_text_of old ≡ [] = ap (λ l. text_to_come (datagram_in old.node.packet) l) fresh.none in
@@ -86,5 +86,5 @@ datagrams_from files own (call ∷ calls) a c (datagram ∷ datagrams) n stands 
     (datagrams_from files own calls more.0 c datagrams (step m is_served n (event_by_call call own)).node at.0 more.2)
 
 pub datagrams_told : (files : List File) (own : Addr) (calls : List DatagramCall) (old new : Device) (datagrams : List (List ℕ)) → IsFreshDevice files own old → AnswersAllDatagrams calls old new datagrams
-    → datagrams ≡ datagrams_at (web_meaning files) is_served own (map (λ call. event_by_call call own) calls) (opening own (no_hits files))
+    → datagrams ≡ datagram_output files own calls
 datagrams_told files own calls old new datagrams fresh all = datagrams_from files own calls old new datagrams (opening own (no_hits files)) fresh.stands all

@@ -1,20 +1,15 @@
 //! What calls in turn hand out.
 
-ghost use Rattle.std.specs.Prelude.{◌≡◌, ◌++◌, ℕ, [], List, None, map};
+ghost use Rattle.std.specs.Prelude.{◌≡◌, ◌++◌, ℕ, List, None};
 ghost use Rattle.std.specs.List.{concat};
 ghost use Rattle.site_image.specs.Files.{File};
-ghost use Rattle.web_pages.specs.Serving.{is_served, no_hits};
-ghost use Rattle.web_pages.specs.WebMeaning.{web_meaning};
 ghost use Rattle.uip_edge.specs.declared.item.Item.{Item};
-ghost use Rattle.uip_node.specs.Node.{opening, run};
 ghost use Rattle.uip_wire.specs.declared.addr.Addr.{Addr};
-ghost use Rattle.serve_loop.specs.Running.{text_of};
-ghost use Rattle.slip_node.specs.Calls.{Bring, Call, events_of_calls};
-ghost use Rattle.slip_node.specs.DatagramCalls.{DatagramCall, event_by_call};
-ghost use Rattle.slip_node.specs.Telling.{datagrams_at};
+ghost use Rattle.slip_node.specs.Calls.{Bring, Call};
+ghost use Rattle.slip_node.specs.DatagramCalls.{DatagramCall};
 ghost use Rattle.uip_device.specs.declared.device.Device.{Device};
 ghost use Rattle.uip_device.specs.Devices.{AnswersAll, AnswersAllDatagrams, IsFreshDevice, left_text_of};
-ghost use Rattle.uip_device.specs.Output.{web_output};
+ghost use Rattle.uip_device.specs.Output.{call_output, datagram_output, web_output};
 
 /// Whatever is called in turn, of a device that was just opened: what is handed out, with what is left, is the text of what the
 /// opening node sends over what the calls bring.
@@ -22,8 +17,7 @@ ghost use Rattle.uip_device.specs.Output.{web_output};
 pub fn calls_are_told()
     ensures { (files : List File) (own : Addr) (calls : List Call) (old new : Device) (texts : List (List ℕ))
         → IsFreshDevice files own old → AnswersAll calls old new texts
-        → concat texts ++ left_text_of new
-        ≡ text_of own (run (web_meaning files) is_served (events_of_calls [] calls own) (opening own (no_hits files))).sent }
+        → concat texts ++ left_text_of new ≡ call_output files own calls }
 {}
 
 /// Calls that bring the items of a line at a pace, in order, hand out what the server of a serial line writes for these
@@ -40,6 +34,5 @@ pub fn line_is_served()
 pub fn datagram_calls_are_told()
     ensures { (files : List File) (own : Addr) (calls : List DatagramCall) (old new : Device) (datagrams : List (List ℕ))
         → IsFreshDevice files own old → AnswersAllDatagrams calls old new datagrams
-        → datagrams ≡ datagrams_at (web_meaning files) is_served own
-        (map (λ call. event_by_call call own) calls) (opening own (no_hits files)) }
+        → datagrams ≡ datagram_output files own calls }
 {}
