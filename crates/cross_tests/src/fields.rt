@@ -1,5 +1,5 @@
 //! The values of a running server hold what their fields say, and no copy of what was sent: each pattern below names exactly
-//! the fields of its type, so a further field or variant does not compile here.
+//! the fields of its types, so a further field or variant does not compile here.
 
 use app_events::RowList;
 use file_tree::{FileId, Place, Site};
@@ -9,39 +9,30 @@ use packet_buffer::Packet;
 use protosocket::{LineIn, Stops};
 use rexmit_timer::Timer;
 use tcp_table::{Conn, Table};
+use telnet_shell::{Desk, Shell};
 use uip_node::{Counts, Node};
 
 pub(crate) fn node(value: &Node<Httpd>) {
     let Node {
         addr: _,
-        packet: buffer,
-        table: conns,
-        counts: counted,
-        shared: web_site,
+        packet: Packet { area: _, len: _ },
+        table: Table { conns, iss: _ },
+        counts: Counts {
+            net: _,
+            ticks: _,
+            ident: _,
+        },
+        shared: Web {
+            site: Site {
+                image: _,
+                files,
+                order: _,
+            },
+            hits: _,
+        },
     } = value;
-    packet(buffer);
-    table(conns);
-    counts(counted);
-    web(web_site);
-}
-
-fn packet(value: &Packet) {
-    let Packet { area: _, len: _ } = value;
-}
-
-fn counts(value: &Counts) {
-    let Counts {
-        net: _,
-        ticks: _,
-        ident: _,
-    } = value;
-}
-
-fn table(value: &Table<Httpd>) {
-    let Table { conns, iss: _ } = value;
-    for each in conns.iter() {
-        conn(each);
-    }
+    conns.iter().for_each(conn);
+    files.iter().for_each(place);
 }
 
 fn conn(value: &Conn<Httpd>) {
@@ -55,34 +46,10 @@ fn conn(value: &Conn<Httpd>) {
         len: _,
         mss: _,
         initial_mss: _,
-        timer: beat,
+        timer: Timer { count: _, tries: _ },
         app,
     } = value;
-    timer(beat);
     httpd(app);
-}
-
-fn timer(value: &Timer) {
-    let Timer { count: _, tries: _ } = value;
-}
-
-fn web(value: &Web) {
-    let Web {
-        site: tree,
-        hits: _,
-    } = value;
-    site(tree);
-}
-
-fn site(value: &Site) {
-    let Site {
-        image: _,
-        files,
-        order: _,
-    } = value;
-    for each in files.iter() {
-        place(each);
-    }
 }
 
 fn place(value: &Place) {
@@ -99,64 +66,57 @@ fn place(value: &Place) {
 
 fn httpd(value: &Httpd) {
     let Httpd {
-        stage: reached,
-        line: word,
-        thread: resume,
-        capture: record,
-        polls: _,
-    } = value;
-    stage(reached);
-    line(word);
-    thread(resume);
-    capture(record);
-}
-
-fn stage(value: &Stage) {
-    match value {
-        Stage::Method => {}
-        Stage::Target => {}
-        Stage::Reply { found: _ } => {}
-        Stage::Refused => {}
-    }
-}
-
-fn line(value: &LineIn) {
-    let LineIn {
-        name: _,
-        over: _,
-        query: _,
-        done: _,
-        stops,
-    } = value;
-    match stops {
-        Stops::Space => {}
-        Stops::SpaceOrLine => {}
-    }
-}
-
-fn thread(value: &Thread) {
-    match value {
-        Thread::Head { at: _ } => {}
-        Thread::Kind { at: _ } => {}
-        Thread::Body { at: _ } => {}
-        Thread::Inside {
+        stage: Stage::Method | Stage::Target | Stage::Reply { found: _ } | Stage::Refused,
+        line: LineIn {
+            name: _,
+            over: _,
+            query: _,
+            done: _,
+            stops: Stops::Space | Stops::SpaceOrLine,
+        },
+        thread: Thread::Head { at: _ }
+        | Thread::Kind { at: _ }
+        | Thread::Body { at: _ }
+        | Thread::Inside {
             next: _,
             file: FileId(_),
             at: _,
-        } => {}
-        Thread::Making { next: _, at: _ } => {}
-        Thread::End => {}
-    }
+        }
+        | Thread::Making { next: _, at: _ }
+        | Thread::End,
+        capture: record,
+        polls: _,
+    } = value;
+    capture(record);
 }
 
 fn capture(value: &Capture) {
+    let (Capture::Empty
+    | Capture::Hits(_)
+    | Capture::Ticks(_)
+    | Capture::Net(_)
+    | Capture::Rows(RowList { list: _ })) = value;
+}
+
+/// A desk is one of its two applications, and nothing beside.
+pub(crate) fn desk(value: &Desk) {
     match value {
-        Capture::Empty => {}
-        Capture::Hits(_) => {}
-        Capture::Ticks(_) => {}
-        Capture::Net(_) => {}
-        Capture::Rows(rows) => {
-            let RowList { list: _ } = rows;
-        }
+        Desk::Web(web) => httpd(web),
+        Desk::Shell(talk) => shell(talk),
     }
+}
+
+fn shell(value: &Shell) {
+    let Shell {
+        line: _,
+        over: _,
+        iac: _,
+        queue: _,
+        lost: _,
+        done: _,
+        capture: record,
+        at: _,
+        polls: _,
+    } = value;
+    capture(record);
 }

@@ -20,6 +20,8 @@ mod lines;
 #[cfg(test)]
 mod loads;
 #[cfg(test)]
+mod node;
+#[cfg(test)]
 mod shell;
 #[cfg(test)]
 mod site;
@@ -27,5 +29,7 @@ mod site;
 mod sites;
 #[cfg(test)]
 mod sizes;
+#[cfg(test)]
+mod talking;
 #[cfg(test)]
 mod web;

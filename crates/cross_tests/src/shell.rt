@@ -3,6 +3,8 @@
 ghost use Rattle.std.specs.Prelude.{◌≤◌, length};
 ghost use Rattle.uip_node.specs.StandsFor.{IsWhole};
 
+use crate::fields::desk as see_desk;
+use crate::talking::{NODE, check_answer};
 use app_events::App;
 use file_tree::Site;
 use httpd::Web;
@@ -17,71 +19,45 @@ use uip_node::Node;
 use uip_wire::{Addr, Port, Seq};
 
 // A SYN to port 23, and its answer.
-const SYN: [u8; 40] = [
-    0x45, 0x00, 0x00, 0x28, 0x00, 0x01, 0x00, 0x00, 0x40, 0x06, 0x66, 0xCD, 0x0A, 0x00, 0x00, 0x02,
-    0x0A, 0x00, 0x00, 0x01, 0x04, 0x01, 0x00, 0x17, 0x00, 0x00, 0x03, 0xE8, 0x00, 0x00, 0x00, 0x00,
-    0x50, 0x02, 0x20, 0x00, 0x73, 0xE0, 0x00, 0x00,
-];
+const SYN: &str =
+    "45000028 00010000 400666CD 0A000002 0A000001 04010017 000003E8 00000000 50022000 73E00000";
 
-const SYN_ACK: [u8; 44] = [
-    0x45, 0x00, 0x00, 0x2C, 0x00, 0x01, 0x00, 0x00, 0x40, 0x06, 0x66, 0xC9, 0x0A, 0x00, 0x00, 0x01,
-    0x0A, 0x00, 0x00, 0x02, 0x00, 0x17, 0x04, 0x01, 0x00, 0x00, 0x00, 0x00, 0x00, 0x00, 0x03, 0xE9,
-    0x60, 0x12, 0x05, 0xB4, 0x76, 0x5F, 0x00, 0x00, 0x02, 0x04, 0x05, 0xB4,
-];
+const SYN_ACK: &str = "\
+    4500002C 00010000 400666C9 0A000001 0A000002 00170401 00000000 000003E9 601205B4 765F0000 \
+    020405B4";
 
 // `ticks` CR LF, and what is said at tick 0.
-const TICKS: [u8; 47] = [
-    0x45, 0x00, 0x00, 0x2F, 0x00, 0x01, 0x00, 0x00, 0x40, 0x06, 0x66, 0xC6, 0x0A, 0x00, 0x00, 0x02,
-    0x0A, 0x00, 0x00, 0x01, 0x04, 0x01, 0x00, 0x17, 0x00, 0x00, 0x03, 0xE9, 0x00, 0x00, 0x00, 0x01,
-    0x50, 0x18, 0x20, 0x00, 0x1E, 0xDF, 0x00, 0x00, 0x74, 0x69, 0x63, 0x6B, 0x73, 0x0D, 0x0A,
-];
+const TICKS: &str = "\
+    4500002F 00010000 400666C6 0A000002 0A000001 04010017 000003E9 00000001 50182000 1EDF0000 \
+    7469636B 730D0A";
 
-const TICKS_SAID: [u8; 54] = [
-    0x45, 0x00, 0x00, 0x36, 0x00, 0x02, 0x00, 0x00, 0x40, 0x06, 0x66, 0xBE, 0x0A, 0x00, 0x00, 0x01,
-    0x0A, 0x00, 0x00, 0x02, 0x00, 0x17, 0x04, 0x01, 0x00, 0x00, 0x00, 0x01, 0x00, 0x00, 0x03, 0xF0,
-    0x50, 0x18, 0x05, 0xB4, 0xA2, 0x24, 0x00, 0x00, 0x20, 0x20, 0x20, 0x20, 0x20, 0x20, 0x20, 0x20,
-    0x20, 0x30, 0x0D, 0x0A, 0x3E, 0x20,
-];
+const TICKS_SAID: &str = "\
+    45000036 00020000 400666BE 0A000001 0A000002 00170401 00000001 000003F0 501805B4 A2240000 \
+    20202020 20202020 20300D0A 3E20";
 
 // An offer of an option (RFC 854) and `quit` LF, what is said, its acknowledgement, and the FIN.
-const QUIT: [u8; 48] = [
-    0x45, 0x00, 0x00, 0x30, 0x00, 0x01, 0x00, 0x00, 0x40, 0x06, 0x66, 0xC5, 0x0A, 0x00, 0x00, 0x02,
-    0x0A, 0x00, 0x00, 0x01, 0x04, 0x01, 0x00, 0x17, 0x00, 0x00, 0x03, 0xE9, 0x00, 0x00, 0x00, 0x01,
-    0x50, 0x18, 0x20, 0x00, 0x88, 0xDF, 0x00, 0x00, 0xFF, 0xFB, 0x01, 0x71, 0x75, 0x69, 0x74, 0x0A,
-];
+const QUIT: &str = "\
+    45000030 00010000 400666C5 0A000002 0A000001 04010017 000003E9 00000001 50182000 88DF0000 \
+    FFFB0171 7569740A";
 
-const QUIT_SAID: [u8; 48] = [
-    0x45, 0x00, 0x00, 0x30, 0x00, 0x02, 0x00, 0x00, 0x40, 0x06, 0x66, 0xC4, 0x0A, 0x00, 0x00, 0x01,
-    0x0A, 0x00, 0x00, 0x02, 0x00, 0x17, 0x04, 0x01, 0x00, 0x00, 0x00, 0x01, 0x00, 0x00, 0x03, 0xF1,
-    0x50, 0x18, 0x05, 0xB4, 0x06, 0x34, 0x00, 0x00, 0xFF, 0xFE, 0x01, 0x62, 0x79, 0x65, 0x0D, 0x0A,
-];
+const QUIT_SAID: &str = "\
+    45000030 00020000 400666C4 0A000001 0A000002 00170401 00000001 000003F1 501805B4 06340000 \
+    FFFE0162 79650D0A";
 
-const QUIT_TAKEN: [u8; 40] = [
-    0x45, 0x00, 0x00, 0x28, 0x00, 0x01, 0x00, 0x00, 0x40, 0x06, 0x66, 0xCD, 0x0A, 0x00, 0x00, 0x02,
-    0x0A, 0x00, 0x00, 0x01, 0x04, 0x01, 0x00, 0x17, 0x00, 0x00, 0x03, 0xF1, 0x00, 0x00, 0x00, 0x09,
-    0x50, 0x10, 0x20, 0x00, 0x73, 0xC0, 0x00, 0x00,
-];
+const QUIT_TAKEN: &str =
+    "45000028 00010000 400666CD 0A000002 0A000001 04010017 000003F1 00000009 50102000 73C00000";
 
-const FIN_SAID: [u8; 40] = [
-    0x45, 0x00, 0x00, 0x28, 0x00, 0x03, 0x00, 0x00, 0x40, 0x06, 0x66, 0xCB, 0x0A, 0x00, 0x00, 0x01,
-    0x0A, 0x00, 0x00, 0x02, 0x00, 0x17, 0x04, 0x01, 0x00, 0x00, 0x00, 0x09, 0x00, 0x00, 0x03, 0xF1,
-    0x50, 0x11, 0x05, 0xB4, 0x8E, 0x0B, 0x00, 0x00,
-];
+const FIN_SAID: &str =
+    "45000028 00030000 400666CB 0A000001 0A000002 00170401 00000009 000003F1 501105B4 8E0B0000";
 
-// The headers of a datagram with 33 lines `help` LF, and the RST that it is answered with.
-const HELPS_HEAD: [u8; 40] = [
-    0x45, 0x00, 0x00, 0xCD, 0x00, 0x01, 0x00, 0x00, 0x40, 0x06, 0x66, 0x28, 0x0A, 0x00, 0x00, 0x02,
-    0x0A, 0x00, 0x00, 0x01, 0x04, 0x01, 0x00, 0x17, 0x00, 0x00, 0x03, 0xE9, 0x00, 0x00, 0x00, 0x01,
-    0x50, 0x18, 0x20, 0x00, 0x49, 0x02, 0x00, 0x00,
-];
+// The headers of a datagram with 33 lines `help` LF, such a line, and the RST that they are answered with.
+const HELPS_HEAD: &str =
+    "450000CD 00010000 40066628 0A000002 0A000001 04010017 000003E9 00000001 50182000 49020000";
 
-const RESET: [u8; 40] = [
-    0x45, 0x00, 0x00, 0x28, 0x00, 0x02, 0x00, 0x00, 0x40, 0x06, 0x66, 0xCC, 0x0A, 0x00, 0x00, 0x01,
-    0x0A, 0x00, 0x00, 0x02, 0x00, 0x17, 0x04, 0x01, 0x00, 0x00, 0x00, 0x01, 0x00, 0x00, 0x04, 0x8E,
-    0x50, 0x14, 0x00, 0x00, 0x93, 0x27, 0x00, 0x00,
-];
+const HELP: &str = " 68656C70 0A";
 
-const NODE: Addr = Addr([10, 0, 0, 1]);
+const RESET: &str =
+    "45000028 00020000 400666CC 0A000001 0A000002 00170401 00000001 0000048E 50140000 93270000";
 
 const CLIENT: Addr = Addr([10, 0, 0, 2]);
 
@@ -101,63 +77,35 @@ fn repeated(alloc: Global, text: &[u8], count: usize) -> Result<Vec<u8>, AllocEr
     Ok(all)
 }
 
-/// Hands a datagram to a node, which must answer so.
-fn check_answer<A: App>(rt: &impl Abort, node: &mut Node<A>, datagram: &[u8], answer: &[u8])
-    requires whole { IsWhole A.App node.old }
-    requires most { length datagram.now ≤ 1500 }
-    ensures { IsWhole A.App node.new }
-{
-    assert_eq!(rt; node.input(datagram), Some(answer.len()));
-    assert_eq!(rt; node.packet(), answer);
-}
-
-/// A client opens, says something, and takes what it is told, to which there may be an answer.
-#[derive(Clone, Copy)]
-struct Row<'a> {
-    asked: &'a [u8],
-    said: &'a [u8],
-    taken: &'a [u8],
-    closed: &'a [u8],
-}
-
-fn check_row(rt: &impl Abort, alloc: Global, row: Row) -> Result<(), Fail> {
+/// A client opens, says something, and takes what it is told, to which there may be an answer: each datagram with its answer.
+fn check_talk(
+    rt: &impl Abort,
+    alloc: Global,
+    (asked, said): (&str, &str),
+    taken: Option<(&str, &str)>,
+) -> Result<(), Fail> {
     let Ok(mut node) = Node::<Desk>::new(alloc, NODE, empty_web(alloc)?) else {
         return Err("no memory".into());
     };
-    assert!(rt; row.asked.len() <= 1500 && row.taken.len() <= 1500);
-    check_answer(rt, &mut node, &SYN, &SYN_ACK);
-    check_answer(rt, &mut node, row.asked, row.said);
-    if !row.taken.is_empty() {
-        check_answer(rt, &mut node, row.taken, row.closed);
+    check_answer(rt, alloc, &mut node, SYN, SYN_ACK)?;
+    check_answer(rt, alloc, &mut node, asked, said)?;
+    if let Some((taken, closed)) = taken {
+        check_answer(rt, alloc, &mut node, taken, closed)?;
     }
+    see_desk(&node.conn(0).app);
     Ok(())
 }
 
 #[test]
 fn worked_talks_over_a_node(rt: HostRuntime) -> Result<(), Fail> {
-    let mut helps = HELPS_HEAD.to_vec(rt.alloc())?;
-    helps.extend_from_slice(repeated(rt.alloc(), b"help\n", 33)?.as_slice())?;
-    let ticks = Row {
-        asked: &TICKS,
-        said: &TICKS_SAID,
-        taken: b"",
-        closed: b"",
-    };
-    let quit = Row {
-        asked: &QUIT,
-        said: &QUIT_SAID,
-        taken: &QUIT_TAKEN,
-        closed: &FIN_SAID,
-    };
-    let too_many = Row {
-        asked: helps.as_slice(),
-        said: &RESET,
-        taken: b"",
-        closed: b"",
-    };
-    check_row(&rt, rt.alloc(), ticks)?;
-    check_row(&rt, rt.alloc(), quit)?;
-    check_row(&rt, rt.alloc(), too_many)
+    let alloc = rt.alloc();
+    let mut helps = String::from_str(alloc, HELPS_HEAD)?;
+    for _ in 0..33 {
+        helps.push_str(HELP)?;
+    }
+    check_talk(&rt, alloc, (TICKS, TICKS_SAID), None)?;
+    check_talk(&rt, alloc, (QUIT, QUIT_SAID), Some((QUIT_TAKEN, FIN_SAID)))?;
+    check_talk(&rt, alloc, (&helps, RESET), None)
 }
 
 /// A peer that has opened: the numbers that it sends and expects next, what it heard, and the flags that it heard last.
@@ -214,7 +162,7 @@ impl Peer {
 }
 
 /// What is heard of a talk that is cut in two, the front acknowledged before the rest is sent, and the flags that come last.
-fn talk(alloc: Global, said: &[u8], cut: usize) -> Result<Peer, Fail>
+fn talk(rt: &impl Abort, alloc: Global, said: &[u8], cut: usize) -> Result<Peer, Fail>
     requires within { cut ≤ length said.now }
     requires short { length said.now ≤ 1460 }
 {
@@ -227,7 +175,7 @@ fn talk(alloc: Global, said: &[u8], cut: usize) -> Result<Peer, Fail>
         heard: Vec::new(alloc),
         flags: 0,
     };
-    node.input(&SYN);
+    check_answer(rt, alloc, &mut node, SYN, SYN_ACK)?;
     peer.say(&mut node, &said[..cut])?;
     peer.say(&mut node, &said[cut..])?;
     peer.say(&mut node, b"")?;
@@ -245,7 +193,7 @@ fn check_cuts(
     requires { length said.now ≤ 1460 }
 {
     for cut in 0..=said.len() {
-        let peer = talk(alloc, said, cut)?;
+        let peer = talk(rt, alloc, said, cut)?;
         assert_eq!(rt; peer.heard.as_slice(), heard);
         assert_eq!(rt; peer.flags, flags);
     }
@@ -280,7 +228,7 @@ fn a_command_too_many_at_every_cut(rt: HostRuntime) -> Result<(), Fail> {
     let all = repeated(rt.alloc(), HELPED, 33)?;
     assert_eq!(rt; helps.len(), 165);
     for cut in 0..=165 {
-        let peer = talk(rt.alloc(), helps.as_slice(), cut)?;
+        let peer = talk(&rt, rt.alloc(), helps.as_slice(), cut)?;
         if cut < 5 || cut == 165 {
             assert_eq!(rt; peer.flags, ACK + RST);
             assert_eq!(rt; peer.heard.len(), 0);

@@ -8,27 +8,30 @@ const IMAGE: &[u8] = b"UIPSITE1\0\x01\x0b/index.html\0\0\0\x06hello\n";
 
 const TYPED: &[u8] = b"UIPSITE2\0\x01\x0b/index.html\x09text/html\0\0\0\x06hello\n";
 
+/// A list of one.
+fn one<T: Drop>(alloc: Global, item: T) -> Result<Vec<T>, AllocError> {
+    let mut list = Vec::new(alloc);
+    list.push(item)?;
+    Ok(list)
+}
+
 fn shelf_of(alloc: Global, content: &[u8], fails: &[u64]) -> Result<MemShelf, AllocError> {
-    let mut files = Vec::new(alloc);
-    files.push(Held {
+    let file = Held {
         name: b"h".to_vec(alloc)?,
         content: content.to_vec(alloc)?,
-    })?;
-    Ok(MemShelf::new(files, fails.to_vec(alloc)?))
+    };
+    Ok(MemShelf::new(one(alloc, file)?, fails.to_vec(alloc)?))
 }
 
 #[test]
 fn packs_the_image_of_a_list(rt: HostRuntime) -> Result<(), Fail> {
     let alloc = rt.alloc();
-    let mut list = Vec::new(alloc);
-    list.push(Held {
+    let entry = Held {
         name: b"/index.html".to_vec(alloc)?,
         content: b"hello\n".to_vec(alloc)?,
-    })?;
-    match pack(alloc, &list) {
-        Ok(image) => assert!(rt; image.as_slice() == IMAGE),
-        Err(_) => assert!(rt; false),
-    }
+    };
+    let image = pack(alloc, &one(alloc, entry)?);
+    assert!(rt; image.is_ok_and(|image| image.as_slice() == IMAGE));
     Ok(())
 }
 
@@ -49,18 +52,15 @@ fn finds_the_file_of_an_image(rt: HostRuntime) -> Result<(), Fail> {
 #[test]
 fn upgrades_an_image(rt: HostRuntime) -> Result<(), Fail> {
     let alloc = rt.alloc();
-    let mut kinds = Vec::new(alloc);
-    kinds.push(KindWord {
+    let kind = KindWord {
         name: b"/index.html".to_vec(alloc)?,
         kind: b"text/html".to_vec(alloc)?,
-    })?;
-    match Site::read(alloc, IMAGE) {
-        Ok(site) => match upgrade(alloc, &site, &kinds) {
-            Ok(image) => assert!(rt; image.as_slice() == TYPED),
-            Err(_) => assert!(rt; false),
-        },
-        Err(_) => assert!(rt; false),
-    }
+    };
+    let Ok(site) = Site::read(alloc, IMAGE) else {
+        return Err("not read".into());
+    };
+    let image = upgrade(alloc, &site, &one(alloc, kind)?);
+    assert!(rt; image.is_ok_and(|image| image.as_slice() == TYPED));
     Ok(())
 }
 

@@ -1,22 +1,17 @@
 -- Calls in turn on a handle are calls in turn of its device.
-use Rattle.std.proofs.Common.{◌≡◌, ℕ, List, [], ◌∷◌, ◌++◌, None as NothingLeft, map, refl, sym, ◌∙◌, subst}
+use Rattle.std.proofs.Common.{◌≡◌, ℕ, List, [], ◌∷◌, ◌++◌, None as NothingLeft, refl, sym, ◌∙◌, subst}
 use Rattle.std.specs.List.{concat}
 use Rattle.std.proofs.lemmas.Option.{same_Some}
 use Rattle.std.specs.declared.option.Option.{Option}
 use Rattle.std.specs.declared.option.Option.TheVariants.{Some}
 use Rattle.site_image.specs.Files.{File}
-use Rattle.web_pages.specs.Serving.{is_served, no_hits}
-use Rattle.web_pages.specs.WebMeaning.{web_meaning}
 use Rattle.uip_edge.specs.declared.item.Item.{Item}
-use Rattle.uip_node.specs.Node.{opening, run}
 use Rattle.uip_wire.specs.declared.addr.Addr.{Addr}
-use Rattle.serve_loop.specs.Running.{text_of}
-use Rattle.slip_node.specs.Calls.{Bring, Call, events_of_calls}
-use Rattle.slip_node.specs.DatagramCalls.{DatagramCall, event_by_call}
-use Rattle.slip_node.specs.Telling.{datagrams_at}
+use Rattle.slip_node.specs.Calls.{Bring, Call}
+use Rattle.slip_node.specs.DatagramCalls.{DatagramCall}
 use Rattle.uip_device.specs.declared.device.Device.{Device}
 use Rattle.uip_device.specs.Devices.{Answers, AnswersAll, AnswersAllDatagrams, AnswersDatagram, left_text_of}
-use Rattle.uip_device.specs.Output.{web_output}
+use Rattle.uip_device.specs.Output.{call_output, datagram_output, web_output}
 use Rattle.uip_device.proofs.AnswerLaws.{all_told, datagrams_told, line_served}
 use Rattle.uip_c.specs.Handles.{AllFine, AllFineDatagrams, GoesOn, IsOf, OpensAs}
 
@@ -31,7 +26,7 @@ device_answers (call ∷ calls) d a c (text ∷ texts) is more =
     (later.0, later.1, (on.1, subst (λ (x : Device). Answers call x on.1 text) same on.4, later.2))
 
 pub c_told : (files : List File) (own : Addr) (calls : List Call) (closed old new : Option Device) (texts : List (List ℕ)) → OpensAs files own closed old → AllFine calls old new texts
-    → IsOf (λ d. concat texts ++ left_text_of d ≡ text_of own (run (web_meaning files) is_served (events_of_calls [] calls own) (opening own (no_hits files))).sent) new
+    → IsOf (λ d. concat texts ++ left_text_of d ≡ call_output files own calls) new
 c_told files own calls closed old new texts opens all =
     let there = opens.1 in
     let it = device_answers calls there.0 old new texts there.1 all in
@@ -57,7 +52,7 @@ device_replies (call ∷ calls) d a c (datagram ∷ datagrams) is more =
     (later.0, (on.1, subst (λ (x : Device). AnswersDatagram call x on.1 datagram) same on.4, later.1))
 
 pub c_datagrams_told : (files : List File) (own : Addr) (calls : List DatagramCall) (closed old new : Option Device) (datagrams : List (List ℕ)) → OpensAs files own closed old
-    → AllFineDatagrams calls old new datagrams → datagrams ≡ datagrams_at (web_meaning files) is_served own (map (λ call. event_by_call call own) calls) (opening own (no_hits files))
+    → AllFineDatagrams calls old new datagrams → datagrams ≡ datagram_output files own calls
 c_datagrams_told files own calls closed old new datagrams opens all =
     let there = opens.1 in
     let it = device_replies calls there.0 old new datagrams there.1 all in

@@ -1,21 +1,16 @@
 //! What calls in turn hand out to C.
 
-ghost use Rattle.std.specs.Prelude.{◌≡◌, ◌++◌, ℕ, [], List, None as NothingLeft, map};
+ghost use Rattle.std.specs.Prelude.{◌≡◌, ◌++◌, ℕ, List, None as NothingLeft};
 ghost use Rattle.std.specs.List.{concat};
 ghost use Rattle.std.specs.declared.option.Option.{Option};
 ghost use Rattle.site_image.specs.Files.{File};
-ghost use Rattle.web_pages.specs.Serving.{is_served, no_hits};
-ghost use Rattle.web_pages.specs.WebMeaning.{web_meaning};
 ghost use Rattle.uip_edge.specs.declared.item.Item.{Item};
-ghost use Rattle.uip_node.specs.Node.{opening, run};
 ghost use Rattle.uip_wire.specs.declared.addr.Addr.{Addr};
-ghost use Rattle.serve_loop.specs.Running.{text_of};
-ghost use Rattle.slip_node.specs.Calls.{Bring, Call, events_of_calls};
-ghost use Rattle.slip_node.specs.DatagramCalls.{DatagramCall, event_by_call};
-ghost use Rattle.slip_node.specs.Telling.{datagrams_at};
+ghost use Rattle.slip_node.specs.Calls.{Bring, Call};
+ghost use Rattle.slip_node.specs.DatagramCalls.{DatagramCall};
 ghost use Rattle.uip_device.specs.declared.device.Device.{Device};
 ghost use Rattle.uip_device.specs.Devices.{left_text_of};
-ghost use Rattle.uip_device.specs.Output.{web_output};
+ghost use Rattle.uip_device.specs.Output.{call_output, datagram_output, web_output};
 ghost use Rattle.uip_c.specs.Handles.{AllFine, AllFineDatagrams, IsOf, OpensAs};
 
 /// Whatever C calls in turn on a handle that was just opened: where each call was fine, what they hand out, with what is left, is
@@ -23,8 +18,7 @@ ghost use Rattle.uip_c.specs.Handles.{AllFine, AllFineDatagrams, IsOf, OpensAs};
 pub fn calls_from_c_are_told()
     ensures { (files : List File) (own : Addr) (calls : List Call) (closed old new : Option Device) (texts : List (List ℕ))
         → OpensAs files own closed old → AllFine calls old new texts
-        → IsOf (λ d. concat texts ++ left_text_of d
-        ≡ text_of own (run (web_meaning files) is_served (events_of_calls [] calls own) (opening own (no_hits files))).sent) new }
+        → IsOf (λ d. concat texts ++ left_text_of d ≡ call_output files own calls) new }
 {}
 
 /// Where these calls bring the items of a line at a pace, in order, and nothing is left of a text, it is what the server of a
@@ -41,6 +35,5 @@ pub fn datagram_calls_from_c_are_told()
     ensures { (files : List File) (own : Addr) (calls : List DatagramCall) (closed old new : Option Device) (datagrams : List (List ℕ))
         → OpensAs files own closed old
         → AllFineDatagrams calls old new datagrams
-        → datagrams ≡ datagrams_at (web_meaning files) is_served own
-        (map (λ call. event_by_call call own) calls) (opening own (no_hits files)) }
+        → datagrams ≡ datagram_output files own calls }
 {}

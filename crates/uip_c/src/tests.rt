@@ -6,6 +6,7 @@ use crate::opening::{UipOpened, uip_close, uip_open};
 use crate::reading::{uip_counter, uip_ticks};
 use crate::status::{BAD_CALL, BAD_SITE, FINE, HAS_DEVICE, NO_DEVICE, TEXT_LEFT, UipDone};
 use std::alloc::Global;
+use std::process::Abort;
 use uip_device::LARGEST_TEXT;
 
 /// An image without files.
@@ -53,6 +54,13 @@ fn no_device(alloc: Global) -> UipDevice {
     }
 }
 
+/// A device of the image.
+fn opened(rt: &impl Abort, alloc: Global) -> UipDevice {
+    let mut device = no_device(alloc);
+    assert_eq!(rt; uip_open(alloc, &mut device, IMAGE, OWN).status, FINE);
+    device
+}
+
 /// A status alone.
 fn answer(status: u32) -> UipDone {
     UipDone {
@@ -63,38 +71,45 @@ fn answer(status: u32) -> UipDone {
     }
 }
 
+/// What a call that was made took and wrote, with nothing left.
+fn made(taken: usize, wrote: usize) -> UipDone {
+    UipDone {
+        taken,
+        wrote,
+        ..answer(FINE)
+    }
+}
+
+/// Each call that would make the device go on answers this status alone.
+fn check_refused(rt: &impl Abort, alloc: Global, device: &mut UipDevice, status: u32) {
+    let mut out = [0; LARGEST_TEXT];
+    let refused = answer(status);
+    assert_eq!(rt; uip_hear(alloc, device, REQUEST_TEXT, &mut out), refused);
+    assert_eq!(rt; uip_call(alloc, device, 0, &mut out), refused);
+    assert_eq!(rt;
+        uip_hear_datagram(alloc, device, REQUEST, &mut out),
+        refused
+    );
+    assert_eq!(rt; uip_call_datagram(alloc, device, 0, &mut out), refused);
+}
+
 #[test]
 fn each_call_is_made_once(rt: HostRuntime) {
     let alloc = rt.alloc();
-    let mut device = no_device(alloc);
+    let mut device = opened(&rt, alloc);
     let mut out = [0; LARGEST_TEXT];
-    assert_eq!(rt; uip_open(alloc, &mut device, IMAGE, OWN).status, FINE);
     assert_eq!(rt; uip_open(alloc, &mut device, IMAGE, OWN).status, HAS_DEVICE);
 
     let heard = uip_hear(alloc, &mut device, REQUEST_TEXT, &mut out);
-    let took = UipDone {
-        status: FINE,
-        left: 0,
-        taken: 34,
-        wrote: 34,
-    };
-    assert_eq!(rt; heard, took);
+    assert_eq!(rt; heard, made(34, 34));
     assert_eq!(rt; &out[..34], &REPLY_TEXT[..]);
     assert_eq!(rt; uip_call(alloc, &mut device, 0, &mut out), answer(FINE));
 
     let heard = uip_hear_datagram(alloc, &mut device, REQUEST, &mut out);
-    let took = UipDone {
-        status: FINE,
-        left: 0,
-        taken: 30,
-        wrote: 30,
-    };
-    assert_eq!(rt; heard, took);
+    assert_eq!(rt; heard, made(30, 30));
     assert_eq!(rt; &out[..30], &REPLY[..]);
-    assert_eq!(rt;
-        uip_call_datagram(alloc, &mut device, 9, &mut out),
-        answer(FINE)
-    );
+    let called = uip_call_datagram(alloc, &mut device, 9, &mut out);
+    assert_eq!(rt; called, answer(FINE));
 
     // Datagrams taken in and sent, echo replies, ticks.
     assert_eq!(rt; uip_counter(alloc, &mut device, 1).number, 2);
@@ -110,29 +125,12 @@ fn a_call_without_a_device_says_so(rt: HostRuntime) {
     let alloc = rt.alloc();
     let mut device = no_device(alloc);
     let mut out = [0; LARGEST_TEXT];
-    assert_eq!(rt;
-        uip_hear(alloc, &mut device, REQUEST_TEXT, &mut out),
-        answer(NO_DEVICE)
-    );
-    assert_eq!(rt;
-        uip_call(alloc, &mut device, 0, &mut out),
-        answer(NO_DEVICE)
-    );
-    assert_eq!(rt;
-        uip_hear_datagram(alloc, &mut device, REQUEST, &mut out),
-        answer(NO_DEVICE)
-    );
-    assert_eq!(rt;
-        uip_call_datagram(alloc, &mut device, 0, &mut out),
-        answer(NO_DEVICE)
-    );
+    check_refused(&rt, alloc, &mut device, NO_DEVICE);
     assert_eq!(rt; uip_more(alloc, &mut device, &mut out), answer(NO_DEVICE));
     assert_eq!(rt; uip_counter(alloc, &mut device, 20).status, NO_DEVICE);
     assert_eq!(rt; uip_ticks(alloc, &mut device).status, NO_DEVICE);
-    assert_eq!(rt;
-        uip_call(alloc, &mut device, 10, &mut out),
-        answer(BAD_CALL)
-    );
+    let called = uip_call(alloc, &mut device, 10, &mut out);
+    assert_eq!(rt; called, answer(BAD_CALL));
     assert_eq!(rt; uip_counter(alloc, &mut device, 0).status, BAD_CALL);
 }
 
@@ -141,21 +139,18 @@ fn a_call_without_a_device_says_so(rt: HostRuntime) {
 fn a_bad_image_is_told(rt: HostRuntime) {
     let alloc = rt.alloc();
     let mut device = no_device(alloc);
-    let magic = UipOpened {
-        status: BAD_SITE,
-        entry: 0,
-        word: *b"magic\0\0\0",
-    };
-    assert_eq!(rt; uip_open(alloc, &mut device, b"UIPSITE3\0\0", OWN), magic);
-    let cut = UipOpened {
-        status: BAD_SITE,
-        entry: 1,
-        word: *b"cut\0\0\0\0\0",
-    };
-    assert_eq!(rt;
-        uip_open(alloc, &mut device, b"UIPSITE1\0\x01\x02/", OWN),
-        cut
-    );
+    let rows: [(&[u8], u32, [u8; 8]); 2] = [
+        (b"UIPSITE3\0\0", 0, *b"magic\0\0\0"),
+        (b"UIPSITE1\0\x01\x02/", 1, *b"cut\0\0\0\0\0"),
+    ];
+    for (image, entry, word) in rows {
+        let bad = UipOpened {
+            status: BAD_SITE,
+            entry,
+            word,
+        };
+        assert_eq!(rt; uip_open(alloc, &mut device, image, OWN), bad);
+    }
     assert_eq!(rt; uip_close(alloc, &mut device), NO_DEVICE);
 }
 
@@ -163,55 +158,29 @@ fn a_bad_image_is_told(rt: HostRuntime) {
 #[test]
 fn a_text_is_handed_on(rt: HostRuntime) {
     let alloc = rt.alloc();
-    let mut device = no_device(alloc);
+    let mut device = opened(&rt, alloc);
     let mut out = [0; LARGEST_TEXT];
     let mut most = [0; 30];
     let mut few = [0; 3];
     let mut one = [0; 1];
-    assert_eq!(rt; uip_open(alloc, &mut device, IMAGE, OWN).status, FINE);
     let heard = uip_hear(alloc, &mut device, REQUEST_TEXT, &mut most);
     let first = UipDone {
-        status: FINE,
         left: 1,
-        taken: 34,
-        wrote: 29,
+        ..made(34, 29)
     };
     assert_eq!(rt; heard, first);
     assert_eq!(rt; &most[..29], &FIRST_PIECE[..]);
-    assert_eq!(rt;
-        uip_hear(alloc, &mut device, REQUEST_TEXT, &mut out),
-        answer(TEXT_LEFT)
-    );
-    assert_eq!(rt;
-        uip_call(alloc, &mut device, 0, &mut out),
-        answer(TEXT_LEFT)
-    );
-    assert_eq!(rt;
-        uip_hear_datagram(alloc, &mut device, REQUEST, &mut out),
-        answer(TEXT_LEFT)
-    );
-    assert_eq!(rt;
-        uip_call_datagram(alloc, &mut device, 0, &mut out),
-        answer(TEXT_LEFT)
-    );
+    check_refused(&rt, alloc, &mut device, TEXT_LEFT);
     assert_eq!(rt; uip_more(alloc, &mut device, &mut one), answer(BAD_CALL));
     let more = uip_more(alloc, &mut device, &mut few);
     let second = UipDone {
-        status: FINE,
         left: 1,
-        taken: 0,
-        wrote: 2,
+        ..made(0, 2)
     };
     assert_eq!(rt; more, second);
     assert_eq!(rt; &few[..2], &SECOND_PIECE[..]);
     let more = uip_more(alloc, &mut device, &mut out);
-    let last = UipDone {
-        status: FINE,
-        left: 0,
-        taken: 0,
-        wrote: 3,
-    };
-    assert_eq!(rt; more, last);
+    assert_eq!(rt; more, made(0, 3));
     assert_eq!(rt; &out[..3], &LAST_PIECE[..]);
     assert_eq!(rt; uip_more(alloc, &mut device, &mut out), answer(FINE));
     assert_eq!(rt; uip_close(alloc, &mut device), FINE);

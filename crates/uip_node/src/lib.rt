@@ -11,6 +11,3 @@ mod speaking;
 
 pub use counts::Counts;
 pub use node::Node;
-
-#[cfg(test)]
-mod tests;

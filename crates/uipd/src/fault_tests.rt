@@ -1,74 +1,27 @@
 // Each call of the shelf, of the link and of the sink fails in turn, from the first on until none fails, and what a datagram is
 // answered with is written before anything more is asked of the line.
+use crate::harness::{IMAGE, Trial, bytes_of, words_of};
 use crate::run::run;
-use crate::site_tests::IMAGE;
 use crate::status::Status;
-use crate::tests::{ESCAPED_PING, ESCAPED_PONG, PING, words_of};
-use std::alloc::{AllocError, Global};
+use crate::tests::{ESCAPED_PING, ESCAPED_PONG, PING, SERVE};
+use std::alloc::Global;
 use std::cell::Cell;
 use std::process::Abort;
 use std::test::Fail;
-use uip_edge::{Failed, Got, Held, Item, Link, MemLink, MemShelf, MemSink, Sink};
+use uip_edge::{Failed, Got, Link, MemShelf, Sink};
 
 const PAGE: &[u8] =
     b"client 10.0.0.2 1025 0 536 get /\nopen 1\nround\nround\nround\nround\nround\nround\nround\nround\nround\n\
     round\nround\nround\n";
 
-/// Words, what is written where nothing fails, and how many calls of shelf, link and sink are made then.
-#[derive(Clone, Copy, Drop)]
-struct Row<'a> {
-    words: &'a [&'a str],
-    output: &'a [u8],
-    shelf: u64,
-    link: u64,
-    sink: u64,
-}
-
-/// The calls that fail, and the status that is due for it.
-#[derive(Clone, Copy, Drop)]
-struct Fault<'a> {
-    shelf: &'a [u64],
-    link: &'a [u64],
-    sink: &'a [u64],
-    due: Status,
-}
-
-fn held(alloc: Global, name: &[u8], content: &[u8]) -> Result<Held, AllocError> {
-    Ok(Held {
-        name: name.to_vec(alloc)?,
-        content: content.to_vec(alloc)?,
-    })
-}
-
-fn shelf_of(alloc: Global, fails: &[u64]) -> Result<MemShelf, AllocError> {
-    let mut files = Vec::new(alloc);
-    files.push(held(alloc, b"h", IMAGE)?)?;
-    files.push(held(alloc, b"s", PAGE)?)?;
-    files.push(held(alloc, b"i", b"hello\n")?)?;
-    Ok(MemShelf::new(files, fails.to_vec(alloc)?))
-}
-
-fn link_of(alloc: Global, fails: &[u64]) -> Result<MemLink, AllocError> {
-    let mut items = Vec::new(alloc);
-    for byte in &ESCAPED_PING {
-        items.push(Item::Byte(*byte))?;
-    }
-    Ok(MemLink::new(items, 1, fails.to_vec(alloc)?))
-}
-
-fn check(rt: &impl Abort, alloc: Global, row: Row<'_>, fault: Fault<'_>) -> Result<(), Fail> {
-    let words = words_of(alloc, row.words)?;
-    let mut shelf = shelf_of(alloc, fault.shelf)?;
-    let mut link = link_of(alloc, fault.link)?;
-    let Ok(mut out) = MemSink::new(alloc, 4096, fault.sink.to_vec(alloc)?) else {
-        return Err("no memory".into());
-    };
-    let status = run(alloc, &words, &mut shelf, &mut link, &mut out);
-    assert_eq!(rt; status, fault.due);
-    let text = out.written();
-    assert!(rt; row.output.starts_with(text));
-    match status {
-        Status::Done => assert!(rt; text.len() == row.output.len()),
+/// Whether a run with a call that fails did what is due, and wrote a front of what it writes where none fails.
+fn check(rt: &impl Abort, alloc: Global, trial: &Trial<'_>) -> Result<(), Fail> {
+    let ran = trial.run(alloc, 1)?;
+    assert_eq!(rt; ran.status, trial.status);
+    let text = ran.out.written();
+    assert!(rt; trial.output.starts_with(text));
+    match ran.status {
+        Status::Done => assert!(rt; text.len() == trial.output.len()),
         Status::ShelfFault => assert!(rt; text.is_empty()),
         _ => {}
     }
@@ -81,77 +34,65 @@ fn due(call: u64, calls: u64, status: Status) -> Status {
 
 #[test]
 fn each_call_fails_in_turn(rt: HostRuntime) -> Result<(), Fail> {
+    let alloc = rt.alloc();
+    let ping = bytes_of(alloc, &[ESCAPED_PING])?;
+    let pong = bytes_of(alloc, &[ESCAPED_PONG])?;
+    let replayed = Trial {
+        i: PAGE,
+        ..Trial::new(
+            &["replay", "h", "i"],
+            &ping,
+            b"client 1 closed 86 clean\nticks 0 datagrams 8\n",
+        )
+    };
+    let checked: &[u8] = b"/index.html 86\nfiles 1\n";
+    // What is done, and how many calls of shelf, link and sink are made then.
     let rows = [
-        Row {
-            words: &["serve", "-", "10.0.0.1"],
-            output: &ESCAPED_PONG,
-            shelf: 0,
-            link: 35,
-            sink: 1,
-        },
-        Row {
-            words: &["serve", "h", "10.0.0.1"],
-            output: &ESCAPED_PONG,
-            shelf: 2,
-            link: 35,
-            sink: 1,
-        },
-        Row {
-            words: &["replay", "h", "s"],
-            output: b"client 1 closed 86 clean\nticks 0 datagrams 8\n",
-            shelf: 4,
-            link: 0,
-            sink: 2,
-        },
-        Row {
-            words: &["check", "h"],
-            output: b"/index.html 86\nfiles 1\n",
-            shelf: 2,
-            link: 0,
-            sink: 1,
-        },
-        Row {
-            words: &["pack", "/index.html=i"],
-            output: IMAGE,
-            shelf: 2,
-            link: 0,
-            sink: 1,
-        },
+        (Trial::new(&SERVE, &ping, &pong), 0, 35, 1),
+        (
+            Trial::new(&["serve", "h", "10.0.0.1"], &ping, &pong),
+            2,
+            35,
+            1,
+        ),
+        (replayed, 4, 0, 2),
+        (Trial::new(&["check", "h"], &ping, checked), 2, 0, 1),
+        (
+            Trial::new(&["pack", "/index.html=i"], &ping, IMAGE),
+            2,
+            0,
+            1,
+        ),
     ];
-    for row in &rows {
+    for (trial, shelf, link, sink) in rows {
         for call in 1..40 {
-            let none = Fault {
-                shelf: &[],
-                link: &[],
-                sink: &[],
-                due: Status::Done,
+            let shelf = Trial {
+                shelf_fails: &[call],
+                status: due(call, shelf, Status::ShelfFault),
+                ..trial
             };
-            let shelf = Fault {
-                shelf: &[call],
-                due: due(call, row.shelf, Status::ShelfFault),
-                ..none
+            check(&rt, alloc, &shelf)?;
+            let link = Trial {
+                link_fails: &[call],
+                status: due(call, link, Status::LinkFault),
+                ..trial
             };
-            check(&rt, rt.alloc(), *row, shelf)?;
-            let link = Fault {
-                link: &[call],
-                due: due(call, row.link, Status::LinkFault),
-                ..none
+            check(&rt, alloc, &link)?;
+            let sink = Trial {
+                sink_fails: &[call],
+                status: due(call, sink, Status::WriteFault),
+                ..trial
             };
-            check(&rt, rt.alloc(), *row, link)?;
-            let sink = Fault {
-                sink: &[call],
-                due: due(call, row.sink, Status::WriteFault),
-                ..none
-            };
-            check(&rt, rt.alloc(), *row, sink)?;
+            check(&rt, alloc, &sink)?;
         }
     }
     Ok(())
 }
 
-/// A line of two pings, a byte a call, that counts how often it was asked.
+/// A line, a byte a call, that counts how often it was asked.
 #[derive(Drop)]
 struct Counting<'a> {
+    line: &'a [u8],
     asked: &'a Cell<usize>,
 }
 
@@ -165,11 +106,13 @@ impl<'a> Link for Counting<'a> {
     fn next(&mut self, buf: &mut [u8]) -> Result<Got, Failed> {
         let at = self.asked.get();
         self.asked.set(at.saturating_add(1));
-        if at >= 60 {
-            return Ok(Got::End);
+        match self.line.get(at) {
+            Some(byte) => {
+                buf[0] = *byte;
+                Ok(Got::Bytes(1))
+            }
+            None => Ok(Got::End),
         }
-        buf[0] = PING[at % 30];
-        Ok(Got::Bytes(1))
     }
 }
 
@@ -200,10 +143,14 @@ impl<'a> Sink for Noting<'a> {
 #[test]
 fn answers_before_it_asks_again(rt: HostRuntime) -> Result<(), Fail> {
     let alloc = rt.alloc();
-    let words = words_of(alloc, &["serve", "-", "10.0.0.1"])?;
+    let words = words_of(alloc, &SERVE)?;
+    let line = bytes_of(alloc, &[PING, PING])?;
     let (asked, first, last) = (Cell::new(0), Cell::new(0), Cell::new(0));
     let mut shelf = MemShelf::new(Vec::new(alloc), Vec::new(alloc));
-    let mut link = Counting { asked: &asked };
+    let mut link = Counting {
+        line: &line,
+        asked: &asked,
+    };
     let mut out = Noting {
         asked: &asked,
         first: &first,

@@ -1,6 +1,7 @@
 // The schedules that seeds make, played by the site of the file `h`. The line of the first was worked out apart from this code.
-use crate::site_tests::{IMAGE, Row, bad, check_rows, running};
+use crate::harness::{IMAGE, Trial, bad, check_all, check_bad_words};
 use crate::status::Status;
+use crate::tests::PING;
 use site_commands::SiteWhy;
 use std::test::Fail;
 
@@ -11,36 +12,36 @@ const LOAD: [&str; 4] = ["load", "h", "7", "16"];
 
 #[test]
 fn plays_a_made_schedule(rt: HostRuntime) -> Result<(), Fail> {
-    let loading = running(&LOAD, IMAGE, LOADED, Status::Done);
-    let rows = [
+    let loading = Trial::over(&LOAD, IMAGE, LOADED, Status::Done);
+    let trials = [
         loading,
         loading,
-        running(
-            &LOAD,
-            &IMAGE[..15],
-            b"bad site cut 1\n",
-            bad(SiteWhy::Cut, 1),
-        ),
-        Row {
+        Trial {
+            h: &IMAGE[..15],
+            output: b"bad site cut 1\n",
+            status: bad(SiteWhy::Cut, 1),
+            ..loading
+        },
+        Trial {
             room: 10,
             output: &LOADED[..10],
             status: Status::WriteFault,
             ..loading
         },
-        Row {
-            fails: &[1],
+        Trial {
+            shelf_fails: &[1],
             output: b"",
             status: Status::ShelfFault,
             ..loading
         },
-        running(&["load", "g", "7", "16"], IMAGE, b"", Status::ShelfFault),
+        Trial::over(&["load", "g", "7", "16"], IMAGE, b"", Status::ShelfFault),
     ];
-    check_rows(&rt, rt.alloc(), &rows)
+    check_all(&rt, rt.alloc(), &trials)
 }
 
 #[test]
 fn knows_the_words_of_load(rt: HostRuntime) -> Result<(), Fail> {
-    let words: [&[&str]; 8] = [
+    let bad: [&[&str]; 8] = [
         &["load"],
         &["load", "h", "7"],
         &["load", "h", "7", "16", "show"],
@@ -50,9 +51,5 @@ fn knows_the_words_of_load(rt: HostRuntime) -> Result<(), Fail> {
         &["load", "h", "-7", "16"],
         &["load", "h", "18446744073709551616", "16"],
     ];
-    for words in words {
-        let row = running(words, IMAGE, b"", Status::BadWords);
-        check_rows(&rt, rt.alloc(), &[row])?;
-    }
-    Ok(())
+    check_bad_words(&rt, rt.alloc(), PING, &bad)
 }

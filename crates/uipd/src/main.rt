@@ -14,6 +14,8 @@ mod ether_tests;
 mod fault_tests;
 mod file_shelf;
 #[cfg(test)]
+mod harness;
+#[cfg(test)]
 mod load_tests;
 mod parts;
 #[cfg(test)]

@@ -1,5 +1,6 @@
 // Schedules that were worked by hand: the file `h` holds the image of a site, and `i` the schedule.
-use crate::site_tests::{HITS, IMAGE, Row, bad, check_rows, running, shows};
+use crate::harness::{IMAGE, Trial, bad, check_all};
+use crate::site_tests::HITS;
 use crate::status::Status;
 use replay_command::Why;
 use site_commands::SiteWhy;
@@ -96,18 +97,15 @@ const SHOWN: &[u8] =
     485454502f312e3020323030204f4b0d0a5365727665723a207549502f312e300d0a436f6e6e656374696f6e3a20636c\
     6f73650d0a436f6e74656e742d747970653a20746578742f68746d6c0d0a0d0a68656c6c6f0a\nticks 0 datagrams 8\n";
 
-fn replaying<'a>(site: &'a [u8], schedule: &'a [u8], report: &'a [u8]) -> Row<'a> {
-    Row {
+fn replaying<'a>(site: &'a [u8], schedule: &'a [u8], report: &'a [u8]) -> Trial<'a> {
+    Trial {
         i: schedule,
-        ..running(&["replay", "h", "i"], site, report, Status::Done)
+        ..Trial::over(&["replay", "h", "i"], site, report, Status::Done)
     }
 }
 
-fn refused<'a>(schedule: &'a [u8], told: &'a [u8], line: u32, why: Why) -> Row<'a> {
-    Row {
-        status: Status::BadSchedule { line, why },
-        ..replaying(IMAGE, schedule, told)
-    }
+fn refused<'a>(schedule: &'a [u8], told: &'a [u8], line: u32, why: Why) -> Trial<'a> {
+    replaying(IMAGE, schedule, told).ending(Status::BadSchedule { line, why })
 }
 
 #[test]
@@ -115,11 +113,11 @@ fn replays_a_page(rt: HostRuntime) -> Result<(), Fail> {
     let closed: &[u8] = b"client 1 closed 86 clean\nticks 0 datagrams 8\n";
     let rows = [
         replaying(IMAGE, PAGE, closed),
-        Row {
+        Trial {
             words: &["replay", "h", "i", "show"],
             ..replaying(IMAGE, PAGE, SHOWN)
         },
-        Row {
+        Trial {
             words: &["replay", "-", "i"],
             ..replaying(
                 b"",
@@ -157,13 +155,13 @@ fn replays_a_page(rt: HostRuntime) -> Result<(), Fail> {
             RESET,
             b"client 1 reset 0 clean\nticks 0 datagrams 6\n",
         ),
-        Row {
+        Trial {
             room: 10,
             status: Status::WriteFault,
             ..replaying(IMAGE, PAGE, &closed[..10])
         },
     ];
-    check_rows(&rt, rt.alloc(), &rows)
+    check_all(&rt, rt.alloc(), &rows)
 }
 
 // The eleventh SYN takes the slot of a connection in TIME-WAIT, and a late datagram of that connection comes.
@@ -211,7 +209,7 @@ fn replays_what_comes_late(rt: HostRuntime) -> Result<(), Fail> {
             b"client 1 reset 0 clean\nticks 20 datagrams 5\n",
         ),
     ];
-    check_rows(&rt, rt.alloc(), &rows)
+    check_all(&rt, rt.alloc(), &rows)
 }
 
 // A page in segments of the greatest length.
@@ -235,12 +233,12 @@ fn shows_a_line_of_the_report(rt: HostRuntime) -> Result<(), Fail> {
         (&long, LONG_SEGMENTS, "\nclient 1 closed 2080 clean\n"),
     ];
     for (site, schedule, line) in rows {
-        let row = Row {
+        let row = Trial {
             words: &["replay", "h", "i", "show"],
             room: 65_536,
             ..replaying(site, schedule, b"")
         };
-        assert!(rt; shows(alloc, &row, line)?);
+        assert!(rt; row.shows(alloc, line)?);
     }
     Ok(())
 }
@@ -254,7 +252,7 @@ fn refuses_what_has_no_number(rt: HostRuntime) -> Result<(), Fail> {
         schedule.extend_from_slice(b"again 1\n")?;
     }
     let row = refused(&schedule, b"bad schedule full 65537\n", 65_537, Why::Full);
-    check_rows(&rt, alloc, &[row])
+    check_all(&rt, alloc, &[row])
 }
 
 #[test]
@@ -295,7 +293,7 @@ fn replays_larger_pages(rt: HostRuntime) -> Result<(), Fail> {
             b"client 1 closed 90 clean\nclient 2 closed 90 clean\nticks 0 datagrams 20\n",
         ),
     ];
-    check_rows(&rt, alloc, &rows)
+    check_all(&rt, alloc, &rows)
 }
 
 #[test]
@@ -336,46 +334,40 @@ fn refuses_schedules(rt: HostRuntime) -> Result<(), Fail> {
             6,
             Why::NoByte,
         ),
-        Row {
-            status: bad(SiteWhy::Cut, 1),
-            ..replaying(&IMAGE[..15], b"tick 0\n", b"bad site cut 1\n")
-        },
+        replaying(&IMAGE[..15], b"tick 0\n", b"bad site cut 1\n").ending(bad(SiteWhy::Cut, 1)),
     ];
-    check_rows(&rt, alloc, &rows)
+    check_all(&rt, alloc, &rows)
 }
 
 #[test]
 fn asks_for_both_files(rt: HostRuntime) -> Result<(), Fail> {
-    let lacking = Row {
-        status: Status::ShelfFault,
-        ..replaying(IMAGE, PAGE, b"")
-    };
+    let lacking = replaying(IMAGE, PAGE, b"").ending(Status::ShelfFault);
     let rows = [
-        Row {
+        Trial {
             words: &["replay", "g", "i"],
             ..lacking
         },
-        Row {
+        Trial {
             words: &["replay", "h", "g"],
             ..lacking
         },
-        Row {
+        Trial {
             words: &["replay", "h", "g"],
             h: b"UIPSITE",
             ..lacking
         },
-        Row {
+        Trial {
             words: &["replay", "-", "g"],
             ..lacking
         },
-        Row {
-            fails: &[1],
+        Trial {
+            shelf_fails: &[1],
             ..lacking
         },
-        Row {
-            fails: &[3],
+        Trial {
+            shelf_fails: &[3],
             ..lacking
         },
     ];
-    check_rows(&rt, rt.alloc(), &rows)
+    check_all(&rt, rt.alloc(), &rows)
 }

@@ -1,103 +1,26 @@
 // The work on images, over a shelf and a sink in memory, and the shelf over the system's files.
 use crate::file_shelf::FileShelf;
-use crate::run::run;
+use crate::harness::{IMAGE, Trial, bad, check_all, check_bad_words};
 use crate::status::Status;
-use crate::tests::words_of;
-use site_commands::{SiteError, SiteWhy};
-use std::alloc::{AllocError, Global};
+use crate::tests::PING;
+use site_commands::SiteWhy;
 use std::fs;
-use std::process::Abort;
 use std::test::Fail;
-use uip_edge::{Held, MemShelf, MemSink, Shelf, SureLink};
-
-pub const IMAGE: &[u8] = b"UIPSITE1\0\x01\x0b/index.html\0\0\0\x06hello\n";
+use uip_edge::Shelf;
 
 // A content type of 65 bytes.
 const LONG_KIND: &str =
     "/index.html=aaaaaaaaaaaaaaaaaaaaaaaaaaaaaaaaaaaaaaaaaaaaaaaaaaaaaaaaaaaaaaaaa";
 
+const CORNERS: &[u8] =
+    b"UIPSITE1\0\x02\x08/a.shtml\0\0\0\x20x%y%!:/e.txt\n%! nosuch\nz%! ticks\x06/e.txt\0\0\0\0";
+
+const INCLUDE: &[u8] = b"UIPSITE1\0\x02\x08/b.shtml\0\0\0\x0ca%!:/c.txt\nb\x06/c.txt\0\0\0\x03%!x";
+
 const GOOD: &[u8] = b"/index.html 86\nfiles 1\n";
 
-/// A run over the files `h` and `i`: its words, their contents, the calls of the shelf that fail, the sink's room, and what it
-/// has to write and answer.
-#[derive(Clone, Copy, Drop)]
-pub struct Row<'a> {
-    pub words: &'a [&'a str],
-    pub h: &'a [u8],
-    pub i: &'a [u8],
-    pub fails: &'a [u64],
-    pub room: usize,
-    pub output: &'a [u8],
-    pub status: Status,
-}
-
-pub fn running<'a>(words: &'a [&'a str], h: &'a [u8], output: &'a [u8], status: Status) -> Row<'a> {
-    Row {
-        words,
-        h,
-        i: b"hello\n",
-        fails: &[],
-        room: 4096,
-        output,
-        status,
-    }
-}
-
-fn checking<'a>(h: &'a [u8], output: &'a [u8], status: Status) -> Row<'a> {
-    running(&["check", "h"], h, output, status)
-}
-
-pub fn bad(why: SiteWhy, entry: u32) -> Status {
-    Status::BadSite(SiteError { why, entry })
-}
-
-fn held(alloc: Global, name: &[u8], content: &[u8]) -> Result<Held, AllocError> {
-    Ok(Held {
-        name: name.to_vec(alloc)?,
-        content: content.to_vec(alloc)?,
-    })
-}
-
-fn shelf_of(alloc: Global, row: &Row<'_>) -> Result<MemShelf, AllocError> {
-    let mut files = Vec::new(alloc);
-    files.push(held(alloc, b"h", row.h)?)?;
-    files.push(held(alloc, b"i", row.i)?)?;
-    Ok(MemShelf::new(files, row.fails.to_vec(alloc)?))
-}
-
-fn check_row(rt: &impl Abort, alloc: Global, row: &Row<'_>) -> Result<(), Fail> {
-    let words = words_of(alloc, row.words)?;
-    let mut shelf = shelf_of(alloc, row)?;
-    let mut link = SureLink::new(Vec::new(alloc), 1);
-    let Ok(mut out) = MemSink::new(alloc, row.room, Vec::new(alloc)) else {
-        return Err("no memory".into());
-    };
-    let status = run(alloc, &words, &mut shelf, &mut link, &mut out);
-    assert_eq!(rt; status, row.status);
-    assert_eq!(rt; out.written(), row.output);
-    Ok(())
-}
-
-/// Whether what a run writes has this line.
-pub fn shows(alloc: Global, row: &Row<'_>, line: &str) -> Result<bool, Fail> {
-    let words = words_of(alloc, row.words)?;
-    let mut shelf = shelf_of(alloc, row)?;
-    let mut link = SureLink::new(Vec::new(alloc), 1);
-    let Ok(mut out) = MemSink::new(alloc, row.room, Vec::new(alloc)) else {
-        return Err("no memory".into());
-    };
-    let status = run(alloc, &words, &mut shelf, &mut link, &mut out);
-    match str::from_utf8(out.written()) {
-        Ok(text) => Ok(status == Status::Done && text.contains(line)),
-        Err(_) => Ok(false),
-    }
-}
-
-pub fn check_rows(rt: &impl Abort, alloc: Global, rows: &[Row<'_>]) -> Result<(), Fail> {
-    for row in rows {
-        check_row(rt, alloc, row)?;
-    }
-    Ok(())
+fn checking<'a>(h: &'a [u8], output: &'a [u8], status: Status) -> Trial<'a> {
+    Trial::over(&["check", "h"], h, output, status)
 }
 
 #[test]
@@ -109,102 +32,109 @@ fn checks_each_front_of_an_image(rt: HostRuntime) -> Result<(), Fail> {
             10..=31 => (b"bad site cut 1\n", bad(SiteWhy::Cut, 1)),
             _ => (GOOD, Status::Done),
         };
-        check_row(&rt, rt.alloc(), &checking(&IMAGE[..len], output, status))?;
+        checking(&IMAGE[..len], output, status).check(&rt, rt.alloc(), 1)?;
+    }
+    Ok(())
+}
+
+#[test]
+fn checks_bad_images(rt: HostRuntime) -> Result<(), Fail> {
+    let rows: [(&[u8], &[u8], SiteWhy, u32); 7] = [
+        (
+            b"UIPSITE1\0\x01\x0b/index.html\0\0\0\x06hello\n!",
+            b"bad site rest 0\n",
+            SiteWhy::Rest,
+            0,
+        ),
+        (
+            b"UIPSITE1\0\x01\0/index.html\0\0\0\x06hello\n",
+            b"bad site name 1\n",
+            SiteWhy::Name,
+            1,
+        ),
+        (
+            b"UIPSITE1\0\x01\x0b/index?html\0\0\0\x06hello\n",
+            b"bad site name 1\n",
+            SiteWhy::Name,
+            1,
+        ),
+        (
+            b"UIPSITE1\x04\x01\x0b/index.html\0\0\0\x06hello\n",
+            b"bad site many 0\n",
+            SiteWhy::TooMany,
+            0,
+        ),
+        (
+            b"UIPSITE1\0\x02\x02/x\0\0\0\0\x02/x\0\0\0\0",
+            b"bad site twice 2\n",
+            SiteWhy::Twice,
+            2,
+        ),
+        (
+            b"UIPSITE1\0\x01\x08/a.shtml\0\0\0\x06%!:/x\n",
+            b"bad site include 1\n",
+            SiteWhy::Include,
+            1,
+        ),
+        (
+            b"UIPSITE2\0\x01\x0b/index.html\x41text/html\0\0\0\x06hello\n",
+            b"bad site kind 1\n",
+            SiteWhy::Kind,
+            1,
+        ),
+    ];
+    for (image, output, why, entry) in rows {
+        checking(image, output, bad(why, entry)).check(&rt, rt.alloc(), 1)?;
     }
     Ok(())
 }
 
 #[test]
 fn checks_images(rt: HostRuntime) -> Result<(), Fail> {
-    let rows = [
-        checking(
-            b"UIPSITE1\0\x01\x0b/index.html\0\0\0\x06hello\n!",
-            b"bad site rest 0\n",
-            bad(SiteWhy::Rest, 0),
-        ),
-        checking(
-            b"UIPSITE1\0\x01\0/index.html\0\0\0\x06hello\n",
-            b"bad site name 1\n",
-            bad(SiteWhy::Name, 1),
-        ),
-        checking(
-            b"UIPSITE1\0\x01\x0b/index?html\0\0\0\x06hello\n",
-            b"bad site name 1\n",
-            bad(SiteWhy::Name, 1),
-        ),
-        checking(
-            b"UIPSITE1\x04\x01\x0b/index.html\0\0\0\x06hello\n",
-            b"bad site many 0\n",
-            bad(SiteWhy::TooMany, 0),
-        ),
-        checking(
-            b"UIPSITE1\0\x02\x02/x\0\0\0\0\x02/x\0\0\0\0",
-            b"bad site twice 2\n",
-            bad(SiteWhy::Twice, 2),
-        ),
-        checking(
-            b"UIPSITE1\0\x01\x08/a.shtml\0\0\0\x06%!:/x\n",
-            b"bad site include 1\n",
-            bad(SiteWhy::Include, 1),
-        ),
-        checking(
-            b"UIPSITE2\0\x01\x0b/index.html\x41text/html\0\0\0\x06hello\n",
-            b"bad site kind 1\n",
-            bad(SiteWhy::Kind, 1),
-        ),
-        checking(
-            b"UIPSITE1\0\x02\x08/a.shtml\0\0\0\x20x%y%!:/e.txt\n%! nosuch\nz%! ticks\x06/e.txt\0\0\0\0",
-            b"/a.shtml 94\n/e.txt 81\nfiles 2\n",
-            Status::Done,
-        ),
-        checking(
-            b"UIPSITE1\0\x02\x08/b.shtml\0\0\0\x0ca%!:/c.txt\nb\x06/c.txt\0\0\0\x03%!x",
-            b"/b.shtml 85\n/c.txt 84\nfiles 2\n",
-            Status::Done,
-        ),
-        checking(b"UIPSITE1\0\0", b"files 0\n", Status::Done),
-        Row {
-            fails: &[1],
-            ..checking(IMAGE, b"", Status::ShelfFault)
+    let alloc = rt.alloc();
+    let good: [(&[u8], &[u8]); 3] = [
+        (CORNERS, b"/a.shtml 94\n/e.txt 81\nfiles 2\n"),
+        (INCLUDE, b"/b.shtml 85\n/c.txt 84\nfiles 2\n"),
+        (b"UIPSITE1\0\0", b"files 0\n"),
+    ];
+    for (image, output) in good {
+        checking(image, output, Status::Done).check(&rt, alloc, 1)?;
+    }
+    let bad: [&[&str]; 3] = [&["check"], &["check", "h", "h"], &[]];
+    check_bad_words(&rt, alloc, PING, &bad)?;
+    let whole = checking(IMAGE, GOOD, Status::Done);
+    let lacking = checking(IMAGE, b"", Status::ShelfFault);
+    let trials = [
+        Trial {
+            shelf_fails: &[1],
+            ..lacking
         },
-        Row {
-            fails: &[2],
-            ..checking(IMAGE, b"", Status::ShelfFault)
+        Trial {
+            shelf_fails: &[2],
+            ..lacking
         },
-        Row {
-            fails: &[3],
-            ..checking(IMAGE, GOOD, Status::Done)
+        Trial {
+            shelf_fails: &[3],
+            ..whole
         },
-        Row {
+        Trial {
             words: &["check", "g"],
-            ..checking(IMAGE, b"", Status::ShelfFault)
+            ..lacking
         },
-        Row {
+        Trial {
             words: &["check", "-"],
-            ..checking(IMAGE, b"", Status::ShelfFault)
+            ..lacking
         },
-        Row {
-            words: &["check"],
-            ..checking(IMAGE, b"", Status::BadWords)
-        },
-        Row {
-            words: &["check", "h", "h"],
-            ..checking(IMAGE, b"", Status::BadWords)
-        },
-        Row {
-            words: &[],
-            ..checking(IMAGE, b"", Status::BadWords)
-        },
-        Row {
+        Trial {
             room: 7,
             ..checking(IMAGE, &GOOD[..7], Status::WriteFault)
         },
-        Row {
+        Trial {
             room: 7,
             ..checking(b"UIPSITE", b"bad sit", Status::WriteFault)
         },
     ];
-    check_rows(&rt, rt.alloc(), &rows)
+    check_all(&rt, alloc, &trials)
 }
 
 /// What `check` tells of the image with the byte at a place changed by its highest bit.
@@ -226,7 +156,7 @@ fn checks_damaged_images(rt: HostRuntime) -> Result<(), Fail> {
     for place in 0..image.len() {
         image[place] ^= 0x80;
         let (output, status) = told_of_damage(place);
-        check_row(&rt, alloc, &checking(&image, output, status))?;
+        checking(&image, output, status).check(&rt, alloc, 1)?;
         image[place] ^= 0x80;
     }
     Ok(())
@@ -245,49 +175,62 @@ fn checks_random_bytes(rt: HostRuntime) -> Result<(), Fail> {
     let mut bytes = Vec::new(alloc);
     for _ in 0..200 {
         let row = checking(&bytes, b"bad site magic 0\n", bad(SiteWhy::Magic, 0));
-        check_row(&rt, alloc, &row)?;
+        row.check(&rt, alloc, 1)?;
         bytes.push(next_byte(&mut state))?;
     }
     Ok(())
 }
 
 #[test]
+fn knows_its_words(rt: HostRuntime) -> Result<(), Fail> {
+    let bad: [&[&str]; 8] = [
+        &["pack"],
+        &["pack", "/x=h", "h"],
+        &["upgrade"],
+        &["upgrade", "h", "/index.html"],
+        &["upgrade", "h", "/index.html="],
+        &["upgrade", "h", "/index.html=\n"],
+        &["upgrade", "h", LONG_KIND],
+        &["page", "h"],
+    ];
+    check_bad_words(&rt, rt.alloc(), PING, &bad)
+}
+
+#[test]
 fn packs_files(rt: HostRuntime) -> Result<(), Fail> {
     let hello: &[u8] = b"hello\n";
     let rows = [
-        running(&["pack", "/index.html=h"], hello, IMAGE, Status::Done),
-        running(
+        Trial::over(&["pack", "/index.html=h"], hello, IMAGE, Status::Done),
+        Trial::over(
             &["pack", "/x=h", "/y=i"],
             b"",
             b"UIPSITE1\0\x02\x02/x\0\0\0\0\x02/y\0\0\0\x06hello\n",
             Status::Done,
         ),
-        running(&["pack"], hello, b"", Status::BadWords),
-        running(&["pack", "/x=h", "h"], hello, b"", Status::BadWords),
-        running(&["pack", "=h"], hello, b"", bad(SiteWhy::Name, 1)),
-        running(&["pack", "/x=h", "y=h"], hello, b"", bad(SiteWhy::Name, 2)),
-        running(
+        Trial::over(&["pack", "=h"], hello, b"", bad(SiteWhy::Name, 1)),
+        Trial::over(&["pack", "/x=h", "y=h"], hello, b"", bad(SiteWhy::Name, 2)),
+        Trial::over(
             &["pack", "/x=h", "/x=i"],
             hello,
             b"",
             bad(SiteWhy::Twice, 2),
         ),
-        running(
+        Trial::over(
             &["pack", "/x.shtml=h"],
             b"%!:/y",
             b"",
             bad(SiteWhy::Include, 1),
         ),
-        running(&["pack", "/x=h", "/y=g"], hello, b"", Status::ShelfFault),
-        running(&["pack", "/x=h=i"], hello, b"", Status::ShelfFault),
-        running(&["pack", "/x="], hello, b"", Status::ShelfFault),
-        Row {
-            fails: &[3],
-            ..running(&["pack", "/x=h", "/y=i"], hello, b"", Status::ShelfFault)
+        Trial::over(&["pack", "/x=h", "/y=g"], hello, b"", Status::ShelfFault),
+        Trial::over(&["pack", "/x=h=i"], hello, b"", Status::ShelfFault),
+        Trial::over(&["pack", "/x="], hello, b"", Status::ShelfFault),
+        Trial {
+            shelf_fails: &[3],
+            ..Trial::over(&["pack", "/x=h", "/y=i"], hello, b"", Status::ShelfFault)
         },
-        Row {
+        Trial {
             room: 8,
-            ..running(
+            ..Trial::over(
                 &["pack", "/index.html=h"],
                 hello,
                 &IMAGE[..8],
@@ -295,7 +238,7 @@ fn packs_files(rt: HostRuntime) -> Result<(), Fail> {
             )
         },
     ];
-    check_rows(&rt, rt.alloc(), &rows)
+    check_all(&rt, rt.alloc(), &rows)
 }
 
 #[test]
@@ -304,20 +247,20 @@ fn stops_reading_where_it_is_too_long(rt: HostRuntime) -> Result<(), Fail> {
     let longest = vec![in alloc; 0u8; 16_777_216]?;
     let (h, i): (&[u8], &[u8]) = (&longest, b"1");
     let rows = [
-        running(&["pack", "/x=h", "/y=g"], h, b"", Status::ShelfFault),
-        running(&["pack", "/x=h", "/y=i"], h, b"", bad(SiteWhy::TooLong, 0)),
-        Row {
+        Trial::over(&["pack", "/x=h", "/y=g"], h, b"", Status::ShelfFault),
+        Trial::over(&["pack", "/x=h", "/y=i"], h, b"", bad(SiteWhy::TooLong, 0)),
+        Trial {
             i,
-            ..running(
+            ..Trial::over(
                 &["pack", "/x=h", "/y=i", "/z=g"],
                 h,
                 b"",
                 bad(SiteWhy::TooLong, 0),
             )
         },
-        running(&["pack", "/x=h"], h, b"", bad(SiteWhy::TooLong, 0)),
+        Trial::over(&["pack", "/x=h"], h, b"", bad(SiteWhy::TooLong, 0)),
     ];
-    check_rows(&rt, alloc, &rows)
+    check_all(&rt, alloc, &rows)
 }
 
 #[test]
@@ -325,57 +268,37 @@ fn upgrades_images(rt: HostRuntime) -> Result<(), Fail> {
     let typed: &[u8] = b"UIPSITE2\0\x01\x0b/index.html\x09text/html\0\0\0\x06hello\n";
     let plain: &[u8] = b"UIPSITE2\0\x01\x0b/index.html\x01 \0\0\0\x06hello\n";
     let rows = [
-        running(&["upgrade", "h"], IMAGE, typed, Status::Done),
-        running(&["upgrade", "h"], typed, typed, Status::Done),
-        running(
+        Trial::over(&["upgrade", "h"], IMAGE, typed, Status::Done),
+        Trial::over(&["upgrade", "h"], typed, typed, Status::Done),
+        Trial::over(
             &["upgrade", "h", "/index.html= "],
             IMAGE,
             plain,
             Status::Done,
         ),
-        running(
+        Trial::over(
             &["upgrade", "h", "/index.html=x", "/y=z", "/index.html= "],
             typed,
             plain,
             Status::Done,
         ),
-        running(
+        Trial::over(
             &["upgrade", "h", "index.html=x"],
             IMAGE,
             typed,
             Status::Done,
         ),
-        running(&["upgrade"], IMAGE, b"", Status::BadWords),
-        running(
-            &["upgrade", "h", "/index.html"],
-            IMAGE,
-            b"",
-            Status::BadWords,
-        ),
-        running(
-            &["upgrade", "h", "/index.html="],
-            IMAGE,
-            b"",
-            Status::BadWords,
-        ),
-        running(
-            &["upgrade", "h", "/index.html=\n"],
-            IMAGE,
-            b"",
-            Status::BadWords,
-        ),
-        running(&["upgrade", "h", LONG_KIND], IMAGE, b"", Status::BadWords),
-        running(&["upgrade", "g"], IMAGE, b"", Status::ShelfFault),
-        running(&["upgrade", "-"], IMAGE, b"", Status::ShelfFault),
-        running(&["upgrade", "h"], &IMAGE[..15], b"", bad(SiteWhy::Cut, 1)),
-        running(
+        Trial::over(&["upgrade", "g"], IMAGE, b"", Status::ShelfFault),
+        Trial::over(&["upgrade", "-"], IMAGE, b"", Status::ShelfFault),
+        Trial::over(&["upgrade", "h"], &IMAGE[..15], b"", bad(SiteWhy::Cut, 1)),
+        Trial::over(
             &["check", "h"],
             b"UIPSITE2\0\x01\x0b/index.html\x18text/html; charset=utf-8\0\0\0\x06hello\n",
             b"/index.html 101\nfiles 1\n",
             Status::Done,
         ),
     ];
-    check_rows(&rt, rt.alloc(), &rows)
+    check_all(&rt, rt.alloc(), &rows)
 }
 
 /// Reads up to four bytes from a place on.
@@ -407,11 +330,6 @@ fn reads_files_of_the_system(rt: HostRuntime) -> Result<(), Fail> {
     Ok(())
 }
 
-const CORNERS: &[u8] =
-    b"UIPSITE1\0\x02\x08/a.shtml\0\0\0\x20x%y%!:/e.txt\n%! nosuch\nz%! ticks\x06/e.txt\0\0\0\0";
-
-const INCLUDE: &[u8] = b"UIPSITE1\0\x02\x08/b.shtml\0\0\0\x0ca%!:/c.txt\nb\x06/c.txt\0\0\0\x03%!x";
-
 pub const HITS: &[u8] = b"UIPSITE1\0\x01\x08/h.shtml\0\0\0\x17%! file-stats /h.shtml\n";
 
 const HELLO_PAGE: &[u8] =
@@ -420,8 +338,8 @@ const HELLO_PAGE: &[u8] =
 const MISSING_PAGE: &[u8] =
     b"HTTP/1.0 404 Not found\r\nServer: uIP/1.0\r\nConnection: close\r\nContent-type: text/html\r\n\r\nnot found\n";
 
-fn paging<'a>(words: &'a [&'a str], image: &'a [u8], output: &'a [u8]) -> Row<'a> {
-    running(words, image, output, Status::Done)
+fn paging<'a>(words: &'a [&'a str], image: &'a [u8], output: &'a [u8]) -> Trial<'a> {
+    Trial::over(words, image, output, Status::Done)
 }
 
 #[test]
@@ -447,26 +365,13 @@ fn writes_pages(rt: HostRuntime) -> Result<(), Fail> {
             HITS,
             b"HTTP/1.0 200 OK\r\nServer: uIP/1.0\r\nConnection: close\r\nContent-type: text/html\r\n\r\n         0",
         ),
-        Row {
+        Trial {
             room: 60,
             status: Status::WriteFault,
             ..paging(&["page", "h", "/"], IMAGE, &HELLO_PAGE[..60])
         },
-        Row {
-            status: Status::ShelfFault,
-            ..paging(&["page", "k", "/"], IMAGE, b"")
-        },
-        Row {
-            status: bad(SiteWhy::Rest, 0),
-            ..paging(&["page", "h", "/"], b"UIPSITE1\0\0!", b"")
-        },
-        Row {
-            status: Status::BadWords,
-            ..paging(&["page", "h"], IMAGE, b"")
-        },
+        paging(&["page", "k", "/"], IMAGE, b"").ending(Status::ShelfFault),
+        paging(&["page", "h", "/"], b"UIPSITE1\0\0!", b"").ending(bad(SiteWhy::Rest, 0)),
     ];
-    for row in &rows {
-        check_row(&rt, rt.alloc(), row)?;
-    }
-    Ok(())
+    check_all(&rt, rt.alloc(), &rows)
 }
