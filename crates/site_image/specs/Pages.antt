@@ -16,7 +16,8 @@ use Rattle.site_image.specs.Files.{File, has_name, file_named, kind_of}
 -- names and none where there is no such file, a call the greatest length of its function
 abbrev pub piece_length : List File → List ℕ → Piece → ℕ
 piece_length files script (Text at len) = len
-piece_length files script (Include at len) = option_map_or (λ file. length file.content) (file_named files (slice_range script at (at + len))) 0
+piece_length files script (Include at len) =
+    option_map_or (λ file. length file.content) (file_named files (slice_range script at (at + len))) 0
 piece_length files script (Call function at len) = length_at_most function
 
 -- a file's bytes, or for a script what its pieces give at most
