@@ -43,7 +43,8 @@ fn fin_waits<A>(conn: &mut Conn<A>, seg: &Segment, piece: &[u8]) -> Step
     requires sound { HasSoundNumbers conn.old }
     requires short { length piece.now ≤ 1500 }
     ensures sound { HasSoundNumbers conn.new }
-    ensures takes { (m : Meaning) → TakesAlone (λ a ns. by_state m State.FinWait1 false a ns (plain seg.now piece.now)) conn.old conn.new result }
+    ensures takes { (m : Meaning)
+        → TakesAlone (λ a ns. by_state m State.FinWait1 false a ns (plain seg.now piece.now)) conn.old conn.new result }
 {
     let count = piece.len() as u32;
     if seg.has_fin() {
@@ -87,7 +88,8 @@ pub(crate) fn in_fin_wait_1<A>(conn: &mut Conn<A>, seg: &Segment, piece: &[u8], 
     requires sound { HasSoundNumbers conn.old }
     requires short { length piece.now ≤ 1500 }
     ensures sound { HasSoundNumbers conn.new }
-    ensures takes { (m : Meaning) → TakesAlone (λ a ns. by_state m State.FinWait1 acked a ns (plain seg.now piece.now)) conn.old conn.new result }
+    ensures takes { (m : Meaning)
+        → TakesAlone (λ a ns. by_state m State.FinWait1 acked a ns (plain seg.now piece.now)) conn.old conn.new result }
 {
     if acked {
         fin_acked(conn, seg, piece)

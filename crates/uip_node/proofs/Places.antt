@@ -1,24 +1,26 @@
 -- What a write at one slot leaves of what holds of all.
-use Rattle.std.proofs.Common.{ℕ, ◌≡◌, List, Some, inl, inr, sym, ◌∙◌, subst, length-set}
+use Rattle.std.proofs.Common.{ℕ, ◌≡◌, List, Some, inl, inr, ap, sym, ◌∙◌, subst, length, length-set}
 use Rattle.std.specs.Prelude.{slice_get, slice_set}
 use Rattle.app_events.specs.declared.app.App.{Ghosts}
+use Rattle.tcp_table.specs.Connections.{Connections}
 use Rattle.tcp_table.specs.declared.conn.Conn.{Conn}
 use Rattle.tcp_machine.specs.Ask.{Outcome}
 use Rattle.tcp_machine.specs.Connection.{Connection}
+use Rattle.tcp_machine.specs.Fits.{StepFits}
 use Rattle.tcp_machine.specs.Sound.{IsSound}
 use Rattle.tcp_machine.specs.Stands.{ConnStands, Meets}
 use Rattle.tcp_machine.specs.declared.step.Step.{Step}
-use Rattle.uip_node.specs.Slots.{AllKept, AllSound, IsIn, IsNamed, MeetsAt, OthersStay, SlotsStand}
+use Rattle.uip_node.specs.Slots.{AllKept, AllSound, IsIn, IsNamed, MeetsAt, OthersStay, SlotsStand, TookStep}
 use Rattle.uip_node.proofs.Tables.{get_after_set, get_set_same}
 
-pub all_sound : {A S : Type 0} (g : Ghosts A S) (k : g.Kept) (cs : List (Conn A)) → AllKept g k cs → AllSound g k cs
+all_sound : {A S : Type 0} (g : Ghosts A S) (k : g.Kept) (cs : List (Conn A)) → AllKept g k cs → AllSound g k cs
 all_sound g k cs kept i c h = (kept i c h).sound
 
-pub sound_after : {A S : Type 0} (g : Ghosts A S) (k : g.Kept) (cs : List (Conn A)) (i : ℕ) (d : Conn A) → AllSound g k cs → IsSound g k d → AllSound g k (slice_set cs i d)
+sound_after : {A S : Type 0} (g : Ghosts A S) (k : g.Kept) (cs : List (Conn A)) (i : ℕ) (d : Conn A) → AllSound g k cs → IsSound g k d → AllSound g k (slice_set cs i d)
 sound_after {A} g k cs i d all here j c h =
     elim (get_after_set cs i j d c h) [ inl e ↦ subst (λ (x : Conn A). IsSound g k x) (sym e.1) here | inr old ↦ all j c old ]
 
-pub others_stay : {A : Type 0} (cs : List (Conn A)) (i : ℕ) (d : Conn A) → OthersStay i cs (slice_set cs i d)
+others_stay : {A : Type 0} (cs : List (Conn A)) (i : ℕ) (d : Conn A) → OthersStay i cs (slice_set cs i d)
 others_stay cs i d j c other h =
     elim (get_after_set cs i j d c h) [ inl e ↦ absurd (other (sym e.0)) | inr old ↦ old ]
 
@@ -48,4 +50,15 @@ meets_after g k cs abstracts i d ns step o all here name = record {
   counted = here.counted;
   asked = here.asked;
   named = λ speaks. is_in_after (λ c. IsNamed c o.connection) cs i d (name speaks);
+}
+
+-- the connection in a slot takes a step, where the table's list is the code's
+pub took_step : {A S : Type 0} (g : Ghosts A S) (k : g.Kept) (inside : List (Conn A)) (old : Connections A) (iss slot : ℕ) (d : Conn A) (step : Step) →
+    inside ≡ old.conns → iss ≡ old.iss → AllKept g k old.conns → IsSound g k d → StepFits d step → TookStep g k slot old (record { conns = slice_set inside slot d; iss = iss }) step
+took_step {A} g k inside old iss slot d step e f kept sound fits = record {
+  long = length-set inside slot d ∙ ap (λ (xs : List (Conn A)). length xs) e;
+  iss = f;
+  sound = sound_after g k inside slot d (subst (λ (xs : List (Conn A)). AllSound g k xs) (sym e) (all_sound g k old.conns kept)) sound;
+  fits = is_in_after (λ c. StepFits c step) inside slot d fits;
+  others = λ j c other h. subst (λ (xs : List (Conn A)). slice_get xs j ≡ Some c) e (others_stay inside slot d j c other h);
 }

@@ -6,10 +6,10 @@ use Rattle.app_events.specs.declared.now.Now.{Now}
 use Rattle.app_events.specs.declared.row.Row.{Row}
 use Rattle.uip_wire.specs.declared.addr.Addr.{Addr}
 use Rattle.uip_wire.specs.declared.port.Port.{Port}
-use Rattle.tcp_table.specs.Connections.{is_at}
+use Rattle.tcp_table.specs.Connections.{Connections, is_at}
 use Rattle.tcp_table.specs.declared.conn.Conn.{Conn}
 use Rattle.tcp_machine.specs.Connection.{Connection, rcv_nxt, rows_from, snd_nxt}
-use Rattle.tcp_machine.specs.Fits.{Rests}
+use Rattle.tcp_machine.specs.Fits.{Rests, StepFits}
 use Rattle.tcp_machine.specs.Sound.{IsSound}
 use Rattle.tcp_machine.specs.Stands.{ConnStands}
 use Rattle.tcp_machine.specs.Ask.{Outcome}
@@ -71,6 +71,14 @@ pub record MeetsAt {A S : Type 0} (g : Ghosts A S) (k : g.Kept) (cs : List (Conn
 -- all slots but one are as they were
 abbrev pub OthersStay : {A : Type 0} → ℕ → List (Conn A) → List (Conn A) → Type 0
 OthersStay {A} slot old new = (j : ℕ) (c : Conn A) → (j ≡ slot → ⊥) → slice_get new j ≡ Some c → slice_get old j ≡ Some c
+
+-- The connection in a slot took a step: all stay sound, the step fits the one, and the others are as they were.
+pub record TookStep {A S : Type 0} (g : Ghosts A S) (k : g.Kept) (slot : ℕ) (old new : Connections A) (step : Step) : Type 0 where
+  pub long : length new.conns ≡ length old.conns
+  pub iss : new.iss ≡ old.iss
+  pub sound : AllSound g k new.conns
+  pub fits : IsIn new.conns slot (λ c. StepFits c step)
+  pub others : OthersStay slot old.conns new.conns
 
 -- in all slots but one something is outstanding where the connection is in CLOSE-WAIT
 abbrev pub OthersRest : {A : Type 0} → ℕ → List (Conn A) → Type 0

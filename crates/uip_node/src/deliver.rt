@@ -10,7 +10,7 @@ ghost use Rattle.tcp_machine.specs.OnTick.{on_tick};
 ghost use Rattle.tcp_machine.specs.Stands.{plain};
 ghost use Rattle.tcp_machine.specs.Segments.{segment_of};
 ghost use Rattle.uip_node.specs.Spoken.{IsSpoken};
-ghost use Rattle.uip_node.specs.Slots.{AllKept, AllSound, IsIn, MeetsAt, NoneAt, OthersRest, OthersStay, SlotsStand, live_rows, moment_at};
+ghost use Rattle.uip_node.specs.Slots.{AllKept, AllSound, IsIn, MeetsAt, NoneAt, OthersRest, SlotsStand, TookStep, live_rows, moment_at};
 
 use crate::listing::rows_of;
 use crate::speaking::speak;
@@ -34,11 +34,7 @@ pub(crate) fn take_segment<A: App>(
     requires kept { AllKept A.App (A.kept shared.old) table.old.conns }
     requires short { length piece.now ≤ 1500 }
     ensures same { A.kept shared.new ≡ A.kept shared.old }
-    ensures long { length table.new.conns ≡ length table.old.conns }
-    ensures iss { table.new.iss ≡ table.old.iss }
-    ensures sound { AllSound A.App (A.kept shared.old) table.new.conns }
-    ensures fits { IsIn table.new.conns slot (λ c. StepFits c result) }
-    ensures others { OthersStay slot table.old.conns table.new.conns }
+    ensures took { TookStep A.App (A.kept shared.old) slot table.old table.new result }
     ensures meets { (abstracts : List Connection) (a : Connection) → SlotsStand A.App (A.kept shared.old) table.old.conns abstracts
         → slice_get abstracts slot ≡ Some a
         → MeetsAt A.App (A.kept shared.old) table.new.conns (A.numbers shared.new) result abstracts slot
@@ -54,11 +50,7 @@ pub(crate) fn take_tick<A: App>(table: &mut Table<A>, shared: &mut A::Shared, sl
     requires live { IsIn table.old.conns slot (λ c. is_live c.state ≡ true) }
     requires kept { AllKept A.App (A.kept shared.old) table.old.conns }
     ensures same { A.kept shared.new ≡ A.kept shared.old }
-    ensures long { length table.new.conns ≡ length table.old.conns }
-    ensures iss { table.new.iss ≡ table.old.iss }
-    ensures sound { AllSound A.App (A.kept shared.old) table.new.conns }
-    ensures fits { IsIn table.new.conns slot (λ c. StepFits c result) }
-    ensures others { OthersStay slot table.old.conns table.new.conns }
+    ensures took { TookStep A.App (A.kept shared.old) slot table.old table.new result }
     ensures meets { (abstracts : List Connection) (a : Connection) → SlotsStand A.App (A.kept shared.old) table.old.conns abstracts
         → slice_get abstracts slot ≡ Some a
         → MeetsAt A.App (A.kept shared.old) table.new.conns (A.numbers shared.new) result abstracts slot

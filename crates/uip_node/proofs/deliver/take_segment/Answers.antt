@@ -1,15 +1,14 @@
 -- The connection in its slot.
-use Rattle.std.proofs.Common.{◌≡◌, List, Some, ap, sym, ◌∙◌, length, length-set, subst}
+use Rattle.std.proofs.Common.{◌≡◌, List, Some, ap, sym, ◌∙◌, subst}
 use Rattle.std.specs.Prelude.{slice_get}
 use Rattle.app_events.specs.States.{is_live}
 use Rattle.tcp_table.specs.Connections.{Connections}
 use Rattle.tcp_table.specs.declared.conn.Conn.{Conn}
-use Rattle.tcp_machine.specs.Fits.{StepFits}
 use Rattle.tcp_machine.specs.OnSegment.{on_segment}
 use Rattle.tcp_machine.specs.Stands.{plain}
-use Rattle.uip_node.specs.Slots.{AllSound, SlotsStand}
+use Rattle.uip_node.specs.Slots.{SlotsStand}
 use Rattle.uip_node.proofs.Naming.{segment_named}
-use Rattle.uip_node.proofs.Places.{all_sound, is_in_after, meets_after, others_stay, sound_after}
+use Rattle.uip_node.proofs.Places.{meets_after, took_step}
 use Rattle.uip_node.proofs.Tables.{at_place, table_keeps}
 use Rattle.uip_node.proofs.deliver.take_segment.Goals as goal
 
@@ -25,24 +24,12 @@ invariant_of-table g c =
     let here : slice_get c.table.inside.conns.items c.args.slot ≡ Some c.index_mut-conn.result.now = subst (λ (xs : List (Conn g.row.A.Denot)). slice_get xs c.args.slot ≡ Some c.index_mut-conn.result.now) (sym e) at in
     table_keeps c.table.inside.conns.items c.args.slot c.index_mut-conn.result.now c.on_segment.new.conn c.table.invariant here (c.requires.live _ at) c.on_segment.ensures.place
 
-pub returns-clause-sound : goal.returns-clause-sound
-returns-clause-sound g c =
-    let k = g.A.App.kept c.args.shared.now in
-    let e = ap (λ (t : Connections g.row.A.Denot). t.conns) c.table.view_is in
-    sound_after g.A.App k c.table.inside.conns.items c.args.slot c.on_segment.new.conn
-    (subst (λ (xs : List (Conn g.row.A.Denot)). AllSound g.A.App k xs) (sym e) (all_sound g.A.App k c.args.table.now.conns c.requires.kept))
-    c.on_segment.ensures.sound
-
-pub returns-clause-fits : goal.returns-clause-fits
-returns-clause-fits g c =
+pub returns-clause-took : goal.returns-clause-took
+returns-clause-took g c =
     let e = ap (λ (t : Connections g.row.A.Denot). t.conns) c.table.view_is in
     let at = at_place _ _ c.args.slot c.index_mut-conn.result.now e c.requires.within c.index_mut-conn.ensures.value in
-    is_in_after (λ d. StepFits d c.on_segment.result) c.table.inside.conns.items c.args.slot c.on_segment.new.conn (c.on_segment.ensures.fits (c.requires.kept c.args.slot c.index_mut-conn.result.now at).busy)
-
-pub returns-clause-others : goal.returns-clause-others
-returns-clause-others g c = λ j d other h.
-    let e = ap (λ (t : Connections g.row.A.Denot). t.conns) c.table.view_is in
-    subst (λ (xs : List (Conn g.row.A.Denot)). slice_get xs j ≡ Some d) e (others_stay c.table.inside.conns.items c.args.slot c.on_segment.new.conn j d other h)
+    took_step g.A.App (g.A.App.kept c.args.shared.now) c.table.inside.conns.items c.args.table.now c.table.inside.iss.0 c.args.slot c.on_segment.new.conn c.on_segment.result
+    e (ap (λ (t : Connections g.row.A.Denot). t.iss) c.table.view_is) c.requires.kept c.on_segment.ensures.sound (c.on_segment.ensures.fits (c.requires.kept c.args.slot c.index_mut-conn.result.now at).busy)
 
 pub returns-clause-meets : goal.returns-clause-meets
 returns-clause-meets g c = λ abstracts a stand there.
@@ -56,7 +43,3 @@ returns-clause-meets g c = λ abstracts a stand there.
     (λ speaks. segment_named g.A.App k c.on_segment.new.conn a c.on_segment.result (g.A.App.meaning k) (g.A.App.numbers c.args.shared.now) (plain c.args.seg.now c.args.piece.now) (g.A.App.numbers c.on_segment.new.shared)
     (c.on_segment.ensures.meets a (stand.each c.args.slot c.index_mut-conn.result.now a at there))
     (sym (ap is_live (stand.each c.args.slot c.index_mut-conn.result.now a at there).numbers.state) ∙ c.requires.live _ at) speaks)
-
-pub returns-clause-long : goal.returns-clause-long
-returns-clause-long g c =
-    length-set c.table.inside.conns.items c.args.slot c.on_segment.new.conn ∙ ap (λ (t : Connections g.row.A.Denot). length t.conns) c.table.view_is

@@ -1,13 +1,12 @@
 -- The connection in its slot.
-use Rattle.std.proofs.Common.{◌≡◌, List, Some, ap, sym, ◌∙◌, length, length-set, subst}
+use Rattle.std.proofs.Common.{◌≡◌, List, Some, ap, sym, subst}
 use Rattle.std.specs.Prelude.{slice_get}
 use Rattle.tcp_table.specs.Connections.{Connections}
 use Rattle.tcp_table.specs.declared.conn.Conn.{Conn}
-use Rattle.tcp_machine.specs.Fits.{StepFits}
 use Rattle.tcp_machine.specs.OnTick.{on_tick}
-use Rattle.uip_node.specs.Slots.{AllSound, SlotsStand}
+use Rattle.uip_node.specs.Slots.{SlotsStand}
 use Rattle.uip_node.proofs.Naming.{live_named, named_after, on_tick_same}
-use Rattle.uip_node.proofs.Places.{all_sound, is_in_after, meets_after, others_stay, sound_after}
+use Rattle.uip_node.proofs.Places.{meets_after, took_step}
 use Rattle.uip_node.proofs.Tables.{at_place, table_keeps}
 use Rattle.uip_node.proofs.deliver.take_tick.Goals as goal
 
@@ -28,24 +27,12 @@ invariant_of-table g c =
     let here : slice_get c.table.inside.conns.items c.args.slot ≡ Some c.index_mut-conn.result.now = subst (λ (xs : List (Conn g.row.A.Denot)). slice_get xs c.args.slot ≡ Some c.index_mut-conn.result.now) (sym e) at in
     table_keeps c.table.inside.conns.items c.args.slot c.index_mut-conn.result.now c.on_tick.new.conn c.table.invariant here (c.requires.live _ at) c.on_tick.ensures.takes.place
 
-pub returns-clause-sound : goal.returns-clause-sound
-returns-clause-sound g c =
-    let k = g.A.App.kept c.args.shared.now in
-    let e = ap (λ (t : Connections g.row.A.Denot). t.conns) c.table.view_is in
-    sound_after g.A.App k c.table.inside.conns.items c.args.slot c.on_tick.new.conn
-    (subst (λ (xs : List (Conn g.row.A.Denot)). AllSound g.A.App k xs) (sym e) (all_sound g.A.App k c.args.table.now.conns c.requires.kept))
-    c.on_tick.ensures.takes.sound
-
-pub returns-clause-fits : goal.returns-clause-fits
-returns-clause-fits g c =
+pub returns-clause-took : goal.returns-clause-took
+returns-clause-took g c =
     let e = ap (λ (t : Connections g.row.A.Denot). t.conns) c.table.view_is in
     let at = at_place _ _ c.args.slot c.index_mut-conn.result.now e c.requires.within c.index_mut-conn.ensures.value in
-    is_in_after (λ d. StepFits d c.on_tick.result) c.table.inside.conns.items c.args.slot c.on_tick.new.conn (c.on_tick.ensures.takes.fits (c.requires.kept c.args.slot c.index_mut-conn.result.now at).busy)
-
-pub returns-clause-others : goal.returns-clause-others
-returns-clause-others g c = λ j d other h.
-    let e = ap (λ (t : Connections g.row.A.Denot). t.conns) c.table.view_is in
-    subst (λ (xs : List (Conn g.row.A.Denot)). slice_get xs j ≡ Some d) e (others_stay c.table.inside.conns.items c.args.slot c.on_tick.new.conn j d other h)
+    took_step g.A.App (g.A.App.kept c.args.shared.now) c.table.inside.conns.items c.args.table.now c.table.inside.iss.0 c.args.slot c.on_tick.new.conn c.on_tick.result
+    e (ap (λ (t : Connections g.row.A.Denot). t.iss) c.table.view_is) c.requires.kept c.on_tick.ensures.takes.sound (c.on_tick.ensures.takes.fits (c.requires.kept c.args.slot c.index_mut-conn.result.now at).busy)
 
 pub returns-clause-meets : goal.returns-clause-meets
 returns-clause-meets g c = λ abstracts a stand there.
@@ -59,7 +46,3 @@ returns-clause-meets g c = λ abstracts a stand there.
     (λ speaks. named_after c.index_mut-conn.result.now c.on_tick.new.conn a _
     (live_named g.A.App k c.index_mut-conn.result.now a (stand.each c.args.slot c.index_mut-conn.result.now a at there) (c.requires.live _ at))
     c.on_tick.ensures.takes.place c.on_tick.ensures.same_numbers (on_tick_same (g.A.App.meaning k) a (g.A.App.numbers c.args.shared.now)))
-
-pub returns-clause-long : goal.returns-clause-long
-returns-clause-long g c =
-    length-set c.table.inside.conns.items c.args.slot c.on_tick.new.conn ∙ ap (λ (t : Connections g.row.A.Denot). length t.conns) c.table.view_is

@@ -14,10 +14,10 @@ use Rattle.uip_node.specs.StandsFor.{Steps}
 use Rattle.uip_node.proofs.node.Node.deliver.Goals as goal
 
 pub finish-requires-clause-within : goal.finish-requires-clause-within
-finish-requires-clause-within g c = omega (arith, c.take_segment-step.ensures.long, c.requires.within)
+finish-requires-clause-within g c = omega (arith, c.take_segment-step.ensures.took.long, c.requires.within)
 
 pub finish-requires-clause-others : goal.finish-requires-clause-others
-finish-requires-clause-others g c = λ j d other h. (c.requires.whole.conns j d (c.take_segment-step.ensures.others j d other h)).busy
+finish-requires-clause-others g c = λ j d other h. (c.requires.whole.conns j d (c.take_segment-step.ensures.took.others j d other h)).busy
 
 pub returns-clause-step : goal.returns-clause-step
 returns-clause-step g c = λ n event h within.
@@ -35,4 +35,4 @@ returns-clause-step g c = λ n event h within.
     let o : Outcome = on_segment m a n.numbers (plain_of c.args.seg.now (datagram_in now.packet)) in
     let four = subst (λ (j : g.A.App.Kept). MeetsAt app j step.new.table.conns (g.A.App.numbers step.new.shared) step.result n.connections c.args.slot o) (sym step.ensures.same) three in
     subst (λ (j : g.A.App.Kept). Steps app c.finish.new.self c.finish.result (happened (g.A.App.meaning j) n event c.args.slot a (asked (g.A.App.meaning j) (moment n event c.args.slot) o))) step.ensures.same
-    (c.finish.ensures.step n event a o h.addr within (step.ensures.iss ∙ h.iss) h.counts four)
+    (c.finish.ensures.step n event a o h.addr within (step.ensures.took.iss ∙ h.iss) h.counts four)

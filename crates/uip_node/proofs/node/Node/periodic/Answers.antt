@@ -48,7 +48,7 @@ take_tick-step-requires-clause-kept g c =
 
 pub finish-requires-clause-others : goal.finish-requires-clause-others
 finish-requires-clause-others g c = λ j d other h.
-    (c.requires.whole.conns j d (subst (λ (cs : List (Conn g.row.A.Denot)). slice_get cs j ≡ Some d) c.next_iss.ensures.conns (c.take_tick-step.ensures.others j d other h))).busy
+    (c.requires.whole.conns j d (subst (λ (cs : List (Conn g.row.A.Denot)). slice_get cs j ≡ Some d) c.next_iss.ensures.conns (c.take_tick-step.ensures.took.others j d other h))).busy
 
 pub returns : goal.returns
 returns g c = record {
@@ -72,5 +72,5 @@ returns g c = record {
       let three = subst (λ (j : g.A.App.Kept). MeetsAt app j step.new.table.conns (g.A.App.numbers step.new.shared) step.result n.connections slot o) (sym step.ensures.same) two in
       subst (λ (j : g.A.App.Kept). Steps app c.finish.new.self c.finish.result (happened (g.A.App.meaning j) n event slot a (asked (g.A.App.meaning j) (moment n event slot) o))) step.ensures.same
       (c.finish.ensures.step n event a o h.addr within
-      (step.ensures.iss ∙ c.next_iss.ensures.iss ∙ ap (λ (i : ℕ). (i + 1) % 4294967296) h.iss ∙ next_first n.past slot) (c.call.ensures n.past h.counts) three);
+      (step.ensures.took.iss ∙ c.next_iss.ensures.iss ∙ ap (λ (i : ℕ). (i + 1) % 4294967296) h.iss ∙ next_first n.past slot) (c.call.ensures n.past h.counts) three);
 }
