@@ -15,9 +15,9 @@ abbrev pub site_read : List ℕ → Files → Option (Result (List File) SiteErr
 site_read name files = if bytes_eq name (codes "-") then Some (Ok []) else option_map read_image (files name)
 
 -- this is what a way to read finds in the files, where the shelf tells them
-abbrev pub IsRead : {A : Type 0} → (Files → Option A) → Option Files → A → Type 0
-IsRead read None found = ⊤
-IsRead read (Some files) found = read files ≡ Some found
+abbrev pub FindsInFiles : {A : Type 0} → (Files → Option A) → Option Files → A → Type 0
+FindsInFiles read None found = ⊤
+FindsInFiles read (Some files) found = read files ≡ Some found
 
 -- the shelf tells its files, and one that the way to read asks for is missing
 abbrev pub LacksFile : {A : Type 0} → (Files → Option A) → Option Files → Type 0
@@ -26,11 +26,11 @@ LacksFile read (Some files) = read files ≡ None
 
 -- why there is no site, with the count of the shelf's faults before and after
 abbrev pub FailsToOpen : List ℕ → Option Files → ℕ → ℕ → LoadFault → Type 0
-FailsToOpen name held before now (Bad error) = IsRead (site_read name) held (Err error) × (now ≡ before)
+FailsToOpen name held before now (Bad error) = FindsInFiles (site_read name) held (Err error) × (now ≡ before)
 FailsToOpen name held before now Shelf = (Rose before now ⊎ LacksFile (site_read name) held) × (before ≤ now)
 FailsToOpen name held before now NoMemory = now ≡ before
 
 -- the site, or why there is none
 abbrev pub Opens : List ℕ → Option Files → ℕ → ℕ → Result SiteContent LoadFault → Type 0
-Opens name held before now (Ok site) = IsRead (site_read name) held (Ok (files_of site)) × (now ≡ before)
+Opens name held before now (Ok site) = FindsInFiles (site_read name) held (Ok (files_of site)) × (now ≡ before)
 Opens name held before now (Err fault) = FailsToOpen name held before now fault

@@ -6,7 +6,7 @@ use Rattle.std.proofs.lemmas.Bool.{cases_lt, lt-leb}
 use Rattle.std.proofs.lemmas.List.{take_all, length-take-le}
 use Rattle.file_tree.specs.Loading.{HoldsFile}
 use Rattle.site_image.specs.Files.{File}
-use Rattle.file_tree.specs.Opening.{IsRead, site_read}
+use Rattle.file_tree.specs.Opening.{FindsInFiles, site_read}
 use Rattle.uip_edge.specs.Shelving.{Files}
 use Rattle.link_schedule.specs.Reading.{BadText, SchedulePlan, nothing_yet, read_lines, read_text}
 use Rattle.link_schedule.specs.declared.why.Why.TheVariants.{Long}
@@ -85,7 +85,7 @@ held_text (Some named) schedule files show bytes text end front due = let h = go
         (content, refl, subst (λ r. MatchResult r (λ c. IsPlayDue files c (Report show) text end) (λ bad. (end ≡ ends.BadSchedule bad.line bad.why) × (text ≡ bad_schedule bad.line bad.why))) (reads_alike bytes content f) due)
 
 -- what is due for the bytes that were read is due for the shelf's files
-pub is_text : (site schedule : List ℕ) (show : Bool) (held : Option Files) (files : List File) (bytes text : List ℕ) (end : ReplayEnd) → IsRead (site_read site) held (Ok files)
+pub is_text : (site schedule : List ℕ) (show : Bool) (held : Option Files) (files : List File) (bytes text : List ℕ) (end : ReplayEnd) → FindsInFiles (site_read site) held (Ok files)
     → HoldsFile held schedule (IsFrontOf bytes) → IsTextDue files bytes show text end → IsReplayText site schedule show held text end
 is_text site schedule show held files bytes text (ends.BadSite error) read front due = absurd (text_ends files bytes show text (ends.BadSite error) due)
 is_text site schedule show held files bytes text end read front due = let h = held_text held schedule files show bytes text end front due in (files, h.bytes, read, h.holds, h.due)

@@ -4,7 +4,7 @@ use Rattle.std.specs.Prelude.{⊤}
 use Rattle.file_tree.specs.Loading.{HoldsFile}
 use Rattle.site_image.specs.Files.{File}
 use Rattle.site_image.specs.declared.site_error.SiteError.{SiteError}
-use Rattle.file_tree.specs.Opening.{IsRead, LacksFile, site_read}
+use Rattle.file_tree.specs.Opening.{FindsInFiles, LacksFile, site_read}
 use Rattle.uip_edge.specs.Shelving.{Files}
 use Rattle.site_commands.specs.Report.{bad_line}
 use Rattle.replay_command.specs.Ending.{EndsWith, IsLoadText, IsReplayText, LacksEither, LoadEnds, ReplayEnds}
@@ -60,7 +60,7 @@ module _ (site schedule : List ℕ) (show : Bool) (old new : WorkTold) (held : n
   only_text text ends.NoMemory is = absurd (text_ends is.0 is.1 show text ends.NoMemory is.4)
 
   -- the bytes that were read of the schedule's file
-  pub schedule_ends : (files : List File) (bytes : List ℕ) (result : ReplayEnd) → IsRead (site_read site) old.shelf.held (Ok files) → HoldsFile old.shelf.held schedule (IsFrontOf bytes)
+  pub schedule_ends : (files : List File) (bytes : List ℕ) (result : ReplayEnd) → FindsInFiles (site_read site) old.shelf.held (Ok files) → HoldsFile old.shelf.held schedule (IsFrontOf bytes)
       → WritesDue (IsTextDue files bytes show) old.sink new.sink result → ReplayEnds site schedule show old new result
   schedule_ends files bytes result read front (inl told) =
       written_ends (IsReplayText site schedule show) (LacksEither site schedule) old new only_text held shelf told.0 told.1 result
@@ -69,7 +69,7 @@ module _ (site schedule : List ℕ) (show : Bool) (old new : WorkTold) (held : n
       short_ends (IsReplayText site schedule show) (LacksEither site schedule) old new only_text held shelf result short
 
   -- the line of a bad image
-  pub image_ends : (error : SiteError) (bytes : List ℕ) (result : ReplayEnd) → IsRead (site_read site) old.shelf.held (Err error) → HoldsFile old.shelf.held schedule (IsFrontOf bytes)
+  pub image_ends : (error : SiteError) (bytes : List ℕ) (result : ReplayEnd) → FindsInFiles (site_read site) old.shelf.held (Err error) → HoldsFile old.shelf.held schedule (IsFrontOf bytes)
       → WritesText (bad_line error) (ends.BadSite error) old.sink new.sink result → ReplayEnds site schedule show old new result
   image_ends error bytes result read front (inl wrote) =
       written_ends (IsReplayText site schedule show) (LacksEither site schedule) old new only_text held shelf (bad_line error) (ends.BadSite error) result
@@ -84,14 +84,14 @@ module _ (site : List ℕ) (seed clients : ℕ) (old new : WorkTold) (held : new
   only_load text (ends.BadSchedule line why) is = tt
   only_load text _ is = absurd is.2
 
-  load_text : (files : List File) (text : List ℕ) (end : ReplayEnd) → IsRead (site_read site) old.shelf.held (Ok files) → IsPlayDue files (workload_of seed clients) Summary text end
+  load_text : (files : List File) (text : List ℕ) (end : ReplayEnd) → FindsInFiles (site_read site) old.shelf.held (Ok files) → IsPlayDue files (workload_of seed clients) Summary text end
       → IsLoadText site seed clients old.shelf.held text end
   load_text files text ends.Done read due = (files, read, due)
   load_text files text (ends.BadSchedule line why) read due = (files, read, due)
   load_text files text _ read due = absurd due
 
   -- the schedule that the number makes was played
-  pub load_ends : (files : List File) (result : ReplayEnd) → IsRead (site_read site) old.shelf.held (Ok files)
+  pub load_ends : (files : List File) (result : ReplayEnd) → FindsInFiles (site_read site) old.shelf.held (Ok files)
       → WritesDue (IsPlayDue files (workload_of seed clients) Summary) old.sink new.sink result → LoadEnds site seed clients old new result
   load_ends files result read (inl told) =
       written_ends (IsLoadText site seed clients) (LacksFile (site_read site)) old new only_load held shelf told.0 told.1 result
@@ -99,7 +99,7 @@ module _ (site : List ℕ) (seed clients : ℕ) (old new : WorkTold) (held : new
   load_ends files result read (inr short) = short_ends (IsLoadText site seed clients) (LacksFile (site_read site)) old new only_load held shelf result short
 
   -- the line of a bad image
-  pub load_image_ends : (error : SiteError) (result : ReplayEnd) → IsRead (site_read site) old.shelf.held (Err error)
+  pub load_image_ends : (error : SiteError) (result : ReplayEnd) → FindsInFiles (site_read site) old.shelf.held (Err error)
       → WritesText (bad_line error) (ends.BadSite error) old.sink new.sink result → LoadEnds site seed clients old new result
   load_image_ends error result read (inl wrote) =
       written_ends (IsLoadText site seed clients) (LacksFile (site_read site)) old new only_load held shelf (bad_line error) (ends.BadSite error) result (read, refl) wrote

@@ -2,7 +2,7 @@
 use Rattle.std.specs.Prelude.{◌≡◌, ◌≤◌, ◌⊎◌, ℕ, Bool, List, Option, Ok, Err, ⊤}
 use Rattle.file_tree.specs.Loading.{HoldsFile}
 use Rattle.site_image.specs.Files.{File}
-use Rattle.file_tree.specs.Opening.{IsRead, LacksFile, site_read}
+use Rattle.file_tree.specs.Opening.{FindsInFiles, LacksFile, site_read}
 use Rattle.site_commands.specs.Report.{bad_line}
 use Rattle.uip_edge.specs.Causes.{Rose}
 use Rattle.uip_edge.specs.Shelving.{Files, IsMissing}
@@ -46,9 +46,9 @@ EndsWith Is Missing old new end = Told (Is old.shelf.held) old new end
 -- schedule's text give.
 abbrev pub IsReplayText : List ℕ → List ℕ → Bool → Option Files → List ℕ → ReplayEnd → Type 0
 IsReplayText site schedule show held text (ends.BadSite error) =
-    IsRead (site_read site) held (Err error) × HoldsFile held schedule (λ bytes. ⊤) × (text ≡ bad_line error)
+    FindsInFiles (site_read site) held (Err error) × HoldsFile held schedule (λ bytes. ⊤) × (text ≡ bad_line error)
 IsReplayText site schedule show held text end =
-    (files : List File) × (bytes : List ℕ) × IsRead (site_read site) held (Ok files) × HoldsFile held schedule (λ content. content ≡ bytes)
+    (files : List File) × (bytes : List ℕ) × FindsInFiles (site_read site) held (Ok files) × HoldsFile held schedule (λ content. content ≡ bytes)
     × IsTextDue files bytes show text end
 
 -- the shelf tells its files, and lacks the site or the schedule
@@ -61,9 +61,9 @@ ReplayEnds site schedule show old new end = EndsWith (IsReplayText site schedule
 -- The text that is due for these files and the schedule that a number makes, with the end that goes with it. For a schedule that is
 -- played to its end it is the summary of the world that is reached, of which the promises are kept.
 abbrev pub IsLoadText : List ℕ → ℕ → ℕ → Option Files → List ℕ → ReplayEnd → Type 0
-IsLoadText site seed clients held text (ends.BadSite error) = IsRead (site_read site) held (Err error) × (text ≡ bad_line error)
+IsLoadText site seed clients held text (ends.BadSite error) = FindsInFiles (site_read site) held (Err error) × (text ≡ bad_line error)
 IsLoadText site seed clients held text end =
-    (files : List File) × IsRead (site_read site) held (Ok files) × IsPlayDue files (workload_of seed clients) Summary text end
+    (files : List File) × FindsInFiles (site_read site) held (Ok files) × IsPlayDue files (workload_of seed clients) Summary text end
 
 abbrev pub LoadEnds : List ℕ → ℕ → ℕ → WorkTold → WorkTold → ReplayEnd → Type 0
 LoadEnds site seed clients old new end = EndsWith (IsLoadText site seed clients) (LacksFile (site_read site)) old new end

@@ -1,6 +1,6 @@
 ghost use Rattle.std.specs.Prelude.{◌≡◌, ℕ, Bool, List, Err, Ok};
 ghost use Rattle.file_tree.specs.Site.{files_of};
-ghost use Rattle.file_tree.specs.Opening.{IsRead, site_read};
+ghost use Rattle.file_tree.specs.Opening.{FindsInFiles, site_read};
 ghost use Rattle.site_commands.specs.Report.{bad_line as line_of};
 ghost use Rattle.replay_command.specs.Ending.{ReplayEnds};
 ghost use Rattle.replay_command.specs.Telling.{WritesText};
@@ -49,7 +49,7 @@ fn replay_site<H: Shelf, K: Sink>(
     shelf: &mut H,
     out: &mut K,
 ) -> ReplayEnd
-    ensures ends { (name : List ℕ) → IsRead (site_read name) (H.held shelf.old) (Ok (files_of site))
+    ensures ends { (name : List ℕ) → FindsInFiles (site_read name) (H.held shelf.old) (Ok (files_of site))
         → ReplayEnds name schedule.now show (work_told H.Shelf K.Sink shelf.old out.old)
         (work_told H.Shelf K.Sink shelf.new out.new) result }
     ensures kept { H.held shelf.new ≡ H.held shelf.old }
@@ -70,7 +70,7 @@ fn refuse_site<H: Shelf, K: Sink>(
     shelf: &mut H,
     out: &mut K,
 ) -> ReplayEnd
-    ensures ends { (name : List ℕ) (show : Bool) → IsRead (site_read name) (H.held shelf.old) (Err error)
+    ensures ends { (name : List ℕ) (show : Bool) → FindsInFiles (site_read name) (H.held shelf.old) (Err error)
         → ReplayEnds name schedule.now show (work_told H.Shelf K.Sink shelf.old out.old)
         (work_told H.Shelf K.Sink shelf.new out.new) result }
     ensures kept { H.held shelf.new ≡ H.held shelf.old }

@@ -12,7 +12,7 @@ use Rattle.site_image.specs.Faults.{◌>>=◌, fault}
 use Rattle.file_tree.specs.declared.load_fault.LoadFault.{LoadFault}
 use Rattle.file_tree.specs.declared.load_fault.LoadFault.TheVariants.{Shelf, Bad, NoMemory}
 use Rattle.file_tree.specs.Loading.{HoldsFile, HasLoadCause}
-use Rattle.file_tree.specs.Opening.{IsRead, LacksFile}
+use Rattle.file_tree.specs.Opening.{FindsInFiles, LacksFile}
 use Rattle.site_commands.specs.Gathering.{NamedContent, Gathers, IsTooLong, WasRead, gathered, list_of, with_first}
 
 abbrev pub ReadList : Type 0
@@ -132,7 +132,7 @@ unfolding gathered
 nothing files room = refl
 
 -- all files were read
-all_read : (held : Option Files) (named : List NamedContent) (i room : ℕ) (list : List HeldFile) → length named ≤ i → SoFar held named i room list → IsRead (list_of named) held (Ok list)
+all_read : (held : Option Files) (named : List NamedContent) (i room : ℕ) (list : List HeldFile) → length named ≤ i → SoFar held named i room list → FindsInFiles (list_of named) held (Ok list)
 all_read None named i room list end so_far = tt
 all_read (Some files) named i room list end so_far =
     so_far ∙ ap (option_map (behind list)) (at_drop_all (gathered files room) named i end ∙ nothing files room)
@@ -150,7 +150,7 @@ lacks_one (Some files) named i room list n lt is missing so_far =
     so_far ∙ ap (option_map (behind list)) (next_is files named i room n lt is ∙ lacks files room n (drop (i + 1) named) missing)
 
 no_room : (held : Option Files) (named : List NamedContent) (i room : ℕ) (list : List HeldFile) (n : NamedContent) (error : SiteError) → i < length named → n ≡ get_or named i n
-    → error ≡ fault TooLong 0 → HoldsFile held n.file (λ content. room < length content) → SoFar held named i room list → IsRead (list_of named) held (Err error)
+    → error ≡ fault TooLong 0 → HoldsFile held n.file (λ content. room < length content) → SoFar held named i room list → FindsInFiles (list_of named) held (Err error)
 no_room None named i room list n error lt is e holds so_far = tt
 no_room (Some files) named i room list n error lt is e holds so_far =
     let found = held_content (files n.file) (λ content. room < length content) holds in

@@ -10,12 +10,12 @@ use Rattle.web_pages.specs.ZeroPages.{zero_page}
 use Rattle.site_commands.specs.declared.site_end.SiteEnd.{SiteEnd}
 use Rattle.site_commands.specs.Due.{due_of, page_due}
 use Rattle.site_commands.specs.Ending.{Ends}
-use Rattle.file_tree.specs.Opening.{IsRead, Opens, site_read}
+use Rattle.file_tree.specs.Opening.{FindsInFiles, Opens, site_read}
 use Rattle.uip_edge.specs.Told.{WorkTold}
 use Rattle.site_commands.specs.declared.site_end.SiteEnd.TheVariants as ends
 use Rattle.uip_edge.specs.Writing.{WritesEnd}
 
-page_is_due : (name target : List ℕ) (held : Option Files) (read : Result (List File) SiteError) → IsRead (site_read name) held read → IsRead (page_due name target) held (due_of (read >>= λ site. Ok (zero_page site target)))
+page_is_due : (name target : List ℕ) (held : Option Files) (read : Result (List File) SiteError) → FindsInFiles (site_read name) held read → FindsInFiles (page_due name target) held (due_of (read >>= λ site. Ok (zero_page site target)))
 page_is_due name target None read is = tt
 page_is_due name target (Some files) read is = ap (option_map (λ (r : Result (List File) SiteError). due_of (r >>= λ site. Ok (zero_page site target)))) is
 

@@ -5,7 +5,7 @@ use Rattle.uip_edge.specs.Shelving.{Files}
 use Rattle.uip_edge.specs.Told.{ShelfTold, SinkTold, WorkTold}
 use Rattle.uip_edge.specs.Writing.{WritesAll, WritesEnd, WritesFront}
 use Rattle.site_image.specs.declared.site_error.SiteError.{SiteError}
-use Rattle.file_tree.specs.Opening.{IsRead, LacksFile}
+use Rattle.file_tree.specs.Opening.{FindsInFiles, LacksFile}
 use Rattle.site_commands.specs.declared.halt.Halt.{Halt}
 use Rattle.site_commands.specs.declared.halt.Halt.TheVariants as halt
 use Rattle.site_commands.specs.declared.site_end.SiteEnd.{SiteEnd}
@@ -15,7 +15,7 @@ use Rattle.site_commands.specs.Due.{Due}
 -- the whole text was written, and this was the first fault
 abbrev pub Finishes : (Files → Option Due) → WorkTold → WorkTold → Option SiteError → Type 0
 Finishes due old new fault = (text : List ℕ)
-    × IsRead due old.shelf.held (record { text = text; fault = fault })
+    × FindsInFiles due old.shelf.held (record { text = text; fault = fault })
     × WritesAll old.sink new.sink text
     × (new.shelf.faults ≡ old.shelf.faults)
 
@@ -27,14 +27,14 @@ Ends due old new ends.ShelfFault =
     (Rose old.shelf.faults new.shelf.faults ⊎ LacksFile due old.shelf.held) × (old.shelf.faults ≤ new.shelf.faults)
     × (new.sink ≡ old.sink)
 Ends due old new ends.WriteFault = (made : Due)
-    × IsRead due old.shelf.held made
+    × FindsInFiles due old.shelf.held made
     × WritesFront old.sink new.sink made.text
     × (new.shelf.faults ≡ old.shelf.faults)
 Ends due old new ends.NoMemory = new ≡ old
 
 -- what was made of the shelf's files, or why nothing was
 abbrev pub Makes : (Files → Option Due) → ShelfTold → ShelfTold → Result Due Halt → Type 0
-Makes due old new (Ok made) = IsRead due old.held made × (new.faults ≡ old.faults)
+Makes due old new (Ok made) = FindsInFiles due old.held made × (new.faults ≡ old.faults)
 Makes due old new (Err halt.Shelf) = (Rose old.faults new.faults ⊎ LacksFile due old.held) × (old.faults ≤ new.faults)
 Makes due old new (Err halt.NoMemory) = new.faults ≡ old.faults
 
@@ -51,4 +51,4 @@ WritesMade (Err halt.NoMemory) old new end = (end ≡ ends.NoMemory) × (new ≡
 
 -- the end is the one that is due, or memory was short
 abbrev pub EndsAsDue : (Files → Option Due) → Option Files → SiteEnd → Type 0
-EndsAsDue due held end = (end ≡ ends.NoMemory) ⊎ ((made : Due) × IsRead due held made × (end ≡ end_of made.fault))
+EndsAsDue due held end = (end ≡ ends.NoMemory) ⊎ ((made : Due) × FindsInFiles due held made × (end ≡ end_of made.fault))

@@ -7,7 +7,7 @@ use Rattle.site_image.specs.declared.site_error.SiteError.{SiteError}
 use Rattle.site_image.specs.declared.site_error.SiteWhy.TheVariants.{TooLong}
 use Rattle.site_image.specs.Faults.{◌>>=◌, fault}
 use Rattle.file_tree.specs.Loading.{HoldsFile}
-use Rattle.file_tree.specs.Opening.{IsRead, LacksFile}
+use Rattle.file_tree.specs.Opening.{FindsInFiles, LacksFile}
 use Rattle.file_tree.specs.declared.load_fault.LoadFault.{LoadFault}
 use Rattle.file_tree.specs.declared.load_fault.LoadFault.TheVariants.{Shelf, Bad, NoMemory}
 
@@ -35,8 +35,8 @@ list_of named files = gathered files LONGEST_IMAGE named
 
 -- what reading the files gave, seen by the function, with the count of the shelf's faults before and after
 abbrev pub Gathers : {X : Type 0} → (X → List HeldFile) → List NamedContent → Option Files → ℕ → ℕ → Result X LoadFault → Type 0
-Gathers view named held before now (Ok x) = IsRead (list_of named) held (Ok (view x)) × (now ≡ before)
-Gathers view named held before now (Err (Bad error)) = IsRead (list_of named) held (Err error) × (now ≡ before)
+Gathers view named held before now (Ok x) = FindsInFiles (list_of named) held (Ok (view x)) × (now ≡ before)
+Gathers view named held before now (Err (Bad error)) = FindsInFiles (list_of named) held (Err error) × (now ≡ before)
 Gathers view named held before now (Err Shelf) = (Rose before now ⊎ LacksFile (list_of named) held) × (before ≤ now)
 Gathers view named held before now (Err NoMemory) = now ≡ before
 

@@ -5,7 +5,7 @@ use Rattle.uip_edge.specs.Shelving.{Files}
 use Rattle.site_commands.specs.declared.site_end.SiteEnd.{SiteEnd}
 use Rattle.site_commands.specs.Due.{Due}
 use Rattle.site_commands.specs.Ending.{Ends, end_of}
-use Rattle.file_tree.specs.Opening.{IsRead, LacksFile}
+use Rattle.file_tree.specs.Opening.{FindsInFiles, LacksFile}
 use Rattle.site_commands.proofs.EndLaws.{as_due}
 use Rattle.uipd.specs.declared.status.Status.{Status}
 use Rattle.uipd.specs.declared.status.Status.TheVariants as status
@@ -13,7 +13,7 @@ use Rattle.uipd.specs.Statuses.{RunsAs, status_of_site}
 use Rattle.uip_edge.specs.Told.{WorkTold, WorkUnfailed}
 
 abbrev pub IsTold : (Files → Option Due) → WorkTold → Status → Type 0
-IsTold due old result = (result ≡ status.NoMemory) ⊎ ((made : Due) × IsRead due old.shelf.held made × (result ≡ status_of_site (end_of made.fault)))
+IsTold due old result = (result ≡ status.NoMemory) ⊎ ((made : Due) × FindsInFiles due old.shelf.held made × (result ≡ status_of_site (end_of made.fault)))
 
 told : (due : Files → Option Due) (old new : WorkTold) (end : SiteEnd) → Ends due old new end → WorkUnfailed old new → ¬ (LacksFile due old.shelf.held)
     → IsTold due old (status_of_site end)

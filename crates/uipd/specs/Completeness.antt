@@ -1,7 +1,7 @@
 -- What a run comes to where nothing outside disturbs it: no count rises, and no file that the words ask for is missing.
 use Rattle.std.specs.Prelude.{◌≡◌, ◌<◌, ◌⊎◌, ℕ, List, length, Option, None, Some, Err, Ok, ⊤}
 use Rattle.std.specs.Io.KnownBytes.{Appends}
-use Rattle.file_tree.specs.Opening.{IsRead, LacksFile, site_read}
+use Rattle.file_tree.specs.Opening.{FindsInFiles, LacksFile, site_read}
 use Rattle.site_image.specs.Files.{File}
 use Rattle.site_image.specs.declared.site_error.SiteError.{SiteError}
 use Rattle.site_commands.specs.Due.{Due, check_due, page_due, pack_due, upgrade_due}
@@ -50,13 +50,13 @@ pub record LineDone (text : List Item → List ℕ) (n : ℕ) (old new : LineTol
 -- the line was served with the files of the site, or the site is bad
 abbrev pub ServingDone : List ℕ → ServedLine → Outside → Outside → Status → Type 0
 ServingDone site line old new result =
-    ((files : List File) × IsRead (site_read site) old.shelf.held (Ok files)
+    ((files : List File) × FindsInFiles (site_read site) old.shelf.held (Ok files)
     × LineDone (output_of files line) line.limits.items (line_in old) (line_in new) result)
-    ⊎ ((error : SiteError) × IsRead (site_read site) old.shelf.held (Err error) × (result ≡ status.BadSite error))
+    ⊎ ((error : SiteError) × FindsInFiles (site_read site) old.shelf.held (Err error) × (result ≡ status.BadSite error))
 
 -- the text that is due for the shelf's files was written, and the answer is the one that goes with it
 abbrev pub ImageDone : (Files → Option Due) → Outside → Outside → Status → Type 0
-ImageDone due old new result = (made : Due) × IsRead due old.shelf.held made
+ImageDone due old new result = (made : Due) × FindsInFiles due old.shelf.held made
     × Appends old.sink.written new.sink.written made.text × (result ≡ status_of_site (end_of made.fault))
 
 abbrev pub ReplayDone : (List ℕ → ReplayEnd → Type 0) → Outside → Outside → Status → Type 0

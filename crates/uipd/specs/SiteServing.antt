@@ -3,7 +3,7 @@ use Rattle.std.specs.Prelude.{◌≡◌, ◌⊎◌, ℕ, List, Some, Result, Ok,
 use Rattle.site_image.specs.Files.{File}
 use Rattle.site_image.specs.declared.site_error.SiteError.{SiteError}
 use Rattle.file_tree.specs.declared.load_fault.LoadFault.{LoadFault}
-use Rattle.file_tree.specs.Opening.{FailsToOpen, IsRead, site_read}
+use Rattle.file_tree.specs.Opening.{FailsToOpen, FindsInFiles, site_read}
 use Rattle.uip_edge.specs.Shelving.{Files}
 use Rattle.uip_edge.specs.Causes.{IsUnfailed}
 use Rattle.uip_edge.specs.Told.{LineUnfailed, Outside, line_in}
@@ -16,7 +16,7 @@ use Rattle.uipd.specs.declared.status.Status.TheVariants as status
 -- the site under the name was opened, and this was done with its files
 pub record WithSite (site : List ℕ) (old new : Outside) (Done : List File → Type 0) : Type 0 where
   pub files : List File
-  pub read : IsRead (site_read site) old.shelf.held (Ok files)
+  pub read : FindsInFiles (site_read site) old.shelf.held (Ok files)
   pub shelf : new.shelf ≡ old.shelf
   pub done : Done files
 

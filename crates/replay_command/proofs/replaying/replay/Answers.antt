@@ -1,7 +1,7 @@
 use Rattle.std.proofs.Common.{Err, Option, refl, subst, sym}
 use Rattle.file_tree.specs.declared.load_fault.LoadFault.{LoadFault}
 use Rattle.uip_edge.specs.Shelving.{Files}
-use Rattle.file_tree.specs.Opening.{IsRead, Opens, site_read}
+use Rattle.file_tree.specs.Opening.{FindsInFiles, Opens, site_read}
 use Rattle.replay_command.specs.Ending.{ReplayEnds}
 use Rattle.replay_command.proofs.Told.{same_work}
 use Rattle.uip_edge.specs.Told.{WorkTold}
@@ -17,4 +17,4 @@ returns-in-Err-Bad-clause-ends g c =
     let opens = subst (λ (f : LoadFault). Opens c.args.site.now old.shelf.held old.shelf.faults amid.shelf.faults (Err f)) c.in-Err-Bad.field-0-is c.in-Err-Bad.ensures.opens in
     let kept = c.in-Err-Bad.ensures.kept in
     subst (λ (d : WorkTold). ReplayEnds c.args.site.now c.args.schedule.now c.args.show d new c.refuse_site.result) (same_work old amid kept refl opens.1)
-    (c.refuse_site.ensures.ends c.args.site.now c.args.show (subst (λ (h : Option Files). IsRead (site_read c.args.site.now) h (Err error)) (sym kept) opens.0))
+    (c.refuse_site.ensures.ends c.args.site.now c.args.show (subst (λ (h : Option Files). FindsInFiles (site_read c.args.site.now) h (Err error)) (sym kept) opens.0))
