@@ -83,7 +83,8 @@ text_line bytes = codes "text " ++ digits_or_dash bytes ++ codes "\n"
 -- their own
 abbrev pub lines_of_client : Bool → ℕ → Side → List ℕ
 lines_of_client show number side =
-    client_line show number side.client.state (length side.client.received) side.first_stale ++ word_if show (text_line side.client.received)
+    client_line show number side.client.state (length side.client.received) side.first_stale
+    ++ word_if show (text_line side.client.received)
 
 abbrev pub counts_line : ℕ → ℕ → List ℕ
 counts_line ticks datagrams = codes "ticks " ++ decimal ticks ++ codes " datagrams " ++ decimal datagrams ++ codes "\n"

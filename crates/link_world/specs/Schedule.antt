@@ -51,7 +51,8 @@ pub record BadLine : Type 0 where
 abbrev pub plays_from : Meaning → (ℕ → Bool) → ℕ → List Event → World → Result World BadLine
 plays_from m served place [] w = Ok w
 plays_from m served place (event ∷ more) w =
-    result_map_both (λ v. v) (λ why. record { place = place; why = why }) (plays_line m served w event) >>= plays_from m served (place + 1) more
+    result_map_both (λ v. v) (λ why. record { place = place; why = why }) (plays_line m served w event)
+    >>= plays_from m served (place + 1) more
 
 abbrev pub plays : Meaning → (ℕ → Bool) → List Event → World → Result World BadLine
 plays m served events w = plays_from m served 0 events w
