@@ -52,14 +52,15 @@ fn finds_the_file_of_an_image(rt: HostRuntime) -> Result<(), Fail> {
 #[test]
 fn upgrades_an_image(rt: HostRuntime) -> Result<(), Fail> {
     let alloc = rt.alloc();
-    let kind = KindWord {
+    let mut kinds = Vec::new(alloc);
+    kinds.push(KindWord {
         name: b"/index.html".to_vec(alloc)?,
         kind: b"text/html".to_vec(alloc)?,
-    };
+    })?;
     let Ok(site) = Site::read(alloc, IMAGE) else {
         return Err("not read".into());
     };
-    let image = upgrade(alloc, &site, &one(alloc, kind)?);
+    let image = upgrade(alloc, &site, &kinds);
     assert!(rt; image.is_ok_and(|image| image.as_slice() == TYPED));
     Ok(())
 }

@@ -102,12 +102,12 @@ fn each_call_is_made_once(rt: HostRuntime) {
 
     let heard = uip_hear(alloc, &mut device, REQUEST_TEXT, &mut out);
     assert_eq!(rt; heard, made(34, 34));
-    assert_eq!(rt; &out[..34], &REPLY_TEXT[..]);
+    assert!(rt; out.starts_with(REPLY_TEXT));
     assert_eq!(rt; uip_call(alloc, &mut device, 0, &mut out), answer(FINE));
 
     let heard = uip_hear_datagram(alloc, &mut device, REQUEST, &mut out);
     assert_eq!(rt; heard, made(30, 30));
-    assert_eq!(rt; &out[..30], &REPLY[..]);
+    assert!(rt; out.starts_with(REPLY));
     let called = uip_call_datagram(alloc, &mut device, 9, &mut out);
     assert_eq!(rt; called, answer(FINE));
 
@@ -169,7 +169,7 @@ fn a_text_is_handed_on(rt: HostRuntime) {
         ..made(34, 29)
     };
     assert_eq!(rt; heard, first);
-    assert_eq!(rt; &most[..29], &FIRST_PIECE[..]);
+    assert!(rt; most.starts_with(FIRST_PIECE));
     check_refused(&rt, alloc, &mut device, TEXT_LEFT);
     assert_eq!(rt; uip_more(alloc, &mut device, &mut one), answer(BAD_CALL));
     let more = uip_more(alloc, &mut device, &mut few);
@@ -178,10 +178,10 @@ fn a_text_is_handed_on(rt: HostRuntime) {
         ..made(0, 2)
     };
     assert_eq!(rt; more, second);
-    assert_eq!(rt; &few[..2], &SECOND_PIECE[..]);
+    assert!(rt; few.starts_with(SECOND_PIECE));
     let more = uip_more(alloc, &mut device, &mut out);
     assert_eq!(rt; more, made(0, 3));
-    assert_eq!(rt; &out[..3], &LAST_PIECE[..]);
+    assert!(rt; out.starts_with(LAST_PIECE));
     assert_eq!(rt; uip_more(alloc, &mut device, &mut out), answer(FINE));
     assert_eq!(rt; uip_close(alloc, &mut device), FINE);
 }

@@ -65,8 +65,8 @@ fn answers_frames(rt: HostRuntime) -> Result<(), Fail> {
         (&[FOREIGN_REQUEST, PING], &[QUESTION]),
         (&[RUNT, REQUEST], &[REPLY]),
         (&["0000", REQUEST], &[REPLY]),
-        (&[CUT_REQUEST], &[]),
-        (&[RUNT], &[]),
+        (&[CUT_REQUEST], &[""]),
+        (&[RUNT], &[""]),
     ];
     check_talks(&rt, rt.alloc(), &ETHER, &talks)
 }

@@ -15,7 +15,7 @@ const PAGE: &[u8] =
     round\nround\nround\n";
 
 /// Whether a run with a call that fails did what is due, and wrote a front of what it writes where none fails.
-fn check(rt: &impl Abort, alloc: Global, trial: &Trial<'_>) -> Result<(), Fail> {
+fn check(rt: &impl Abort, alloc: Global, trial: &Trial<'_, '_>) -> Result<(), Fail> {
     let ran = trial.run(alloc, 1)?;
     assert_eq!(rt; ran.status, trial.status);
     let text = ran.out.written();

@@ -38,8 +38,8 @@ pub fn bad(why: SiteWhy, entry: u32) -> Status {
 /// A run over the files `h` and `i` and a line: the calls of the shelf, of the link and of the sink that fail, the sink's room,
 /// and what it has to write, to tell and to answer.
 #[derive(Clone, Copy, Drop)]
-pub struct Trial<'a> {
-    pub words: &'a [&'a str],
+pub struct Trial<'w, 'a> {
+    pub words: &'w [&'w str],
     pub h: &'a [u8],
     pub i: &'a [u8],
     pub input: &'a [u8],
@@ -84,9 +84,9 @@ fn sink(alloc: Global, room: usize, fails: &[u64]) -> Result<MemSink, Fail> {
     }
 }
 
-impl<'a> Trial<'a> {
+impl<'w, 'a> Trial<'w, 'a> {
     /// Words that are done: what comes over the line, and what is written.
-    pub fn new(words: &'a [&'a str], input: &'a [u8], output: &'a [u8]) -> Trial<'a> {
+    pub fn new(words: &'w [&'w str], input: &'a [u8], output: &'a [u8]) -> Trial<'w, 'a> {
         Trial {
             words,
             h: IMAGE,
@@ -104,7 +104,7 @@ impl<'a> Trial<'a> {
     }
 
     /// Words over the file `h` and no line.
-    pub fn over(words: &'a [&'a str], h: &'a [u8], output: &'a [u8], status: Status) -> Trial<'a> {
+    pub fn over(words: &'w [&'w str], h: &'a [u8], output: &'a [u8], status: Status) -> Trial<'w, 'a> {
         Trial {
             h,
             ..Trial::new(words, b"", output).ending(status)
@@ -112,7 +112,7 @@ impl<'a> Trial<'a> {
     }
 
     /// The same with another answer.
-    pub fn ending(self, status: Status) -> Trial<'a> {
+    pub fn ending(self, status: Status) -> Trial<'w, 'a> {
         Trial { status, ..self }
     }
 
@@ -172,7 +172,7 @@ impl<'a> Trial<'a> {
 }
 
 /// Does each run with its items cut in every way.
-pub fn check_all(rt: &impl Abort, alloc: Global, trials: &[Trial<'_>]) -> Result<(), Fail> {
+pub fn check_all(rt: &impl Abort, alloc: Global, trials: &[Trial<'_, '_>]) -> Result<(), Fail> {
     for trial in trials {
         trial.check_cuts(rt, alloc)?;
     }
@@ -183,10 +183,10 @@ pub fn check_all(rt: &impl Abort, alloc: Global, trials: &[Trial<'_>]) -> Result
 pub type Talk<'a> = (&'a [&'a str], &'a [&'a str]);
 
 /// Does a run with these words for each talk, with its items cut in every way.
-pub fn check_talks(
+pub fn check_talks<'w>(
     rt: &impl Abort,
     alloc: Global,
-    words: &[&str],
+    words: &'w [&'w str],
     talks: &[Talk<'_>],
 ) -> Result<(), Fail> {
     for (heard, sent) in talks {

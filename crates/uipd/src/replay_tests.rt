@@ -97,14 +97,14 @@ const SHOWN: &[u8] =
     485454502f312e3020323030204f4b0d0a5365727665723a207549502f312e300d0a436f6e6e656374696f6e3a20636c\
     6f73650d0a436f6e74656e742d747970653a20746578742f68746d6c0d0a0d0a68656c6c6f0a\nticks 0 datagrams 8\n";
 
-fn replaying<'a>(site: &'a [u8], schedule: &'a [u8], report: &'a [u8]) -> Trial<'a> {
+fn replaying<'a>(site: &'a [u8], schedule: &'a [u8], report: &'a [u8]) -> Trial<'static, 'a> {
     Trial {
         i: schedule,
         ..Trial::over(&["replay", "h", "i"], site, report, Status::Done)
     }
 }
 
-fn refused<'a>(schedule: &'a [u8], told: &'a [u8], line: u32, why: Why) -> Trial<'a> {
+fn refused<'a>(schedule: &'a [u8], told: &'a [u8], line: u32, why: Why) -> Trial<'static, 'a> {
     replaying(IMAGE, schedule, told).ending(Status::BadSchedule { line, why })
 }
 

@@ -19,7 +19,7 @@ const INCLUDE: &[u8] = b"UIPSITE1\0\x02\x08/b.shtml\0\0\0\x0ca%!:/c.txt\nb\x06/c
 
 const GOOD: &[u8] = b"/index.html 86\nfiles 1\n";
 
-fn checking<'a>(h: &'a [u8], output: &'a [u8], status: Status) -> Trial<'a> {
+fn checking<'a>(h: &'a [u8], output: &'a [u8], status: Status) -> Trial<'static, 'a> {
     Trial::over(&["check", "h"], h, output, status)
 }
 
@@ -338,7 +338,7 @@ const HELLO_PAGE: &[u8] =
 const MISSING_PAGE: &[u8] =
     b"HTTP/1.0 404 Not found\r\nServer: uIP/1.0\r\nConnection: close\r\nContent-type: text/html\r\n\r\nnot found\n";
 
-fn paging<'a>(words: &'a [&'a str], image: &'a [u8], output: &'a [u8]) -> Trial<'a> {
+fn paging<'w, 'a>(words: &'w [&'w str], image: &'a [u8], output: &'a [u8]) -> Trial<'w, 'a> {
     Trial::over(words, image, output, Status::Done)
 }
 

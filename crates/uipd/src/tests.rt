@@ -93,16 +93,16 @@ const PING_RECORD: &str = "00000000 00000000 0000001C 0000001C";
 fn answers_each_datagram(rt: HostRuntime) -> Result<(), Fail> {
     let talks: [Talk; 10] = [
         (&[PING], &[PONG]),
-        (&[], &[]),
-        (&["C0"], &[]),
-        (&["DB C0"], &[]),
+        (&[""], &[""]),
+        (&["C0"], &[""]),
+        (&["DB C0"], &[""]),
         // A datagram without its last mark.
-        (&["C0", PING_ALONE], &[]),
+        (&["C0", PING_ALONE], &[""]),
         (&[ESCAPED_PING], &[ESCAPED_PONG]),
         (&[STRAY_PING], &[STRAY_PONG]),
         (&[PADDED_PING], &[PONG]),
         (&[STRAY_SYN], &[REFUSAL]),
-        (&[RESET], &[]),
+        (&[RESET], &[""]),
     ];
     check_talks(&rt, rt.alloc(), &SERVE, &talks)
 }
