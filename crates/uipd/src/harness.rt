@@ -104,7 +104,12 @@ impl<'w, 'a> Trial<'w, 'a> {
     }
 
     /// Words over the file `h` and no line.
-    pub fn over(words: &'w [&'w str], h: &'a [u8], output: &'a [u8], status: Status) -> Trial<'w, 'a> {
+    pub fn over(
+        words: &'w [&'w str],
+        h: &'a [u8],
+        output: &'a [u8],
+        status: Status,
+    ) -> Trial<'w, 'a> {
         Trial {
             h,
             ..Trial::new(words, b"", output).ending(status)
