@@ -172,7 +172,7 @@ class Documents:
     def see_names(self, page, number, line, crates):
         """Holds the names and paths in back quotes against the sources; a path of a crate is that of one of these crates."""
         for text in re.findall(r"`([^`]+)`", line):
-            if "NAME" in text or "CRATE" in text or "*" in text or text.startswith("/"):
+            if re.search(r"NAME|CRATE|FILE|FUNCTION|TYPE|[*]|^/", text):
                 continue
             if re.fullmatch(r"[\w.-]+(/[\w.-]+)+/?", text):
                 if not NO_PATH.fullmatch(text) and not self.is_path(page, text, crates):
