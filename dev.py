@@ -156,10 +156,13 @@ class Documents:
         self.faults.append(f"{page}:{number}: {text}")
 
     def is_path(self, page, text, crates):
-        """Whether a path stands at the top, beside the page or in docs/, or in one of these crates; a source also without its ending, and
-        behind its crate's name without its folder, as in `uip_slip/Frames`."""
+        """Whether a path stands at the top, beside the page or in docs/, or in one of these crates (in any of them, where a page of no crate
+        speaks of a folder that each has); a source also without its ending, and behind its crate's name without its folder, as in
+        `uip_slip/Frames`."""
         text = text.rstrip("/").split("#")[0]
         crate, _, rest = text.partition("/")
+        if crate in ("specs", "src", "proofs", "must-fail") and not page.startswith("crates/"):
+            crates = self.crates.below
         paths = [os.path.join(at, text) for at in ("", os.path.dirname(page), "docs", "crates", *(f"crates/{it}" for it in crates))]
         paths += [f"crates/{crate}/{part}/{rest}" for part in ("specs", "src", "proofs")]
         return any(os.path.normpath(it) + end in self.places for it in paths for end in ("", ".antt", ".rt", ".edit", ".md"))
