@@ -145,14 +145,14 @@ export class Connection {
     }
     const isFirst = !this.#isOutstanding();
     this.#most = this.#next;
-    this.#timed ??= { seq, at: this.host.now() };
+    this.#timed ??= { seq, at: this.host.clock.now() };
     if (isFirst) this.#arm();
   }
 
   // The timer runs while something of ours is not acknowledged, and while text of the node's is awaited.
   #arm(wait = this.host.firstWait()) {
     clearTimeout(this.#timer);
-    if (this.#isOutstanding() || this.#isOpen()) this.#timer = this.host.later(wait, () => this.#expire(wait));
+    if (this.#isOutstanding() || this.#isOpen()) this.#timer = this.host.clock.later(wait, () => this.#expire(wait));
   }
 
   #expire(wait) {
@@ -219,7 +219,7 @@ export class Connection {
     this.#una = ack;
     if (isAfter(ack, this.#next)) this.#next = ack;
     if (this.#timed && isAfter(ack, this.#timed.seq)) {
-      this.host.learnTrip(this.host.now() - this.#timed.at);
+      this.host.learnTrip(this.host.clock.now() - this.#timed.at);
       this.#timed = null;
     }
     this.#hasMoved();
@@ -250,6 +250,6 @@ export class Connection {
   #rest() {
     this.state = "TIME-WAIT";
     clearTimeout(this.#timer);
-    this.#timer = this.host.later(TIME_WAIT, () => this.#leave());
+    this.#timer = this.host.clock.later(TIME_WAIT, () => this.#leave());
   }
 }

@@ -1,5 +1,6 @@
 // What can befall datagrams on their way, both ways, by chances that follow from a seed: they are lost, repeated, come out
 // of order, damaged or late. TCP has to make each of them good (RFC 793 section 1.5, "Reliability").
+import { Clock } from "./clock.js";
 
 const LATEST = 300;   // milliseconds that a datagram is held back where no other comes to go in front of it
 
@@ -23,10 +24,10 @@ export class Faults {
   #held = { true: null, false: null };   // by direction
   #isClosed = false;
 
-  constructor(seed = 1, later = (wait, what) => setTimeout(what, wait)) {
+  constructor(seed = 1, clock = new Clock()) {
     const next = numbers(seed);
     this.chance = () => next() / 0x100000000;
-    this.later = later;
+    this.clock = clock;
   }
 
   // What befalls a datagram: the words for it, and `go`, which delivers it as that wants.
@@ -52,12 +53,12 @@ export class Faults {
 
   #give(datagram, deliver) {
     const give = () => { if (!this.#isClosed) deliver(datagram); };
-    if (this.delay > 0) this.later(this.delay, give); else give();
+    if (this.delay > 0) this.clock.later(this.delay, give); else give();
   }
 
   // It goes behind the next one of its direction, or in a while.
   #hold(isToNode, give) {
-    this.#held[isToNode] = { give, timer: this.later(LATEST, () => this.#release(isToNode)) };
+    this.#held[isToNode] = { give, timer: this.clock.later(LATEST, () => this.#release(isToNode)) };
   }
 
   #release(isToNode) {

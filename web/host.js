@@ -1,5 +1,6 @@
 // A host that talks to one node: it pings (RFC 792), and opens TCP connections (RFC 793 section 3.4) from ports of its own,
 // as a browser's system would. It is handed each datagram that came (`hear`) and hands out each that goes (`send`).
+import { Clock } from "./clock.js";
 import { Connection, EMPTY, plus, random32 } from "./connection.js";
 import { ACK, FIN, LARGEST, RST, SYN, echoDatagram, read, tcpDatagram } from "./wire.js";
 
@@ -15,18 +16,10 @@ export class Host {
   #ping = random32();
   #trip = null;              // { mean, spread } of round trips: all connections share the line
 
-  // `clock.rate` says how many times quicker than the clock the time goes, for a line that is played. `waits` hears of a
-  // connection for which nothing came for some milliseconds.
-  constructor(send, { own = [10, 0, 0, 2], node = [10, 0, 0, 1], mss = LARGEST - 40, clock = { rate: 1 }, waits = () => {} } = {}) {
+  // `waits` hears of a connection for which nothing came for some milliseconds.
+  constructor(send, options = {}) {
+    const { own = [10, 0, 0, 2], node = [10, 0, 0, 1], mss = LARGEST - 40, clock = new Clock(), waits = () => {} } = options;
     Object.assign(this, { send, own, node, mss, clock, waits });
-  }
-
-  later(wait, what) {
-    return setTimeout(what, wait / this.clock.rate);
-  }
-
-  now() {
-    return performance.now() * this.clock.rate;
   }
 
   // A connection to a port of the node. Our ports are taken in turn, so none is used again before 16383 others were.
@@ -45,16 +38,16 @@ export class Host {
 
   // The milliseconds until the reply to an echo request came, whose payload is the same.
   ping(length = 56, patience = 5000) {
-    const number = this.#ping = plus(this.#ping, 1), start = this.now();
+    const number = this.#ping = plus(this.#ping, 1), start = this.clock.now();
     const payload = Uint8Array.from({ length }, (_, at) => at & 0xff);
     return new Promise((resolve, reject) => {
       const fail = why => { this.#pings.delete(number); clearTimeout(timer); reject(new Error(why)); };
-      const timer = this.later(patience, () => fail("no reply"));
+      const timer = this.clock.later(patience, () => fail("no reply"));
       const hear = reply => {
         if (!isSame(reply, payload)) return;
         this.#pings.delete(number);
         clearTimeout(timer);
-        resolve(this.now() - start);
+        resolve(this.clock.now() - start);
       };
       this.#pings.set(number, { hear, fail });
       this.send(echoDatagram(this.own, this.node, this.#nextId(), number, payload));

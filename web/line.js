@@ -1,5 +1,6 @@
 // Between a host's datagrams and the bytes of a line. A line is what has `readable` and `writable`, streams of bytes: a
 // serial port as Web Serial has it, the bridge of web/serve.py (a WebSocket, RFC 6455), or a child process in a test.
+import { Clock } from "./clock.js";
 import { SlipReader, silence, slipText } from "./wire.js";
 
 // The errors after which Web Serial gives a port another `readable`.
@@ -49,7 +50,7 @@ export function attach(line, { tell, noise = () => {}, passing = () => {}, ended
 // END bytes while nothing else is sent, so that a line of `rate` bytes a second is never silent, and a node whose ticks are
 // counted in bytes has a clock. At no time more than a quarter of a second goes, so that no tick comes together with
 // another: a page that was held up lets the node's clock go slower. Gives how to stop.
-export function fillSilence(wire, rate, clock = { rate: 1 }) {
+export function fillSilence(wire, rate, clock = new Clock()) {
   let sent = wire.counts.written, then = performance.now(), timer = 0;
   function beat() {
     const now = performance.now(), most = Math.ceil(rate / 4);

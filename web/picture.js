@@ -7,9 +7,9 @@ const LEFT = 190, RIGHT = 610, WIDTH = 800, TOP = 70, STEP = 34, SLOPE = 16, GAP
 const escaped = text => String(text).replace(/[&<>"]/g, sign => `&#${sign.charCodeAt(0)};`);
 
 const STYLE = `text { font: 12px ui-monospace, monospace; fill: #142c24; } .head { font-weight: bold; }
-.wire { stroke: #142c24; stroke-width: 1.2; fill: none; } .line { stroke: #7a938a; } .time { fill: #4d635b; }
-.from .wire { stroke: #06705a; } .again .wire { stroke: #b36b00; stroke-dasharray: 6 3; } .again text { fill: #7a4900; }
-.other .wire, .lost .wire { stroke: #b00020; } .other text, .lost text { fill: #b00020; }`;
+path { stroke: #142c24; stroke-width: 1.2; fill: none; } .line { stroke: #7a938a; } .time { fill: #4d635b; }
+.from path { stroke: #06705a; } .again path { stroke: #b36b00; } .again .wire { stroke-dasharray: 6 3; }
+.again text { fill: #7a4900; } .other path, .lost path { stroke: #b00020; } .other text, .lost text { fill: #b00020; }`;
 
 // Rows as `Ladder` and `readReport` give them, each with its time as a text; `unit` is that of the times.
 export function drawLadder(rows, { title = "A ladder", unit = "s" } = {}) {
@@ -42,10 +42,10 @@ function arrow(row, y, unit) {
   const names = [isToNode ? "to" : "from", isAgain && "again", otherAt !== null && "other", isLost && "lost"].filter(Boolean);
   const [start, end, sign] = isToNode ? [LEFT, RIGHT, 1] : [RIGHT, LEFT, -1];
   const at = isLost ? (LEFT + RIGHT) / 2 + sign * 60 : end, low = y + SLOPE * Math.abs(at - start) / (RIGHT - LEFT);
-  const tip = isLost ? `M${at - 5} ${low - 5}l10 10M${at - 5} ${low + 5}l10 -10` : `M${at - sign * 9} ${low - 5}L${at} ${low}L${at - sign * 8} ${low + 4}`;
+  const cross = `M${at - 5} ${low - 5}l10 10m-10 0l10 -10`, tip = `M${at - sign * 9} ${low - 5}L${at} ${low}L${at - sign * 8} ${low + 4}`;
   const side = isToNode ? `x="${LEFT - 8}" text-anchor="end"` : `x="${RIGHT + 8}"`;
   const words = [`${row.flags} ${row.seq} ${row.len}`, verdictOf(row)].filter(Boolean).join("  ");
-  return `<g class="${names.join(" ")}"><path class="wire" d="M${start} ${y}L${at} ${low}${tip}"/>
+  return `<g class="${names.join(" ")}"><path class="wire" d="M${start} ${y}L${at} ${low}"/><path class="tip" d="${isLost ? cross : tip}"/>
 <text ${side} y="${y + 4}" class="time">${escaped(`${row.who}  ${row.time} ${unit === "s" ? "s" : "t"}`)}</text>
 <text x="${(LEFT + RIGHT) / 2}" y="${y + 2}" text-anchor="middle">${escaped(words)}</text></g>`;
 }

@@ -1,5 +1,6 @@
 // What is there while a line to a node is open: the host, the faults between the two, the ladder, the capture and the
 // counts; and pages by GET, of which it says whether each came whole. It knows no document: web/page.js shows it.
+import { Clock } from "./clock.js";
 import { Host } from "./host.js";
 import { attach, fillSilence } from "./line.js";
 import { Faults } from "./faults.js";
@@ -10,6 +11,7 @@ import { all, get } from "./http.js";
 const AT_ONCE = 8;        // the node has ten connections
 const TRIES = 3;          // of a page of which not a byte came
 const REMEMBERED = 256;   // pages of which the sum is kept
+const LONG = 3000;        // milliseconds without an answer that are worth a word
 
 const isScript = target => /\.shtml(\?|$)/.test(target);
 
@@ -29,12 +31,12 @@ export class Session {
   #start = performance.now();
   #isClosed = false;
 
-  // `line` is as in line.js; `leave` is what is to do behind its end. `show` hears each row, `notice` words for people,
-  // `over` the error by which the line ended, or null. `words` says what an error of the line is.
-  constructor(line, { name = "a line", mss, clock = { rate: 1 }, seed = 1, show = () => {}, notice = () => {}, over = () => {},
+  // `line` is as in line.js; `leave` is what is to do behind its end. `show` hears each row, `notice` words for people and
+  // perhaps their kind, `over` the error by which the line ended, or null. `words` says what an error of the line is.
+  constructor(line, { name = "a line", mss, clock = new Clock(), seed = 1, show = () => {}, notice = () => {}, over = () => {},
     words = error => error.message, leave = () => {} } = {}) {
     Object.assign(this, { name, clock, show, notice, leave });
-    this.faults = new Faults(seed, (wait, what) => setTimeout(what, wait / clock.rate));
+    this.faults = new Faults(seed, clock);
     const waits = (connection, waited) => this.#tellWait(connection, waited);
     this.host = new Host(datagram => this.#pass(datagram, true, it => this.wire.send(it)), { mss, clock, waits });
     this.wire = attach(line, {
@@ -66,7 +68,7 @@ export class Session {
 
   #tellNoise(word) {
     this.sums.noise++;
-    this.notice(`what came is no datagram (${word}): the text of a starting board, noise, or another rate`);
+    this.notice(`what came is no datagram (${word}): the text of a starting board, noise, or another rate`, "noise");
   }
 
   #tellOther({ who, otherAt, number }) {
@@ -74,13 +76,12 @@ export class Session {
     this.notice(`other bytes at one number: datagram ${number} of ${who} differs at ${otherAt} from what went before`);
   }
 
-  #tellWait({ state, toPort }, waited) {
-    const time = `${Math.round(waited / 1000)} s`;
-    if (state !== "SYN-SENT") return this.notice(`no answer for ${time}; asked again`);
-    const others = this.host.connections.size - 1;
-    this.notice(others >= 10 && toPort === 80
-      ? `no answer to a new connection for ${time}: the node may have none free (uIP has ten), ${others} are open; asked again`
-      : `no answer to a new connection for ${time}: the node may still be starting, or is not there; asked again`);
+  #tellWait({ state }, waited) {
+    if (waited < LONG) return;
+    const time = `${Math.round(waited / 1000)} s`, others = this.host.connections.size - 1;
+    if (state !== "SYN-SENT") this.notice(`no answer for ${time}; asked again`, "wait");
+    else if (others < 10) this.notice(`no answer to a new connection for ${time}: is the node there, or still starting? asked again`, "wait");
+    else this.notice(`no answer to a new connection for ${time}: the node may have none free, ${others} are open; asked again`, "wait");
   }
 
   // A page of the node; some at once, and the others wait.

@@ -5,6 +5,7 @@ import { existsSync } from "node:fs";
 import { dirname, join } from "node:path";
 import { Readable, Writable } from "node:stream";
 import { fileURLToPath } from "node:url";
+import { Clock } from "../clock.js";
 import { Session } from "../session.js";
 
 export const here = dirname(fileURLToPath(import.meta.url));
@@ -30,7 +31,7 @@ export const lineOf = child => ({ readable: Readable.toWeb(child.stdout), writab
 // A session with a program, with faults between the two. At a speed the time of both goes that many times quicker.
 export function startSession({ child, faults = {}, speed = 1, rate = 20000, ...options } = {}) {
   child ??= startNode(options);
-  const session = new Session(lineOf(child), { clock: { rate: speed }, leave: () => child.kill(), ...options });
+  const session = new Session(lineOf(child), { clock: new Clock(speed), leave: () => child.kill(), ...options });
   Object.assign(session.faults, faults);
   session.fill(rate);
   return session;

@@ -7,11 +7,10 @@ import { get, all } from "../http.js";
 
 // `say` is a segment of the node, and `heard` takes what the host sent since. Timers go off by hand.
 function played({ mss = 536, isOpened = true, connect = host => host.connect() } = {}) {
-  const sent = [], told = [], host = new Host(it => sent.push(read(it).segment), { waits: (_, waited) => told.push(waited) });
-  const timers = new Map();
-  let clock = 0, id = 0;
-  host.now = () => clock;
-  host.later = (wait, what) => { timers.set(++id, { at: clock + wait, what }); return id; };
+  const sent = [], told = [], timers = new Map();
+  let time = 0, id = 0;
+  const clock = { now: () => time, later(wait, what) { timers.set(++id, { at: time + wait, what }); return id; } };
+  const host = new Host(it => sent.push(read(it).segment), { clock, waits: (_, waited) => told.push(waited) });
   const clear = globalThis.clearTimeout;
   globalThis.clearTimeout = timer => timers.delete(timer) || clear(timer);
   const connection = connect(host), first = sent[0].seq;
@@ -22,15 +21,15 @@ function played({ mss = 536, isOpened = true, connect = host => host.connect() }
     mss: flags & SYN ? mss : 0, text: Buffer.from(text) }));
   sent.port = sent[0].fromPort;
   const goOff = () => {
-    const [[next, { at, what }]] = [...timers].sort(([, a], [, b]) => a.at - b.at), wait = at - clock;
+    const [[next, { at, what }]] = [...timers].sort(([, a], [, b]) => a.at - b.at), wait = at - time;
     timers.delete(next);
-    clock = at;
+    time = at;
     what();
     return wait;
   };
   heard();
   if (isOpened) { say(SYN | ACK, 0, 1); heard(); }
-  return { host, connection, say, heard, told, goOff, timers, pass: time => { clock += time; } };
+  return { host, connection, say, heard, told, goOff, timers, pass: wait => { time += wait; } };
 }
 
 // What a connection's reader got, and how it ended.

@@ -108,7 +108,7 @@ talk("eleven connections: the eleventh is told of, and comes when there is room"
   await until(() => hosts.every(it => it.state === "ESTABLISHED"));
   session.atOnce = 11;
   const page = session.whole("/style.css");
-  await until(() => said.some(it => /may have none free .*, 10 are open; asked again/.test(it)));
+  await until(() => said.some(it => /may have none free, 10 are open; asked again/.test(it)));
   hosts.forEach(it => it.abort());
   isSame(await page, "/style.css");
 });
@@ -119,7 +119,7 @@ talk("a node that is gone: it is told, and the page is broken off", { speed: 50 
   isSame(await session.whole("/style.css"), "/style.css");
   lose();
   await assert.rejects(session.whole("/style.css"), /the node does not answer/);
-  assert.ok(said.some(it => /no answer to a new connection for \d+ s: the node may still be starting/.test(it)), said.join("\n"));
+  assert.ok(said.some(it => /no answer to a new connection for \d+ s: is the node there/.test(it)), said.join("\n"));
   session.faults.lose = 0;
   isSame(await session.whole("/style.css"), "/style.css");
   assert.deepEqual([session.sums.whole, session.sums.wrong, session.sums.broken], [2, 0, 1]);
