@@ -106,7 +106,7 @@ class Line:
 
 
 def fail(text):
-    sys.exit(f"browse.py: {text}")
+    sys.exit(f"{os.path.basename(sys.argv[0])}: {text}")
 
 
 def enter_namespace():
