@@ -161,7 +161,9 @@ void refused_calls(tested *t) {
     default:
         if (is_idle) break;
         call_hear(t, none, between(1, 100), 2 + below(4000), &nowhere);
+        call_slot(t, below(UIP_SLOTS), 2 + below(4000), &nowhere);
         call_datagram(t, none, between(1, LARGEST), &nowhere);
+        call_slot_datagram(t, below(UIP_SLOTS), &nowhere);
     }
     if (chance(20)) {
         size_t number = chance(50) ? 0 : UIP_COUNTERS + 1 + random_next();

@@ -1,4 +1,5 @@
 // What was found, and what was counted. A finding ends the run, with the seed that makes it again.
+#include <signal.h>
 #include <stdarg.h>
 #include <stdio.h>
 #include <stdlib.h>
@@ -10,7 +11,11 @@ static unsigned long used_seed;
 static int was_mixed;
 static struct timespec start;
 
+// An access to a page that cannot be touched, an instruction that this processor has not, and the like.
+static void faulted(int signal) { fail("the library faulted, by signal %d", signal); }
+
 void report_begin(unsigned long seed, int is_mixed) {
+    for (unsigned k = 0; k < 5; k++) signal((int[]){SIGSEGV, SIGBUS, SIGILL, SIGFPE, SIGTRAP}[k], faulted);
     used_seed = seed;
     was_mixed = is_mixed;
     clock_gettime(CLOCK_MONOTONIC, &start);

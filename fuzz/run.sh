@@ -5,10 +5,11 @@
 #     sh fuzz/run.sh asan CALLS SEED      so many calls, with the harness under the address and undefined-behaviour sanitizers
 #     sh fuzz/run.sh calls CALLS SEED     so many calls
 #     sh fuzz/run.sh mixed CALLS SEED     so many calls, of both kinds of link on one device
+#     sh fuzz/run.sh planted              puts faults between the harness and the library, and sees that each is found
 #
 # It wants a C compiler on Linux, the library as `rt lib` in crates/uip_c builds it, and the program as `rt run` in crates/uipd does:
 # what is not built there is not built here. CC names another compiler, LIBRARY and UIPD another library and another program.
-case "$1" in -h|--help) sed -n '2,10s/^# \{0,1\}//p' "$0"; exit 0;; esac
+case "$1" in -h|--help) sed -n '2,11s/^# \{0,1\}//p' "$0"; exit 0;; esac
 here=$(cd "$(dirname "$0")" && pwd)
 top=$(cd "$here/.." && pwd)
 library=${LIBRARY:-$top/crates/uip_c/out/libuip_c.a}
@@ -25,6 +26,14 @@ case "$1" in
 asan)
     build fuzz_asan -O1 -fsanitize=address,undefined -fno-sanitize-recover=all
     exec "$out/fuzz_asan" 1000000 "${2:-1000000}" "${3:-1}";;
+planted)
+    wraps=$(for call in open hear call more hear_datagram counter close; do printf ' -Wl,--wrap=uip_%s' $call; done)
+    missed=0
+    for plant in $(seq 15); do
+        build planted -O1 -DPLANT="$plant" $wraps "$here/planted/planted.c"
+        if "$out/planted" 20 3000000 1 mixed >"$out/planted.txt"; then echo "MISSED $plant"; missed=1; else grep FINDING "$out/planted.txt"; fi
+    done
+    exit $missed;;
 calls|mixed)
     build fuzz -O2
     word=; [ "$1" = mixed ] && word=mixed
