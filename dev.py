@@ -26,7 +26,7 @@ WIDTH = 100
 OUTSIDE = set("""
     rt rattle rattle-kit-13f python3 valgrind qemu-system-aarch64 tshark dnsmasq telnet inetutils curl stty strace node chromium git
     main clang gcc g++ cc man sh make ip qemu Linux std core alloc usize u8 u16 u32 u64 i32 true false main()
-    arping slipif once_cell memchr2 cC nC
+    arping slipif once_cell memchr2 cC nC mps2-an386
 """.split())
 # folders that a build makes, and types of content, are no paths of the repository
 NO_PATH = re.compile(r"(.*/)?out/.*|(text|image|application)/.*|[A-Z]+(/[A-Z]+)+|\d+(/\d+)+")
