@@ -14,7 +14,7 @@ needs qemu-system-aarch64.
     --board FIRMWARE     no server is started: the node runs on a board of its own, by qemu, and this is its serial port
     --memory FILE        with --board: the board's memory is written to FILE at the end
     --baud RATE          with --board: its line has RATE bits a second and waits for nobody: a byte that the board has not taken
-                         within 50 ms is lost, and how many were is told at the end
+                         within a quarter of a second is lost, and how many were is told at the end
     --qemu WORDS         with --board: further words for qemu, whose program the variable QEMU may name
     --record DIR         writes the bytes of the line to DIR/to-node and DIR/from-node
     --help               this text
@@ -23,6 +23,7 @@ The line has a rate, as a real one has (20,000 bytes a second, or that of the po
 nothing: so the server's `pace` is a clock of half seconds, however busy the line is. A board has a clock of its own, and its line
 is not filled.
 """
+import contextlib
 import ctypes
 import fcntl
 import os
@@ -45,7 +46,7 @@ QEMU = os.environ.get("QEMU", "qemu-system-aarch64")
 LOCAL_RATE = 20000
 BOARD_RATE = 200000
 BOARD_MEMORY = (0x40000000, 0x10000)
-PATIENCE = 0.05
+PATIENCE = 0.25
 
 
 class Slip:
@@ -117,7 +118,8 @@ class HastyLine(Line):
 
     def __init__(self, descriptor, form, rate, record, other):
         super().__init__(descriptor, form, rate, False, record)
-        self.other, self.lost, self.written, self.marks = other, 0, 0, []
+        self.other = socket.socket(fileno=other)
+        self.lost, self.written, self.marks = 0, 0, []
 
     def unread(self):
         return int.from_bytes(fcntl.ioctl(self.other, termios.FIONREAD, bytes(4)), sys.byteorder)
@@ -128,7 +130,8 @@ class HastyLine(Line):
             due = self.marks.pop(0)[1]
             late = min(due - self.written + self.unread(), self.unread())
             if self.is_heard and late > 0:
-                self.lost += len(os.read(self.other, late))
+                with contextlib.suppress(BlockingIOError):    # the board took them after all
+                    self.lost += len(self.other.recv(late, socket.MSG_DONTWAIT))
         waited = len(self.queue)
         super().beat()
         if len(self.queue) < waited:

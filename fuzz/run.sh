@@ -41,7 +41,7 @@ calls|mixed)
 esac
 
 seconds=${1:-60}
-seed=${2:-1}
+seed=${2:-$(date +%s)}    # the report tells it
 build fuzz -O2
 "$out/fuzz" $((seconds * 2 / 5)) 1000000000000 "$seed" || exit 1
 "$out/fuzz" $((seconds * 2 / 5)) 1000000000000 "$seed" mixed || exit 1

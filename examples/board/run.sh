@@ -8,7 +8,7 @@
 #     sh examples/board/run.sh usage           fetches every file, and says what flash and memory the firmware used
 #     sh examples/board/run.sh map             asks the processor what the map of memory allows, and compares
 #     sh examples/board/run.sh early           lets bytes come before the port is open
-#     sh examples/board/run.sh line            three clients at once over a line of 115,200 bits a second that waits for nobody
+#     sh examples/board/run.sh line            two clients at once over a line of 19,200 bits a second that waits for nobody
 #     sh examples/board/run.sh stack           fetches every file, and says how far the stack pointer went
 #
 # It wants qemu-system-aarch64 (Debian: qemu-system-arm), python3, `ip` and /dev/net/tun, and clang and ld.lld, which the kit of rt
@@ -73,11 +73,10 @@ map)
 early)
     exec python3 "$here/early.py" "$out/board.bin";;
 line)
-    compile -mgeneral-regs-only -DLINE_RATE=11520 "$here/board.c" -o "$out/slow_board.o"
+    compile -mgeneral-regs-only -DLINE_RATE=1920 "$here/board.c" -o "$out/slow_board.o"
     link slow "$out/slow_board.o" "$out/main.o"
     fetch="python3 $top/examples/fetch.py"
-    all="$fetch & one=\$!; $fetch & two=\$!; $fetch && wait \$one && wait \$two"
-    browse "$out/slow.bin" --baud 115200 -- sh -c "$all" >"$out/line.txt"; status=$?
+    browse "$out/slow.bin" --baud 19200 -- sh -c "$fetch & one=\$!; $fetch && wait \$one" >"$out/line.txt"; status=$?
     cat "$out/line.txt"
     grep -q '^the line lost 0 of' "$out/line.txt" || fail "bytes were lost while a text went out"
     exit $status;;
