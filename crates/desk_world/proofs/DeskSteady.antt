@@ -6,8 +6,8 @@ use Rattle.file_tree.specs.Site.{SiteContent, IsLoaded, files_of}
 use Rattle.web_pages.specs.Pages.{pages_of}
 use Rattle.web_pages.specs.WebMeaning.{web_meaning}
 use Rattle.web_pages.proofs.PageLaws.{keeps_page_laws}
-use Rattle.link_world.specs.Steady.{IsSteady}
-use Rattle.link_world.proofs.Steadiness.{steady_of}
+use Rattle.uip_node.specs.Steady.{IsSteady}
+use Rattle.uip_node.proofs.Steadiness.{steady_of}
 use Rattle.telnet_shell.specs.declared.shell.TheConstants.{TELNET_PORT}
 use Rattle.telnet_shell.specs.ShellMeaning.{shell_meaning, is_stopped}
 use Rattle.telnet_shell.specs.Lemmas.ShellLaws.{shell_lawful}

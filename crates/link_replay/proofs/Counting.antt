@@ -21,7 +21,7 @@ use Rattle.uip_node.specs.Events.{Answer, Event, Past}
 use Rattle.uip_node.specs.Events.Event.{IpRefused, IcmpRefused, TcpRefused, EchoAsked, Arrived, Overlong, Periodic}
 use Rattle.uip_node.specs.Events.Answer.{Silent, NoSlot, EchoReplied, Spoke}
 use Rattle.uip_node.specs.Node.{AbstractNode, NodeStep, arrives_at, connection_in, from_stranger, happened, moment, opens, opens_in, passes, slot_for_syn, step}
-use Rattle.link_world.proofs.Basics.{choose}
+use Rattle.uip_node.proofs.Basics.{choose}
 use Rattle.link_replay.specs.Noting.{is_sent_again, resent}
 
 -- one more event is past, and its answer was sent again where the step sent again

@@ -16,7 +16,7 @@ use Rattle.link_world.specs.World.Content.{OfSegment, OfPing, OfEcho}
 use Rattle.link_world.specs.declared.who.Who.{Who}
 use Rattle.link_world.specs.declared.who.Who.TheVariants.{FromClient, FromNode, Pinger}
 use Rattle.link_world.specs.Reading.{IsRead, IsSentBy}
-use Rattle.link_world.proofs.Tables.{get_set_same}
+use Rattle.uip_node.proofs.Connections.{get_set_same}
 use Rattle.link_replay.specs.Noting.{pair_at}
 use Rattle.link_replay.specs.Stands.{WorldStands, LinkStands, IsLink}
 use Rattle.link_replay.specs.Telling.{AnswersTo, AreTo, client_told, pair_at_side, sees}

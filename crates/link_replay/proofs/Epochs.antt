@@ -6,7 +6,7 @@ use Rattle.std.proofs.lemmas.Option.{slice_get-get_or}
 use Rattle.tcp_machine.specs.Connection.{Sockets, Connection, same_sockets}
 use Rattle.link_client.specs.Client.{AbstractClient}
 use Rattle.link_world.specs.World.{Side, addressed, buries, buries_in, client_sockets}
-use Rattle.link_world.proofs.Tables.{get_set, here, there}
+use Rattle.uip_node.proofs.Connections.{get_set, here, there}
 use Rattle.link_replay.specs.Epochs.{IsAtLast, OnlyEpoch, buried, sockets_for}
 use Rattle.link_replay.specs.Matched.{Matched}
 use Rattle.link_replay.specs.Noting.{pair_at, sockets_at}

@@ -16,10 +16,10 @@ use Rattle.uip_node.specs.Events.{Event}
 use Rattle.uip_node.specs.Events.Event.{IpRefused, IcmpRefused, TcpRefused, EchoAsked, Arrived, Overlong, Periodic}
 use Rattle.uip_node.specs.Node.{AbstractNode, NodeStep, arrives_at, connection_in, from_stranger, gone_by, happened, moment, opens, opens_in, slot_for_syn, step}
 use Rattle.uip_node.specs.Slots.{SlotsStand}
-use Rattle.link_world.proofs.Basics.{both_ways, choose}
-use Rattle.link_world.proofs.Peers.{asked_keeps, on_segment_keeps, on_tick_keeps}
-use Rattle.link_world.proofs.SocketPairs.{flip, not_peer, serves_dead, serves_yes}
-use Rattle.link_world.proofs.Tables.{Free, find_is, finds, finds_none}
+use Rattle.uip_node.proofs.Basics.{both_ways, choose}
+use Rattle.uip_node.proofs.Peers.{asked_keeps, on_segment_keeps, on_tick_keeps}
+use Rattle.uip_node.proofs.SocketPairs.{flip, not_peer, serves_dead, serves_yes}
+use Rattle.uip_node.proofs.Connections.{Free, find_is, finds, finds_none}
 use Rattle.link_replay.specs.Noting.{gone_pair, lost, lost_at, or_pair, owner, owner_in, pair_at, sockets_at}
 use Rattle.link_replay.specs.declared.socket_pair.SocketPair.{SocketPair}
 

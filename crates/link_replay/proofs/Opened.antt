@@ -23,10 +23,10 @@ use Rattle.link_schedule.specs.Stands.{plan_at}
 use Rattle.link_schedule.specs.declared.client_plan.ClientPlan.{ClientPlan}
 use Rattle.link_world.specs.World.{World}
 use Rattle.link_world.specs.History.{Planned, IsPlan, IsPlanned, fresh_side, sockets_in}
-use Rattle.link_world.proofs.Basics.{get_push}
-use Rattle.link_world.proofs.Basics.AtEnd.{older, newest}
-use Rattle.link_world.proofs.Fits.{all_nil, all_cons}
-use Rattle.link_world.proofs.Tables.{get_map}
+use Rattle.uip_node.proofs.Basics.{get_push}
+use Rattle.uip_node.proofs.Basics.AtEnd.{older, newest}
+use Rattle.uip_node.proofs.Fits.{all_nil, all_cons}
+use Rattle.uip_node.proofs.Connections.{get_map}
 use Rattle.link_replay.specs.Matched.{Matched}
 use Rattle.link_replay.specs.Opening.{AreFresh, IsFresh, plan_from, planned, server}
 use Rattle.link_replay.specs.Stands.{IsLink, SentStands, SideStands}

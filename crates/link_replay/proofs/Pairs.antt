@@ -2,10 +2,10 @@
 use Rattle.std.proofs.Common.{◌≡◌, ℕ, zero, suc, ◌+◌, ◌-◌, ◌<◌, List, [], ◌∷◌, ◌++◌, length, set, refl, sym, ap, ◌∙◌, subst, arith, Some, slice_get, get_or, drop, length-append, length-set}
 use Rattle.std.proofs.Math.Seq.{drop-cons}
 use Rattle.link_world.specs.World.{numbered}
-use Rattle.link_world.proofs.Basics.{get_push}
-use Rattle.link_world.proofs.Basics.AtEnd.{older, newest}
-use Rattle.link_world.proofs.Tables.{get_set}
-use Rattle.link_world.proofs.Tables.Written.{here, there}
+use Rattle.uip_node.proofs.Basics.{get_push}
+use Rattle.uip_node.proofs.Basics.AtEnd.{older, newest}
+use Rattle.uip_node.proofs.Connections.{get_set}
+use Rattle.uip_node.proofs.Connections.Written.{here, there}
 use Rattle.link_replay.specs.Matched.{Matched}
 
 inside : {X : Type 0} (xs : List X) (i : ℕ) (x : X) → slice_get xs i ≡ Some x → i < length xs

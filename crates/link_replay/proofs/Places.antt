@@ -13,8 +13,8 @@ use Rattle.link_world.specs.declared.who.Who.TheVariants.{FromClient, FromNode, 
 use Rattle.link_replay.specs.Matched.{Matched}
 use Rattle.std.specs.Vec.{with_item}
 use Rattle.link_client.specs.Calls.{IsClient}
-use Rattle.link_world.proofs.Tables.{get_set}
-use Rattle.link_world.proofs.Tables.Written.{here, there}
+use Rattle.uip_node.proofs.Connections.{get_set}
+use Rattle.uip_node.proofs.Connections.Written.{here, there}
 use Rattle.link_replay.specs.Stands.{SideStands, SentStands, LinkStands, IsLink}
 use Rattle.link_replay.specs.declared.link.Link.{Link}
 use Rattle.link_replay.specs.declared.side.Side.{Side as CodeSide}

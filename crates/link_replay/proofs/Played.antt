@@ -22,8 +22,9 @@ use Rattle.link_world.proofs.Doing.{goes_on_with, with_mark}
 use Rattle.link_schedule.specs.declared.event.Event.{Event}
 use Rattle.link_world.specs.declared.step_fault.StepFault.{StepFault}
 use Rattle.link_world.specs.declared.step_fault.StepFault.TheVariants.{NoDatagram, NoByte, AlreadyOpen, NotOpen, Full, NoMemory}
-use Rattle.link_world.specs.Headline.{HasBytes, IsAct, OfLine}
-use Rattle.link_world.proofs.Fits.{all_nil}
+use Rattle.uip_node.specs.Laws.{HasBytes}
+use Rattle.link_world.specs.Headline.{IsAct, OfLine}
+use Rattle.uip_node.proofs.Fits.{all_nil}
 use Rattle.link_world.proofs.Lines.{line_acts}
 use Rattle.link_replay.specs.Opening.{opening_for, plan_from, server}
 use Rattle.link_replay.specs.Playing.{LinesEnd, PlaysSchedule, Reaches, Refuses, event_at, refusal_at}

@@ -15,7 +15,7 @@ use Rattle.link_world.proofs.Doing.{with_mark}
 use Rattle.link_world.proofs.Lines.{runs_mark, runs_joined}
 use Rattle.link_world.proofs.Runs.{reached_sound}
 use Rattle.link_world.proofs.SoundWorlds.{sound_marked}
-use Rattle.link_world.proofs.Fits.{all_nil, all_cons}
+use Rattle.uip_node.proofs.Fits.{all_nil, all_cons}
 use Rattle.link_replay.specs.Reaching.{IsAt, ActsEnd, ActSteps, DamageLoses, Stops, StopsAt}
 use Rattle.link_world.specs.declared.step_fault.StepFault.TheVariants.{NoDatagram, NoByte, AlreadyOpen, NotOpen, Full, NoMemory}
 

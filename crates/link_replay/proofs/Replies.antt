@@ -14,11 +14,11 @@ use Rattle.uip_node.specs.Events.{Event, Reply}
 use Rattle.uip_node.specs.Events.Event.{Arrived, Periodic}
 use Rattle.uip_node.specs.Events.Reply.{Tcp}
 use Rattle.uip_node.specs.Node.{AbstractNode, NodeStep, arrives_at, connection_in, from_stranger, happened, moment, opens, opens_in, refuses, slot_for_syn, step}
-use Rattle.link_world.proofs.Basics.{and_true, both_ways, choose}
-use Rattle.link_world.proofs.Peers.{asked_keeps, on_segment_keeps, on_tick_closed, on_tick_keeps}
-use Rattle.link_world.proofs.SocketPairs.{same_is}
-use Rattle.link_world.proofs.Tables.{find_is, finds, finds_none, index_of}
-use Rattle.link_world.specs.History.{serving}
+use Rattle.uip_node.proofs.Basics.{and_true, both_ways, choose}
+use Rattle.uip_node.proofs.Peers.{asked_keeps, on_segment_keeps, on_tick_closed, on_tick_keeps}
+use Rattle.uip_node.proofs.SocketPairs.{same_is}
+use Rattle.uip_node.proofs.Connections.{find_is, finds, finds_none, index_of}
+use Rattle.uip_node.specs.Laws.{serving}
 
 -- a TCP datagram to these sockets
 pub record SaidTo (sockets : Sockets) (r : Reply) : Type 0 where

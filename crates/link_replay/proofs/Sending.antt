@@ -6,8 +6,8 @@ use Rattle.tcp_segment.specs.Segments.{PlainSegment, datagram_bytes}
 use Rattle.std.specs.Option.{option_map_or}
 use Rattle.tcp_machine.specs.Connection.{closed}
 use Rattle.std.proofs.lemmas.List.{drop_all, take_all}
-use Rattle.link_world.proofs.Basics.{append_nothing}
-use Rattle.link_client.specs.Calls.{standing, Sends, client_datagram, client_hands, client_hears}
+use Rattle.uip_node.proofs.Basics.{append_nothing}
+use Rattle.link_client.specs.Calls.{standing, Sends, client_datagram, client_hands, client_hears, IsClient}
 use Rattle.link_client.specs.Client.{AbstractClient, ClientStep, client_takes}
 use Rattle.link_client.specs.declared.client_state.ClientState.{ClientState}
 use Rattle.link_client.specs.declared.client_state.ClientState.TheVariants.{Idle, Opening, Opened, Closing, Closed, Ended, Reset}
@@ -19,12 +19,11 @@ use Rattle.link_world.specs.Bytes.{bytes_by, client_bytes}
 use Rattle.link_world.specs.World.{World, Side, at_side, numbered, epoch, era_of, becomes_opened, client_stepped, posts_of_client, with_client, with_side}
 use Rattle.link_world.specs.World.Content.{OfSegment}
 use Rattle.link_world.specs.declared.who.Who.TheVariants.{FromClient}
-use Rattle.link_world.proofs.Tables.{get_set_same, set_same}
+use Rattle.uip_node.proofs.Connections.{get_set_same, set_same}
 use Rattle.link_replay.specs.Matched.{Matched}
 use Rattle.link_replay.specs.Owning.{Stepped}
 use Rattle.uip_wire.specs.declared.addr.Addr.{Addr}
 use Rattle.uip_wire.specs.declared.sizes.TheConstants.{LARGEST_DATAGRAM}
-use Rattle.link_client.specs.Calls.{IsClient}
 use Rattle.link_replay.specs.declared.sent.Sent.{Sent as CodeSent}
 use Rattle.link_replay.specs.Stands.{LinkStands, SideStands, SentStands, IsLink}
 use Rattle.link_replay.specs.declared.link.Link.{Link}

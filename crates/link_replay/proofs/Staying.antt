@@ -8,7 +8,7 @@ use Rattle.uip_node.specs.Events.{Event}
 use Rattle.uip_node.specs.Events.Event.{IpRefused, IcmpRefused, TcpRefused, EchoAsked, Arrived, Overlong, Periodic}
 use Rattle.uip_node.specs.Node.{AbstractNode, NodeStep, step, happened, opens, opens_in, from_stranger, arrives_at, slot_for_syn}
 use Rattle.link_world.specs.World.{Side, buries, buries_in, client_sockets}
-use Rattle.link_world.proofs.Basics.{choose}
+use Rattle.uip_node.proofs.Basics.{choose}
 use Rattle.link_replay.proofs.Places.{Sames, SamePlaces, same_places}
 
 abbrev Keeps : AbstractNode → NodeStep → Type 0

@@ -10,7 +10,8 @@ use Rattle.link_world.specs.History.{Start, started}
 use Rattle.link_world.specs.declared.act.Act.{Act}
 use Rattle.link_world.specs.declared.step_fault.StepFault.{StepFault}
 use Rattle.link_world.specs.declared.step_fault.StepFault.TheVariants.{NoDatagram, NoByte, AlreadyOpen, NotOpen, Full, NoMemory}
-use Rattle.link_world.specs.Headline.{CountsBy, HasBytes, IsAct, IsLoss}
+use Rattle.link_world.specs.Headline.{CountsBy, IsAct, IsLoss}
+use Rattle.uip_node.specs.Laws.{HasBytes}
 
 -- A world that accepted acts reach from the opening one, of a server whose pages are bytes. No act speaks of the mark.
 pub record IsAt (m : Meaning) (served : ℕ → Bool) (w : World) : Type 0 where

@@ -5,7 +5,8 @@ ghost use Rattle.std.specs.Prelude.{◌≡◌, ℕ, true, IfOk, List, length, ma
 ghost use Rattle.app_events.specs.Pages.{IsPaged, IsWord, Pages};
 ghost use Rattle.link_schedule.specs.Answer.{content_at};
 ghost use Rattle.link_schedule.specs.Kept.{event_in_range};
-ghost use Rattle.link_world.specs.Headline.{HasBytes, IsAct, OfLine};
+ghost use Rattle.link_world.specs.Headline.{IsAct, OfLine};
+ghost use Rattle.uip_node.specs.Laws.{HasBytes};
 ghost use Rattle.link_world.specs.Schedule.{plays as played};
 ghost use Rattle.link_world.specs.World.{World as PlainWorld};
 ghost use Rattle.link_replay.specs.Playing.{LinesEnd, PlaysSchedule, event_at, refusal_at};

@@ -23,10 +23,10 @@ use Rattle.link_world.specs.World.{Sent, Side, World, client_stepped, posts_of_c
 use Rattle.link_world.specs.declared.act.Act.{Act}
 use Rattle.link_world.specs.declared.step_fault.StepFault.{StepFault}
 use Rattle.link_world.specs.declared.step_fault.StepFault.TheVariants.{AlreadyOpen, Full, NoDatagram, NotOpen}
-use Rattle.link_world.proofs.Basics.{choose}
+use Rattle.uip_node.proofs.Basics.{choose}
 use Rattle.link_world.proofs.Doing.{goes_on_with, with_mark}
-use Rattle.link_world.proofs.Fits.{all_cons, all_nil}
-use Rattle.link_world.proofs.Tables.{get_set_other, get_set_same}
+use Rattle.uip_node.proofs.Fits.{all_cons, all_nil}
+use Rattle.uip_node.proofs.Connections.{get_set_other, get_set_same}
 use Rattle.link_world.proofs.Growing.{Grows, Spoken, does_grows, grows_not, grows_on}
 
 -- it is refused for want of numbers alone, and leaves what is said

@@ -5,7 +5,7 @@ use Rattle.std.specs.Prelude.{option_map}
 use Rattle.std.proofs.Common.{◌≡◌, ℕ, zero, suc, Bool, true, false, not, ◌&&◌, List, [], ◌∷◌, ◌++◌, length, map, set, refl, sym, ap, ◌∙◌, subst, arith, Option, Some, None, slice_get, slice_index_or, if◌then◌else◌}
 use Rattle.tcp_segment.specs.Segments.{PlainSegment, has_syn, has_fin, has_rst}
 use Rattle.app_events.specs.Part.{Meaning}
-use Rattle.link_world.specs.Steady.{IsSteady}
+use Rattle.uip_node.specs.Steady.{IsSteady}
 use Rattle.app_events.specs.Pages.{IsMoment, IsNow, IsWord}
 use Rattle.app_events.specs.declared.now.Now.{Now}
 use Rattle.tcp_machine.specs.Connection.{Sockets, Connection, closed, is_live, serves, same_sockets}
@@ -14,9 +14,9 @@ use Rattle.tcp_machine.specs.Ask.{Outcome, leaves, asked}
 use Rattle.tcp_machine.specs.OnSegment.{accepted, on_segment}
 use Rattle.tcp_machine.specs.OnTick.{on_tick}
 use Rattle.tcp_machine.specs.declared.step.Step.{Step}
-use Rattle.uip_node.specs.Events.{Event, Reply, Past}
+use Rattle.uip_node.specs.Events.{Event, Reply}
 use Rattle.uip_node.specs.Events.Event.{EchoAsked, Arrived, Periodic}
-use Rattle.uip_node.specs.Events.Answer.{Silent, NoSlot, EchoReplied}
+use Rattle.uip_node.specs.Events.Answer.{Silent, NoSlot}
 use Rattle.uip_node.specs.Events.Reply.{Echo, Tcp}
 use Rattle.uip_node.specs.Counters.{initial_number, ticks_of}
 use Rattle.uip_node.specs.Node.{AbstractNode, NodeStep, gone_by, moment, happened, slot_for_syn, opens_in, opens, refuses, from_stranger, arrives_at, step, passes}
@@ -28,19 +28,21 @@ use Rattle.link_world.specs.Acts.{client_acts, handles_all, does}
 use Rattle.link_world.specs.declared.act.Act.{Act}
 use Rattle.link_world.specs.declared.who.Who.{Who}
 use Rattle.link_world.specs.declared.who.Who.TheVariants.{FromClient, FromNode, Pinger}
-use Rattle.link_world.specs.History.{era, serving}
+use Rattle.link_world.specs.History.{era}
+use Rattle.uip_node.specs.Laws.{serving}
 use Rattle.link_world.specs.Headline.{IsLoss}
-use Rattle.link_world.proofs.Basics.{both_ways, choose, and_true, only_some}
+use Rattle.uip_node.proofs.Basics.{both_ways, choose, and_true, only_some}
 use Rattle.link_world.proofs.Doing.{at_number, where_there}
 use Rattle.link_world.proofs.Good.{seg, segment_in, from, to}
-use Rattle.link_world.proofs.SocketPairs.{same_is, flip, apart, serves_not, serves_dead, serves_yes, not_peer}
-use Rattle.link_world.proofs.Tables.{find_is, get_set_same, set_same, set_past, index_of, index_none, Single, Free, get_set, single_set, serving_is, serving_free, serving_new, serving_gone, serving_other}
-use Rattle.link_world.proofs.Tables.Finds.{finds, finds_none}
-use Rattle.link_world.proofs.Tables.Written.{here, there}
-use Rattle.link_world.proofs.Fits.{FitConn, accepted_fits}
-use Rattle.link_world.proofs.FitWorlds.{FitWorld, node_moment, era_fits, serving_fits, slot_inside, put_fits, periodic_fits}
+use Rattle.uip_node.proofs.SocketPairs.{same_is, flip, apart, serves_not, serves_dead, serves_yes, not_peer}
+use Rattle.uip_node.proofs.Connections.{find_is, get_set_same, set_same, set_past, index_of, index_none, Single, Free, get_set, single_set, serving_is, serving_free, serving_new, serving_gone, serving_other}
+use Rattle.uip_node.proofs.Connections.Finds.{finds, finds_none}
+use Rattle.uip_node.proofs.Connections.Written.{here, there}
+use Rattle.uip_node.proofs.Fits.{FitConn, accepted_fits}
+use Rattle.link_world.proofs.FitWorlds.{FitWorld, era_fits, put_fits, periodic_fits}
+use Rattle.uip_node.proofs.FitNodes.{node_moment, serving_fits, slot_inside}
 use Rattle.link_world.proofs.Setups.{SameSetup, takes_setup, opens_setup, again_setup, closes_setup, aborts_setup}
-use Rattle.link_world.proofs.Peers.{on_segment_keeps, asked_keeps, on_tick_keeps, on_tick_closed}
+use Rattle.uip_node.proofs.Peers.{on_segment_keeps, asked_keeps, on_tick_keeps, on_tick_closed}
 use Rattle.link_world.proofs.Harmless.{Harmless}
 use Rattle.link_world.proofs.Sides.{Apart, buried, get_buried, buried_sockets, addressed_is, addressed_finds, gone_is, buried_here, buried_elsewhere, put_apart, clean_before}
 

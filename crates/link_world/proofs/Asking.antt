@@ -19,11 +19,11 @@ use Rattle.link_client.specs.Client.{AbstractClient, ClientStep, ack_of, client_
 use Rattle.link_client.specs.declared.client_state.ClientState.{ClientState}
 use Rattle.link_client.specs.declared.client_state.ClientState.TheVariants as Is
 use Rattle.link_client.specs.declared.fin_at.FinAt.{FinAt}
-use Rattle.link_world.proofs.Basics.{choose, and_true, and_false, only_some, eqb-eq, not-false, not-true, ltb-zero, same_place}
+use Rattle.uip_node.proofs.Basics.{choose, and_true, and_false, only_some, eqb-eq, not-false, not-true, ltb-zero, same_place}
 use Rattle.link_world.proofs.Good.{Steady, is_early}
 use Rattle.link_world.proofs.ClientCases.{of_aborts, of_again, of_closes, of_opens, of_order, of_sends, of_takes}
-use Rattle.link_world.proofs.Steps.{hears_is}
-use Rattle.link_world.proofs.Cases.{asked_by, on_tick_by, wanted_unmoved}
+use Rattle.uip_node.proofs.Handed.{hears_is}
+use Rattle.uip_node.proofs.Cases.{asked_by, on_tick_by, wanted_unmoved}
 
 -- how many bytes of its request the client has sent
 abbrev pub asked_bytes : AbstractClient → ℕ

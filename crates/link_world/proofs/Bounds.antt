@@ -18,7 +18,7 @@ use Rattle.link_world.specs.Bytes.{client_bytes, node_bytes, bytes_by}
 use Rattle.link_world.specs.Acts.{does, runs}
 use Rattle.link_world.specs.Schedule.{BadLine, acts_of, mark_after, plays_from}
 use Rattle.link_schedule.specs.declared.event.Event.{Event}
-use Rattle.link_schedule.specs.declared.event.Event.TheVariants.{Opens, Again, Closes, Aborts, Window, Ping, Give, Damage, Tick, Round, Twice, Reverse, Half, Lose}
+use Rattle.link_schedule.specs.declared.event.Event.TheVariants.{Round, Twice, Reverse, Half, Lose}
 use Rattle.link_world.specs.declared.act.Act.{Act}
 use Rattle.link_world.specs.declared.step_fault.StepFault.{StepFault}
 use Rattle.link_world.specs.declared.who.Who.{Who}
@@ -27,7 +27,7 @@ use Rattle.link_world.specs.History.{Planned, fresh_side, opening_world, planned
 use Rattle.link_world.specs.Reading.{IsSentBy}
 use Rattle.link_world.specs.Times.{IsLater, AcknowledgedLater, MarkIsLow, NoneIsEmpty, SidesAsPlanned}
 use Rattle.link_world.proofs.Doing.{goes_on_with, with_mark}
-use Rattle.link_world.proofs.Steadiness.{steady_of}
+use Rattle.uip_node.proofs.Steadiness.{steady_of}
 use Rattle.link_world.proofs.Good.{seg, from, to}
 use Rattle.link_world.proofs.Any.{Framed, Steps, Takes, any_step, older, does_framed}
 use Rattle.link_world.proofs.Growing.{Grows, does_grows, grows_not, grows_on}
@@ -40,7 +40,8 @@ use Rattle.link_world.proofs.Senders.{IsAsked, has_senders, sent_to_clients}
 use Rattle.link_world.proofs.Sound.{IsSoundClient}
 use Rattle.link_world.proofs.SoundWorlds.{SoundWorld}
 use Rattle.link_world.proofs.SoundWorlds.SoundSent.{of_segment, of_ping, of_echo}
-use Rattle.link_world.proofs.Whole.{ping_back, whole_length}
+use Rattle.link_world.proofs.Whole.{ping_back}
+use Rattle.uip_node.proofs.DatagramsBack.{whole_length}
 
 -- ---- the mark
 

@@ -7,7 +7,7 @@ use Rattle.link_client.specs.Client.{AbstractClient, ClientStep, ack_of, again_b
 use Rattle.link_client.specs.declared.client_state.ClientState.{ClientState}
 use Rattle.link_client.specs.declared.client_state.ClientState.TheVariants as Is
 use Rattle.link_client.specs.declared.fin_at.FinAt.{FinAt}
-use Rattle.link_world.proofs.Basics.{and_true, choose, not-true}
+use Rattle.uip_node.proofs.Basics.{and_true, choose, not-true}
 
 module _ (P : ClientStep → Type 0) (c : AbstractClient) where
   -- what it sends next: request bytes, its FIN, a bare ACK, or nothing

@@ -13,7 +13,7 @@ use Rattle.link_client.specs.declared.client_state.ClientState.TheVariants as Is
 use Rattle.link_client.specs.declared.fin_at.FinAt.{FinAt}
 use Rattle.link_world.specs.World.{Sent, Era, becomes_opened}
 use Rattle.link_world.specs.History.{era}
-use Rattle.link_world.proofs.Basics.{IsPart, part_joins, part_none, choose, and_true, same_place, eqb-eq, append_nothing, cut_part, only_some, not-false, nothing_placed}
+use Rattle.uip_node.proofs.Basics.{IsPart, part_joins, part_none, choose, and_true, same_place, eqb-eq, append_nothing, cut_part, only_some, not-false, nothing_placed}
 use Rattle.link_world.proofs.Counts.{reset_becomes, same_becomes}
 use Rattle.link_world.proofs.Later.{node_later}
 use Rattle.link_world.proofs.Good.{is_some, seg, NodeSaid, IsText, IsFin, ClientSaid, IsData, Steady, NotOpened, HasOpened, OpenedGood, ToGood, TookGood, is_unasked, is_early}

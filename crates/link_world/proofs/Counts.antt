@@ -8,7 +8,7 @@ use Rattle.link_client.specs.declared.client_state.ClientState.{ClientState}
 use Rattle.link_client.specs.declared.client_state.ClientState.TheVariants as Is
 use Rattle.link_world.specs.World.{becomes_opened}
 use Rattle.link_world.proofs.ClientCases.{of_aborts, of_again, of_closes, of_opens, of_sends}
-use Rattle.link_world.proofs.Basics.{choose, and_true, only_some, eqb-eq, not-false}
+use Rattle.uip_node.proofs.Basics.{choose, and_true, only_some, eqb-eq, not-false}
 
 -- how many numbers after the server's SYN it took: the text, and the FIN
 abbrev pub count : AbstractClient → ℕ

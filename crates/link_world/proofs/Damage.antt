@@ -29,7 +29,7 @@ use Rattle.app_events.specs.Pages.{IsByte}
 use Rattle.uip_node.specs.Edge.{event_of, by_head, by_proto, by_segment}
 use Rattle.link_world.specs.Bytes.{changed}
 use Rattle.link_world.specs.Headline.{PassesBy, IsWholeDatagram, is_refused}
-use Rattle.link_world.proofs.Basics.{both_ways, choose, append_nothing}
+use Rattle.uip_node.proofs.Basics.{both_ways, choose}
 
 -- a list around one of its bytes
 pub record Around (bytes : List ℕ) (at : ℕ) (other : ℕ) : Type 0 where
@@ -90,7 +90,7 @@ not_refused true f x e = absurd (cc)
 not_refused false f x e = (refl, e)
 
 is_zero : (n : ℕ) → not (eqb n 0) ≡ false → n ≡ 0
-is_zero n h = eqb-true n 0 (Rattle.link_world.proofs.Basics.not-false (eqb n 0) h)
+is_zero n h = eqb-true n 0 (Rattle.uip_node.proofs.Basics.not-false (eqb n 0) h)
 
 not_zero : (n : ℕ) → n ≢ 0 → not (eqb n 0) ≡ true
 not_zero n h = ap not (ne_eqb n 0 h)
@@ -180,7 +180,7 @@ elsewhere bytes own e =
     choose (λ r. (fate : IpFate) × (r ≡ Err fate)) (ltb (word_at bytes 2) 20 || ltb (length bytes) (word_at bytes 2)) _ _ (λ z. (Ip.Length, refl)) (λ z.
     choose (λ r. (fate : IpFate) × (r ≡ Err fate)) (not (eqb (word_at bytes 6 % 16384) 0)) _ _ (λ z. (Ip.Fragment, refl)) (λ z.
     choose (λ r. (fate : IpFate) × (r ≡ Err fate)) (not (eqb (checksum_of (take 20 bytes)) 0)) _ _ (λ z. (Ip.Checksum, refl)) (λ z.
-    choose (λ r. (fate : IpFate) × (r ≡ Err fate)) (not (bytes_eq (address_at bytes 16) own)) _ _ (λ z. (Ip.NotOurs, refl)) (λ z. absurd (let y : bytes_eq (address_at bytes 16) own ≡ true = Rattle.link_world.proofs.Basics.not-false (bytes_eq (address_at bytes 16) own) z in cc)))))))
+    choose (λ r. (fate : IpFate) × (r ≡ Err fate)) (not (bytes_eq (address_at bytes 16) own)) _ _ (λ z. (Ip.NotOurs, refl)) (λ z. absurd (let y : bytes_eq (address_at bytes 16) own ≡ true = Rattle.uip_node.proofs.Basics.not-false (bytes_eq (address_at bytes 16) own) z in cc)))))))
 
 -- at another address than its own it is refused, at its own it has this header
 head_or_refused : (head : IpHead) (bytes : List ℕ) (own : List ℕ) → IsHeadOf head bytes → ((fate : IpFate) × (head_or_fate bytes own ≡ Err fate)) ⊎ (head_or_fate bytes own ≡ Ok head)

@@ -16,11 +16,12 @@ use Rattle.link_world.specs.declared.step_fault.StepFault.TheVariants.{NoByte, N
 use Rattle.link_world.specs.declared.who.Who.{Who}
 use Rattle.link_world.specs.declared.who.Who.TheVariants.{FromClient, FromNode, Pinger}
 use Rattle.link_world.specs.Headline.{IsAct, IsLoss, IsWholeDatagram}
-use Rattle.link_world.proofs.Basics.{ltb-lt}
+use Rattle.uip_node.proofs.Basics.{ltb-lt}
 use Rattle.link_world.proofs.Doing.{damaged}
 use Rattle.link_world.proofs.Harmless.{Harmless}
 use Rattle.link_world.proofs.Loss.{same_world, loses}
-use Rattle.link_world.proofs.Sound.{IsSoundSegment, IsSoundClient}
+use Rattle.uip_node.proofs.SoundSegments.{IsSoundSegment}
+use Rattle.link_world.proofs.Sound.{IsSoundClient}
 use Rattle.link_world.proofs.SoundWorlds.{SoundSent, SoundWorld}
 use Rattle.link_world.proofs.SoundWorlds.SoundSent.{of_segment, of_ping, of_echo}
 use Rattle.link_world.proofs.Whole.{datagram_whole, ping_whole}

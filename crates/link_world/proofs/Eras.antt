@@ -13,21 +13,21 @@ use Rattle.tcp_machine.specs.OnSegment.{accepted, on_segment}
 use Rattle.tcp_machine.specs.OnTick.{on_tick}
 use Rattle.link_client.specs.Client.{ClientStep, one_if}
 use Rattle.link_world.specs.World.{World, Side, Sent, Era, client_sockets, is_clean, marked, era_of}
-use Rattle.link_world.specs.History.{Planned, IsPlan, fresh_side, serving, opening_world}
+use Rattle.link_world.specs.History.{Planned, IsPlan, fresh_side, opening_world}
+use Rattle.uip_node.specs.Laws.{serving}
 use Rattle.link_world.specs.Headline.{IsReached, server_side}
 use Rattle.link_world.specs.Times.{IsLater, OneConnection, EpochsAreFew}
-use Rattle.link_world.proofs.Steadiness.{steady_of}
+use Rattle.uip_node.proofs.Steadiness.{steady_of}
 use Rattle.link_world.proofs.Good.{seg, from, to}
-use Rattle.link_world.proofs.Fits.{FitConn}
+use Rattle.uip_node.proofs.Fits.{FitConn}
 use Rattle.link_world.proofs.Rounds.{one_longer}
 use Rattle.link_world.proofs.Runs.{reached, reached_on}
 use Rattle.link_world.proofs.Views.{length_push}
-use Rattle.link_world.proofs.Moves.{asked_moves, segment_moves, tick_moves}
+use Rattle.uip_node.proofs.Moves.{asked_moves, segment_moves, tick_moves}
 use Rattle.link_world.proofs.Any.{Framed, Steps, Takes, any_step, older, speech, entry, does_framed}
 use Rattle.link_world.proofs.TextNumbers.{Num, accepted_num, closed_num, segment_num, tick_num}
 use Rattle.link_world.proofs.Prefix
-use Rattle.link_world.proofs.Prefix.{none_serves}
-use Rattle.link_world.proofs.Tables.{get_map, serving_free}
+use Rattle.uip_node.proofs.Connections.{none_serves, get_map, serving_free}
 
 small : (b : Bool) → one_if b ≤ 1
 small true = omega arith

@@ -1,6 +1,6 @@
 -- One segment, and what is acknowledged, beside Prefix and whole and Same bytes.
 use Rattle.std.specs.List.{All}
-use Rattle.std.proofs.Common.{◌≡◌, ℕ, ◌+◌, ◌<◌, ◌≤◌, Bool, true, false, not, ◌&&◌, inl, inr, List, [], ◌∷◌, ◌++◌, length, drop, replicate, refl, sym, ap, ◌∙◌, subst, arith, Option, Some, None, slice_get, eqb, ltb, length-append, length-take, if◌then◌else◌}
+use Rattle.std.proofs.Common.{◌≡◌, ℕ, ◌+◌, ◌<◌, ◌≤◌, Bool, true, false, not, ◌&&◌, inl, inr, List, [], ◌∷◌, ◌++◌, length, drop, refl, sym, ap, ◌∙◌, subst, arith, Option, Some, None, slice_get, eqb, ltb, length-append, length-take, if◌then◌else◌}
 use Rattle.uip_wire.specs.Numbers.{wrap}
 use Rattle.uip_wire.specs.declared.addr.Addr.{Addr}
 use Rattle.tcp_segment.specs.Segments.{PlainSegment, has_syn, has_fin, has_rst, has_ack}
@@ -18,18 +18,19 @@ use Rattle.link_client.specs.Client.{AbstractClient, ClientStep, has_closed, is_
 use Rattle.link_client.specs.declared.client_state.ClientState.{ClientState}
 use Rattle.link_client.specs.declared.client_state.ClientState.TheVariants as Is
 use Rattle.link_world.specs.World.{World, Side, Sent, Era, becomes_opened, with_client, marked, is_clean, era_of}
-use Rattle.link_world.specs.History.{era, serving, Planned, IsPlan, opening_world}
+use Rattle.link_world.specs.History.{era, Planned, IsPlan, opening_world}
+use Rattle.uip_node.specs.Laws.{serving}
 use Rattle.link_world.specs.Headline.{IsReached, IsInStep, OneSegment}
-use Rattle.link_world.proofs.Steadiness.{steady_of, IsShort, short_said}
-use Rattle.link_world.proofs.Basics.{and_true, eqb-eq, same_place, wrap_wrap, get_push, nothing_placed, not-true}
-use Rattle.link_world.proofs.Basics.AtEnd.{older, newest}
+use Rattle.uip_node.proofs.Steadiness.{steady_of, IsShort, short_said}
+use Rattle.uip_node.proofs.Basics.{and_true, eqb-eq, same_place, wrap_wrap, get_push, nothing_placed, not-true}
+use Rattle.uip_node.proofs.Basics.AtEnd.{older, newest}
 use Rattle.link_world.proofs.Good.{seg, segment_in, from, to, ToGood, ClientSaid, NodeSaid, OpenedGood, HasOpened, Good, is_unasked, unopened}
 use Rattle.link_world.proofs.Good.NodeSaid.{node_reset, node_syn, node_ack, node_text, node_fin}
 use Rattle.link_world.proofs.Good.ClientSaid.{said_reset, said_syn, said_data}
 use Rattle.link_world.proofs.Views.{era_now, first_live, first_dead}
-use Rattle.link_world.proofs.Fits.{FitConn, FitOut, on_segment_fits, on_tick_fits}
-use Rattle.link_world.proofs.Told.{Safe, SafeState, IsDue, due, OutTold, segment_tells, tick_tells}
-use Rattle.link_world.proofs.Moves.{Moves, asked_moves, segment_moves, tick_moves}
+use Rattle.uip_node.proofs.Fits.{FitConn, FitOut, on_segment_fits, on_tick_fits}
+use Rattle.uip_node.proofs.Told.{Safe, SafeState, IsDue, due, OutTold, segment_tells, tick_tells}
+use Rattle.uip_node.proofs.Moves.{Moves, asked_moves, segment_moves, tick_moves}
 use Rattle.link_world.proofs.Counts.{count, Kind, Counted, Idles, Acks, client_counted, opens_idles, again_idles, closes_idles, aborts_idles, idles_quiet, same_becomes}
 use Rattle.link_world.proofs.Counts.Kind.{kept, took_text, took_open}
 use Rattle.link_world.proofs.Sides.{clean_before}
@@ -37,6 +38,7 @@ use Rattle.link_world.proofs.Runs.{reached}
 use Rattle.link_world.proofs.Any.{Framed, Steps, Takes, speech, entry, does_framed}
 use Rattle.link_world.proofs.Any
 use Rattle.link_world.proofs.Same
+use Rattle.uip_node.proofs.Stepped.{off_low, stepped_fits, stepped_tells}
 use Rattle.link_world.proofs.Prefix
 
 -- a number that the client acknowledges
@@ -152,7 +154,7 @@ module _ (m : Meaning) (pages : Pages) (lawful : IsPaged m pages) where
   new_ends : (d : Connection) (s : PlainSegment) → FitConn d → Safe m (steady_of m pages lawful) IsShort (short_said m pages lawful) d → (has_place s ≡ true → IsDue m (steady_of m pages lawful) IsShort (short_said m pages lawful) d s) → EndsBy d s
   new_ends d s fit f n p at low q =
       let w : IsDue m (steady_of m pages lawful) IsShort (short_said m pages lawful) d s = n p in
-      let here : at ≡ d.acked = same_place d.first at d.acked low (Same.off_low m (steady_of m pages lawful) IsShort (short_said m pages lawful) (λ n h. h) d d.state fit.captures f.state) (sym q ∙ w.seq) in
+      let here : at ≡ d.acked = same_place d.first at d.acked low (off_low m (steady_of m pages lawful) IsShort (short_said m pages lawful) (λ n h. h) d d.state fit.captures f.state) (sym q ∙ w.seq) in
       let z = span d d.state f.state w.len in
       let t : length s.text ≡ length (due m d.state d).text = ap (λ (x : List ℕ). length x) w.alike.text in
       let u : one_if (has_fin s.flags) ≡ one_if (has_fin (due m d.state d).flags) = ap (λ n. one_if (has_fin n)) w.alike.flags in
@@ -279,8 +281,8 @@ module _ (m : Meaning) (pages : Pages) (lawful : IsPaged m pages) where
   segment w old numbers now k j side e lv f n is sent who fresh g =
       let o : Outcome = on_segment m old numbers (seg e) in
       let fo : FitOut o = on_segment_fits m (steady_of m pages lawful) old numbers (seg e) f n in
-      let fit : FitConn (asked m now o).connection = Same.stepped_fits m (steady_of m pages lawful) IsShort (short_said m pages lawful) now o is fo in
-      let h : OutTold m (steady_of m pages lawful) IsShort (short_said m pages lawful) old (asked m now o) = Same.stepped_tells m (steady_of m pages lawful) IsShort (short_said m pages lawful) now old o is fo (segment_tells m (steady_of m pages lawful) IsShort (short_said m pages lawful) old numbers (seg e) (g.told.safe lv)) in
+      let fit : FitConn (asked m now o).connection = stepped_fits m (steady_of m pages lawful) IsShort (short_said m pages lawful) now o is fo in
+      let h : OutTold m (steady_of m pages lawful) IsShort (short_said m pages lawful) old (asked m now o) = stepped_tells m (steady_of m pages lawful) IsShort (short_said m pages lawful) now old o is fo (segment_tells m (steady_of m pages lawful) IsShort (short_said m pages lawful) old numbers (seg e) (g.told.safe lv)) in
       steps_by w old (asked m now o) (not (has_rst (seg e).flags) && is_acked old (seg e)) k side lv g fit h (asked_moves m _ old now o (segment_moves m old numbers (seg e)))
       (Same.steps_by m (steady_of m pages lawful) IsShort (short_said m pages lawful) w old (asked m now o) k side lv fit h g.told) (Prefix.segment m pages lawful w old numbers now k j side e lv f n is sent who fresh g.good)
       (λ cl p q a. acked_by k side.client side.past old w.sent side.opened j e sent who lv f (g.told.safe lv) (g.good cl).opened_good (g.exact cl) p q a)
@@ -290,8 +292,8 @@ module _ (m : Meaning) (pages : Pages) (lawful : IsPaged m pages) where
   tick w old numbers now k side lv f n is g =
       let o : Outcome = on_tick m old numbers in
       let fo : FitOut o = on_tick_fits m (steady_of m pages lawful) old numbers f n in
-      let fit : FitConn (asked m now o).connection = Same.stepped_fits m (steady_of m pages lawful) IsShort (short_said m pages lawful) now o is fo in
-      let h : OutTold m (steady_of m pages lawful) IsShort (short_said m pages lawful) old (asked m now o) = Same.stepped_tells m (steady_of m pages lawful) IsShort (short_said m pages lawful) now old o is fo (tick_tells m (steady_of m pages lawful) IsShort (short_said m pages lawful) old numbers (g.told.safe lv)) in
+      let fit : FitConn (asked m now o).connection = stepped_fits m (steady_of m pages lawful) IsShort (short_said m pages lawful) now o is fo in
+      let h : OutTold m (steady_of m pages lawful) IsShort (short_said m pages lawful) old (asked m now o) = stepped_tells m (steady_of m pages lawful) IsShort (short_said m pages lawful) now old o is fo (tick_tells m (steady_of m pages lawful) IsShort (short_said m pages lawful) old numbers (g.told.safe lv)) in
       steps_by w old (asked m now o) false k side lv g fit h (asked_moves m false old now o (tick_moves m old numbers))
       (Same.steps_by m (steady_of m pages lawful) IsShort (short_said m pages lawful) w old (asked m now o) k side lv fit h g.told) (Prefix.tick m pages lawful w old numbers now k side lv f n is g.good) (λ cl p q a. absurd (cc))
 
@@ -309,7 +311,7 @@ module _ (m : Meaning) (pages : Pages) (lawful : IsPaged m pages) where
         told = t;
         good = Prefix.birth m pages lawful w first sockets k j side e sent who fresh plain fit g.good tick id;
         ends = push_ends k side c w.sent new (λ l i f x wf q pl. absurd (let z : false ≡ true = (g.told.tells i f x wf pl q).0 in cc))
-            (λ l x. new_ends c (syn_ack c) fit (t.safe refl) (λ y. record { len = omega arith; seq = refl; alike = Rattle.link_world.proofs.Told.alike_refl (syn_ack c) }));
+            (λ l x. new_ends c (syn_ack c) fit (t.safe refl) (λ y. record { len = omega arith; seq = refl; alike = Rattle.uip_node.proofs.Told.alike_refl (syn_ack c) }));
         exact = push_aside k side c w.sent new (λ y. absurd (cc))
             (λ cl. (let y = Prefix.born_by m pages lawful side e ((g.good cl).of_client j e sent who).said (Prefix.plain_is m pages lawful (seg e) plain) in
             born_exact k side.client side.past c w.sent side.opened (λ o q. subst (λ n. n ≤ o) (fresh cl) (y.before o q)) (g.good cl).opened_good));
@@ -435,7 +437,7 @@ module _ (m : Meaning) (pages : Pages) (lawful : IsPaged m pages) where
       record {
         apart = a.apart;
         single = a.single;
-        each = λ k side x. (let p = Rattle.link_world.proofs.Tables.get_map Rattle.link_world.specs.History.fresh_side plan k side x in record {
+        each = λ k side x. (let p = Rattle.uip_node.proofs.Connections.get_map Rattle.link_world.specs.History.fresh_side plan k side x in record {
           told = a.each k side x;
           good = b.each k side x;
           ends = λ l j e y. absurd (cc);

@@ -18,7 +18,7 @@ use Rattle.link_world.specs.World.Content.{OfSegment, OfPing, OfEcho}
 use Rattle.link_world.specs.declared.who.Who.{Who}
 use Rattle.link_world.specs.declared.who.Who.TheVariants.{FromClient, FromNode}
 use Rattle.link_world.specs.History.{era}
-use Rattle.link_world.proofs.Basics.{IsPart}
+use Rattle.uip_node.proofs.Basics.{IsPart}
 
 abbrev pub is_some : Option ℕ → Bool
 is_some None = false

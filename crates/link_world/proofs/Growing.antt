@@ -20,7 +20,7 @@ use Rattle.link_world.specs.History.{planned_of}
 use Rattle.link_world.specs.declared.act.Act.{Act}
 use Rattle.link_world.specs.declared.who.Who.{Who}
 use Rattle.link_world.specs.declared.who.Who.TheVariants.{FromClient, FromNode, Pinger}
-use Rattle.link_world.proofs.Basics.{choose}
+use Rattle.uip_node.proofs.Basics.{choose}
 use Rattle.link_world.proofs.Doing.{at_number, where_there}
 use Rattle.link_world.proofs.Rounds.{one_longer}
 use Rattle.link_world.proofs.Setups.{Keeps, again_keeps, aborts_keeps, closes_keeps, opens_keeps, planned_by, takes_keeps}

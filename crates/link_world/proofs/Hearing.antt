@@ -1,5 +1,5 @@
 -- What a client's code hears in a datagram is what the world says that it hears.
-use Rattle.std.specs.Prelude.{ℕ, List, Option, Some, None, Result, Ok, Err}
+use Rattle.std.specs.Prelude.{ℕ, List, Option, Some, None, Result, Ok, Err, take}
 use Rattle.std.specs.Option.{option_map_or}
 use Rattle.std.proofs.Common.{◌≡◌, refl}
 use Rattle.uip_ipv4.specs.Head.{head_or_fate, payload_of}
@@ -13,7 +13,6 @@ use Rattle.tcp_segment.specs.Received.{segment_or_fate}
 use Rattle.tcp_segment.specs.declared.fate.TcpFate.{TcpFate}
 use Rattle.tcp_segment.specs.declared.segment.Segment.{Segment}
 use Rattle.uip_node.specs.Events.Event.{EchoAsked, IcmpRefused}
-use Rattle.std.specs.Prelude.{take}
 use Rattle.uip_node.specs.Edge.{by_head, by_proto, by_segment}
 use Rattle.link_client.specs.declared.setup.Setup.{Setup}
 use Rattle.link_client.specs.Calls.{heard_in, heard_by_proto, heard_by_head, client_hears}

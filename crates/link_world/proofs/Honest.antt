@@ -12,7 +12,7 @@ use Rattle.tcp_machine.specs.OnSegment.{first_mss}
 use Rattle.tcp_segment.specs.Segments.{PlainSegment}
 use Rattle.uip_node.specs.Counters.{ticks_of}
 use Rattle.uip_node.specs.Node.{AbstractNode, opening}
-use Rattle.link_client.specs.Client.{AbstractClient, ClientStep, offered, syn_of, opens_by}
+use Rattle.link_client.specs.Client.{AbstractClient, offered, syn_of, opens_by}
 use Rattle.link_client.specs.declared.client_state.ClientState.TheVariants as Is
 use Rattle.link_client.specs.declared.fin_at.FinAt.{FinAt}
 use Rattle.link_client.specs.declared.setup.Setup.{Setup}
@@ -24,8 +24,8 @@ use Rattle.link_schedule.specs.declared.event.Event.TheVariants.{Opens, Round}
 use Rattle.link_world.specs.Headline.{IsAct, IsPlainAct, OfLine, IsSchedulePlayed, IsServed}
 use Rattle.link_world.specs.Honest.{AnswersIn, IsServedWhole, HonestLink}
 use Rattle.link_world.proofs.Doing.{goes_on_with}
-use Rattle.link_world.proofs.Basics.{wrap_wrap}
-use Rattle.link_world.proofs.Fits.{FitConn, all_nil, all_cons}
+use Rattle.uip_node.proofs.Basics.{wrap_wrap}
+use Rattle.uip_node.proofs.Fits.{FitConn, all_nil, all_cons}
 use Rattle.link_world.proofs.Prefix.{prefix_and_whole}
 use Rattle.link_world.proofs.Lines.{lines_are_acts}
 use Rattle.link_world.proofs.Rounds.{only_side, under_way}

@@ -5,13 +5,13 @@ use Rattle.uip_wire.specs.Numbers.{wrap}
 use Rattle.tcp_segment.specs.declared.flags.TheConstants.{FIN, SYN, PSH, ACK}
 use Rattle.tcp_segment.specs.Segments.{PlainSegment, has_fin, has_rst, has_ack}
 use Rattle.tcp_machine.specs.Segments.{has_place}
-use Rattle.link_client.specs.Client.{AbstractClient, ClientStep, sends_next, hears_ack, takes_text, takes_in_order, takes_by, client_takes, own_request, ack_of, own_fin, next_own, has_outstanding, keeps, opened_by}
+use Rattle.link_client.specs.Client.{AbstractClient, ClientStep, sends_next, hears_ack, takes_text, takes_in_order, takes_by, client_takes, own_request, ack_of, own_fin, next_own, has_outstanding, keeps}
 use Rattle.link_client.specs.Client as client
 use Rattle.link_client.specs.declared.client_state.ClientState.{ClientState}
 use Rattle.link_client.specs.declared.client_state.ClientState.TheVariants.{Opening, Opened, Closed}
 use Rattle.link_client.specs.declared.fin_at.FinAt.{FinAt}
 use Rattle.link_client.specs.declared.setup.Setup.{Setup}
-use Rattle.link_world.proofs.Basics.{zero_or_more, ltb-yes, choose}
+use Rattle.uip_node.proofs.Basics.{zero_or_more, ltb-yes, choose}
 
 module _ (setup : Setup) (request : List ℕ) where
   -- a client of the plan, at some point of its life

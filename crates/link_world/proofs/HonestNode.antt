@@ -36,12 +36,12 @@ use Rattle.link_client.specs.declared.client_state.ClientState.TheVariants as Is
 use Rattle.link_client.specs.declared.fin_at.FinAt.{FinAt}
 use Rattle.link_client.specs.declared.setup.Setup.{Setup}
 use Rattle.link_world.specs.Honest.{GoesOnBy, AnswersIn}
-use Rattle.link_world.proofs.Steadiness.{steady_of}
-use Rattle.link_world.proofs.Basics.{choose, both_ways, zero_or_more, ltb-yes, cut_length, wrap_wrap}
-use Rattle.link_world.proofs.SocketPairs.{same_self}
-use Rattle.link_world.proofs.Fits.{FitConn, FitOut, moment_fits, asked_fits, on_segment_fits}
-use Rattle.link_world.proofs.FitWorlds.{closed_fits}
-use Rattle.link_world.proofs.Runs.{all_closed}
+use Rattle.uip_node.proofs.Steadiness.{steady_of}
+use Rattle.uip_node.proofs.Basics.{choose, both_ways, zero_or_more, ltb-yes, cut_length, wrap_wrap}
+use Rattle.uip_node.proofs.SocketPairs.{same_self}
+use Rattle.uip_node.proofs.Fits.{FitConn, FitOut, moment_fits, asked_fits, on_segment_fits}
+use Rattle.uip_node.proofs.FitNodes.{closed_fits}
+use Rattle.uip_node.proofs.Connections.{all_closed}
 use Rattle.link_world.proofs.HonestClient.{client_at, node_says, node_syn_ack, Brings, next_out}
 
 pub mss_low : (o : Option ℕ) → 1 ≤ first_mss o

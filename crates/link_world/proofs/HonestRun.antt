@@ -24,8 +24,8 @@ use Rattle.link_schedule.specs.declared.event.Event.TheVariants.{Round}
 use Rattle.link_world.specs.declared.who.Who.TheVariants.{FromClient, FromNode}
 use Rattle.link_world.specs.Honest.{AnswersIn}
 use Rattle.link_world.proofs.Doing.{goes_on_with}
-use Rattle.link_world.proofs.Basics.{wrap_wrap}
-use Rattle.link_world.proofs.Fits.{FitConn}
+use Rattle.uip_node.proofs.Basics.{wrap_wrap}
+use Rattle.uip_node.proofs.Fits.{FitConn}
 use Rattle.link_world.proofs.Rounds.{only_side, under_way, at_rest, sent_by, one_longer, round_of_none, node_answers, client_answers, client_is_silent}
 use Rattle.link_world.proofs.HonestClient.{open_with, closed_with, next_out, node_says, Brings, SendsNext, goes_on_at_ack, takes_a_text, takes_the_fin, rests_at_ack}
 use Rattle.link_world.proofs.HonestNode.{mss, sockets, conn_at, node_at, takes_fin, Awaits, Says, visits}

@@ -6,7 +6,7 @@ use Rattle.app_events.specs.Part.{Moment, Meaning}
 use Rattle.app_events.specs.Laws.{IsPrefixOf}
 use Rattle.app_events.specs.Pages.{Pages, IsPaged}
 use Rattle.link_client.specs.Client.{AbstractClient, own_first}
-use Rattle.link_world.proofs.Basics.{IsPart, prefix_part, append_nothing}
+use Rattle.uip_node.proofs.Basics.{IsPart, prefix_part, append_nothing}
 use Rattle.link_world.proofs.Good.{is_some, IsAll, NodeSaid, ClientSaid}
 use Rattle.link_world.proofs.Good.ClientSaid.{said_reset, said_syn, said_data}
 use Rattle.link_world.proofs.Good.NodeSaid.{node_reset, node_syn, node_ack, node_text, node_fin}

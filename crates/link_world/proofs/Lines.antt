@@ -5,7 +5,6 @@ use Rattle.std.proofs.lemmas.List.Elements.{All-append}
 use Rattle.std.specs.Option.{option_map_or, option_or}
 use Rattle.link_schedule.specs.Numbers.{◌>>=◌}
 use Rattle.app_events.specs.Part.{Meaning}
-use Rattle.tcp_segment.specs.Segments.{PlainSegment}
 use Rattle.uip_node.specs.Events.{Event as NodeEvent, Reply, tick}
 use Rattle.uip_node.specs.Events.Event.{EchoAsked, Arrived}
 use Rattle.uip_node.specs.Events.Reply.{Echo, Tcp}
@@ -25,7 +24,7 @@ use Rattle.link_world.specs.declared.who.Who.{Who}
 use Rattle.link_world.specs.declared.who.Who.TheVariants.{FromClient, FromNode, Pinger}
 use Rattle.link_world.specs.Headline.{IsAct, IsPlainAct, OfLine, LinesAreActs}
 use Rattle.link_world.proofs.Doing.{goes_on_with, with_mark}
-use Rattle.link_world.proofs.Fits.{all_nil, all_cons}
+use Rattle.uip_node.proofs.Fits.{all_nil, all_cons}
 
 abbrev at_mark : ℕ → World → World
 at_mark x w = record w { mark = x }

@@ -1,5 +1,5 @@
 -- Damage is a loss: nothing but the node's past changes.
-use Rattle.std.proofs.Common.{◌≡◌, ℕ, zero, suc, ◌+◌, ◌++◌, ◌<◌, ◌≤◌, ◌==◌, Bool, true, false, if◌then◌else◌, List, [], ◌∷◌, map, length, refl, sym, ap, ◌∙◌, subst, Option, Some, None}
+use Rattle.std.proofs.Common.{◌≡◌, ℕ, zero, suc, ◌+◌, ◌++◌, ◌<◌, ◌≤◌, ◌==◌, Bool, true, false, if◌then◌else◌, List, ◌∷◌, map, length, refl, sym, ap, ◌∙◌, subst, Option, Some, None}
 use Rattle.std.specs.List.{list_any, range_with_len}
 use Rattle.std.specs.Option.{option_map_or}
 use Rattle.std.proofs.lemmas.List.{append-nil}
@@ -8,7 +8,7 @@ use Rattle.app_events.specs.Part.{Meaning}
 use Rattle.uip_node.specs.Events.{Event, Past}
 use Rattle.uip_node.specs.Events.Answer.{Silent}
 use Rattle.uip_node.specs.Counters.{times, raised_by, raised_by_answer, raises, counters}
-use Rattle.uip_node.specs.Events.Event.{IpRefused, IcmpRefused, TcpRefused, EchoAsked, Arrived, Overlong, Periodic}
+use Rattle.uip_node.specs.Events.Event.{IpRefused, IcmpRefused, TcpRefused}
 use Rattle.uip_node.specs.Edge.{event_of}
 use Rattle.link_client.specs.Client.{client_takes}
 use Rattle.link_client.specs.declared.setup.Setup.{Setup}
@@ -18,7 +18,7 @@ use Rattle.link_world.specs.Acts.{hands_over, handed}
 use Rattle.link_world.specs.declared.who.Who.{Who}
 use Rattle.link_world.specs.declared.who.Who.TheVariants.{FromClient, FromNode, Pinger}
 use Rattle.link_world.specs.Headline.{is_refused, rise, IsLoss, OneRefusal, CountsBy, IsWholeDatagram, DamageIsLoss}
-use Rattle.link_world.proofs.Basics.{wrap_wrap}
+use Rattle.uip_node.proofs.Basics.{wrap_wrap}
 use Rattle.link_world.proofs.Damage.{damage_refused}
 use Rattle.link_world.proofs.Doing.{damaged}
 

@@ -15,14 +15,14 @@ use Rattle.uip_node.specs.Counters.{initial_number}
 use Rattle.uip_node.specs.Events.{Event}
 use Rattle.uip_node.specs.Events.Event.{IpRefused, IcmpRefused, TcpRefused, EchoAsked, Arrived, Overlong, Periodic}
 use Rattle.uip_node.specs.Node.{AbstractNode, NodeStep, arrives_at, connection_in, from_stranger, happened, moment, opening, opens, opens_in, periodic, run, slot_for_syn, step}
-use Rattle.link_world.specs.Nodes.{CapturesFit, IsEvent, IsOfNode, TextNumbers, TextsAreShort}
-use Rattle.link_world.proofs.Steadiness.{steady_of}
-use Rattle.link_world.proofs.Basics.{choose}
-use Rattle.link_world.proofs.Tables.{get_set, set_past}
-use Rattle.link_world.proofs.Tables.Written.{here, there}
-use Rattle.link_world.proofs.Fits.{FitConn}
-use Rattle.link_world.proofs.FitWorlds.{FitNode, closed_fits, event_fits, position_in}
-use Rattle.link_world.proofs.Runs.{all_closed}
+use Rattle.link_world.specs.Nodes.{CapturesFit, IsOfNode, TextNumbers, TextsAreShort}
+use Rattle.uip_node.specs.Laws.{IsEvent}
+use Rattle.uip_node.proofs.Steadiness.{steady_of}
+use Rattle.uip_node.proofs.Basics.{choose}
+use Rattle.uip_node.proofs.Connections.{get_set, set_past, all_closed}
+use Rattle.uip_node.proofs.Connections.Written.{here, there}
+use Rattle.uip_node.proofs.Fits.{FitConn}
+use Rattle.uip_node.proofs.FitNodes.{FitNode, closed_fits, event_fits, position_in}
 use Rattle.link_world.proofs.TextNumbers.{Num, accepted_num, closed_num, segment_num, text_numbers, tick_num}
 
 -- ---- a fact that each step of a connection keeps at the moments of a node

@@ -7,14 +7,15 @@ use Rattle.tcp_segment.specs.Segments.{PlainSegment, has_syn, has_fin, has_rst, 
 use Rattle.app_events.specs.Laws.{IsPrefixOf}
 use Rattle.app_events.specs.Pages.{Pages}
 use Rattle.app_events.specs.declared.state.State.{State}
-use Rattle.app_events.specs.declared.state.State.TheVariants.{Closed, SynRcvd, Established, CloseWait, FinWait1, FinWait2, Closing, TimeWait, LastAck}
+use Rattle.app_events.specs.declared.state.State.TheVariants.{Closed, SynRcvd, Established}
 use Rattle.tcp_machine.specs.Connection.{Connection, is_live}
 use Rattle.link_client.specs.Client.{AbstractClient, fin_sent, one_if}
 use Rattle.link_world.specs.World.{Side, Era, Sent}
 use Rattle.link_world.specs.History.{era}
 use Rattle.link_world.specs.Headline.{server_side}
-use Rattle.link_world.specs.Parts.{IsSlice, SaysPage, AsksRequest, HasTaken, HasOneEpoch, CleanParts}
-use Rattle.link_world.proofs.Basics.{IsPart}
+use Rattle.uip_node.specs.Laws.{IsSlice}
+use Rattle.link_world.specs.Parts.{SaysPage, AsksRequest, HasTaken, HasOneEpoch, CleanParts}
+use Rattle.uip_node.proofs.Basics.{IsPart}
 use Rattle.link_client.specs.declared.client_state.ClientState.TheVariants as Is
 use Rattle.link_world.proofs.Good.{is_unasked, seg, segment_in, StateGood, NodeSaid, ClientSaid, OpenedGood, Good, unopened}
 use Rattle.link_world.proofs.Good.NodeSaid.{node_reset, node_syn, node_ack, node_text, node_fin}

@@ -11,7 +11,7 @@ use Rattle.app_events.specs.Part.{Meaning}
 use Rattle.app_events.specs.Laws.{IsPrefixOf}
 use Rattle.app_events.specs.Pages.{Pages, IsPaged, IsMoment, IsNow, IsWord}
 use Rattle.app_events.specs.declared.now.Now.{Now}
-use Rattle.tcp_machine.specs.Connection.{Sockets, Connection, closed, is_live, serves}
+use Rattle.tcp_machine.specs.Connection.{Sockets, Connection, closed, is_live}
 use Rattle.tcp_machine.specs.Segments.{is_again, is_plain_syn, syn_ack}
 use Rattle.tcp_machine.specs.Ask.{Outcome, asked}
 use Rattle.tcp_machine.specs.OnSegment.{accepted, on_segment}
@@ -19,10 +19,11 @@ use Rattle.tcp_machine.specs.OnTick.{on_tick}
 use Rattle.link_client.specs.Client.{AbstractClient, ClientStep, has_closed, client_takes, client_opens, client_again, client_closes, client_aborts, tells_window}
 use Rattle.link_client.specs.declared.client_state.ClientState.{ClientState}
 use Rattle.link_world.specs.World.{World, Side, Sent, Era, client_sockets, with_client, marked, is_clean, era_of}
-use Rattle.link_world.specs.History.{era, serving, captures_of, page_of, Planned, IsPlanned, IsPlan, fresh_side, opening_world}
+use Rattle.link_world.specs.History.{era, captures_of, page_of, Planned, IsPlanned, IsPlan, fresh_side, opening_world}
+use Rattle.uip_node.specs.Laws.{serving}
 use Rattle.link_world.specs.Headline.{IsReached, IsServed, PrefixAndWhole}
-use Rattle.link_world.proofs.Steadiness.{steady_of}
-use Rattle.link_world.proofs.Basics.{both_ways, append_nothing, part_prefix}
+use Rattle.uip_node.proofs.Steadiness.{steady_of}
+use Rattle.uip_node.proofs.Basics.{both_ways, append_nothing, part_prefix}
 use Rattle.link_world.proofs.Good.{is_some, seg, from, to, spoken, ClientSaid, IsSyn, SentGood, StepGood, FromGood, ToGood, OpenedGood, Good, is_early}
 use Rattle.link_world.proofs.Good.NodeSaid.{node_reset}
 use Rattle.link_world.proofs.Good.ClientSaid.{said_reset, said_syn, said_data}
@@ -30,16 +31,13 @@ use Rattle.link_world.proofs.Later.{node_later}
 use Rattle.link_world.proofs.Views.{era_now, view_live, view_dead, view_born, view_push, view_client}
 use Rattle.link_world.proofs.Steps.{asked_good, on_segment_good, on_tick_good, says_syn}
 use Rattle.link_world.proofs.Clients.{Took_it, client_takes_good, opens_by_good, again_by_good, closes_by_good, aborts_by_good, window_good}
-use Rattle.link_world.proofs.Tables.{Free, serving_free, get_map}
-use Rattle.link_world.proofs.Fits.{FitConn}
-use Rattle.link_world.proofs.Runs.{all_closed, reached}
+use Rattle.uip_node.proofs.Connections.{serving_free, get_map, none_serves}
+use Rattle.uip_node.proofs.Fits.{FitConn}
+use Rattle.link_world.proofs.Runs.{reached}
 use Rattle.link_world.proofs.Sides.{clean_before}
 use Rattle.link_world.proofs.Any.{Framed, Steps, Takes, speech, entry, older, does_framed}
 
 -- the opening world
-pub none_serves : (n : ℕ) (p : Sockets) → Free p (replicate n closed)
-none_serves n p k x h = ap (serves p) (sym (all_closed n k x h))
-
 pub opening_apart : (plan : List Planned) → IsPlan plan → Rattle.link_world.proofs.Sides.Apart (map fresh_side plan)
 opening_apart plan is j k a b x y e =
     let p = get_map fresh_side plan j a x in

@@ -17,11 +17,13 @@ use Rattle.link_world.specs.Bytes.{ping_from, server_of, client_bytes, node_byte
 use Rattle.link_world.specs.declared.who.Who.{Who}
 use Rattle.link_world.specs.declared.who.Who.TheVariants.{FromClient, FromNode, Pinger}
 use Rattle.link_world.specs.Reading.{IsRead, BytesAreRead}
-use Rattle.link_world.proofs.SocketPairs.{is_same}
-use Rattle.link_world.proofs.Sound.{IsSoundSegment, IsSoundClient}
+use Rattle.uip_node.proofs.SocketPairs.{is_same}
+use Rattle.uip_node.proofs.SoundSegments.{IsSoundSegment}
+use Rattle.link_world.proofs.Sound.{IsSoundClient}
 use Rattle.link_world.proofs.SoundWorlds.{SoundSent, SoundWorld}
 use Rattle.link_world.proofs.SoundWorlds.SoundSent.{of_segment, of_ping, of_echo}
-use Rattle.link_world.proofs.Whole.{IsPlace, IsPingBack, ping_head, datagram_back, datagram_short, ping_back}
+use Rattle.uip_node.proofs.DatagramsBack.{IsPlace, datagram_back, datagram_short}
+use Rattle.link_world.proofs.Whole.{IsPingBack, ping_head, ping_back}
 use Rattle.link_world.proofs.Runs.{reached_sound}
 use Rattle.link_world.proofs.Senders.{Asked, IsAsked, has_senders}
 

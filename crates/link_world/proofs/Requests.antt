@@ -14,16 +14,17 @@ use Rattle.tcp_machine.specs.OnSegment.{accepted, on_segment}
 use Rattle.tcp_machine.specs.OnTick.{on_tick}
 use Rattle.link_client.specs.Client.{AbstractClient, ClientStep, one_if, fin_sent, own_first, client_takes, client_opens, client_again, client_closes, client_aborts, tells_window}
 use Rattle.link_world.specs.World.{World, Side, Sent, Era, becomes_opened, with_client, marked, is_clean, client_sockets}
-use Rattle.link_world.specs.History.{era, serving, fresh_side, Planned, IsPlan, opening_world}
+use Rattle.link_world.specs.History.{era, fresh_side, Planned, IsPlan, opening_world}
+use Rattle.uip_node.specs.Laws.{serving}
 use Rattle.link_world.specs.Headline.{IsReached}
-use Rattle.link_world.proofs.Steadiness.{steady_of}
-use Rattle.link_world.proofs.Basics.{same_place, get_push, zero_or_more}
-use Rattle.link_world.proofs.Basics.AtEnd.{older, newest}
+use Rattle.uip_node.proofs.Steadiness.{steady_of}
+use Rattle.uip_node.proofs.Basics.{same_place, get_push, zero_or_more}
+use Rattle.uip_node.proofs.Basics.AtEnd.{older, newest}
 use Rattle.link_world.proofs.Good.{seg, no_segment, is_early, from, to, ClientSaid, OpenedGood, Good, Steady, unopened}
 use Rattle.link_world.proofs.Good.ClientSaid.{said_reset, said_syn, said_data}
-use Rattle.link_world.proofs.Fits.{FitConn}
+use Rattle.uip_node.proofs.Fits.{FitConn}
 use Rattle.link_world.proofs.Sides.{clean_before}
-use Rattle.link_world.proofs.Tables.{get_map}
+use Rattle.uip_node.proofs.Connections.{get_map}
 use Rattle.link_world.proofs.Runs.{reached}
 use Rattle.link_world.proofs.Any.{Framed, Steps, Takes, speech, entry, does_framed}
 use Rattle.link_world.proofs.Any

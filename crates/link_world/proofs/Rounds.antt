@@ -22,7 +22,7 @@ use Rattle.link_world.specs.declared.step_fault.StepFault.TheVariants.{Full, NoD
 use Rattle.link_world.specs.declared.who.Who.{Who}
 use Rattle.link_world.specs.declared.who.Who.TheVariants.{FromClient, FromNode}
 use Rattle.link_world.proofs.Doing.{with_mark}
-use Rattle.link_world.proofs.SocketPairs.{same_self}
+use Rattle.uip_node.proofs.SocketPairs.{same_self}
 
 -- the side of a client to which nothing stale came, and whose connection never became CLOSED
 abbrev pub only_side : AbstractClient → Option ℕ → Side

@@ -1,36 +1,33 @@
 -- What every act keeps holds of every world that is reached.
 use Rattle.std.specs.List.{All}
-use Rattle.std.proofs.Common.{◌≡◌, ℕ, zero, suc, ◌⊎◌, inl, inr, Bool, List, [], ◌∷◌, replicate, refl, subst, arith, Option, Some, None, Result, Ok, Err, slice_get}
+use Rattle.std.proofs.Common.{◌≡◌, ℕ, suc, ◌⊎◌, inl, inr, Bool, List, [], ◌∷◌, refl, subst, arith, Option, Some, None, Result, Ok, Err}
 use Rattle.std.specs.Option.{option_map_or}
 use Rattle.uip_wire.specs.declared.addr.Addr.{Addr}
 use Rattle.app_events.specs.Part.{Meaning}
 use Rattle.app_events.specs.Pages.{Pages, IsPaged, IsMoment, IsWord, IsAddr}
-use Rattle.tcp_machine.specs.Connection.{Connection, closed}
 use Rattle.link_world.specs.World.{World, Side}
 use Rattle.link_schedule.specs.Numbers.{◌>>=◌}
 use Rattle.link_world.specs.Acts.{does, fault_of, acts, runs}
 use Rattle.link_world.specs.declared.act.Act.{Act}
 use Rattle.link_world.specs.declared.step_fault.StepFault.{StepFault}
 use Rattle.link_world.specs.History.{Planned, IsPlanned, IsPlan, fresh_side, opening_world, started}
-use Rattle.link_world.specs.Steady.{IsSteady}
-use Rattle.link_world.specs.Headline.{IsReachedPlainly, IsAct, IsPlainAct, HasBytes, IsReached}
+use Rattle.uip_node.specs.Steady.{IsSteady}
+use Rattle.link_world.specs.Headline.{IsReachedPlainly, IsAct, IsPlainAct, IsReached}
+use Rattle.uip_node.specs.Laws.{HasBytes}
 use Rattle.link_world.specs.Times.{IsLater}
-use Rattle.link_world.proofs.Steadiness.{steady_of}
-use Rattle.link_world.proofs.Tables.{get_map}
-use Rattle.link_world.proofs.Fits.{FitConn, all_nil}
-use Rattle.link_world.proofs.FitWorlds.{FitSide, FitWorld, closed_fits}
+use Rattle.uip_node.proofs.Steadiness.{steady_of}
+use Rattle.uip_node.proofs.Connections.{get_map, all_closed}
+use Rattle.uip_node.proofs.Fits.{FitConn, all_nil}
+use Rattle.link_world.proofs.FitWorlds.{FitSide, FitWorld}
+use Rattle.uip_node.proofs.FitNodes.{closed_fits}
 use Rattle.link_world.proofs.FitActs.{does_fit}
 use Rattle.link_world.proofs.Harmless.{Harmless, plain_harmless}
-use Rattle.link_world.proofs.Sound.{Lens, closed_lens, IsSoundClient}
+use Rattle.uip_node.proofs.SoundSegments.{Lens, closed_lens}
+use Rattle.link_world.proofs.Sound.{IsSoundClient}
 use Rattle.link_world.proofs.SoundWorlds.{SoundWorld, does_sound}
 use Rattle.link_world.proofs.Damages.{act_harmless}
 
 -- the opening world
-pub all_closed : (n k : ℕ) (x : Connection) → slice_get (replicate n closed) k ≡ Some x → closed ≡ x
-all_closed zero k x h = absurd (cc)
-all_closed (suc n) zero x h = let e : closed ≡ x = cc in e
-all_closed (suc n) (suc k) x h = all_closed n k x h
-
 opening_fits : (addr : Addr) (numbers : List ℕ) (plan : List Planned) → All IsWord numbers → IsPlan plan → FitWorld (opening_world addr numbers plan)
 opening_fits addr numbers plan n is = record {
   node = record { size = omega arith; conns = λ i c x. subst (λ z. FitConn z) (all_closed 10 i c x) closed_fits; numbers = n };

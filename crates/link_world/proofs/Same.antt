@@ -1,16 +1,13 @@
 -- Same bytes: what is sent again while it is outstanding is the same, and is marked so.
 use Rattle.std.specs.List.{All}
-use Rattle.std.proofs.Common.{◌≡◌, ℕ, suc, ◌+◌, ◌<◌, ◌≤◌, min, Bool, true, false, ◌⊎◌, inl, inr, List, [], ◌∷◌, ◌++◌, length, map, replicate, refl, sym, ap, ◌∙◌, subst, arith, Option, Some, None, slice_get, eqb, length-append, if◌then◌else◌}
+use Rattle.std.proofs.Common.{◌≡◌, ℕ, suc, ◌+◌, ◌<◌, ◌≤◌, min, Bool, true, false, ◌⊎◌, inl, inr, List, [], ◌∷◌, ◌++◌, length, replicate, refl, sym, ap, ◌∙◌, subst, arith, Option, Some, None, slice_get, eqb, if◌then◌else◌}
 use Rattle.std.proofs.lemmas.Grind.{common_steps}
 use Rattle.uip_wire.specs.Numbers.{wrap}
 use Rattle.uip_wire.specs.declared.addr.Addr.{Addr}
 use Rattle.uip_wire.specs.declared.sizes.TheConstants.{OWN_MSS}
 use Rattle.tcp_segment.specs.Segments.{PlainSegment, has_syn, has_fin, has_rst}
 use Rattle.app_events.specs.Part.{Part, Meaning}
-use Rattle.app_events.specs.Pages.{Pages, IsPaged, IsMoment, IsNow, IsWord}
-use Rattle.app_events.specs.declared.now.Now.{Now}
-use Rattle.app_events.specs.declared.state.State.{State}
-use Rattle.app_events.specs.declared.state.State.TheVariants.{Closed, SynRcvd, Established, CloseWait, FinWait1, FinWait2, Closing, TimeWait, LastAck}
+use Rattle.app_events.specs.Pages.{Pages, IsPaged, IsMoment}
 use Rattle.tcp_machine.specs.Connection.{Sockets, Connection, closed, is_live}
 use Rattle.tcp_machine.specs.Segments.{segment_of, is_again, has_place, is_plain_syn, syn_ack}
 use Rattle.tcp_machine.specs.Ask.{Outcome, asked}
@@ -21,23 +18,26 @@ use Rattle.link_world.specs.World.{World, Side, Sent, Content, client_sockets, w
 use Rattle.link_world.specs.World.Content.{OfSegment, OfPing, OfEcho}
 use Rattle.link_world.specs.Acts.{does}
 use Rattle.link_world.specs.declared.act.Act.{Act}
-use Rattle.link_world.specs.History.{serving, Planned, IsPlan, opening_world}
-use Rattle.link_world.specs.Headline.{Alike, IsReached, RepeatsSameBytes, MarksRepeats, SameBytes, SameBytesPlainly, AgainExactly}
-use Rattle.link_world.specs.Steady.{IsSteady}
-use Rattle.link_world.proofs.Steadiness.{steady_of, IsShort, short_said}
-use Rattle.link_world.proofs.Basics.{choose, same_place, get_push, nothing_placed, only_some}
-use Rattle.link_world.proofs.Basics.AtEnd.{older, newest}
+use Rattle.uip_node.specs.Laws.{serving, Alike}
+use Rattle.link_world.specs.History.{Planned, IsPlan, opening_world}
+use Rattle.link_world.specs.Headline.{IsReached, RepeatsSameBytes, MarksRepeats, SameBytes, SameBytesPlainly, AgainExactly}
+use Rattle.uip_node.specs.Steady.{IsSteady}
+use Rattle.uip_node.proofs.Steadiness.{steady_of, IsShort, short_said}
+use Rattle.uip_node.proofs.Basics.{choose, same_place, get_push, nothing_placed, only_some}
+use Rattle.uip_node.proofs.Basics.AtEnd.{older, newest}
 use Rattle.link_world.proofs.Good.{seg, segment_in, from, to}
 use Rattle.link_world.proofs.Views.{length_push}
-use Rattle.link_world.proofs.Tables.{serving_free}
-use Rattle.link_world.proofs.Fits.{FitConn, FitOut, asked_fits, on_segment_fits, on_tick_fits, prepared_captures}
-use Rattle.link_world.proofs.Told.{IsNear, TextSafe, Safe, SafeState, IsDue, Onto, Tells, StepTells, OutTells, OutTold, due, alike_trans, alike_sym, alike_refl, asked_tells, segment_tells, tick_tells}
-use Rattle.link_world.proofs.Prefix.{none_serves, opening_apart}
+use Rattle.uip_node.proofs.Connections.{serving_free, none_serves}
+use Rattle.uip_node.proofs.Fits.{FitConn, FitOut, on_segment_fits, on_tick_fits}
+use Rattle.uip_node.proofs.Told.{Safe, IsDue, Onto, Tells, StepTells, due, alike_trans, alike_sym, alike_refl, segment_tells, tick_tells}
+use Rattle.link_world.proofs.Prefix.{opening_apart}
 use Rattle.link_world.proofs.Harmless.{Harmless}
-use Rattle.link_world.proofs.FitWorlds.{FitWorld, closed_fits}
+use Rattle.link_world.proofs.FitWorlds.{FitWorld}
+use Rattle.uip_node.proofs.FitNodes.{closed_fits}
 use Rattle.link_world.proofs.Runs.{reached, reached_plainly}
 use Rattle.link_world.proofs.Any.{Framed, Steps, Takes, any_step, speech, entry, does_framed}
 use Rattle.link_world.proofs.Any
+use Rattle.uip_node.proofs.Stepped.{Few, off_low, stepped_fits, stepped_tells}
 
 not_zero : (w : ℕ) → eqb w 0 ≡ false → 0 < w
 not_zero w h = grind (arith, common_steps)
@@ -81,10 +81,6 @@ pub record IsOld (c : Connection) (s : PlainSegment) : Type 0 where
   pub past : at < c.acked
 
 module _ (m : Meaning) (steady : IsSteady m) (Low : ℕ → Type 0) (low_text : (p : Part) → All IsMoment p.captures → Low (length (m.said p))) where
-  -- the low numbers are below 2^30
-  abbrev pub Few : Type 0
-  Few = (n : ℕ) → Low n → n < 1073741824
-
   -- what is outstanding was sent
   pub record WasSent (k : ℕ) (side : Side) (c : Connection) (sent : List Sent) : Type 0 where
     pub place : ℕ
@@ -102,25 +98,8 @@ module _ (m : Meaning) (steady : IsSteady m) (Low : ℕ → Type 0) (low_text : 
     pub time : (j : ℕ) (e : Sent) → slice_get sent j ≡ Some e → e.who ≡ to k → e.epoch ≤ length side.past
     pub tells : (j : ℕ) (e : Sent) → slice_get sent j ≡ Some e → e.who ≡ to k → has_place (seg e) ≡ true → e.epoch ≡ length side.past → (is_live c.state ≡ true) × (IsOld c (seg e) ⊎ IsDue m steady Low low_text c (seg e))
     pub repeats : (i : ℕ) (e : Sent) → slice_get sent i ≡ Some e → e.who ≡ to k → e.again ≡ true → Before sent e i
-    pub agree : Few → (i j : ℕ) (e f : Sent) → slice_get sent i ≡ Some e → slice_get sent j ≡ Some f → j < i → e.who ≡ to k → f.who ≡ to k → e.epoch ≡ f.epoch →
+    pub agree : Few m steady Low low_text → (i j : ℕ) (e f : Sent) → slice_get sent i ≡ Some e → slice_get sent j ≡ Some f → j < i → e.who ≡ to k → f.who ≡ to k → e.epoch ≡ f.epoch →
         has_place (seg e) ≡ true → has_place (seg f) ≡ true → (seg e).seq ≡ (seg f).seq → (e.again ≡ true) × Alike (seg f) (seg e)
-
-  near_low : Few → (n far : ℕ) → far ≤ 2 → IsNear Low n far → n < 4294967296
-  near_low few n far h near = (let l = few near.at near.low in omega (arith, h, l, near.near))
-
-  text_low : Few → (c : Connection) → All IsMoment c.part.captures → TextSafe m steady Low low_text c → c.acked < 4294967296
-  text_low few c f h = (let l = few (length (m.said c.part)) (low_text c.part f) in omega (arith, h.fits, h.count, l))
-
-  pub off_low : Few → (c : Connection) (st : State) → All IsMoment c.part.captures → SafeState m steady Low low_text c st → c.acked < 4294967296
-  off_low few c Closed f h = absurd h
-  off_low few c SynRcvd f h = omega (arith, h.acked)
-  off_low few c Established f h = text_low few c f h
-  off_low few c CloseWait f h = text_low few c f h.text
-  off_low few c FinWait1 f h = near_low few c.acked 1 (omega arith) h.low
-  off_low few c FinWait2 f h = near_low few c.acked 2 (omega arith) h.low
-  off_low few c Closing f h = near_low few c.acked 1 (omega arith) h.low
-  off_low few c TimeWait f h = near_low few c.acked 2 (omega arith) h.low
-  off_low few c LastAck f h = near_low few c.acked 1 (omega arith) h.low
 
   -- a list with one more, of which nothing has to be told
   record IsSilent (side : Side) (e : Sent) : Type 0 where
@@ -222,11 +201,11 @@ module _ (m : Meaning) (steady : IsSteady m) (Low : ℕ → Type 0) (low_text : 
 
     -- a new datagram that has a place
     module _ (again : Bool) (new : Sent) (who : new.who ≡ to k) (epoch : new.epoch ≡ length side.past) (mark_is : new.again ≡ again) (placed : has_place (seg new) ≡ true) (h : Tells m steady Low low_text c d again (seg new)) where
-      low : Few → d.acked < 4294967296
-      low few = off_low few d d.state fit.captures f.state
+      low : Few m steady Low low_text → d.acked < 4294967296
+      low few = off_low m steady Low low_text few d d.state fit.captures f.state
 
       -- an earlier datagram at its number is the same, and then this one is a repetition
-      meets : Few → (j : ℕ) (e : Sent) → slice_get sent j ≡ Some e → e.who ≡ to k → has_place (seg e) ≡ true → e.epoch ≡ length side.past → (seg e).seq ≡ (seg new).seq → (again ≡ true) × Alike (seg e) (seg new)
+      meets : Few m steady Low low_text → (j : ℕ) (e : Sent) → slice_get sent j ≡ Some e → e.who ≡ to k → has_place (seg e) ≡ true → e.epoch ≡ length side.past → (seg e).seq ≡ (seg new).seq → (again ≡ true) × Alike (seg e) (seg new)
       meets few j e x w p q s =
           elim (t.tells j e x w p q).1 [
             | inl a ↦ (let z : a.at ≡ d.acked = same_place d.first a.at d.acked (let g = a.past in let b = low few in omega (arith, g, b, o.grows)) (low few) (ap (λ n. wrap (n + a.at)) o.first ∙ sym a.seq ∙ s ∙ h.due_now.seq) in absurd (let g = a.past in omega (arith, g, o.grows, z)))
@@ -296,7 +275,7 @@ module _ (m : Meaning) (steady : IsSteady m) (Low : ℕ → Type 0) (low_text : 
           | inr y ↦ absurd (let e : Some y.said ≡ None = sym y.is ∙ n in cc)
         ]);
     quiet_last = λ n l. leaves k side old o.connection closed w.sent refl closed_fits t;
-    says = λ s e l tick id. Rattle.link_world.proofs.Basics.both_ways (has_place s)
+    says = λ s e l tick id. Rattle.uip_node.proofs.Basics.both_ways (has_place s)
         (λ p. says_placed k side old o.connection w.sent t live l (h.onto l) (h.safe l) fit (is_again o.step) (entry (to k) side tick id (speech (is_again o.step) s)) refl refl refl p (h.said s e p))
         (λ p. push_silent k side o.connection w.sent (entry (to k) side tick id (speech (is_again o.step) s))
         (moves k side old o.connection w.sent t live l (h.onto l) (h.safe l) fit
@@ -356,26 +335,17 @@ module _ (m : Meaning) (steady : IsSteady m) (Low : ℕ → Type 0) (low_text : 
         subst (λ c. Told k side c []) (sym e) (record { fit = closed_fits; safe = λ l. absurd (cc); was_sent = λ l. absurd (cc); time = λ j e' y. absurd (cc); tells = λ j e' y. absurd (cc); repeats = λ j e' y. absurd (cc); agree = λ few i j e' f y. absurd (cc) }));
   }
 
-  asks_fit : (o : Outcome) → All IsWord o.numbers → FitConn o.connection → (now : Now) → IsNow now → All IsMoment (m.prepare o.numbers o.connection.part now).captures
-  asks_fit o n f now is = prepared_captures m steady o.numbers o.connection.part now n is f.captures
-
-  pub stepped_fits : (now : Connection → Now) (o : Outcome) → ((c : Connection) → FitConn c → IsNow (now c)) → FitOut o → FitConn (asked m now o).connection
-  stepped_fits now o is fo = (asked_fits m steady now is o fo).conn
-
-  pub stepped_tells : (now : Connection → Now) (old : Connection) (o : Outcome) → ((c : Connection) → FitConn c → IsNow (now c)) → FitOut o → OutTells m steady Low low_text old o.connection o.step → OutTold m steady Low low_text old (asked m now o)
-  stepped_tells now old o is fo h = asked_tells m steady Low low_text now old o (λ x q. asks_fit o fo.numbers fo.conn x (subst IsNow (sym q) (is o.connection fo.conn))) h
-
   told_step : (served : ℕ → Bool) (v : World) (act : Act) → Harmless m served v act → Framed m Told other reset evict mark v → FitWorld v → Framed m Told other reset evict mark (does m served v act)
   told_step served v act harm g fits =
       does_framed m Told other reset evict mark steady served
       (λ w old numbers now k j side e l f n is sent who fresh t.
       let o : Outcome = on_segment m old numbers (seg e) in
       let fo : FitOut o = on_segment_fits m steady old numbers (seg e) f n in
-      steps_by w old (asked m now o) k side l (stepped_fits now o is fo) (stepped_tells now old o is fo (segment_tells m steady Low low_text old numbers (seg e) (t.safe l))) t)
+      steps_by w old (asked m now o) k side l (stepped_fits m steady Low low_text now o is fo) (stepped_tells m steady Low low_text now old o is fo (segment_tells m steady Low low_text old numbers (seg e) (t.safe l))) t)
       (λ w old numbers now k side l f n is t.
       let o : Outcome = on_tick m old numbers in
       let fo : FitOut o = on_tick_fits m steady old numbers f n in
-      steps_by w old (asked m now o) k side l (stepped_fits now o is fo) (stepped_tells now old o is fo (tick_tells m steady Low low_text old numbers (t.safe l))) t)
+      steps_by w old (asked m now o) k side l (stepped_fits m steady Low low_text now o is fo) (stepped_tells m steady Low low_text now old o is fo (tick_tells m steady Low low_text old numbers (t.safe l))) t)
       birth
       (any_step m Told other reset evict mark takes)
       v act harm g fits

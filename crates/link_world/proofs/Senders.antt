@@ -20,29 +20,30 @@ use Rattle.uip_node.specs.Counters.{initial_number, ident_of}
 use Rattle.uip_node.specs.Node.{AbstractNode, NodeStep, moment, happened, connection_in, slot_for_syn, passes, refuses, opens_in, opens, from_stranger, arrives_at, step}
 use Rattle.link_client.specs.Client.{AbstractClient, ClientStep, client_takes, client_opens, client_again, client_closes, client_aborts, tells_window}
 use Rattle.link_client.specs.declared.setup.Setup.{Setup}
-use Rattle.link_world.specs.World.{World, Side, Sent, Content, numbered, client_sockets, buries, buries_in, addressed, posts, posts_reply, node_stepped, node_handles, with_client, with_side, posts_of_client, client_stepped, marked, delivers}
+use Rattle.link_world.specs.World.{World, Side, Sent, Content, client_sockets, buries, buries_in, addressed, posts, posts_reply, node_stepped, node_handles, with_client, with_side, client_stepped, marked, delivers}
 use Rattle.link_world.specs.World.Content.{OfSegment, OfPing, OfEcho}
 use Rattle.link_world.specs.Bytes.{ping_from}
 use Rattle.link_world.specs.Acts.{client_acts, handles_all, does}
+use Rattle.uip_node.specs.Laws.{serving}
 use Rattle.link_world.specs.History.{Planned, opening_world}
 use Rattle.link_world.specs.declared.act.Act.{Act}
 use Rattle.link_world.specs.declared.who.Who.{Who}
 use Rattle.link_world.specs.declared.who.Who.TheVariants.{FromClient, FromNode, Pinger}
 use Rattle.link_world.specs.Headline.{IsLoss, IsReached}
 use Rattle.link_world.specs.Reading.{IsNumberOf, IsSentBy, SentToClients}
-use Rattle.link_world.proofs.Basics.{both_ways, choose, only_some, and_true, get_push}
+use Rattle.uip_node.proofs.Basics.{both_ways, choose, only_some, and_true, get_push}
 use Rattle.link_world.proofs.Doing.{at_number, where_there}
-use Rattle.link_world.proofs.Basics.AtEnd.{older, newest}
-use Rattle.link_world.proofs.Tables.{get_set, get_set_same, find_is, index_of}
-use Rattle.link_world.proofs.Tables.Written.{here, there}
-use Rattle.link_world.proofs.Tables.Finds.{finds, finds_none}
-use Rattle.link_world.proofs.SocketPairs.{same_is}
+use Rattle.uip_node.proofs.Basics.AtEnd.{older, newest}
+use Rattle.uip_node.proofs.Connections.{get_set, get_set_same, find_is, index_of, all_closed}
+use Rattle.uip_node.proofs.Connections.Written.{here, there}
+use Rattle.uip_node.proofs.Connections.Finds.{finds, finds_none}
+use Rattle.uip_node.proofs.SocketPairs.{same_is}
 use Rattle.link_world.proofs.Sides.{finds_one, buried_sockets}
 use Rattle.link_world.proofs.Setups.{SameSetup, takes_setup, opens_setup, again_setup, closes_setup, aborts_setup}
-use Rattle.link_world.proofs.Peers.{asked_keeps, on_segment_keeps, on_tick_keeps, on_tick_closed}
+use Rattle.uip_node.proofs.Peers.{asked_keeps, on_segment_keeps, on_tick_keeps, on_tick_closed}
 use Rattle.link_world.proofs.Harmless.{Harmless}
 use Rattle.link_world.proofs.Same.{get_older}
-use Rattle.link_world.proofs.Runs.{all_closed, reached}
+use Rattle.link_world.proofs.Runs.{reached}
 
 -- a client has these sockets
 pub record HasClient (sides : List Side) (p : Sockets) : Type 0 where
@@ -241,7 +242,7 @@ module _ (sides : List Side) (sent : List Sent) where
     arrival_from : (served : ℕ → Bool) (n : AbstractNode) (p : Sockets) (s : PlainSegment) → HasClient sides p → HaveClients sides n.connections → StepFrom sides sent (step m served n (Arrived p s))
     arrival_from served n p s k h = elim (find_is p n.connections) [
       | finds i f g e ↦ subst (λ x. StepFrom sides sent (arrives_at m served n p s x)) (sym (f ∙ ap Some (omega arith)))
-          (arrives_from served n p s (Rattle.link_world.specs.History.serving p n.connections) i (index_of n.connections i closed (Rattle.link_world.specs.History.serving p n.connections) g) e k h)
+          (arrives_from served n p s (serving p n.connections) i (index_of n.connections i closed (serving p n.connections) g) e k h)
       | finds_none f g ↦ subst (λ x. StepFrom sides sent (arrives_at m served n p s x)) (sym f) (stranger_from served n p s k h)
     ]
 

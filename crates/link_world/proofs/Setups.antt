@@ -6,7 +6,7 @@ use Rattle.link_client.specs.declared.client_state.ClientState.{ClientState}
 use Rattle.link_client.specs.declared.client_state.ClientState.TheVariants as Is
 use Rattle.link_world.specs.Acts.{is_idle}
 use Rattle.link_world.specs.History.{Planned}
-use Rattle.link_world.proofs.Basics.{choose}
+use Rattle.uip_node.proofs.Basics.{choose}
 use Rattle.link_world.proofs.ClientCases.{of_aborts, of_again, of_closes, of_opens, of_order, of_sends, of_takes}
 
 -- what a plan says of a client

@@ -3,10 +3,10 @@ use Rattle.std.proofs.Common.{◌≡◌, ℕ, zero, suc, ◌+◌, Bool, true, fa
 use Rattle.tcp_machine.specs.Connection.{Sockets, Connection, same_sockets}
 use Rattle.link_world.specs.World.{Side, Sent, client_sockets, buries, buries_in, addressed, era_of, marked, is_clean, epoch}
 use Rattle.std.specs.Option.{option_or}
-use Rattle.link_world.proofs.Basics.{both_ways, choose, eqb-eq}
-use Rattle.link_world.proofs.Tables.{get_map, get_set}
-use Rattle.link_world.proofs.Tables.Written.{here, there}
-use Rattle.link_world.proofs.SocketPairs.{same_is, is_same}
+use Rattle.uip_node.proofs.Basics.{both_ways, choose, eqb-eq}
+use Rattle.uip_node.proofs.Connections.{get_map, get_set}
+use Rattle.uip_node.proofs.Connections.Written.{here, there}
+use Rattle.uip_node.proofs.SocketPairs.{same_is, is_same}
 
 abbrev pub Apart : List Side → Type 0
 Apart sides = (j k : ℕ) (a b : Side) → slice_get sides j ≡ Some a → slice_get sides k ≡ Some b → client_sockets a ≡ client_sockets b → j ≡ k

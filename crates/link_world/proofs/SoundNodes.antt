@@ -16,14 +16,14 @@ use Rattle.uip_node.specs.Events.Answer.{Silent, Spoke, NoSlot}
 use Rattle.uip_node.specs.Events.Reply.{Echo, Tcp}
 use Rattle.uip_node.specs.Counters.{initial_number, ident_of}
 use Rattle.uip_node.specs.Node.{AbstractNode, NodeStep, moment, happened, connection_in, slot_for_syn, passes, refuses, opens_in, opens, from_stranger, arrives_at, step}
-use Rattle.link_world.specs.Headline.{HasBytes}
-use Rattle.link_world.proofs.Steadiness.{steady_of}
-use Rattle.link_world.proofs.Basics.{choose, only_some}
-use Rattle.link_world.proofs.Tables.{get_set}
-use Rattle.link_world.proofs.Tables.Written.{here, there}
-use Rattle.link_world.proofs.Fits.{FitConn, accepted_fits, asked_fits, on_segment_fits, on_tick_fits}
-use Rattle.link_world.proofs.FitWorlds.{FitNode, index_fits, node_moment}
-use Rattle.link_world.proofs.Sound.{Lens, closed_lens, accepted_lens, asked_lens, on_segment_lens, on_tick_lens, IsSoundSegment, step_sound, none_sound}
+use Rattle.uip_node.specs.Laws.{HasBytes}
+use Rattle.uip_node.proofs.Steadiness.{steady_of}
+use Rattle.uip_node.proofs.Basics.{choose, only_some}
+use Rattle.uip_node.proofs.Connections.{get_set}
+use Rattle.uip_node.proofs.Connections.Written.{here, there}
+use Rattle.uip_node.proofs.Fits.{FitConn, accepted_fits, asked_fits, on_segment_fits, on_tick_fits}
+use Rattle.uip_node.proofs.FitNodes.{FitNode, index_fits, node_moment}
+use Rattle.uip_node.proofs.SoundSegments.{Lens, closed_lens, accepted_lens, asked_lens, on_segment_lens, on_tick_lens, IsSoundSegment, step_sound, none_sound}
 
 abbrev pub LensAll : List Connection → Type 0
 LensAll table = (i : ℕ) (c : Connection) → slice_get table i ≡ Some c → Lens c

@@ -1,5 +1,5 @@
 -- Every datagram that was ever sent is sound.
-use Rattle.std.proofs.Common.{◌≡◌, ℕ, zero, suc, ◌<◌, Bool, false, List, [], ◌∷◌, map, refl, sym, ap, ◌∙◌, subst, arith, Option, Some, None, slice_get}
+use Rattle.std.proofs.Common.{◌≡◌, ℕ, suc, ◌<◌, Bool, false, List, [], ◌∷◌, map, refl, sym, ap, ◌∙◌, subst, arith, Option, Some, None, slice_get}
 use Rattle.uip_wire.specs.declared.addr.Addr.{Addr}
 use Rattle.tcp_segment.specs.Segments.{PlainSegment}
 use Rattle.app_events.specs.Part.{Meaning}
@@ -10,21 +10,23 @@ use Rattle.uip_node.specs.Events.Event.{Arrived, EchoAsked, Periodic}
 use Rattle.uip_node.specs.Events.Reply.{Echo, Tcp}
 use Rattle.uip_node.specs.Node.{NodeStep, step}
 use Rattle.link_client.specs.Client.{AbstractClient, ClientStep, client_takes, client_opens, client_again, client_closes, client_aborts, tells_window}
-use Rattle.link_world.specs.World.{World, Side, Sent, Content, client_sockets, buries, buries_in, addressed, posts, posts_reply, node_stepped, node_handles, with_client, with_side, posts_of_client, client_stepped, marked, delivers}
+use Rattle.link_world.specs.World.{World, Side, Sent, Content, client_sockets, buries, buries_in, addressed, posts, posts_reply, node_stepped, node_handles, with_client, with_side, client_stepped, marked, delivers}
 use Rattle.link_world.specs.World.Content.{OfSegment, OfPing, OfEcho}
 use Rattle.link_world.specs.Bytes.{ping_from}
 use Rattle.link_world.specs.Acts.{client_acts, handles_all, does}
 use Rattle.link_world.specs.declared.act.Act.{Act}
 use Rattle.link_world.specs.declared.who.Who.{Who}
 use Rattle.link_world.specs.declared.who.Who.TheVariants.{FromClient, FromNode, Pinger}
-use Rattle.link_world.specs.Headline.{IsAct, IsLoss, HasBytes}
-use Rattle.link_world.proofs.Steadiness.{steady_of}
-use Rattle.link_world.proofs.Basics.{choose, only_some, get_push}
-use Rattle.link_world.proofs.Basics.AtEnd.{older, newest}
-use Rattle.link_world.proofs.Tables.{get_map, get_set}
-use Rattle.link_world.proofs.Tables.Written.{here, there}
+use Rattle.link_world.specs.Headline.{IsAct, IsLoss}
+use Rattle.uip_node.specs.Laws.{HasBytes}
+use Rattle.uip_node.proofs.Steadiness.{steady_of}
+use Rattle.uip_node.proofs.Basics.{choose, only_some, get_push}
+use Rattle.uip_node.proofs.Basics.AtEnd.{older, newest}
+use Rattle.uip_node.proofs.Connections.{get_map, get_set}
+use Rattle.uip_node.proofs.Connections.Written.{here, there}
 use Rattle.link_world.proofs.FitWorlds.{FitWorld, put_fits, periodic_fits}
-use Rattle.link_world.proofs.Sound.{IsSoundSegment, IsSoundClient, SoundStep, takes_sound, opens_sound, again_sound, closes_sound, aborts_sound, window_sound}
+use Rattle.uip_node.proofs.SoundSegments.{IsSoundSegment}
+use Rattle.link_world.proofs.Sound.{IsSoundClient, SoundStep, takes_sound, opens_sound, again_sound, closes_sound, aborts_sound, window_sound}
 use Rattle.link_world.proofs.SoundNodes.{LensAll, SoundReply, SoundNode, arrival_node, periodic_node}
 use Rattle.link_world.proofs.Doing.{at_number, where_there}
 use Rattle.link_world.proofs.Harmless.{Harmless}

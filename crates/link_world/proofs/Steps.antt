@@ -1,5 +1,5 @@
 -- One step of a connection keeps what holds of it.
-use Rattle.std.proofs.Common.{◌≡◌, ℕ, ◌+◌, ◌<◌, ◌≤◌, min, Bool, true, false, not, ◌&&◌, inl, inr, List, [], ◌∷◌, ◌++◌, length, take, drop, refl, sym, ap, ◌∙◌, subst, arith, Option, Some, None, length-append, ltb, append_assoc}
+use Rattle.std.proofs.Common.{◌≡◌, ℕ, ◌+◌, ◌<◌, ◌≤◌, min, Bool, true, false, not, ◌&&◌, inl, inr, List, [], ◌++◌, length, take, drop, refl, sym, ap, ◌∙◌, subst, arith, Option, Some, None, length-append, ltb, append_assoc}
 use Rattle.uip_wire.specs.Numbers.{wrap}
 use Rattle.tcp_segment.specs.Segments.{PlainSegment, has_fin, has_rst, has_ack}
 use Rattle.rexmit_timer.specs.declared.timer.Beat.{Beat}
@@ -18,38 +18,15 @@ use Rattle.tcp_machine.specs.OnSegment.{is_out_of_order, is_acked, rests, has_te
 use Rattle.tcp_machine.specs.OnTick.{outstanding, grows_older, by_beat, on_tick}
 use Rattle.tcp_machine.specs.declared.step.Step.{Step}
 use Rattle.link_client.specs.Client.{AbstractClient, own_first}
-use Rattle.link_world.proofs.Basics.{IsPart, prefix_part, prefix_length, prefix_joins, and_true, same_place, empty_part, zero_or_more, ltb-zero, in_place, choose, append_nothing, cut_part, part_prefix}
-use Rattle.link_world.proofs.Cases.{by_open, by_own_fin, fin_lives, is_open, on_tick_by, open_live}
+use Rattle.uip_node.proofs.Basics.{IsPart, prefix_part, prefix_length, prefix_joins, and_true, same_place, empty_part, zero_or_more, ltb-zero, in_place, choose, append_nothing, cut_part, part_prefix}
+use Rattle.uip_node.proofs.Cases.{by_open, by_own_fin, fin_lives, is_open, on_tick_by, open_live}
 use Rattle.link_world.proofs.Later.{page_more, page_heard, front_grows, front_all}
 use Rattle.link_world.proofs.Good.{Spoken, spoken, AtSyn, AtText, AtOpen, AtFin, ConnGood, StateGood, Moved, StepGood, SentGood, ClientSaid, IsData, Steady}
 use Rattle.link_world.proofs.Good.NodeSaid.{node_reset, node_syn, node_ack, node_text, node_fin}
 use Rattle.link_world.proofs.Good.ClientSaid.{said_reset, said_syn, said_data}
+use Rattle.uip_node.proofs.Handed.{Heard, hears_is, prepare_is}
 
 module _ (m : Meaning) (pages : Pages) (lawful : IsPaged m pages) where
-  -- what hearing text does to a part
-  pub record Heard (p q : Part) (text : List ℕ) : Type 0 where
-    pub heard : q.heard ≡ p.heard ++ text
-    pub captures : q.captures ≡ p.captures
-    pub acked : q.acked ≡ p.acked
-
-  pub hears_is : (numbers : List ℕ) (p : Part) (text : List ℕ) → Heard p (hears m numbers p text).part text
-  hears_is numbers p [] = record { heard = sym (append_nothing p.heard); captures = refl; acked = refl }
-  hears_is numbers p (x ∷ xs) = record { heard = lawful.newdata_heard numbers p (x ∷ xs); captures = lawful.newdata_captures numbers p (x ∷ xs); acked = lawful.newdata_acked numbers p (x ∷ xs) }
-
-  -- taking captures
-  pub record Prepared (p q : Part) : Type 0 where
-    pub heard : q.heard ≡ p.heard
-    pub more : List Moment
-    pub captures : q.captures ≡ p.captures ++ more
-    pub acked : q.acked ≡ p.acked
-
-  pub prepare_is : (numbers : List ℕ) (p : Part) (now : Now) → Prepared p (m.prepare numbers p now)
-  prepare_is numbers p now =
-      elim (lawful.prepare_captures numbers p now) [
-        | inl e ↦ record { heard = lawful.prepare_heard numbers p now; more = []; captures = e ∙ sym (append_nothing p.captures); acked = lawful.prepare_acked numbers p now }
-        | inr e ↦ record { heard = lawful.prepare_heard numbers p now; more = record { numbers = numbers; now = now } ∷ []; captures = e; acked = lawful.prepare_acked numbers p now }
-      ]
-
   module _ (opened : Option ℕ) (client : AbstractClient) where
     -- what a connection may say
     says_ack : (d : Connection) → is_live d.state ≡ true → SentGood pages opened client d (bare_ack d)
@@ -161,7 +138,7 @@ module _ (m : Meaning) (pages : Pages) (lawful : IsPaged m pages) where
     asking_good c d now fresh numbers a =
         let g : ConnGood pages opened client d = a.moved.good (open_live d.state a.is_asked) in
         let h : AtText pages opened client d = text_at d d.state a.is_asked g.state in
-        let p = prepare_is numbers d.part now in
+        let p = prepare_is m pages lawful numbers d.part now in
         let q : Part = m.prepare numbers d.part now in
         let b : Connection = prepared m now d numbers in
         let e : length (pages.text q.heard q.captures) ≡ length (pages.text d.part.heard (d.part.captures ++ p.more)) = ap (λ x. length (pages.text x q.captures)) p.heard ∙ ap (λ x. length (pages.text d.part.heard x)) p.captures in
@@ -211,7 +188,7 @@ module _ (m : Meaning) (pages : Pages) (lawful : IsPaged m pages) where
     is_data at_epoch s (said_data d) nr a = d
 
     -- text is heard in ESTABLISHED; the state may change, and the peer's window
-    heard_text : (c d : Connection) (text : List ℕ) → AtText pages opened client c → IsPart client.request text (length c.part.heard) → Heard c.part d.part text → d.acked ≡ c.acked → d.len ≡ c.len → AtText pages opened client d
+    heard_text : (c d : Connection) (text : List ℕ) → AtText pages opened client c → IsPart client.request text (length c.part.heard) → Heard m pages lawful c.part d.part text → d.acked ≡ c.acked → d.len ≡ c.len → AtText pages opened client d
     heard_text c d text h p x ea el =
         let e : length (pages.text d.part.heard d.part.captures) ≡ length (pages.text (c.part.heard ++ text) c.part.captures) = ap (λ q. length (pages.text q d.part.captures)) x.heard ∙ ap (λ q. length (pages.text (c.part.heard ++ text) q)) x.captures in
         let more : length (pages.text c.part.heard c.part.captures) ≤ length (pages.text (c.part.heard ++ text) c.part.captures) = prefix_length (pages.text c.part.heard c.part.captures) (pages.text (c.part.heard ++ text) c.part.captures) (page_heard m pages lawful c.part.heard text c.part.captures) in
@@ -228,7 +205,7 @@ module _ (m : Meaning) (pages : Pages) (lawful : IsPaged m pages) where
     peer_closes_good : (c : Connection) (numbers : List ℕ) (s : PlainSegment) → c.peer_first ≡ own_first client → AtOpen pages opened client c → IsPart client.request s.text (length c.part.heard) → OutGood c (peer_closes m c numbers s)
     unfolding peer_closes
     peer_closes_good c numbers s pf h part =
-        let x = hears_is numbers c.part s.text in
+        let x = hears_is m pages lawful numbers c.part s.text in
         let d : Connection = in_state CloseWait (with_window s.window (with_part (hears m numbers c.part s.text).part (takes (length s.text + 1) c))) in
         let t : AtText pages opened client d = heard_text c d s.text h.text part x refl refl in
         let w : Moved pages opened client c d = turns c d refl x.captures pf t in
@@ -239,7 +216,7 @@ module _ (m : Meaning) (pages : Pages) (lawful : IsPaged m pages) where
     goes_on_good : (acked : Bool) (c : Connection) (numbers : List ℕ) (s : PlainSegment) → c.state ≡ Established → c.peer_first ≡ own_first client → AtOpen pages opened client c → IsPart client.request s.text (length c.part.heard) → OutGood c (goes_on m acked c numbers s)
     unfolding goes_on
     goes_on_good acked c numbers s st pf h part =
-        let x = hears_is numbers c.part s.text in
+        let x = hears_is m pages lawful numbers c.part s.text in
         let d : Connection = with_window s.window (with_part (hears m numbers c.part s.text).part (takes (length s.text) c)) in
         let t : AtText pages opened client d = heard_text c d s.text h.text part x refl refl in
         let a : AtOpen pages opened client d = record { text = t; taken = omega (arith, h.taken, ap length x.heard, length-append c.part.heard s.text) } in
@@ -284,7 +261,7 @@ module _ (m : Meaning) (pages : Pages) (lawful : IsPaged m pages) where
     connects_good at_epoch c numbers s steady said nr ac pf h e =
         let told = is_data at_epoch s said nr ac in
         let start : Part = (m.connected numbers c.sockets.own_port.0).part in
-        let x = hears_is (m.connected numbers c.sockets.own_port.0).numbers start s.text in
+        let x = hears_is m pages lawful (m.connected numbers c.sockets.own_port.0).numbers start s.text in
         let d : Connection = with_part (hears m (m.connected numbers c.sockets.own_port.0).numbers start s.text).part (takes (length s.text) (in_state Established (rests c))) in
         let none : start.heard ≡ [] = lawful.connected_heard numbers c.sockets.own_port.0 in
         let heard : d.part.heard ≡ s.text = x.heard ∙ ap (λ l. l ++ s.text) none in

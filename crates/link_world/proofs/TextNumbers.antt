@@ -15,9 +15,9 @@ use Rattle.tcp_machine.specs.OnSegment.{accepted, hears, is_out_of_order, is_ack
 use Rattle.tcp_machine.specs.OnTick.{grows_older, by_beat, on_tick}
 use Rattle.tcp_machine.specs.declared.step.Step.{Step}
 use Rattle.link_world.specs.Nodes.{HasTextNumbers}
-use Rattle.link_world.proofs.Basics.{choose}
-use Rattle.link_world.proofs.Cases.{asked_by, by_open, by_own_fin, is_ask, is_open, no_ask_again, on_tick_by, open_live}
-use Rattle.link_world.proofs.Steps.{Heard, hears_is}
+use Rattle.uip_node.proofs.Basics.{choose}
+use Rattle.uip_node.proofs.Cases.{asked_by, by_open, by_own_fin, is_ask, is_open, no_ask_again, on_tick_by, open_live}
+use Rattle.uip_node.proofs.Handed.{Heard, hears_is}
 
 -- the numbers, by the state
 abbrev AtNumbers : State → Connection → Type 0

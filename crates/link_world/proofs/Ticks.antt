@@ -16,7 +16,7 @@ use Rattle.tcp_segment.specs.Segments.{PlainSegment}
 use Rattle.app_events.specs.Part.{Meaning}
 use Rattle.app_events.specs.declared.now.Now.{Now}
 use Rattle.app_events.specs.declared.state.State.{State}
-use Rattle.app_events.specs.declared.state.State.TheVariants.{Closed, SynRcvd, Established, CloseWait, FinWait1, FinWait2, Closing, TimeWait, LastAck}
+use Rattle.app_events.specs.declared.state.State.TheVariants.{SynRcvd, Established, CloseWait, FinWait1, Closing, LastAck}
 use Rattle.tcp_machine.specs.Connection.{Connection, closed, tries_of, is_resting}
 use Rattle.tcp_machine.specs.Segments.{segment_of, is_again, syn_ack, text_segment, fin_of}
 use Rattle.tcp_machine.specs.Ask.{leaves, asked}
@@ -26,8 +26,8 @@ use Rattle.uip_node.specs.Events.{Event}
 use Rattle.uip_node.specs.Events.Event.{Periodic}
 use Rattle.uip_node.specs.Node.{AbstractNode, moment, happened}
 use Rattle.link_world.specs.Headline.{may_wait, IsExpired, SendsAgain, Tick}
-use Rattle.link_world.proofs.Basics.{and_true, ltb-yes}
-use Rattle.link_world.proofs.Tables.{index_of}
+use Rattle.uip_node.proofs.Basics.{and_true, ltb-yes}
+use Rattle.uip_node.proofs.Connections.{index_of}
 
 -- how many of some ages were reached
 abbrev reached : ℕ → List ℕ → ℕ

@@ -11,8 +11,8 @@ use Rattle.tcp_machine.specs.Connection.{Connection, closed, is_live}
 use Rattle.link_client.specs.Client.{AbstractClient, ClientStep}
 use Rattle.link_world.specs.World.{Sent, Era, becomes_opened, era_of}
 use Rattle.link_world.specs.History.{era}
-use Rattle.link_world.proofs.Basics.{both_ways, append_nothing, get_push}
-use Rattle.link_world.proofs.Basics.AtEnd.{older, newest}
+use Rattle.uip_node.proofs.Basics.{both_ways, append_nothing, get_push}
+use Rattle.uip_node.proofs.Basics.AtEnd.{older, newest}
 use Rattle.link_world.proofs.Clients.{not_opening}
 use Rattle.link_world.proofs.Later.{part_later, all_later, node_later, client_later}
 use Rattle.link_world.proofs.Good.{is_some, seg, from, to, AtText, AtFin, AtRest, StateGood, ConnGood, NodeSaid, Moved, FromGood, ToGood, HasOpened, OpenedGood, Good, TookGood}

@@ -3,9 +3,9 @@ use Rattle.std.specs.List.{All, list_any}
 use Rattle.std.specs.Prelude.{◌≡◌, ℕ, suc, ◌+◌, ◌<◌, ◌≤◌, ◌⊎◌, ◌==◌, Bool, true, false, if◌then◌else◌, List, [], ◌∷◌, length, Option, Some, None, Ok, slice_get}
 use Rattle.uip_wire.specs.Numbers.{wrap}
 use Rattle.tcp_segment.specs.Segments.{PlainSegment, has_rst, has_ack}
-use Rattle.app_events.specs.Part.{Moment, Meaning}
+use Rattle.app_events.specs.Part.{Meaning}
 use Rattle.app_events.specs.Laws.{IsPrefixOf}
-use Rattle.app_events.specs.Pages.{Pages, IsPaged, IsMoment, IsByte, IsAddr}
+use Rattle.app_events.specs.Pages.{Pages, IsPaged, IsByte, IsAddr}
 use Rattle.link_client.specs.Client.{AbstractClient, has_closed}
 use Rattle.app_events.specs.declared.state.State.{State}
 use Rattle.app_events.specs.declared.state.State.TheVariants.{Closed, FinWait2, TimeWait}
@@ -31,9 +31,10 @@ use Rattle.link_world.specs.World.Content.{OfSegment}
 use Rattle.link_world.specs.declared.who.Who.{Who}
 use Rattle.link_world.specs.declared.who.Who.TheVariants.{FromClient, FromNode, Pinger}
 use Rattle.link_world.specs.Acts.{does, runs}
-use Rattle.link_world.specs.History.{Start, started, era, serving, page_of, is_whole}
+use Rattle.link_world.specs.History.{Start, started, era, page_of, is_whole}
+use Rattle.uip_node.specs.Laws.{serving, HasBytes, Alike}
 use Rattle.link_world.specs.Schedule.{plays}
-use Rattle.link_world.specs.Steady.{IsSteady}
+use Rattle.uip_node.specs.Steady.{IsSteady}
 use Rattle.link_world.specs.declared.act.Act.{Act}
 use Rattle.link_schedule.specs.declared.event.Event.{Event}
 
@@ -60,10 +61,6 @@ IsAct (Act.Window number window) = window < 65536
 IsAct (Act.Ping source) = IsAddr source
 IsAct (Act.Give number) = Unit {0}
 IsAct Act.Tick = Unit {0}
-
--- every text of a page is bytes
-abbrev pub HasBytes : Pages → Type 0
-HasBytes pages = (heard : List ℕ) (captures : List Moment) → All IsMoment captures → All IsByte (pages.text heard captures)
 
 -- The world that a list of acts reaches from the opening one, each of them accepted. Where a page may say what is no byte,
 -- the schedule damages nothing.
@@ -124,11 +121,6 @@ abbrev pub PrefixAndWhole : Type 0
 PrefixAndWhole =
     (m : Meaning) (pages : Pages) → IsPaged m pages → (w : World) → IsReached m pages w →
     (k : ℕ) (side : Side) → slice_get w.sides k ≡ Some side → is_clean side ≡ true → IsServed pages w side
-
--- the same flags and the same text
-pub record Alike (s t : PlainSegment) : Type 0 where
-  pub flags : s.flags ≡ t.flags
-  pub text : s.text ≡ t.text
 
 -- Datagram j was sent earlier than datagram i by the same connection, in the same epoch of the same client, at the same number,
 -- with the same flags and text. It carries SYN, text or FIN.

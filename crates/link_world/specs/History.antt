@@ -1,20 +1,16 @@
 -- What the history of a world tells of a client: its captures and its page.
 use Rattle.std.specs.List.{All}
 use Rattle.std.specs.Option.{option_map_or}
-use Rattle.std.specs.Prelude.{ℕ, ◌≡◌, ◌<◌, ◌≤◌, List, [], ◌∷◌, length, map, nat_lt, if◌then◌else◌, Bool, Option, Some, None, slice_get, slice_index_or}
+use Rattle.std.specs.Prelude.{ℕ, ◌≡◌, ◌<◌, ◌≤◌, List, [], length, map, nat_lt, if◌then◌else◌, Bool, Some, None, slice_get, slice_index_or}
 use Rattle.uip_wire.specs.declared.addr.Addr.{Addr}
 use Rattle.app_events.specs.Part.{Moment}
 use Rattle.app_events.specs.Pages.{Pages, IsAddr, IsByte, IsWord}
-use Rattle.tcp_machine.specs.Connection.{Sockets, Connection, closed, serves}
+use Rattle.tcp_machine.specs.Connection.{Sockets, Connection, closed}
+use Rattle.uip_node.specs.Laws.{serving}
 use Rattle.uip_node.specs.Node.{opening}
 use Rattle.link_client.specs.Client.{idle}
 use Rattle.link_client.specs.declared.setup.Setup.{Setup}
 use Rattle.link_world.specs.World.{World, Side, Era, client_sockets, era_of}
-
--- the first connection that serves these sockets; one that is CLOSED where none does
-abbrev pub serving : Sockets → List Connection → Connection
-serving sockets [] = closed
-serving sockets (c ∷ cs) = if serves sockets c then c else serving sockets cs
 
 -- the first number and the captures of the connection of an epoch; of the present epoch they are those of the one that lives
 abbrev pub era : List Era → Connection → ℕ → Era

@@ -9,4 +9,3 @@ pub mod Honest
 pub mod Reading
 pub mod Times
 pub mod Nodes
-pub mod Steady

@@ -8,17 +8,8 @@ use Rattle.app_events.specs.declared.state.State.TheVariants.{Established, Close
 use Rattle.tcp_machine.specs.Connection.{Connection, is_live}
 use Rattle.uip_node.specs.Events.{Event}
 use Rattle.uip_node.specs.Events.Event.{IpRefused, IcmpRefused, TcpRefused, EchoAsked, Arrived, Overlong, Periodic}
+use Rattle.uip_node.specs.Laws.{IsEvent}
 use Rattle.uip_node.specs.Node.{opening, run}
-
--- an event whose addresses and ports fit their types
-abbrev pub IsEvent : Event → Type 0
-IsEvent (Arrived sockets s) = IsAddr sockets.peer × (sockets.peer_port.0 < 65536)
-IsEvent (IpRefused fate) = Unit {0}
-IsEvent (IcmpRefused fate) = Unit {0}
-IsEvent (TcpRefused fate) = Unit {0}
-IsEvent (EchoAsked datagram) = Unit {0}
-IsEvent Overlong = Unit {0}
-IsEvent (Periodic slot) = Unit {0}
 
 -- a connection of a node that such events reach
 pub record IsOfNode (m : Meaning) (c : Connection) : Type 0 where

@@ -1,5 +1,5 @@
 -- What holds together of a clean client: the slices of its page, its FINs, its epochs and its requests.
-use Rattle.std.specs.Prelude.{◌≡◌, ℕ, suc, ◌+◌, ◌<◌, ◌≤◌, ◌⊎◌, true, false, List, [], length, take, drop, Some, None, slice_get, is_some}
+use Rattle.std.specs.Prelude.{◌≡◌, ℕ, suc, ◌+◌, ◌<◌, ◌≤◌, ◌⊎◌, true, false, List, [], length, take, Some, None, slice_get, is_some}
 use Rattle.uip_wire.specs.Numbers.{wrap}
 use Rattle.tcp_segment.specs.Segments.{PlainSegment, has_syn, has_fin, has_rst, has_ack}
 use Rattle.app_events.specs.Part.{Meaning}
@@ -9,17 +9,13 @@ use Rattle.app_events.specs.declared.state.State.TheVariants.{SynRcvd}
 use Rattle.tcp_machine.specs.Connection.{Connection, is_live}
 use Rattle.link_client.specs.Client.{AbstractClient, own_first, fin_sent}
 use Rattle.link_client.specs.declared.client_state.ClientState.TheVariants.{Idle, Opening}
+use Rattle.uip_node.specs.Laws.{IsSlice}
 use Rattle.link_world.specs.World.{World, Side, Sent, Era, is_clean}
 use Rattle.link_world.specs.World.Content.{OfSegment}
 use Rattle.link_world.specs.declared.who.Who.TheVariants.{FromClient, FromNode}
 use Rattle.link_world.specs.History.{era}
 use Rattle.link_world.specs.Headline.{IsReached, server_side}
 use Rattle.link_world.specs.Nodes.{HasTextNumbers}
-
--- the text stands at this place of the whole
-pub record IsSlice (whole text : List ℕ) (at : ℕ) : Type 0 where
-  pub fits : at + length text ≤ length whole
-  pub same : text ≡ take (length text) (drop at whole)
 
 -- the page as the captures of an era tell it
 abbrev pub page_in : Pages → Side → Era → List ℕ

@@ -10,7 +10,8 @@ use Rattle.link_world.specs.World.Content.{OfSegment, OfPing, OfEcho}
 use Rattle.link_world.specs.Bytes.{sent_bytes, hears_datagram}
 use Rattle.link_world.specs.declared.who.Who.{Who}
 use Rattle.link_world.specs.declared.who.Who.TheVariants.{FromClient, FromNode, Pinger}
-use Rattle.link_world.specs.Headline.{HasBytes, IsReached}
+use Rattle.uip_node.specs.Laws.{HasBytes}
+use Rattle.link_world.specs.Headline.{IsReached}
 
 -- What its receiver reads in the bytes of a datagram is what was sent. Between a client and the node this needs that the client's
 -- server is the node.

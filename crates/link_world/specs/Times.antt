@@ -15,7 +15,8 @@ use Rattle.link_world.specs.Schedule.{plays}
 use Rattle.link_schedule.specs.declared.event.Event.{Event}
 use Rattle.link_world.specs.declared.act.Act.{Act}
 use Rattle.link_world.specs.declared.who.Who.TheVariants.{FromClient}
-use Rattle.link_world.specs.Headline.{HasBytes, IsAct, IsPlainAct, IsReached, IsSchedulePlayed, server_side}
+use Rattle.uip_node.specs.Laws.{HasBytes}
+use Rattle.link_world.specs.Headline.{IsAct, IsPlainAct, IsReached, IsSchedulePlayed, server_side}
 
 -- A world that is reached, and one that further acts reach from it, each of them accepted.
 pub record IsLater (m : Meaning) (pages : Pages) (v w : World) : Type 0 where

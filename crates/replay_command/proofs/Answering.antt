@@ -25,8 +25,8 @@ use Rattle.web_pages.specs.Lemmas.WebLaws.{newdata_grows, with_capture}
 use Rattle.web_pages.specs.WebMeaning.{web_meaning, web_want, is_acknowledged, waits_for_capture, left_of}
 use Rattle.web_pages.proofs.Bounds.{silent_none, text_bound}
 use Rattle.link_world.specs.Honest.{GoesOnBy, AnswersIn}
-use Rattle.link_world.proofs.Basics.{prefix_length, both_ways, ltb-zero, not-true}
-use Rattle.link_world.proofs.Fits.{all_nil, all_cons}
+use Rattle.uip_node.proofs.Basics.{prefix_length, both_ways, ltb-zero, not-true}
+use Rattle.uip_node.proofs.Fits.{all_nil, all_cons}
 use Rattle.replay_command.specs.Web.{most_of, texts_for, pieces_for}
 use Rattle.replay_command.proofs.Counting.{left_in, behind, counted, shorter, one_less}
 

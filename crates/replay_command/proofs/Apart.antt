@@ -28,8 +28,8 @@ use Rattle.web_pages.specs.Requests.{Wanted, wanted}
 use Rattle.web_pages.specs.Requests.Wanted.{NotYet, Refused, Name}
 use Rattle.web_pages.specs.WebMeaning.{is_acknowledged, left_of, waits_for_capture, web_meaning, web_want}
 use Rattle.web_pages.specs.declared.TheConstants.{MOST_POLLS}
-use Rattle.link_world.proofs.Basics.{and_true, choose, eqb-eq, ltb-zero, not-true}
-use Rattle.link_world.proofs.Cases.{by_own_fin, on_tick_by}
+use Rattle.uip_node.proofs.Basics.{and_true, choose, eqb-eq, ltb-zero, not-true}
+use Rattle.uip_node.proofs.Cases.{by_own_fin, on_tick_by}
 use Rattle.link_world.proofs.NodeRuns.{every}
 use Rattle.replay_command.specs.Apart.{AbortAndCloseApart, ClosesInTime, is_at_end}
 

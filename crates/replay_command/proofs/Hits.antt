@@ -29,11 +29,11 @@ use Rattle.web_pages.specs.Requests.{Wanted, wanted}
 use Rattle.web_pages.specs.Requests.Wanted.{NotYet, Refused, Name}
 use Rattle.web_pages.specs.Serving.{is_served, no_hits}
 use Rattle.web_pages.specs.WebMeaning.{hit_at, hits_by, is_acknowledged, waits_for_capture, web_meaning}
-use Rattle.link_world.proofs.Basics.{choose, eqb-eq, wrap_wrap}
-use Rattle.link_world.proofs.FitWorlds.{Inside, position_in, slot_inside}
-use Rattle.link_world.proofs.Runs.{all_closed}
-use Rattle.link_world.proofs.Tables.{get_set, index_none, index_of, set_past}
-use Rattle.link_world.proofs.Tables.Written.{here, there}
+use Rattle.uip_node.proofs.Basics.{choose, eqb-eq, wrap_wrap}
+use Rattle.uip_node.proofs.FitNodes.{Inside, slot_inside}
+use Rattle.link_world.proofs.FitWorlds.{position_in}
+use Rattle.uip_node.proofs.Connections.{all_closed, get_set, index_none, index_of, set_past}
+use Rattle.uip_node.proofs.Connections.Written.{here, there}
 use Rattle.replay_command.specs.Hits.{HitsAreCounted, becomes_hit, hits_over, is_place, one_hits}
 
 -- ---- one connection

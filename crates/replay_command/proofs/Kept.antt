@@ -9,7 +9,8 @@ use Rattle.web_pages.specs.WebMeaning.{web_meaning}
 use Rattle.web_pages.proofs.PageLaws.{keeps_page_laws}
 use Rattle.web_pages.proofs.ByteLaws.{made_of_bytes}
 use Rattle.link_world.specs.World.{World, Side, is_clean}
-use Rattle.link_world.specs.Headline.{HasBytes, IsReached, IsRepeatOf, IsServed, MarksRepeats, RepeatsSameBytes}
+use Rattle.uip_node.specs.Laws.{HasBytes}
+use Rattle.link_world.specs.Headline.{IsReached, IsRepeatOf, IsServed, MarksRepeats, RepeatsSameBytes}
 use Rattle.link_world.proofs.Prefix.{prefix_and_whole}
 use Rattle.link_world.proofs.Same.{again_exactly, same_bytes}
 use Rattle.link_world.proofs.Ticks.{tick}

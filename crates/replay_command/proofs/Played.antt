@@ -14,7 +14,7 @@ use Rattle.std.specs.Prelude.{MatchResult}
 use Rattle.link_schedule.specs.Reading.{BadText, SchedulePlan, read_text}
 use Rattle.link_schedule.specs.declared.read_schedule.ReadSchedule.{ReadSchedule}
 use Rattle.link_schedule.specs.declared.read_schedule.ReadSchedule.TheVariants.{Bad, NoMemory}
-use Rattle.link_world.specs.Headline.{HasBytes}
+use Rattle.uip_node.specs.Laws.{HasBytes}
 use Rattle.link_world.specs.Schedule.{BadLine, plays}
 use Rattle.link_world.specs.World.{World}
 use Rattle.link_replay.specs.Opening.{opening_for}

@@ -13,7 +13,7 @@ use Rattle.link_world.proofs.Prefix.{prefix_and_whole}
 use Rattle.link_world.proofs.Lines.{lines_are_acts}
 use Rattle.link_world.proofs.Honest.{honest_link}
 use Rattle.link_world.proofs.HonestNode.{mss_low}
-use Rattle.link_world.proofs.Sound.{first_low}
+use Rattle.uip_node.proofs.SoundSegments.{first_low}
 use Rattle.web_pages.specs.Requests.{wanted}
 use Rattle.web_pages.specs.Requests.Wanted.{NotYet}
 use Rattle.web_pages.specs.Pages.{pages_of}

@@ -7,3 +7,5 @@ pub mod Raising
 pub mod Counted
 pub mod Spoken
 pub mod StandsFor
+pub mod Steady
+pub mod Laws

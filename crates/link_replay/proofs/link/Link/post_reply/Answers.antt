@@ -6,8 +6,7 @@ use Rattle.link_replay.specs.Telling.{IsTo}
 use Rattle.link_replay.specs.declared.side.Side.{Side}
 use Rattle.link_replay.proofs.Answered.{IsNumber, answer_posted, meant_for, meant_nothing, meant_to_none, meant_to_one, number_of_none, number_of_some}
 use Rattle.link_replay.proofs.link.Link.post_reply.Goals as goal
-use Rattle.link_replay.proofs.link.Link.post_reply.Goals.{in-None, in-Some}
-use Rattle.link_replay.proofs.link.Link.post_reply.Goals.{then-number-eq0+then-is_some, else-number-eq0, else-number-eq0-via-then-number-eq0+else-is_some, else-number-eq0-via-else-number-eq0}
+use Rattle.link_replay.proofs.link.Link.post_reply.Goals.{in-None, in-Some, then-number-eq0+then-is_some, else-number-eq0, else-number-eq0-via-then-number-eq0+else-is_some, else-number-eq0-via-else-number-eq0}
 
 -- src/telling.rt
 pub returns-clause-posted : goal.returns-clause-posted

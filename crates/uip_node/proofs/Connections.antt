@@ -1,10 +1,10 @@
 -- The table: which connection serves a pair of sockets.
 use Rattle.std.specs.List.{position_from}
 use Rattle.std.proofs.lemmas.Iterator.Adapters.{position_from-zero}
-use Rattle.std.proofs.Common.{◌≡◌, ℕ, zero, suc, ◌+◌, true, false, List, [], ◌∷◌, set, map, cond, position, refl, sym, ap, ◌∙◌, subst, arith, Option, Some, None, slice_get, slice_index_or, if◌then◌else◌}
+use Rattle.std.proofs.Common.{◌≡◌, ℕ, zero, suc, ◌+◌, true, false, List, [], ◌∷◌, set, map, replicate, cond, position, refl, sym, ap, ◌∙◌, subst, arith, Option, Some, None, slice_get, slice_index_or, if◌then◌else◌}
 use Rattle.tcp_machine.specs.Connection.{Sockets, Connection, closed, serves}
-use Rattle.link_world.specs.History.{serving}
-use Rattle.link_world.proofs.Basics.{both_ways}
+use Rattle.uip_node.specs.Laws.{serving}
+use Rattle.uip_node.proofs.Basics.{both_ways}
 
 pub data Written (X : Type 0) (xs : List X) (i : ℕ) (new : X) (j : ℕ) (y : X) : Type 0 where
   here : j ≡ i → new ≡ y → Written X xs i new j y
@@ -157,3 +157,12 @@ module _ (table : List Connection) (single : Single table) (i : ℕ) (old : Conn
             serving_is (set table i new) p j (serving p table) single_set (get_set_other table i new j m ∙ g) u)
         | free f ↦ serving_free (set table i new) p (λ k x g. elim (get_set table i new k x g) [ here e h ↦ ap (serves p) (sym h) ∙ n | there m h ↦ f k x h ]) ∙ sym (serving_free table p f)
       ]
+
+-- a table of closed connections serves nobody
+pub all_closed : (n k : ℕ) (x : Connection) → slice_get (replicate n closed) k ≡ Some x → closed ≡ x
+all_closed zero k x h = absurd (cc)
+all_closed (suc n) zero x h = let e : closed ≡ x = cc in e
+all_closed (suc n) (suc k) x h = all_closed n k x h
+
+pub none_serves : (n : ℕ) (p : Sockets) → Free p (replicate n closed)
+none_serves n p k x h = ap (serves p) (sym (all_closed n k x h))

@@ -11,8 +11,8 @@ use Rattle.tcp_machine.specs.Ask.{Outcome, leaves, prepared, asked}
 use Rattle.tcp_machine.specs.OnSegment.{is_out_of_order, is_acked, has_text, peer_closes, goes_on, in_established, fin_acked, fin_waits, by_state, on_segment, with_part, rests}
 use Rattle.tcp_machine.specs.OnTick.{by_beat, tick_by, on_tick}
 use Rattle.tcp_machine.specs.declared.step.Step.{Step}
-use Rattle.link_world.proofs.Basics.{choose}
-use Rattle.link_world.proofs.Cases.{asked_by, on_tick_by, wanted_unmoved}
+use Rattle.uip_node.proofs.Basics.{choose}
+use Rattle.uip_node.proofs.Cases.{asked_by, on_tick_by, wanted_unmoved}
 
 abbrev pub Keeps : Connection → Outcome → Type 0
 Keeps c o = o.connection.sockets ≡ c.sockets

@@ -1,6 +1,6 @@
 -- Every capture that was ever taken is of a moment that a node makes. This holds of all connections, clean or not.
 use Rattle.std.specs.List.{All, range_with_len}
-use Rattle.std.proofs.Common.{◌≡◌, ℕ, zero, suc, ◌+◌, ◌-◌, ◌<◌, ◌≤◌, Bool, true, false, not, ◌&&◌, List, [], ◌∷◌, ◌++◌, length, map, set, get_or, refl, sym, subst, ap, arith, Option, Some, None, slice_get, slice_index, slice_index_or, position, count_by, nat_le, eqb, ltb, length-set, if◌then◌else◌, ◌∙◌}
+use Rattle.std.proofs.Common.{◌≡◌, ℕ, zero, suc, ◌+◌, ◌-◌, ◌<◌, ◌≤◌, Bool, true, false, not, ◌&&◌, List, [], ◌∷◌, length, set, refl, sym, subst, arith, Some, slice_get, slice_index, count_by, nat_le, eqb, ltb, length-set, ◌∙◌}
 use Rattle.std.proofs.lemmas.List.Elements.{All-push, All-map}
 use Rattle.std.proofs.lemmas.List.Sums.{count_by-le-length}
 use Rattle.std.proofs.lemmas.Grind.{common_steps}
@@ -9,7 +9,7 @@ use Rattle.tcp_segment.specs.Segments.{PlainSegment, has_fin, has_rst}
 use Rattle.rexmit_timer.specs.Ages.{ages, tries_at}
 use Rattle.rexmit_timer.specs.declared.timer.Beat.{Beat}
 use Rattle.app_events.specs.Part.{Part, Meaning}
-use Rattle.link_world.specs.Steady.{IsSteady}
+use Rattle.uip_node.specs.Steady.{IsSteady}
 use Rattle.app_events.specs.Pages.{IsMoment, IsNow, IsRow, IsWord, IsAddr}
 use Rattle.app_events.specs.declared.ending.Ending.{Ending}
 use Rattle.app_events.specs.declared.now.Now.{Now}
@@ -26,10 +26,10 @@ use Rattle.uip_node.specs.Events.{Event, Past}
 use Rattle.uip_node.specs.Events.Answer.{Silent}
 use Rattle.uip_node.specs.Counters.{counters, raises, times}
 use Rattle.uip_node.specs.Node.{AbstractNode, moment}
-use Rattle.link_world.proofs.Cases.{asked_by, by_own_fin, on_tick_by}
-use Rattle.link_world.proofs.Basics.{choose, wrap_low}
-use Rattle.link_world.proofs.Tables.{get_set}
-use Rattle.link_world.proofs.Tables.Written.{here, there}
+use Rattle.uip_node.proofs.Cases.{asked_by, by_own_fin, on_tick_by}
+use Rattle.uip_node.proofs.Basics.{choose, wrap_low}
+use Rattle.uip_node.proofs.Connections.{get_set}
+use Rattle.uip_node.proofs.Connections.Written.{here, there}
 
 pub all_nil : {X : Type 0} (P : X → Type 0) → All P []
 all_nil P k d l = absurd (omega arith)

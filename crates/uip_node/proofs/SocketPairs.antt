@@ -3,7 +3,7 @@ use Rattle.std.proofs.Common.{◌≡◌, Bool, true, false, ◌&&◌, refl, sym,
 use Rattle.std.proofs.lemmas.Bool.{eq-eqb}
 use Rattle.std.proofs.lemmas.Slice.Eq.{bytes_eq-Decides}
 use Rattle.tcp_machine.specs.Connection.{Sockets, same_sockets, Connection, serves, is_live}
-use Rattle.link_world.proofs.Basics.{and_true, both_ways, eqb-eq}
+use Rattle.uip_node.proofs.Basics.{and_true, both_ways, eqb-eq}
 
 pub same_is : (a b : Sockets) → same_sockets a b ≡ true → a ≡ b
 same_is a b h =

@@ -21,10 +21,10 @@ use Rattle.tcp_machine.specs.Ask.{Outcome, leaves, closes, after_own_fin, peer_h
 use Rattle.tcp_machine.specs.OnSegment.{is_out_of_order, is_acked, rests, has_text, hears, takes, with_part, in_state, with_window, peer_closes, goes_on, in_established, fin_acked, fin_waits, by_state, on_segment}
 use Rattle.tcp_machine.specs.OnTick.{outstanding, limit_of, grows_older, by_beat, waits_for_ack, rests_on, ticks_established, tick_by, on_tick}
 use Rattle.tcp_machine.specs.declared.step.Step.{Step}
-use Rattle.link_world.specs.Headline.{Alike}
-use Rattle.link_world.specs.Steady.{IsSteady}
-use Rattle.link_world.proofs.Basics.{choose, append_nothing, only_some, ltb-zero, ltb-lt, ltb-yes, part_grows, cut_part, cut_length, IsPart, prefix_length}
-use Rattle.link_world.proofs.Cases.{by_open, by_own_fin, fin_lives, is_open, open_live}
+use Rattle.uip_node.specs.Laws.{Alike}
+use Rattle.uip_node.specs.Steady.{IsSteady}
+use Rattle.uip_node.proofs.Basics.{choose, append_nothing, only_some, ltb-zero, ltb-lt, ltb-yes, part_grows, cut_part, cut_length, IsPart, prefix_length}
+use Rattle.uip_node.proofs.Cases.{by_open, by_own_fin, fin_lives, is_open, open_live}
 
 -- what is outstanding in a state
 abbrev pub due : Meaning → State → Connection → PlainSegment
@@ -377,7 +377,7 @@ module _ (m : Meaning) (steady : IsSteady m) (Low : ℕ → Type 0) (low_text : 
       record { fits = omega (arith, e, h.fits, x.1); count = omega (arith, h.count, x.1) }
 
   acked_len : (c : Connection) (s : PlainSegment) → is_acked c s ≡ true → 0 < c.len
-  acked_len c s h = ltb-lt 0 c.len (Rattle.link_world.proofs.Basics.and_true _ _ (Rattle.link_world.proofs.Basics.and_true _ _ h).1).0
+  acked_len c s h = ltb-lt 0 c.len (Rattle.uip_node.proofs.Basics.and_true _ _ (Rattle.uip_node.proofs.Basics.and_true _ _ h).1).0
 
   near_same : (c d : Connection) (far : ℕ) → d.acked ≡ c.acked → IsNear Low c.acked far → IsNear Low d.acked far
   near_same c d far a n = record { at = n.at; low = n.low; near = omega (arith, a, n.near) }

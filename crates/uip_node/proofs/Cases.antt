@@ -13,7 +13,7 @@ use Rattle.tcp_machine.specs.Connection.{Connection, is_live, is_resting}
 use Rattle.tcp_machine.specs.Ask.{Outcome, after_own_fin, leaves, closes, peer_has_closed, idles, does_as_wanted, ask, asked_for, asked}
 use Rattle.tcp_machine.specs.OnTick.{limit_of, grows_older, outstanding, by_beat, rests_on, polls, ticks_established, tick_by, on_tick}
 use Rattle.tcp_machine.specs.declared.step.Step.{Step}
-use Rattle.link_world.proofs.Basics.{choose, ltb-zero}
+use Rattle.uip_node.proofs.Basics.{choose, ltb-zero}
 
 -- ---- the states in which the application is asked
 

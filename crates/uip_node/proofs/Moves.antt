@@ -10,8 +10,8 @@ use Rattle.tcp_machine.specs.Connection.{Connection}
 use Rattle.tcp_machine.specs.Ask.{Outcome, ask, asked, closes, prepared}
 use Rattle.tcp_machine.specs.OnSegment.{is_out_of_order, is_acked, rests, has_text, with_part, in_established, peer_closes, goes_on, fin_acked, fin_waits, by_state, on_segment}
 use Rattle.tcp_machine.specs.OnTick.{by_beat, grows_older, on_tick, polls}
-use Rattle.link_world.proofs.Basics.{choose, ltb-zero}
-use Rattle.link_world.proofs.Cases.{asked_by, is_ask, no_ask_again, on_tick_by, wanted_unmoved}
+use Rattle.uip_node.proofs.Basics.{choose, ltb-zero}
+use Rattle.uip_node.proofs.Cases.{asked_by, is_ask, no_ask_again, on_tick_by, wanted_unmoved}
 
 pub record Moves (acked : Bool) (c d : Connection) : Type 0 where
   pub first : d.first ≡ c.first

@@ -7,8 +7,8 @@ use Rattle.app_events.specs.Pages.{Pages, IsPaged, IsMoment, MayWant}
 use Rattle.app_events.specs.declared.now.Now.{Now}
 use Rattle.app_events.specs.declared.want.Want.{Want}
 use Rattle.app_events.specs.declared.want.Want.TheVariants.{Nothing, Send, Close, Abort}
-use Rattle.link_world.specs.Steady.{IsSteady}
-use Rattle.link_world.proofs.Basics.{append_nothing}
+use Rattle.uip_node.specs.Steady.{IsSteady}
+use Rattle.uip_node.proofs.Basics.{append_nothing}
 
 can_send : (pages : Pages) (p : Part) (said : List ℕ) → said ≡ pages.text p.heard p.captures → (w : Want) → MayWant pages p w → CanSend w (length (drop p.acked said))
 can_send pages p said e Nothing h = tt

@@ -1,0 +1,38 @@
+-- What the laws about nodes speak of.
+use Rattle.std.specs.List.{All}
+use Rattle.std.specs.Prelude.{◌≡◌, ℕ, ◌+◌, ◌<◌, ◌≤◌, List, [], ◌∷◌, length, take, drop, if◌then◌else◌}
+use Rattle.tcp_segment.specs.Segments.{PlainSegment}
+use Rattle.app_events.specs.Part.{Moment}
+use Rattle.app_events.specs.Pages.{Pages, IsMoment, IsByte, IsAddr}
+use Rattle.tcp_machine.specs.Connection.{Sockets, Connection, closed, serves}
+use Rattle.uip_node.specs.Events.{Event}
+use Rattle.uip_node.specs.Events.Event.{IpRefused, IcmpRefused, TcpRefused, EchoAsked, Arrived, Overlong, Periodic}
+
+-- an event whose addresses and ports fit their types
+abbrev pub IsEvent : Event → Type 0
+IsEvent (Arrived sockets s) = IsAddr sockets.peer × (sockets.peer_port.0 < 65536)
+IsEvent (IpRefused fate) = Unit {0}
+IsEvent (IcmpRefused fate) = Unit {0}
+IsEvent (TcpRefused fate) = Unit {0}
+IsEvent (EchoAsked datagram) = Unit {0}
+IsEvent Overlong = Unit {0}
+IsEvent (Periodic slot) = Unit {0}
+
+-- the first connection that serves these sockets; one that is CLOSED where none does
+abbrev pub serving : Sockets → List Connection → Connection
+serving sockets [] = closed
+serving sockets (c ∷ cs) = if serves sockets c then c else serving sockets cs
+
+-- every text of a page is bytes
+abbrev pub HasBytes : Pages → Type 0
+HasBytes pages = (heard : List ℕ) (captures : List Moment) → All IsMoment captures → All IsByte (pages.text heard captures)
+
+-- the same flags and the same text
+pub record Alike (s t : PlainSegment) : Type 0 where
+  pub flags : s.flags ≡ t.flags
+  pub text : s.text ≡ t.text
+
+-- the text stands at this place of the whole
+pub record IsSlice (whole text : List ℕ) (at : ℕ) : Type 0 where
+  pub fits : at + length text ≤ length whole
+  pub same : text ≡ take (length text) (drop at whole)
