@@ -1,0 +1,12 @@
+pub mod Walk
+pub mod Replying
+pub mod Lines
+pub mod Kept
+pub mod Lives
+pub mod Receiving
+pub mod Whole
+pub mod Wire
+pub mod PeerReads
+pub mod EveryTurn
+pub mod Rows
+pub mod WrongLives

@@ -1,0 +1,261 @@
+-- Every life of every talk.
+use Rattle.std.specs.List.{All}
+use Rattle.std.specs.Option.{option_map_or}
+use Rattle.std.proofs.Common.{◌≡◌, ℕ, zero, suc, ◌<◌, length, drop, Bool, true, false, inl, inr, List, [], ◌∷◌, ◌++◌, replicate, refl, sym, ap, ◌∙◌, subst, arith, Option, Some, None, if◌then◌else◌}
+use Rattle.uip_wire.specs.declared.addr.Addr.{Addr}
+use Rattle.app_events.specs.Part.{Meaning}
+use Rattle.app_events.specs.Pages.{Pages, IsPaged, IsWord}
+use Rattle.tcp_segment.specs.Segments.{PlainSegment, has_rst, has_syn}
+use Rattle.tcp_segment.specs.declared.flags.TheConstants.{SYN}
+use Rattle.tcp_machine.specs.Connection.{Sockets, Connection, closed, is_live}
+use Rattle.tcp_machine.specs.Segments.{is_plain_syn, segment_of, syn_ack}
+use Rattle.tcp_machine.specs.Ask.{Outcome, asked}
+use Rattle.tcp_machine.specs.OnSegment.{accepted, on_segment}
+use Rattle.tcp_machine.specs.OnTick.{on_tick}
+use Rattle.uip_node.specs.Events.{Event}
+use Rattle.uip_node.specs.Node.{AbstractNode, opening, step}
+use Rattle.uip_node.specs.Laws.{serving, IsEvent}
+use Rattle.uip_node.proofs.Basics.{both_ways, eqb-eq, only_some}
+use Rattle.uip_node.proofs.FitNodes.{FitNode, closed_fits, event_fits}
+use Rattle.uip_node.proofs.Fits.{FitConn, all_nil, all_cons}
+use Rattle.uip_node.proofs.Connections.{none_serves, all_closed, Single, serving_free}
+use Rattle.uip_node.proofs.Steadiness.{steady_of}
+use Rattle.node_laws.specs.Talks.{Exchange, exchange, talk_behind, talk_of, is_opening, is_empty, is_life, IsLifeIn}
+use Rattle.node_laws.specs.Turns.{turns_of}
+use Rattle.node_laws.specs.Promise.{Account, KeepsAccount, KeepsLife, GrowsInto}
+use Rattle.node_laws.specs.Asked.{HasNoReset, LivesOn, IsAskedFor, NothingUnasked, OpensServed}
+use Rattle.node_laws.proofs.Replying.{answer_no_syn, rst_silent, rst_ends, reset_ends, tick_reset_ends}
+use Rattle.node_laws.proofs.Lines.{Does, Comes, comes, met, left_of}
+use Rattle.node_laws.proofs.Lines.Does.{passes_by, evicted, unanswered, refused, born, hears, ticks}
+use Rattle.node_laws.proofs.Lives.{Good, Onward, goes_on, begins_by}
+use Rattle.node_laws.proofs.Receiving.{keeps_account}
+
+cons_head : {X : Type 0} (x y : X) (xs ys : List X) → x ∷ xs ≡ y ∷ ys → x ≡ y
+cons_head x y xs ys e = cc
+
+cons_tail : {X : Type 0} (x y : X) (xs ys : List X) → x ∷ xs ≡ y ∷ ys → xs ≡ ys
+cons_tail x y xs ys e = cc
+
+empty_is : (xs : List Exchange) → is_empty xs ≡ true → xs ≡ []
+empty_is [] h = refl
+empty_is (x ∷ xs) h = absurd (cc)
+
+-- a life goes on at its front
+life_on : (x : Exchange) (so_far : List Exchange) → is_opening x ≡ false → HasNoReset x → LivesOn so_far → LivesOn (x ∷ so_far)
+life_on x so_far o q h = record {
+  life = x ∷ h.life;
+  older = h.older;
+  split = ap (λ l. x ∷ l) h.split;
+  is = ap (λ b. if b then is_empty h.life else is_life h.life) o ∙ h.is;
+  unreset = all_cons HasNoReset x h.life q h.unreset;
+}
+
+life_new : (x : Exchange) (so_far : List Exchange) → is_opening x ≡ true → HasNoReset x → LivesOn (x ∷ so_far)
+life_new x so_far o q = record { life = x ∷ []; older = so_far; split = refl; is = ap (λ b. if b then is_empty [] else is_life []) o; unreset = all_cons HasNoReset x [] q (all_nil HasNoReset) }
+
+came_is : (x : Exchange) (s : PlainSegment) (said : Option PlainSegment) → x ≡ met (Some s) said → x.came ≡ Some s
+came_is x s said e = ap (λ z. z.came) e
+
+-- a step: its life, and that it is asked for
+module _ (m : Meaning) (served : ℕ → Bool) (p : Sockets) where
+  plain_no_rst : (s : PlainSegment) → is_plain_syn s ≡ true → has_rst s.flags ≡ false
+  plain_no_rst s h = ap has_rst (let q : s.flags ≡ SYN = eqb-eq s.flags SYN h in q)
+
+  left_live : (d : Connection) → is_live (left_of d).state ≡ true → is_live d.state ≡ true
+  left_live d l = both_ways (is_live d.state) (λ e. e) (λ e. absurd (let z : is_live (left_of d).state ≡ false = ap (λ b. is_live (if b then d else closed).state) e in cc))
+
+  -- no RST passes where the connection lives on
+  clean : (c d : Connection) (x : Exchange) → Does m served p c d x → is_live d.state ≡ true → HasNoReset x
+  clean c d x does l = elim does [
+    | passes_by e f ↦ record { came = λ s q. absurd (let z : None ≡ Some s = sym (ap (λ y. y.came) e) ∙ q in cc); said = λ s q. absurd (let z : None ≡ Some s = sym (ap (λ y. y.said) e) ∙ q in cc) }
+    | evicted e f ↦ absurd (let z : is_live d.state ≡ false = ap (λ y. is_live y.state) f in cc)
+    | unanswered s q e f ↦ absurd (let z : is_live d.state ≡ false = ap (λ y. is_live y.state) f ∙ q in cc)
+    | refused s r q e f ↦ absurd (let z : is_live d.state ≡ false = ap (λ y. is_live y.state) f ∙ q in cc)
+    | born first s plain port fit e f ↦ record {
+      came = λ t q. only_some (λ y. has_rst y.flags ≡ false) s t (sym (ap (λ y. y.came) e) ∙ q) (plain_no_rst s plain);
+      said = λ t q. only_some (λ y. has_rst y.flags ≡ false) (syn_ack (accepted first p s)) t (sym (ap (λ y. y.said) e) ∙ q) refl;
+    }
+    | hears s numbers at alive fit words is h ↦ (let o : Outcome = asked m at (on_segment m c numbers s) in
+        let k : is_live o.connection.state ≡ true = left_live o.connection (sym (ap (λ y. is_live y.state) h.1) ∙ l) in
+        record {
+          came = λ t q. only_some (λ y. has_rst y.flags ≡ false) s t (sym (ap (λ y. y.came) h.0) ∙ q)
+              (both_ways (has_rst s.flags) (λ r. absurd (let z = rst_ends m at c numbers s r in cc)) (λ r. r));
+          said = λ t q. both_ways (has_rst t.flags) (λ r. absurd (let z = reset_ends m at c numbers s t (sym (ap (λ y. y.said) h.0) ∙ q) r in cc)) (λ r. r);
+        })
+    | ticks numbers at alive fit words is h ↦ (let o : Outcome = asked m at (on_tick m c numbers) in
+        let k : is_live o.connection.state ≡ true = left_live o.connection (sym (ap (λ y. is_live y.state) h.1) ∙ l) in
+        record {
+          came = λ t q. absurd (let z : None ≡ Some t = sym (ap (λ y. y.came) h.0) ∙ q in cc);
+          said = λ t q. both_ways (has_rst t.flags) (λ r. absurd (let z = tick_reset_ends m at c numbers t (sym (ap (λ y. y.said) h.0) ∙ q) r in cc)) (λ r. r);
+        })
+  ]
+
+  lives_on : (c d : Connection) (x : Exchange) (so_far : List Exchange) → Does m served p c d x → (is_live c.state ≡ true → LivesOn so_far) → is_live d.state ≡ true → LivesOn (x ∷ so_far)
+  lives_on c d x so_far does h l =
+      both_ways (is_opening x) (λ o. life_new x so_far o (clean c d x does l))
+      (λ o. life_on x so_far o (clean c d x does l) (elim does [
+        | passes_by e f ↦ h (sym (ap (λ z. is_live z.state) f) ∙ l)
+        | evicted e f ↦ absurd (let z : is_live d.state ≡ false = ap (λ y. is_live y.state) f in cc)
+        | unanswered s q e f ↦ absurd (let z : is_live d.state ≡ false = ap (λ y. is_live y.state) f ∙ q in cc)
+        | refused s r q e f ↦ absurd (let z : is_live d.state ≡ false = ap (λ y. is_live y.state) f ∙ q in cc)
+        | born first s plain port fit e f ↦ absurd (let z : is_opening x ≡ true = ap (λ y. is_opening y) e in cc)
+        | hears s numbers at alive fit words is q ↦ h alive
+        | ticks numbers at alive fit words is q ↦ h alive
+      ]))
+
+  asked_for : (c d : Connection) (x : Exchange) (so_far : List Exchange) → Does m served p c d x → (is_live c.state ≡ true → LivesOn so_far) → IsAskedFor x so_far
+  asked_for c d x so_far does h s q = elim does [
+    | passes_by e f ↦ absurd (let z : None ≡ Some s = sym (ap (λ y. y.said) e) ∙ q in cc)
+    | evicted e f ↦ absurd (let z : None ≡ Some s = sym (ap (λ y. y.said) e) ∙ q in cc)
+    | unanswered t l e f ↦ absurd (let z : None ≡ Some s = sym (ap (λ y. y.said) e) ∙ q in cc)
+    | refused t r l e f ↦ inl (t, ap (λ y. y.came) e, r)
+    | born first t plain port fit e f ↦ inl (t, ap (λ y. y.came) e, plain_no_rst t plain)
+    | hears t numbers at alive fit words is w ↦
+        inl (
+          t,
+          ap (λ y. y.came) w.0,
+          both_ways (has_rst t.flags)
+              (λ r. absurd (let z : None ≡ Some s = sym (rst_silent m at c numbers t r) ∙ sym (ap (λ y. y.said) w.0) ∙ q in cc))
+              (λ r. r),
+        )
+    | ticks numbers at alive fit words is w ↦ inr (ap (λ y. y.came) w.0, h alive)
+  ]
+
+  no_opening : (said : Option PlainSegment) → ((t : PlainSegment) → said ≡ Some t → has_syn t.flags ≡ false) → option_map_or (λ s. has_syn s.flags) said false ≡ false
+  no_opening None h = refl
+  no_opening (Some t) h = h t refl
+
+  opens_served : (c d : Connection) (x : Exchange) → Does m served p c d x → is_opening x ≡ true → served p.own_port.0 ≡ true
+  opens_served c d x does o = elim does [
+    | passes_by e f ↦ absurd (let z : is_opening x ≡ false = ap (λ y. is_opening y) e in cc)
+    | evicted e f ↦ absurd (let z : is_opening x ≡ false = ap (λ y. is_opening y) e in cc)
+    | unanswered s l e f ↦ absurd (let z : is_opening x ≡ false = ap (λ y. is_opening y) e in cc)
+    | refused s r l e f ↦ absurd (let z : is_opening x ≡ false = ap (λ y. is_opening y) e in cc)
+    | born first s plain port fit e f ↦ port
+    | hears s numbers at alive fit words is h ↦
+        (let oo : Outcome = asked m at (on_segment m c numbers s) in
+        absurd (let z : is_opening x ≡ false = ap (λ y. is_opening y) h.0 ∙ no_opening (segment_of m oo.connection oo.step) (λ t q. answer_no_syn m at c numbers s t q) in cc))
+    | ticks numbers at alive fit words is h ↦ absurd (let z : is_opening x ≡ false = ap (λ y. is_opening y) h.0 in cc)
+  ]
+
+  ports_on : (x : Exchange) (so_far : List Exchange) → (is_opening x ≡ true → served p.own_port.0 ≡ true) → OpensServed served p so_far → OpensServed served p (x ∷ so_far)
+  ports_on x so_far a h [] y before e o = a (ap (λ z. is_opening z) (cons_head x y so_far before e) ∙ o)
+  ports_on x so_far a h (w ∷ later) y before e o = h later y before (cons_tail x w so_far (later ++ (y ∷ before)) e) o
+
+  asked_on : (x : Exchange) (so_far : List Exchange) → IsAskedFor x so_far → NothingUnasked so_far → NothingUnasked (x ∷ so_far)
+  asked_on x so_far a h [] y before e =
+      subst (λ z. IsAskedFor z before) (cons_head x y so_far before e) (subst (λ z. IsAskedFor x z) (cons_tail x y so_far before e) a)
+  asked_on x so_far a h (w ∷ later) y before e = h later y before (cons_tail x w so_far (later ++ (y ∷ before)) e)
+
+module _ (m : Meaning) (pages : Pages) (lawful : IsPaged m pages) (served : ℕ → Bool) (p : Sockets) where
+  -- a life at its present moment, and its promise
+  record Current (c : Connection) (life : List Exchange) : Type 0 where
+    good : Good m pages lawful c life
+    promise : KeepsLife pages life
+    newest : promise.account 0 ≡ good.kept.account
+
+  -- an account in front of those before
+  abbrev in_front : Account → (ℕ → Account) → ℕ → Account
+  in_front a old zero = a
+  in_front a old (suc back) = old back
+
+  born_current : (d : Connection) (x : Exchange) → Good m pages lawful d (x ∷ []) → Current d (x ∷ [])
+  born_current d x g = record { good = g; promise = record { account = λ back. g.kept.account; keeps = only; grows = λ back l. absurd (omega (arith, l)) }; newest = refl }
+    where
+      only : (back : ℕ) → back < 1 → KeepsAccount pages (drop back (x ∷ [])) g.kept.account
+      only zero l = keeps_account m pages lawful (x ∷ []) g.kept
+      only (suc back) l = absurd (omega (arith, l))
+
+  current_longer : (c d : Connection) (x : Exchange) (life : List Exchange) (v : Current c life) → Onward m pages lawful c life v.good d x → Current d (x ∷ life)
+  current_longer c d x life v o = record { good = o.good; promise = record { account = in_front o.good.kept.account v.promise.account; keeps = keeps_on; grows = grows_on }; newest = refl }
+    where
+      keeps_on : (back : ℕ) → back < length (x ∷ life) → KeepsAccount pages (drop back (x ∷ life)) (in_front o.good.kept.account v.promise.account back)
+      keeps_on zero l = keeps_account m pages lawful (x ∷ life) o.good.kept
+      keeps_on (suc back) l = v.promise.keeps back (omega (arith, l))
+
+      grows_on : (back : ℕ) → suc back < length (x ∷ life) → GrowsInto (in_front o.good.kept.account v.promise.account (suc back)) (in_front o.good.kept.account v.promise.account back)
+      grows_on zero l = subst (λ a. GrowsInto a o.good.kept.account) (sym v.newest) o.grew
+      grows_on (suc back) l = v.promise.grows back (omega (arith, l))
+
+  record Inv (n : AbstractNode) (so_far : List Exchange) : Type 0 where
+    single : Single n.connections
+    fit : FitNode n
+    current : (life before : List Exchange) → so_far ≡ life ++ before → is_life life ≡ true → Current (serving p n.connections) life
+    ever : (later life before : List Exchange) → so_far ≡ later ++ (life ++ before) → is_life life ≡ true → KeepsLife pages life
+    lives : is_live (serving p n.connections).state ≡ true → LivesOn so_far
+    asked : NothingUnasked so_far
+    ports : OpensServed served p so_far
+
+  -- the life that goes on, one exchange longer
+  current_on : (c d : Connection) (x : Exchange) (so_far : List Exchange) → Does m served p c d x → ((life before : List Exchange) → so_far ≡ life ++ before → is_life life ≡ true → Current c life) →
+      (life before : List Exchange) → x ∷ so_far ≡ life ++ before → is_life life ≡ true → Current d life
+  current_on c d x so_far does h [] before e l = absurd (cc)
+  current_on c d x so_far does h (y ∷ older) before e l =
+      let head : x ≡ y = cons_head x y so_far (older ++ before) e in
+      let tail : so_far ≡ older ++ before = cons_tail x y so_far (older ++ before) e in
+      subst (λ z. Current d (z ∷ older)) head
+      (both_ways (is_opening y)
+      (λ o. let none : older ≡ [] = empty_is older (sym (ap (λ b. if b then is_empty older else is_life older) o) ∙ l) in
+      subst (λ z. Current d (x ∷ z)) (sym none) (born_current d x (begins_by m pages lawful served p c d x does (ap (λ z. is_opening z) head ∙ o))))
+      (λ o. let lives : is_life older ≡ true = sym (ap (λ b. if b then is_empty older else is_life older) o) ∙ l in
+      let v : Current c older = h older before tail lives in
+      current_longer c d x older v (goes_on m pages lawful served p c d x older does (ap (λ z. is_opening z) head ∙ o) v.good)))
+
+  ever_on : (d : Connection) (x : Exchange) (so_far : List Exchange) → ((life before : List Exchange) → x ∷ so_far ≡ life ++ before → is_life life ≡ true → Current d life) →
+      ((later life before : List Exchange) → so_far ≡ later ++ (life ++ before) → is_life life ≡ true → KeepsLife pages life) →
+      (later life before : List Exchange) → x ∷ so_far ≡ later ++ (life ++ before) → is_life life ≡ true → KeepsLife pages life
+  ever_on d x so_far h g [] life before e l = (h life before e l).promise
+  ever_on d x so_far h g (y ∷ later) life before e l = g later life before (cons_tail x y so_far (later ++ (life ++ before)) e) l
+
+  step_inv : (n : AbstractNode) (so_far : List Exchange) (event : Event) → IsEvent event → Inv n so_far → Inv (step m served n event).node (exchange p event (step m served n event).sent ∷ so_far)
+  step_inv n so_far event is i =
+      let c : Comes m served n event (step m served n event) = comes m served (steady_of m pages lawful) n event is i.single i.fit in
+      let x : Exchange = exchange p event (step m served n event).sent in
+      let now = current_on (serving p n.connections) (serving p (step m served n event).node.connections) x so_far (c.each p) i.current in
+      record {
+        single = c.single;
+        fit = event_fits m (steady_of m pages lawful) served n event is i.fit;
+        current = now;
+        ever = ever_on (serving p (step m served n event).node.connections) x so_far now i.ever;
+        lives = lives_on m served p (serving p n.connections) (serving p (step m served n event).node.connections) x so_far (c.each p) i.lives;
+        asked = asked_on m served p x so_far (asked_for m served p (serving p n.connections) (serving p (step m served n event).node.connections) x so_far (c.each p) i.lives) i.asked;
+        ports = ports_on m served p x so_far (opens_served m served p (serving p n.connections) (serving p (step m served n event).node.connections) x (c.each p)) i.ports;
+      }
+
+  -- what the whole run comes to
+  pub record Ends (so_far : List Exchange) : Type 0 where
+    pub lives : (life : List Exchange) → IsLifeIn so_far life → KeepsLife pages life
+    pub asked : NothingUnasked so_far
+    pub ports : OpensServed served p so_far
+
+  run_inv : (events : List Event) (n : AbstractNode) (so_far : List Exchange) → All IsEvent events → Inv n so_far → Ends (talk_behind p (turns_of m served events n) so_far)
+  run_inv [] n so_far a i = record { lives = λ life l. i.ever l.later life l.before l.split l.is; asked = i.asked; ports = i.ports }
+  run_inv (e ∷ es) n so_far a i =
+      run_inv es (step m served n e).node (exchange p e (step m served n e).sent ∷ so_far) (λ k d q. a (suc k) d (omega (arith, q))) (step_inv n so_far e (a 0 e (omega arith)) i)
+
+  no_life : (life before : List Exchange) → [] ≡ life ++ before → is_life life ≡ true → ⊥
+  no_life [] before e l = absurd (cc)
+  no_life (x ∷ life) before e l = absurd (cc)
+
+  no_life_later : (later life before : List Exchange) → [] ≡ later ++ (life ++ before) → is_life life ≡ true → ⊥
+  no_life_later [] life before e l = no_life life before e l
+  no_life_later (x ∷ later) life before e l = absurd (cc)
+
+  no_exchange : (later : List Exchange) (x : Exchange) (before : List Exchange) → [] ≡ later ++ (x ∷ before) → ⊥
+  no_exchange [] x before e = absurd (cc)
+  no_exchange (y ∷ later) x before e = absurd (cc)
+
+  opening_inv : (addr : Addr) (numbers : List ℕ) → All IsWord numbers → Inv (opening addr numbers) []
+  opening_inv addr numbers w = record {
+    single = λ q i j x y a b u v. absurd (let z = none_serves 10 q i x a in cc);
+    fit = record { size = omega arith; conns = λ i x y. subst FitConn (all_closed 10 i x y) closed_fits; numbers = w };
+    current = λ life before e l. absurd (no_life life before e l);
+    ever = λ later life before e l. absurd (no_life_later later life before e l);
+    lives = λ l. absurd (let z : is_live (serving p (replicate 10 closed)).state ≡ false = ap (λ c. is_live c.state) (serving_free (replicate 10 closed) p (none_serves 10 p)) in cc);
+    asked = λ later x before e. absurd (no_exchange later x before e);
+    ports = λ later x before e o. absurd (no_exchange later x before e);
+  }
+
+pub talk_ends : (m : Meaning) (pages : Pages) (lawful : IsPaged m pages) (served : ℕ → Bool) (addr : Addr) (numbers : List ℕ) → All IsWord numbers → (events : List Event) → All IsEvent events → (p : Sockets)
+    → Ends m pages lawful served p (talk_of p (turns_of m served events (opening addr numbers)))
+talk_ends m pages lawful served addr numbers w events a p = run_inv m pages lawful served p events (opening addr numbers) [] a (opening_inv m pages lawful served p addr numbers w)
