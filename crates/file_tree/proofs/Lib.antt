@@ -5,6 +5,7 @@ pub mod EntryLemmas
 pub mod TableLemmas
 pub mod NamedLemmas
 pub mod ScriptLemmas
+pub mod FitLemmas
 pub mod KindLemmas
 pub mod MeasureLemmas
 pub mod ReadLemmas

@@ -4,33 +4,34 @@ use Rattle.std.specs.Prelude.{sum_by}
 use Rattle.std.specs.List.{list_any}
 use Rattle.std.proofs.lemmas.Bool.{or_left}
 use Rattle.std.proofs.lemmas.List.Sums.{sum_by-cons}
-use Rattle.script_lang.specs.declared.piece.Found.{Found}
+use Rattle.script_lang.specs.Calling.{Calling}
+use Rattle.script_lang.specs.declared.piece.FoundOf.{FoundOf}
 use Rattle.script_lang.specs.Directives.{IsPlace}
-use Rattle.script_lang.specs.Pieces.{pieces, pieces_from}
+use Rattle.script_lang.specs.Pieces.{pieces_by}
 use Rattle.site_image.specs.Files.{File}
-use Rattle.site_image.specs.Pages.{misses, piece_length}
+use Rattle.site_image.specs.Pages.{misses, piece_length_by}
 
-abbrev pub missing : List File → List ℕ → Found → Bool
+abbrev pub missing : {F : Type 0} → List File → List ℕ → FoundOf F → Bool
 missing files script found = misses files script found.piece
 
-abbrev pub length_of : List File → List ℕ → Found → ℕ
-length_of files script found = piece_length files script found.piece
+abbrev pub length_of : {F : Type 0} → Calling F → List File → List ℕ → FoundOf F → ℕ
+length_of c files script found = piece_length_by c files script found.piece
 
 -- the script was read up to a place
-pub record Measures (files : List File) (script : List ℕ) (at total : ℕ) : Type 0 where
+pub record Measures {F : Type 0} (c : Calling F) (files : List File) (script : List ℕ) (at total : ℕ) : Type 0 where
   pub place : IsPlace script at
-  pub length_is : sum_by (length_of files script) (pieces script) ≡ total + sum_by (length_of files script) (pieces_from script at)
-  pub none : list_any (missing files script) (pieces script) ≡ list_any (missing files script) (pieces_from script at)
+  pub length_is : sum_by (length_of c files script) (pieces_by c.named script 0) ≡ total + sum_by (length_of c files script) (pieces_by c.named script at)
+  pub none : list_any (missing files script) (pieces_by c.named script 0) ≡ list_any (missing files script) (pieces_by c.named script at)
   pub bound : total ≤ at * 16777216
 
-pub measuring-goes-on : (files : List File) (script : List ℕ) (at total n : ℕ) (found : Found) → Measures files script at total
-    → pieces_from script at ≡ found ∷ pieces_from script found.next → at < found.next → IsPlace script found.next
-    → misses files script found.piece ≡ false → n ≡ piece_length files script found.piece → n ≤ 16777216
-    → Measures files script found.next (total + n)
-measuring-goes-on files script at total n found m step less place here is small =
-    let rest = pieces_from script found.next in
-    let all : sum_by (length_of files script) (pieces_from script at) ≡ piece_length files script found.piece + sum_by (length_of files script) rest =
-    ap (sum_by (length_of files script)) step ∙ sum_by-cons (length_of files script) found rest in
+pub measuring-goes-on : {F : Type 0} (c : Calling F) (files : List File) (script : List ℕ) (at total n : ℕ) (found : FoundOf F) → Measures c files script at total
+    → pieces_by c.named script at ≡ found ∷ pieces_by c.named script found.next → at < found.next → IsPlace script found.next
+    → misses files script found.piece ≡ false → n ≡ piece_length_by c files script found.piece → n ≤ 16777216
+    → Measures c files script found.next (total + n)
+measuring-goes-on c files script at total n found m step less place here is small =
+    let rest = pieces_by c.named script found.next in
+    let all : sum_by (length_of c files script) (pieces_by c.named script at) ≡ piece_length_by c files script found.piece + sum_by (length_of c files script) rest =
+    ap (sum_by (length_of c files script)) step ∙ sum_by-cons (length_of c files script) found rest in
     let own = m.length_is in
     let low = m.bound in
     record {
@@ -40,20 +41,20 @@ measuring-goes-on files script at total n found m step less place here is small 
       bound = omega (arith, low, less, small);
     }
 
-pub measuring-fails : (files : List File) (script : List ℕ) (at total : ℕ) (found : Found) → Measures files script at total
-    → pieces_from script at ≡ found ∷ pieces_from script found.next → misses files script found.piece ≡ true
-    → list_any (missing files script) (pieces script) ≡ true
-measuring-fails files script at total found m step here =
+pub measuring-fails : {F : Type 0} (c : Calling F) (files : List File) (script : List ℕ) (at total : ℕ) (found : FoundOf F) → Measures c files script at total
+    → pieces_by c.named script at ≡ found ∷ pieces_by c.named script found.next → misses files script found.piece ≡ true
+    → list_any (missing files script) (pieces_by c.named script 0) ≡ true
+measuring-fails c files script at total found m step here =
     m.none ∙ ap (list_any (missing files script)) step
-    ∙ or_left (misses files script found.piece) (list_any (missing files script) (pieces_from script found.next)) here
+    ∙ or_left (misses files script found.piece) (list_any (missing files script) (pieces_by c.named script found.next)) here
 
 -- at the end all pieces were read
-pub measuring-ends : (files : List File) (script : List ℕ) (at total : ℕ) → Measures files script at total → pieces_from script at ≡ []
-    → (total ≡ sum_by (length_of files script) (pieces script)) × (list_any (missing files script) (pieces script) ≡ false)
-measuring-ends files script at total m none =
-    let all : sum_by (length_of files script) (pieces_from script at) ≡ 0 = ap (sum_by (length_of files script)) none in
+pub measuring-ends : {F : Type 0} (c : Calling F) (files : List File) (script : List ℕ) (at total : ℕ) → Measures c files script at total → pieces_by c.named script at ≡ []
+    → (total ≡ sum_by (length_of c files script) (pieces_by c.named script 0)) × (list_any (missing files script) (pieces_by c.named script 0) ≡ false)
+measuring-ends c files script at total m none =
+    let all : sum_by (length_of c files script) (pieces_by c.named script at) ≡ 0 = ap (sum_by (length_of c files script)) none in
     let own = m.length_is in
     (omega (arith, all, own), m.none ∙ ap (list_any (missing files script)) none)
 
-pub measuring-starts : (files : List File) (script : List ℕ) → Measures files script 0 0
-measuring-starts files script = record { place = (omega arith, inl refl); length_is = omega arith; none = refl; bound = omega arith }
+pub measuring-starts : {F : Type 0} (c : Calling F) (files : List File) (script : List ℕ) → Measures c files script 0 0
+measuring-starts c files script = record { place = (omega arith, inl refl); length_is = omega arith; none = refl; bound = omega arith }

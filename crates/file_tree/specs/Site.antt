@@ -1,10 +1,12 @@
 -- A site, and what it stands for.
-use Rattle.std.specs.Prelude.{◌≡◌, ◌≤◌, ℕ, List, [], ◌∷◌, length, slice_get, IsTrue, Some, Result, Ok}
+use Rattle.std.specs.Prelude.{◌≡◌, ◌≤◌, ℕ, List, [], ◌∷◌, length, slice_get, IsTrue, Some, None, Result, Ok}
+use Rattle.script_lang.specs.Calling.{Calling}
 use Rattle.site_image.specs.declared.TheConstants.{LONGEST_IMAGE, MOST_FILES}
 use Rattle.site_image.specs.declared.place.Place.{Place}
 use Rattle.site_image.specs.declared.site_error.SiteError.{SiteError}
 use Rattle.site_image.specs.Names.{is_name, is_kind}
 use Rattle.site_image.specs.Files.{File}
+use Rattle.site_image.specs.Pages.{script_fault_by}
 use Rattle.site_image.specs.Faults.{read_image}
 use Rattle.site_image.specs.Places.{files_in}
 use Rattle.file_tree.specs.declared.file_id.FileId.{FileId}
@@ -33,6 +35,10 @@ AreGood files = (k : ℕ) (file : File) → slice_get files k ≡ Some file → 
 abbrev pub AreApart : List File → Type 0
 AreApart files =
     (j k : ℕ) (one other : File) → slice_get files j ≡ Some one → slice_get files k ≡ Some other → one.name ≡ other.name → j ≡ k
+
+-- no script has a fault, where scripts call these functions
+abbrev pub HasSoundScripts : {F : Type 0} → Calling F → List File → Type 0
+HasSoundScripts c files = (k : ℕ) (file : File) → slice_get files k ≡ Some file → script_fault_by c files file ≡ None
 
 -- the three parts are those of one good image, or of the site without files
 pub record IsLoaded (site : SiteContent) : Type 0 where

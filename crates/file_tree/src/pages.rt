@@ -1,28 +1,29 @@
-ghost use Rattle.std.specs.Prelude.{◌≡◌, ◌≤◌, ◌<◌, ◌+◌, ◌*◌, true, false, [], length, IfOk, IfErr, OnOk, IfSome, MatchOption, Some, None, sum_by, slice_range};
+ghost use Rattle.std.specs.Prelude.{◌≡◌, ◌≤◌, ◌<◌, ◌+◌, ◌*◌, ◌↔◌, true, false, [], length, IfOk, IfErr, OnOk, IfSome, IsTrue, MatchOption, Some, None, sum_by, slice_range};
 ghost use Rattle.std.specs.List.{list_any};
 ghost use Rattle.std.specs.Option.{option_map_or};
-ghost use Rattle.script_lang.specs.Pieces.{pieces, LiesWithin};
+ghost use Rattle.script_lang.specs.Pieces.{pieces_by, LiesWithin};
 ghost use Rattle.site_image.specs.declared.TheConstants.{LONGEST_IMAGE, MOST_FILES};
 ghost use Rattle.site_image.specs.Faults.{scripts};
 ghost use Rattle.site_image.specs.Files.{has_name, file_named, kind_of};
-ghost use Rattle.site_image.specs.Pages.{misses, piece_length, page_length, script_fault};
+ghost use Rattle.site_image.specs.Pages.{misses, piece_length_by, page_length_by, script_fault_by};
 ghost use Rattle.site_image.specs.Places.{IsWithin, file_in, files_in};
 ghost use Rattle.file_tree.specs.Index.{AreMeasured, IsIndex};
+ghost use Rattle.file_tree.specs.Site.{HasSoundScripts};
 
 use crate::file_id::FileId;
 use crate::index::search;
-use script_lang::{Piece, greatest_len, next_piece};
+use script_lang::{Calls, Function, PieceOf, next_piece_of};
 use site_image::{
     HEAD_LEN, KIND_LINE_LEN, PAGE_LIMIT, Place, SiteError, SiteWhy, content_kind, is_script,
 };
 
 /// The greatest length of what a piece of a script gives, and `None` where it is an include that names no file.
-fn piece_len(
+fn piece_len<F: Calls>(
     image: &[u8],
     files: &[Place],
     order: &[FileId],
     script: &[u8],
-    piece: Piece,
+    piece: PieceOf<F>,
 ) -> Option<usize>
     requires table { IsIndex image.now files.now order.now }
     requires image_fits { length image.now ≤ LONGEST_IMAGE }
@@ -30,13 +31,13 @@ fn piece_len(
     requires within { LiesWithin (length script.now) piece }
     ensures missing { let missed = misses (files_in image.now files.now) script.now piece in
         MatchOption result (missed ≡ true) (λ _. missed ≡ false) }
-    ensures len { IfSome result (λ n. n ≡ piece_length (files_in image.now files.now) script.now piece) }
+    ensures len { IfSome result (λ n. n ≡ piece_length_by F.calling (files_in image.now files.now) script.now piece) }
     ensures bound { IfSome result (λ n. n ≤ LONGEST_IMAGE) }
 {
     match piece {
-        Piece::Text { len, .. } => Some(len),
-        Piece::Call { function, .. } => Some(greatest_len(function)),
-        Piece::Include { at, len } => included_len(image, files, order, &script[at..at + len]),
+        PieceOf::Text { len, .. } => Some(len),
+        PieceOf::Call { function, .. } => Some(function.greatest_len()),
+        PieceOf::Include { at, len } => included_len(image, files, order, &script[at..at + len]),
     }
 }
 
@@ -57,21 +58,26 @@ fn included_len(image: &[u8], files: &[Place], order: &[FileId], name: &[u8]) ->
 }
 
 /// The greatest length of what a script gives, and `None` where one of its includes names no file.
-fn script_len(image: &[u8], files: &[Place], order: &[FileId], script: &[u8]) -> Option<usize>
+fn script_len<F: Calls>(
+    image: &[u8],
+    files: &[Place],
+    order: &[FileId],
+    script: &[u8],
+) -> Option<usize>
     requires table { IsIndex image.now files.now order.now }
     requires image_fits { length image.now ≤ LONGEST_IMAGE }
     requires script_fits { length script.now ≤ LONGEST_IMAGE }
     ensures missing { MatchOption result
-        (list_any (λ found. misses (files_in image.now files.now) script.now found.piece) (pieces script.now) ≡ true)
-        (λ _. list_any (λ found. misses (files_in image.now files.now) script.now found.piece) (pieces script.now) ≡ false) }
+        (list_any (λ found. misses (files_in image.now files.now) script.now found.piece) (pieces_by F.calling.named script.now 0) ≡ true)
+        (λ _. list_any (λ found. misses (files_in image.now files.now) script.now found.piece) (pieces_by F.calling.named script.now 0) ≡ false) }
     ensures len { IfSome result (λ n. n
-        ≡ sum_by (λ found. piece_length (files_in image.now files.now) script.now found.piece) (pieces script.now)) }
+        ≡ sum_by (λ found. piece_length_by F.calling (files_in image.now files.now) script.now found.piece) (pieces_by F.calling.named script.now 0)) }
     ensures bound { IfSome result (λ n. n ≤ LONGEST_IMAGE * LONGEST_IMAGE) }
 {
     let mut at = 0;
     let mut sum = 0usize;
-    while let Some(found) = next_piece(script, at) {
-        sum += piece_len(image, files, order, script, found.piece)?;
+    while let Some(found) = next_piece_of::<F>(script, at) {
+        sum += piece_len::<F>(image, files, order, script, found.piece)?;
         at = found.next;
     }
     Some(sum)
@@ -90,13 +96,18 @@ pub(crate) fn page_kind<'a>(name: &[u8], kind: &'a [u8]) -> &'a [u8]
 }
 
 /// The greatest length of a file's page, or what is wrong with the file as a script.
-fn page_len(image: &[u8], files: &[Place], order: &[FileId], place: Place) -> Result<u32, SiteWhy>
+fn page_len<F: Calls>(
+    image: &[u8],
+    files: &[Place],
+    order: &[FileId],
+    place: Place,
+) -> Result<u32, SiteWhy>
     requires table { IsIndex image.now files.now order.now }
     requires image_fits { length image.now ≤ LONGEST_IMAGE }
     requires within { IsWithin image.now place }
-    ensures sound { IfOk result (λ _. script_fault (files_in image.now files.now) (file_in image.now place) ≡ None) }
-    ensures len { IfOk result (λ n. n ≡ page_length (files_in image.now files.now) (file_in image.now place)) }
-    ensures err { IfErr result (λ why. script_fault (files_in image.now files.now) (file_in image.now place) ≡ Some why) }
+    ensures sound { IfOk result (λ _. script_fault_by F.calling (files_in image.now files.now) (file_in image.now place) ≡ None) }
+    ensures len { IfOk result (λ n. n ≡ page_length_by F.calling (files_in image.now files.now) (file_in image.now place)) }
+    ensures err { IfErr result (λ why. script_fault_by F.calling (files_in image.now files.now) (file_in image.now place) ≡ Some why) }
 {
     let name = bytes_at(image, place.name_at, place.name_len);
     let kind = bytes_at(image, place.kind_at, place.kind_len);
@@ -105,7 +116,7 @@ fn page_len(image: &[u8], files: &[Place], order: &[FileId], place: Place) -> Re
     if !is_script(name) {
         return Ok((front + content.len()) as u32);
     }
-    let Some(body) = script_len(image, files, order, content) else {
+    let Some(body) = script_len::<F>(image, files, order, content) else {
         return Err(SiteWhy::Include);
     };
     if front + body >= PAGE_LIMIT {
@@ -134,7 +145,7 @@ pub(crate) fn measure(image: &[u8], files: &mut [Place], order: &[FileId]) -> Re
     ensures measured { OnOk result (AreMeasured image.now files.new) }
 {
     for index in 0..files.len() {
-        match page_len(image, files, order, files[index]) {
+        match page_len::<Function>(image, files, order, files[index]) {
             Ok(greatest) => files[index].greatest = greatest,
             Err(why) => {
                 return Err(SiteError {
@@ -145,4 +156,19 @@ pub(crate) fn measure(image: &[u8], files: &mut [Place], order: &[FileId]) -> Re
         }
     }
     Ok(())
+}
+
+/// Whether no script has a fault, where scripts call these functions.
+pub(crate) fn are_scripts_sound<F: Calls>(image: &[u8], files: &[Place], order: &[FileId]) -> bool
+    requires table { IsIndex image.now files.now order.now }
+    requires image_fits { length image.now ≤ LONGEST_IMAGE }
+    ensures { IsTrue result ↔ HasSoundScripts F.calling (files_in image.now files.now) }
+{
+    for index in 0..files.len() {
+        match page_len::<F>(image, files, order, files[index]) {
+            Ok(_) => {}
+            Err(_) => return false,
+        }
+    }
+    true
 }

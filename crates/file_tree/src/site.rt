@@ -1,4 +1,4 @@
-ghost use Rattle.std.specs.Prelude.{◌≡◌, ◌<◌, ◌≤◌, ◌+◌, [], List, Some, Ok, length, is_some, IfOk, IfSome, option_and_then, option_map, slice_get};
+ghost use Rattle.std.specs.Prelude.{◌≡◌, ◌<◌, ◌≤◌, ◌+◌, ◌↔◌, [], List, Some, Ok, length, is_some, IfOk, IfSome, IsTrue, option_and_then, option_map, slice_get};
 ghost use Rattle.site_image.specs.declared.TheConstants.{MOST_FILES};
 ghost use Rattle.site_image.specs.Files.{File, file_named, kind_of, has_name};
 ghost use Rattle.site_image.specs.Grammar.{IsImage};
@@ -7,15 +7,16 @@ ghost use Rattle.site_image.specs.Pages.{page_length};
 ghost use Rattle.file_tree.specs.Answers.{Gives};
 ghost use Rattle.file_tree.specs.Loading.{Loads, HasLoadCause};
 ghost use Rattle.file_tree.specs.Opening.{Opens};
-ghost use Rattle.file_tree.specs.Site.{files_of};
+ghost use Rattle.file_tree.specs.Site.{HasSoundScripts, files_of};
 
 use crate::file_id::FileId;
 use crate::index::find_id;
 use crate::load_fault::LoadFault;
 use crate::loading::read_file;
-use crate::pages::{bytes_at, page_kind};
+use crate::pages::{are_scripts_sound, bytes_at, page_kind};
 use crate::reading::read_table;
 use crate::table::Table;
+use script_lang::Calls;
 use site_image::{LONGEST_IMAGE, Place};
 use std::alloc::Global;
 use std::marker::Model;
@@ -154,5 +155,13 @@ impl Site {
         ensures { option_map (page_length (files_of self.now)) (slice_get (files_of self.now) id.0) ≡ Some result }
     {
         self.files[id.0 as usize].greatest as usize
+    }
+
+    /// Whether no script has a fault where scripts call these functions: each include names a file, and no page can be
+    /// too long. Of the functions of uIP that is so, or the site would not have been loaded.
+    pub fn are_scripts_sound<F: Calls>(&self) -> bool
+        ensures { IsTrue result ↔ HasSoundScripts F.calling (files_of self.now) }
+    {
+        are_scripts_sound::<F>(&self.image, &self.files, &self.order)
     }
 }

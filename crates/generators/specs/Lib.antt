@@ -2,3 +2,5 @@ pub mod Captures
 pub mod Parts
 pub mod Short
 pub mod Text
+pub mod Giving
+pub mod Lemmas

@@ -5,14 +5,17 @@
 
 mod capture;
 mod cells;
+mod gives;
 mod laws;
 mod numbers;
 mod parts;
 mod rows;
 mod text;
+mod uip;
 mod written;
 
 pub use capture::{Capture, take};
+pub use gives::Record;
 pub use laws::texts_are_short;
 pub use text::{fill_at, text_len};
 

@@ -2,15 +2,13 @@
 use Rattle.std.proofs.Common.{◌≡◌, ℕ, ◌+◌, ◌-◌, ◌<◌, ◌≤◌, Bool, true, false, ◌⊎◌, inl, inr, List, [], ◌∷◌, length, take, drop, map, min, refl, sym, ap, subst, ◌∙◌, arith, true≢false, if◌then◌else◌}
 use Rattle.std.specs.Prelude.{slice_range, nat_lt, ◌&&◌, not}
 use Rattle.std.proofs.lemmas.List.{drop-drop, drop-take, take-take}
-use Rattle.script_lang.specs.declared.function.Function.{Function}
-use Rattle.script_lang.specs.declared.piece.Found.{Found}
-use Rattle.script_lang.specs.declared.piece.Piece.{Piece}
-use Rattle.script_lang.specs.declared.piece.Piece.TheVariants.{Text, Include, Call}
+use Rattle.script_lang.specs.declared.piece.FoundOf.{FoundOf}
+use Rattle.script_lang.specs.declared.piece.PieceOf.{PieceOf}
+use Rattle.script_lang.specs.declared.piece.PieceOf.TheVariants.{Text, Include, Call}
 use Rattle.script_lang.specs.Places.{is_byte, word, word_start, word_end}
-use Rattle.script_lang.specs.Functions.{function_named}
 use Rattle.script_lang.specs.Directives.{IsPlace, begins, is_directive_mark, is_inside_directive, line_end, before_cr, directive}
-use Rattle.script_lang.specs.Pieces.{piece_at, pieces_from, run_end}
-use Rattle.script_lang.proofs.PieceLemmas.{found-goes, pieces_from-step, run-rest}
+use Rattle.script_lang.specs.Pieces.{piece_by, pieces_by, run_end}
+use Rattle.script_lang.proofs.PieceLemmas.{found-goes, pieces_by-step, run-rest}
 use Rattle.script_lang.proofs.PlaceLemmas.{first_place-is}
 use Rattle.script_lang.proofs.StartLemmas.{run-inside}
 use Rattle.site_image.specs.Files.{file_named}
@@ -25,8 +23,8 @@ use Rattle.httpd.specs.Looking.{IsSpan, Sees}
 use Rattle.httpd.proofs.Seeing.{IsFurther, sees_first, sees_front, span_along}
 
 -- what `next_piece` tells of a piece that it found
-pub record Reads (script : List ℕ) (at : ℕ) (found : Found) : Type 0 where
-  pub pieces : pieces_from script at ≡ found ∷ pieces_from script found.next
+pub record Reads {F : Type 0} (named : List ℕ → F) (script : List ℕ) (at : ℕ) (found : FoundOf F) : Type 0 where
+  pub pieces : pieces_by named script at ≡ found ∷ pieces_by named script found.next
   pub after : at < found.next
   pub place : IsPlace script found.next
 
@@ -37,24 +35,24 @@ place_by script at h between = (h, by (is_inside_directive script at) refl)
     by true e = inr (between e)
     by false e = inl e
 
-pub is_place : (r : FileReply) (at : ℕ) → is_scripted r.file ≡ true → IsBodyPlace r at → IsPlace (body r) at
+pub is_place : {F : Type 0} (r : FileReply F) (at : ℕ) → is_scripted r.file ≡ true → IsBodyPlace r at → IsPlace (body r) at
 is_place r at script is = place_by (body r) at is.within (is.between script)
 
 between_by : (script : List ℕ) (at : ℕ) → ◌⊎◌ (is_inside_directive script at ≡ false) (at ≡ length script) → is_inside_directive script at ≡ true → at ≡ length script
 between_by script at (inl closed) opened = absurd (true≢false (sym opened ∙ closed))
 between_by script at (inr end) opened = end
 
-pub body_place : (r : FileReply) (at : ℕ) → IsPlace (body r) at → IsBodyPlace r at
+pub body_place : {F : Type 0} (r : FileReply F) (at : ℕ) → IsPlace (body r) at → IsBodyPlace r at
 body_place r at is = record { within = is.0; between = λ script opened. between_by (body r) at is.1 opened }
 
-pub inner_place : (r : FileReply) (at : ℕ) → is_scripted r.file ≡ true → IsPlace (body r) at → IsInner r at
+pub inner_place : {F : Type 0} (r : FileReply F) (at : ℕ) → is_scripted r.file ≡ true → IsPlace (body r) at → IsInner r at
 inner_place r at script is = record { script = script; goes_on = body_place r at is }
 
-pub script_from : (r : FileReply) (a : ℕ) → is_scripted r.file ≡ true → body_from r a ≡ map (λ found. says r.files (body r) found.piece) (pieces_from (body r) a)
-script_from r a e = ap (λ b. if b then map (λ found. says r.files (body r) found.piece) (pieces_from (body r) a) else Plain (drop a (body r)) ∷ []) e
+pub script_from : {F : Type 0} (r : FileReply F) (a : ℕ) → is_scripted r.file ≡ true → body_from r a ≡ map (λ found. says r.files (body r) found.piece) (pieces_by r.gives.calling.named (body r) a)
+script_from r a e = ap (λ b. if b then map (λ found. says r.files (body r) found.piece) (pieces_by r.gives.calling.named (body r) a) else Plain (drop a (body r)) ∷ []) e
 
 -- the first piece and the further ones
-pub script_step : (r : FileReply) (at : ℕ) (found : Found) → is_scripted r.file ≡ true → pieces_from (body r) at ≡ found ∷ pieces_from (body r) found.next
+pub script_step : {F : Type 0} (r : FileReply F) (at : ℕ) (found : FoundOf F) → is_scripted r.file ≡ true → pieces_by r.gives.calling.named (body r) at ≡ found ∷ pieces_by r.gives.calling.named (body r) found.next
     → left_from r (Body at) ≡ says r.files (body r) found.piece ∷ body_from r found.next
 unfolding left_from
 script_step r at found script e =
@@ -62,21 +60,21 @@ script_step r at found script e =
     ∙ ap (λ ps. map (λ f. says r.files (body r) f.piece) ps) e
     ∙ ap (λ more. says r.files (body r) found.piece ∷ more) (sym (script_from r found.next script))
 
-pub script_end : (r : FileReply) (at : ℕ) → is_scripted r.file ≡ true → pieces_from (body r) at ≡ [] → left_from r (Body at) ≡ []
+pub script_end : {F : Type 0} (r : FileReply F) (at : ℕ) → is_scripted r.file ≡ true → pieces_by r.gives.calling.named (body r) at ≡ [] → left_from r (Body at) ≡ []
 unfolding left_from
 script_end r at script e = script_from r at script ∙ ap (λ ps. map (λ f. says r.files (body r) f.piece) ps) e
 
-same_first : (f g : Found) (xs ys : List Found) → f ∷ xs ≡ g ∷ ys → f ≡ g
+same_first : {F : Type 0} (f g : FoundOf F) (xs ys : List (FoundOf F)) → f ∷ xs ≡ g ∷ ys → f ≡ g
 same_first f g xs ys e = cc
 
 -- a piece that is read is the one at its place
-piece_read : (script : List ℕ) (at : ℕ) (found : Found) → IsPlace script at → at < length script → pieces_from script at ≡ found ∷ pieces_from script found.next → found ≡ piece_at script at
-piece_read script at found place h e =
-    let goes = found-goes script at (piece_at script at) place (λ end. omega (arith, h, end)) refl in
-    same_first found (piece_at script at) (pieces_from script found.next) (pieces_from script (piece_at script at).next)
-    (sym e ∙ pieces_from-step script at (piece_at script at).next goes)
+piece_read : {F : Type 0} (named : List ℕ → F) (script : List ℕ) (at : ℕ) (found : FoundOf F) → IsPlace script at → at < length script → pieces_by named script at ≡ found ∷ pieces_by named script found.next → found ≡ piece_by named script at
+piece_read named script at found place h e =
+    let goes = found-goes named script at (piece_by named script at) place (λ end. omega (arith, h, end)) refl in
+    same_first found (piece_by named script at) (pieces_by named script found.next) (pieces_by named script (piece_by named script at).next)
+    (sym e ∙ pieces_by-step named script at (piece_by named script at).next goes)
 
-abbrev pub text_found : ℕ → ℕ → ℕ → Found
+abbrev pub text_found : {F : Type 0} → ℕ → ℕ → ℕ → FoundOf F
 text_found from len next = record { piece = Text from len; next = next }
 
 -- the piece is the text run from the place on
@@ -85,25 +83,25 @@ record IsRun (script : List ℕ) (at from len next : ℕ) : Type 0 where
   len_is : len ≡ run_end script at - at
   next_is : next ≡ run_end script at
 
-no_text : (test : Bool) (a b c d : ℕ) (f : Function) (from len : ℕ) → Text from len ≡ (if test then Include a b else Call f c d) → ⊥
+no_text : {F : Type 0} (test : Bool) (a b c d : ℕ) (f : F) (from len : ℕ) → Text from len ≡ (if test then Include a b else Call f c d) → ⊥
 no_text true a b c d f from len e = cc
 no_text false a b c d f from len e = cc
 
-run_by : (m : Bool) (script : List ℕ) (at from len next : ℕ)
-    → text_found from len next ≡ (if m then record { piece = directive script at; next = min (line_end script (at + 2) + 1) (length script) } else record { piece = Text at (run_end script at - at); next = run_end script at })
+run_by : {F : Type 0} (named : List ℕ → F) (m : Bool) (script : List ℕ) (at from len next : ℕ)
+    → text_found from len next ≡ (if m then record { piece = directive named script at; next = min (line_end script (at + 2) + 1) (length script) } else record { piece = Text at (run_end script at - at); next = run_end script at })
     → IsRun script at from len next
-run_by true script at from len next e =
+run_by {F = F} named true script at from len next e =
     let inner = at + 2 in
     let stop = before_cr script (at + 2) (line_end script (at + 2)) in
     absurd (no_text (nat_lt inner stop && is_byte script 58 inner) (word script (inner + 1) stop).at (word script (inner + 1) stop).len (word script (word_end script inner stop) stop).at (word script (word_end script inner stop) stop).len
-    (function_named (slice_range script (word_start script inner stop) (word_end script inner stop))) from len
-    (ap (λ (f : Found). f.piece) e))
-run_by false script at from len next e =
-    let piece : Text from len ≡ Text at (run_end script at - at) = ap (λ (f : Found). f.piece) e in
-    record { from_is = cc; len_is = cc; next_is = ap (λ (f : Found). f.next) e }
+    (named (slice_range script (word_start script inner stop) (word_end script inner stop))) from len
+    (ap (λ (f : FoundOf F). f.piece) e))
+run_by {F = F} named false script at from len next e =
+    let piece : Text from len ≡ Text at (run_end script at - at) = ap (λ (f : FoundOf F). f.piece) e in
+    record { from_is = cc; len_is = cc; next_is = ap (λ (f : FoundOf F). f.next) e }
 
-run_of : (script : List ℕ) (at from len next : ℕ) → text_found from len next ≡ piece_at script at → IsRun script at from len next
-run_of script at from len next e = run_by (is_directive_mark script at) script at from len next e
+run_of : {F : Type 0} (named : List ℕ → F) (script : List ℕ) (at from len next : ℕ) → text_found from len next ≡ piece_by named script at → IsRun script at from len next
+run_of named script at from len next e = run_by named (is_directive_mark script at) script at from len next e
 
 -- a slice past its first n elements
 slice_past : (xs : List ℕ) (at end n : ℕ) → n ≤ end - at → slice_range xs (at + n) ((at + n) + (end - (at + n))) ≡ drop n (slice_range xs at end)
@@ -126,12 +124,12 @@ pub run_short : (text : List ℕ) (at : ℕ) → at ≤ length text → run_end 
 run_short text at h = (first_place-is (is_directive_mark text) at (length text) h).high
 
 -- a thread in a text run says the rest of it
-run_further : (r : FileReply) (at n : ℕ) → is_scripted r.file ≡ true → length (body r) ≤ 16777216 → is_inside_directive (body r) at ≡ false → at ≤ length (body r) → at + n < run_end (body r) at
+run_further : {F : Type 0} (r : FileReply F) (at n : ℕ) → is_scripted r.file ≡ true → length (body r) ≤ 16777216 → is_inside_directive (body r) at ≡ false → at ≤ length (body r) → at + n < run_end (body r) at
     → IsFurther r (slice_range (body r) at (run_end (body r) at)) (body_from r (run_end (body r) at)) (Body at) n
 unfolding left_from Fits
 run_further r at n script short closed within inside =
     let there = run-inside (body r) at (at + n) closed (omega arith) inside within in
-    let rest = run-rest (body r) at (at + n) closed (omega arith) inside within in
+    let rest = run-rest r.gives.calling.named (body r) at (at + n) closed (omega arith) inside within in
     let high = run_short (body r) at within in
     record {
       fits = record { within = omega (arith, inside, high); between = λ t opened. absurd (true≢false (sym opened ∙ there.1)) };
@@ -143,20 +141,20 @@ run_further r at n script short closed within inside =
     }
 
 -- in a text run
-pub run_seen : (r : FileReply) (at from len next : ℕ) (s : Span) → is_scripted r.file ≡ true → IsBodyPlace r at → length (body r) ≤ 16777216 → Reads (body r) at (text_found from len next)
-    → IsSpan s (slice_range (body r) at (at + len)) → Sees r (left_from r (Body at)) (record { span = s; here = Body at; next = Body next })
+pub run_seen : {R F : Type 0} (text : R → List ℕ) (r : FileReply F) (at from len next : ℕ) (s : Span R F) → is_scripted r.file ≡ true → IsBodyPlace r at → length (body r) ≤ 16777216 → Reads r.gives.calling.named (body r) at (text_found from len next)
+    → IsSpan text s (slice_range (body r) at (at + len)) → Sees text r (left_from r (Body at)) (record { span = s; here = Body at; next = Body next })
 unfolding left_from Fits
-run_seen r at from len next s script is short read span =
+run_seen {F = F} text r at from len next s script is short read span =
     let before : at < length (body r) = omega (arith, read.after, read.place.0) in
     let place : IsPlace (body r) at = is_place r at script is in
     let closed : is_inside_directive (body r) at ≡ false = closed_at (body r) at before place.1 in
-    let run : IsRun (body r) at from len next = run_of (body r) at from len next (piece_read (body r) at (text_found from len next) place before read.pieces) in
-    let more : List Say = body_from r next in
+    let run : IsRun (body r) at from len next = run_of r.gives.calling.named (body r) at from len next (piece_read r.gives.calling.named (body r) at (text_found from len next) place before read.pieces) in
+    let more : List (Say F) = body_from r next in
     let front : slice_range (body r) at (at + len) ≡ slice_range (body r) from (from + len) = ap (λ a. slice_range (body r) a (a + len)) (sym run.from_is) in
     let end_is : at + len ≡ run_end (body r) at = omega (arith, run.len_is, run.next_is, read.after) in
-    subst (λ ps. Sees r ps (record { span = s; here = Body at; next = Body next }))
+    subst (λ ps. Sees text r ps (record { span = s; here = Body at; next = Body next }))
     (ap (λ f. Plain f ∷ more) front ∙ sym (script_step r at (text_found from len next) script read.pieces))
-    (sees_first r (slice_range (body r) at (at + len)) more (record { span = s; here = Body at; next = Body next }) span refl (body_place r next read.place) (λ captures. tt)
+    (sees_first text r (slice_range (body r) at (at + len)) more (record { span = s; here = Body at; next = Body next }) span refl (body_place r next read.place) (λ captures. tt)
     (λ n h.
     let inside : at + n < run_end (body r) at = omega (arith, end_is, h, length-slice (body r) at (at + len)) in
     subst (λ e. IsFurther r (slice_range (body r) at e) more (Body at) n) (sym end_is)
@@ -164,37 +162,37 @@ run_seen r at from len next s script is short read span =
     (run_further r at n script short closed (omega (arith, before)) inside))))
 
 -- a front of a long text run
-pub long_seen : (r : FileReply) (at n : ℕ) (s : Span) → is_scripted r.file ≡ true → IsBodyPlace r at → length (body r) ≤ 16777216 → 0 < n → at + n < run_end (body r) at
-    → IsSpan s (slice_range (body r) at (at + n)) → Sees r (left_from r (Body at)) (record { span = s; here = Body at; next = Body (at + n) })
+pub long_seen : {R F : Type 0} (text : R → List ℕ) (r : FileReply F) (at n : ℕ) (s : Span R F) → is_scripted r.file ≡ true → IsBodyPlace r at → length (body r) ≤ 16777216 → 0 < n → at + n < run_end (body r) at
+    → IsSpan text s (slice_range (body r) at (at + n)) → Sees text r (left_from r (Body at)) (record { span = s; here = Body at; next = Body (at + n) })
 unfolding left_from Fits
-long_seen r at n s script is short some long span =
+long_seen {F = F} text r at n s script is short some long span =
     let high = run_short (body r) at is.within in
     let before : at < length (body r) = omega (arith, long, high) in
     let closed : is_inside_directive (body r) at ≡ false = closed_at (body r) at before (is_place r at script is).1 in
     let front : List ℕ = slice_range (body r) at (run_end (body r) at) in
-    let more : List Say = body_from r (run_end (body r) at) in
+    let more : List (Say F) = body_from r (run_end (body r) at) in
     let further : (k : ℕ) → at + k < run_end (body r) at → IsFurther r front more (Body at) k = λ k inside. run_further r at k script short closed (omega (arith, before)) inside in
     let here : left_from r (Body at) ≡ Plain front ∷ more = ap (λ a. left_from r (Body a)) (omega arith) ∙ (further 0 (omega (arith, long))).pieces in
     let size : length front ≡ run_end (body r) at - at = omega (arith, Rattle.std.proofs.Common.length-take (run_end (body r) at - at) (drop at (body r)), Rattle.std.proofs.Common.length-drop at (body r), high) in
     let part : slice_range (body r) at (at + n) ≡ take n front =
     ap (λ k. take k (drop at (body r))) (omega arith) ∙ sym (take-take n (run_end (body r) at - at) (drop at (body r)) (omega (arith, long))) in
-    subst (λ ps. Sees r ps (record { span = s; here = Body at; next = Body (at + n) })) (sym here)
-    (sees_front r front more s (Body at) n some (omega (arith, size, long)) (span_along s _ _ part span) (λ captures. tt) (λ k h. further k (omega (arith, h, long))))
+    subst (λ ps. Sees text r ps (record { span = s; here = Body at; next = Body (at + n) })) (sym here)
+    (sees_front text r front more s (Body at) n some (omega (arith, size, long)) (span_along text s _ _ part span) (λ captures. tt) (λ k h. further k (omega (arith, h, long))))
 
 -- a text run is read from the place on
-pub text_at : (script : List ℕ) (at from len next : ℕ) → IsPlace script at → Reads script at (text_found from len next) → from ≡ at
-text_at script at from len next place read =
-    (run_of script at from len next (piece_read script at (text_found from len next) place (omega (arith, read.after, read.place.0)) read.pieces)).from_is
+pub text_at : {F : Type 0} (named : List ℕ → F) (script : List ℕ) (at from len next : ℕ) → IsPlace script at → Reads named script at (text_found from len next) → from ≡ at
+text_at named script at from len next place read =
+    (run_of named script at from len next (piece_read named script at (text_found from len next) place (omega (arith, read.after, read.place.0)) read.pieces)).from_is
 
 -- the first piece is an include, or a call
-pub include_step : (r : FileReply) (at : ℕ) (script : List ℕ) (read : Found) (from len : ℕ) → script ≡ body r → is_scripted r.file ≡ true → Reads (body r) at read → read.piece ≡ Include from len
+pub include_step : {F : Type 0} (r : FileReply F) (at : ℕ) (script : List ℕ) (read : FoundOf F) (from len : ℕ) → script ≡ body r → is_scripted r.file ≡ true → Reads r.gives.calling.named (body r) at read → read.piece ≡ Include from len
     → Plain (bytes_or [] (file_named r.files (slice_range script from (from + len)))) ∷ body_from r read.next ≡ left_from r (Body at)
 include_step r at script read from len e scripted reads is =
     ap (λ s. Plain (bytes_or [] (file_named r.files (slice_range s from (from + len)))) ∷ body_from r read.next) e
     ∙ ap (λ p. says r.files (body r) p ∷ body_from r read.next) (sym is)
     ∙ sym (script_step r at read scripted reads.pieces)
 
-pub call_step : (r : FileReply) (at : ℕ) (script : List ℕ) (read : Found) (f : Function) (from len : ℕ) → script ≡ body r → is_scripted r.file ≡ true → Reads (body r) at read → read.piece ≡ Call f from len
+pub call_step : {F : Type 0} (r : FileReply F) (at : ℕ) (script : List ℕ) (read : FoundOf F) (f : F) (from len : ℕ) → script ≡ body r → is_scripted r.file ≡ true → Reads r.gives.calling.named (body r) at read → read.piece ≡ Call f from len
     → Made f (slice_range script from (from + len)) ∷ body_from r read.next ≡ left_from r (Body at)
 call_step r at script read f from len e scripted reads is =
     ap (λ s. Made f (slice_range s from (from + len)) ∷ body_from r read.next) e
@@ -203,40 +201,40 @@ call_step r at script read f from len e scripted reads is =
 
 -- ---- the directive that ends where a script goes on
 
-mark_by : (m : Bool) (script : List ℕ) (at : ℕ) (found : Found) → ((from len : ℕ) → found.piece ≡ Text from len → ⊥)
-    → found ≡ (if m then record { piece = directive script at; next = min (line_end script (at + 2) + 1) (length script) } else record { piece = Text at (run_end script at - at); next = run_end script at })
+mark_by : {F : Type 0} (named : List ℕ → F) (m : Bool) (script : List ℕ) (at : ℕ) (found : FoundOf F) → ((from len : ℕ) → found.piece ≡ Text from len → ⊥)
+    → found ≡ (if m then record { piece = directive named script at; next = min (line_end script (at + 2) + 1) (length script) } else record { piece = Text at (run_end script at - at); next = run_end script at })
     → m ≡ true
-mark_by true script at found other e = refl
-mark_by false script at found other e = absurd (other at (run_end script at - at) (ap (λ (f : Found). f.piece) e))
+mark_by {F = F} named true script at found other e = refl
+mark_by {F = F} named false script at found other e = absurd (other at (run_end script at - at) (ap (λ (f : FoundOf F). f.piece) e))
 
 -- a piece that is no text run begins with a directive's mark
-begins_at : (script : List ℕ) (at : ℕ) (found : Found) → IsPlace script at → at < length script → ((from len : ℕ) → found.piece ≡ Text from len → ⊥) → found ≡ piece_at script at → begins script at ≡ true
-begins_at script at found place before other e =
-    (λ i. mark_by (is_directive_mark script at) script at found other e i && not (closed_at script at before place.1 i))
+begins_at : {F : Type 0} (named : List ℕ → F) (script : List ℕ) (at : ℕ) (found : FoundOf F) → IsPlace script at → at < length script → ((from len : ℕ) → found.piece ≡ Text from len → ⊥) → found ≡ piece_by named script at → begins script at ≡ true
+begins_at named script at found place before other e =
+    (λ i. mark_by named (is_directive_mark script at) script at found other e i && not (closed_at script at before place.1 i))
 
 -- a directive that is read ends where the script goes on
-ends_directive : (script : List ℕ) (at : ℕ) (read : Found) (kind : ℕ → ℕ → Piece) (from len : ℕ) → IsPlace script at → Reads script at read → ((a n : ℕ) → kind from len ≡ Text a n → ⊥) → read.piece ≡ kind from len
-    → EndsDirective script read.next kind (slice_range script from (from + len))
-ends_directive script at read kind from len place reads other is =
+ends_directive : {F : Type 0} (named : List ℕ → F) (script : List ℕ) (at : ℕ) (read : FoundOf F) (kind : ℕ → ℕ → PieceOf F) (from len : ℕ) → IsPlace script at → Reads named script at read → ((a n : ℕ) → kind from len ≡ Text a n → ⊥) → read.piece ≡ kind from len
+    → EndsDirective named script read.next kind (slice_range script from (from + len))
+ends_directive named script at read kind from len place reads other is =
     let before : at < length script = omega (arith, reads.after, reads.place.0) in
-    let found : read ≡ piece_at script at = piece_read script at read place before reads.pieces in
+    let found : read ≡ piece_by named script at = piece_read named script at read place before reads.pieces in
     record {
       from = at;
       at = from;
       len = len;
-      begins = begins_at script at read place before (λ a n t. other a n (sym is ∙ t)) found;
+      begins = begins_at named script at read place before (λ a n t. other a n (sym is ∙ t)) found;
       piece = sym found ∙ ap (λ p. record { piece = p; next = read.next }) is;
       names = refl;
     }
 
-pub ends_include : (r : FileReply) (at : ℕ) (script : List ℕ) (read : Found) (from len : ℕ) → script ≡ body r → is_scripted r.file ≡ true → IsBodyPlace r at → Reads (body r) at read → read.piece ≡ Include from len
+pub ends_include : {F : Type 0} (r : FileReply F) (at : ℕ) (script : List ℕ) (read : FoundOf F) (from len : ℕ) → script ≡ body r → is_scripted r.file ≡ true → IsBodyPlace r at → Reads r.gives.calling.named (body r) at read → read.piece ≡ Include from len
     → EndsInclude r read.next (slice_range script from (from + len))
 ends_include r at script read from len e scripted is reads piece =
     subst (λ s. EndsInclude r read.next (slice_range s from (from + len))) (sym e)
-    (ends_directive (body r) at read (λ a n. Include a n) from len (is_place r at scripted is) reads (λ a n t. cc) piece)
+    (ends_directive r.gives.calling.named (body r) at read (λ a n. Include a n) from len (is_place r at scripted is) reads (λ a n t. cc) piece)
 
-pub ends_call : (r : FileReply) (at : ℕ) (script : List ℕ) (read : Found) (f : Function) (from len : ℕ) → script ≡ body r → is_scripted r.file ≡ true → IsBodyPlace r at → Reads (body r) at read → read.piece ≡ Call f from len
+pub ends_call : {F : Type 0} (r : FileReply F) (at : ℕ) (script : List ℕ) (read : FoundOf F) (f : F) (from len : ℕ) → script ≡ body r → is_scripted r.file ≡ true → IsBodyPlace r at → Reads r.gives.calling.named (body r) at read → read.piece ≡ Call f from len
     → EndsCall r read.next f (slice_range script from (from + len))
 ends_call r at script read f from len e scripted is reads piece =
     subst (λ s. EndsCall r read.next f (slice_range s from (from + len))) (sym e)
-    (ends_directive (body r) at read (λ a n. Call f a n) from len (is_place r at scripted is) reads (λ a n t. cc) piece)
+    (ends_directive r.gives.calling.named (body r) at read (λ a n. Call f a n) from len (is_place r at scripted is) reads (λ a n t. cc) piece)

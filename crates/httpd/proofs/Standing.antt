@@ -7,27 +7,28 @@ use Rattle.app_events.specs.Part.{Moment, Part, text_left, HasPart, CanSay}
 use Rattle.site_image.specs.Files.{File}
 use Rattle.file_tree.specs.declared.file_id.FileId.{FileId}
 use Rattle.file_tree.specs.Site.{SiteContent, files_of}
-use Rattle.web_pages.specs.Pieces.{reply_pieces}
-use Rattle.web_pages.specs.Pages.{page_text}
-use Rattle.web_pages.specs.WebMeaning.{web_meaning}
-use Rattle.httpd.specs.declared.httpd.Httpd.{Httpd}
+use Rattle.generators.specs.Giving.{Giving}
+use Rattle.web_pages.specs.Pieces.{reply_pieces_by}
+use Rattle.web_pages.specs.Pages.{text_by}
+use Rattle.web_pages.specs.WebMeaning.{web_meaning_by}
+use Rattle.httpd.specs.declared.httpd.Pages.{Pages}
 use Rattle.httpd.specs.declared.stage.Stage.{Stage}
 use Rattle.httpd.specs.declared.stage.Stage.TheVariants as stage
 use Rattle.httpd.specs.declared.thread.Thread.{Thread}
 use Rattle.httpd.specs.declared.thread.Thread.TheVariants.{Head, Kind, Body, Inside, Making, End}
-use Rattle.httpd.specs.Reply.{FileReply, body, is_scripted, left_from, reply_in}
+use Rattle.httpd.specs.Reply.{FileReply, body, is_scripted, left_from, reply_by}
 use Rattle.httpd.specs.Places.{Fits, IsBodyPlace, IsFound, IsInner}
 use Rattle.httpd.specs.Kept.{KeepsOn}
 use Rattle.httpd.specs.Looking.{IsPast}
-use Rattle.httpd.specs.HttpdStands.{HttpdStands, IsLeft, IsReplying, StandsIn}
+use Rattle.httpd.specs.HttpdStands.{PagesStand, IsLeft, IsReplying, StandsIn}
 use Rattle.httpd.specs.Lemmas.SameLeft.{left_in, left_of_value}
 
-abbrev pub means : SiteContent → Rattle.app_events.specs.Part.Meaning
-means site = web_meaning (files_of site)
+abbrev pub means : {F : Type 0} → Giving F → SiteContent → Rattle.app_events.specs.Part.Meaning
+means g site = web_meaning_by g (files_of site)
 
 -- ---- a place is told by numbers, so it can be taken out of a fact of which no witness is known
 
-body_place_told : (r : FileReply) (at : ℕ) → ∥ IsBodyPlace r at ∥₁ → IsBodyPlace r at
+body_place_told : {F : Type 0} (r : FileReply F) (at : ℕ) → ∥ IsBodyPlace r at ∥₁ → IsBodyPlace r at
 body_place_told r at h =
     let inside : at ≤ length (body r) = ∥∥₁_elim h le_prop (λ is. is.within) in
     record {
@@ -41,13 +42,13 @@ scripted_told : (b : Bool) → ∥ (b ≡ true) ∥₁ → b ≡ true
 scripted_told true h = refl
 scripted_told false h = absurd (let never : 1 ≤ 0 = ∥∥₁_elim h le_prop (λ e. absurd (true≢false (sym e))) in omega (arith, never))
 
-inner_told : (r : FileReply) (next : ℕ) → ∥ IsInner r next ∥₁ → IsInner r next
+inner_told : {F : Type 0} (r : FileReply F) (next : ℕ) → ∥ IsInner r next ∥₁ → IsInner r next
 inner_told r next h = record {
   script = scripted_told (is_scripted r.file) (∥∥₁_map h (λ is. is.script));
   goes_on = body_place_told r next (∥∥₁_map h (λ is. is.goes_on));
 }
 
-fits_told : (r : FileReply) (t : Thread) → ∥ Fits r t ∥₁ → Fits r t
+fits_told : {F : Type 0} (r : FileReply F) (t : Thread) → ∥ Fits r t ∥₁ → Fits r t
 unfolding Fits
 fits_told r (Head at) h = ∥∥₁_elim h le_prop (λ is. is)
 fits_told r (Kind at) h = ∥∥₁_elim h le_prop (λ is. is)
@@ -63,67 +64,67 @@ found_told files (Some id) h = ∥∥₁_elim h le_prop (λ is. is)
 
 -- ---- while a reply is said
 
-pub replying : (a : Httpd) (site : SiteContent) (p : Part) (found : Option FileId) → a.stage ≡ stage.Reply found → HttpdStands a site p → (name : List ℕ) × IsReplying a site name found p
-replying a site p found e s = subst (λ st. StandsIn a site p st) e s.stands
+pub replying : {F R : Type 0} (g : Giving F) (text : R → List ℕ) (a : Pages R) (site : SiteContent) (p : Part) (found : Option FileId) → a.stage ≡ stage.Reply found → PagesStand g text a site p → (name : List ℕ) × IsReplying g text a site name found p
+replying g text a site p found e s = subst (λ st. StandsIn g text a site p st) e s.stands
 
-pub reply_fits : (a : Httpd) (site : SiteContent) (found : Option FileId) → a.stage ≡ stage.Reply found → HasPart HttpdStands a site → Fits (reply_in site found a.capture) a.thread
-reply_fits a site found e has =
-    fits_told (reply_in site found a.capture) a.thread (∥∥₁_map has (λ c. (replying a site c.0 found e c.1).1.fits))
+pub reply_fits : {F R : Type 0} (g : Giving F) (text : R → List ℕ) (a : Pages R) (site : SiteContent) (found : Option FileId) → a.stage ≡ stage.Reply found → HasPart (PagesStand g text) a site → Fits (reply_by g text site found a.capture) a.thread
+reply_fits g text a site found e has =
+    fits_told (reply_by g text site found a.capture) a.thread (∥∥₁_map has (λ c. (replying g text a site c.0 found e c.1).1.fits))
 
-pub reply_found : (a : Httpd) (site : SiteContent) (found : Option FileId) → a.stage ≡ stage.Reply found → HasPart HttpdStands a site → IsFound (files_of site) found
-reply_found a site found e has = found_told (files_of site) found (∥∥₁_map has (λ c. (replying a site c.0 found e c.1).1.there))
+pub reply_found : {F R : Type 0} (g : Giving F) (text : R → List ℕ) (a : Pages R) (site : SiteContent) (found : Option FileId) → a.stage ≡ stage.Reply found → HasPart (PagesStand g text) a site → IsFound (files_of site) found
+reply_found g text a site found e has = found_told (files_of site) found (∥∥₁_map has (λ c. (replying g text a site c.0 found e c.1).1.there))
 
 -- the same of the site that a web is seen to hold
-pub found_inside : (a : Httpd) (site inside : SiteContent) (found : Option FileId) → inside ≡ site → a.stage ≡ stage.Reply found → HasPart HttpdStands a site → IsFound (files_of inside) found
-found_inside a site inside found same e has = subst (λ (s : SiteContent). IsFound (files_of s) found) (sym same) (reply_found a site found e has)
+pub found_inside : {F R : Type 0} (g : Giving F) (text : R → List ℕ) (a : Pages R) (site inside : SiteContent) (found : Option FileId) → inside ≡ site → a.stage ≡ stage.Reply found → HasPart (PagesStand g text) a site → IsFound (files_of inside) found
+found_inside g text a site inside found same e has = subst (λ (s : SiteContent). IsFound (files_of s) found) (sym same) (reply_found g text a site found e has)
 
-pub fits_inside : (a : Httpd) (site inside : SiteContent) (found : Option FileId) → inside ≡ site → a.stage ≡ stage.Reply found → HasPart HttpdStands a site
-    → Fits (reply_in inside found a.capture) a.thread
-fits_inside a site inside found same e has = subst (λ (s : SiteContent). Fits (reply_in s found a.capture) a.thread) (sym same) (reply_fits a site found e has)
+pub fits_inside : {F R : Type 0} (g : Giving F) (text : R → List ℕ) (a : Pages R) (site inside : SiteContent) (found : Option FileId) → inside ≡ site → a.stage ≡ stage.Reply found → HasPart (PagesStand g text) a site
+    → Fits (reply_by g text inside found a.capture) a.thread
+fits_inside g text a site inside found same e has = subst (λ (s : SiteContent). Fits (reply_by g text s found a.capture) a.thread) (sym same) (reply_fits g text a site found e has)
 
-pub some_part : (a : Httpd) (site : SiteContent) (n : ℕ) → CanSay means HttpdStands a site n → HasPart HttpdStands a site
-some_part a site n can = ∥∥₁_map can (λ c. (c.0, c.1))
+pub some_part : {F R : Type 0} (g : Giving F) (text : R → List ℕ) (a : Pages R) (site : SiteContent) (n : ℕ) → CanSay (means g) (PagesStand g text) a site n → HasPart (PagesStand g text) a site
+some_part g text a site n can = ∥∥₁_map can (λ c. (c.0, c.1))
 
 -- so much can be said
-pub can_say : (a : Httpd) (site : SiteContent) (n : ℕ) (s : Stage) → a.stage ≡ s → CanSay means HttpdStands a site n → n ≤ length (left_in a site s)
-can_say a site n s e can =
-    ∥∥₁_elim can le_prop (λ c. subst (λ t. n ≤ length t) (left_of_value a site c.0 c.1 ∙ ap (left_in a site) e) c.2)
+pub can_say : {F R : Type 0} (g : Giving F) (text : R → List ℕ) (a : Pages R) (site : SiteContent) (n : ℕ) (s : Stage) → a.stage ≡ s → CanSay (means g) (PagesStand g text) a site n → n ≤ length (left_in g text a site s)
+can_say g text a site n s e can =
+    ∥∥₁_elim can le_prop (λ c. subst (λ t. n ≤ length t) (left_of_value g text a site c.0 c.1 ∙ ap (left_in g text a site) e) c.2)
 
 -- where no reply is said nothing is left
-pub quiet : (a : Httpd) (site : SiteContent) (s : Stage) → ((found : Option FileId) → s ≡ stage.Reply found → ⊥) → left_in a site s ≡ []
-quiet a site stage.Method never = refl
-quiet a site stage.Target never = refl
-quiet a site stage.Refused never = refl
-quiet a site (stage.Reply found) never = absurd (never found refl)
+pub quiet : {F R : Type 0} (g : Giving F) (text : R → List ℕ) (a : Pages R) (site : SiteContent) (s : Stage) → ((found : Option FileId) → s ≡ stage.Reply found → ⊥) → left_in g text a site s ≡ []
+quiet g text a site stage.Method never = refl
+quiet g text a site stage.Target never = refl
+quiet g text a site stage.Refused never = refl
+quiet g text a site (stage.Reply found) never = absurd (never found refl)
 
-pub quiet_zero : (a : Httpd) (site : SiteContent) (n : ℕ) → ((found : Option FileId) → a.stage ≡ stage.Reply found → ⊥) → CanSay means HttpdStands a site n → n ≡ 0
-quiet_zero a site n never can =
-    let most : n ≤ length (left_in a site a.stage) = can_say a site n a.stage refl can in
-    let none : length (left_in a site a.stage) ≡ 0 = ap length (quiet a site a.stage never) in
+pub quiet_zero : {F R : Type 0} (g : Giving F) (text : R → List ℕ) (a : Pages R) (site : SiteContent) (n : ℕ) → ((found : Option FileId) → a.stage ≡ stage.Reply found → ⊥) → CanSay (means g) (PagesStand g text) a site n → n ≡ 0
+quiet_zero g text a site n never can =
+    let most : n ≤ length (left_in g text a site a.stage) = can_say g text a site n a.stage refl can in
+    let none : length (left_in g text a site a.stage) ≡ 0 = ap length (quiet g text a site a.stage never) in
     omega (arith, most, none)
 
 -- ---- acknowledging
 
-acked_left : (r : FileReply) (t u : Thread) (name : List ℕ) (p : Part) (n : ℕ) → IsLeft r t name p → IsPast r.files n (left_from r t) (left_from r u) → n ≤ length (page_text r.files (left_from r t) [])
+acked_left : {F : Type 0} (r : FileReply F) (t u : Thread) (name : List ℕ) (p : Part) (n : ℕ) → IsLeft r t name p → IsPast r.gives r.files n (left_from r t) (left_from r u) → n ≤ length (text_by r.gives r.files (left_from r t) [])
     → IsLeft r u name (record p { acked = p.acked + n; polls = 0 })
 acked_left r t u name p n is past enough = record {
-  text = λ later. past.text later ∙ ap (λ xs. drop n xs) (is.text later) ∙ drop-drop n p.acked (page_text r.files (reply_pieces r.files name) (p.captures ++ later));
+  text = λ later. past.text later ∙ ap (λ xs. drop n xs) (is.text later) ∙ drop-drop n p.acked (text_by r.gives r.files (reply_pieces_by r.gives.calling.named r.files name) (p.captures ++ later));
   whole = λ later. past.whole later ∙ is.whole later;
   calls = ap (λ k. length p.captures + k) past.calls ∙ is.calls;
   within =
-      let here = ap length (is.text [] ∙ ap (λ ks. drop p.acked (page_text r.files (reply_pieces r.files name) ks)) (append-nil p.captures)) in
-      omega (arith, here, enough, is.within, length-drop p.acked (page_text r.files (reply_pieces r.files name) p.captures));
+      let here = ap length (is.text [] ∙ ap (λ ks. drop p.acked (text_by r.gives r.files (reply_pieces_by r.gives.calling.named r.files name) ks)) (append-nil p.captures)) in
+      omega (arith, here, enough, is.within, length-drop p.acked (text_by r.gives r.files (reply_pieces_by r.gives.calling.named r.files name) p.captures));
 }
 
-pub reply_acked : (a : Httpd) (site : SiteContent) (found : Option FileId) (p : Part) (n : ℕ) (u : Thread) → a.stage ≡ stage.Reply found → Fits (reply_in site found a.capture) u → KeepsOn (reply_in site found a.capture) a.thread u
-    → IsPast (files_of site) n (left_from (reply_in site found a.capture) a.thread) (left_from (reply_in site found a.capture) u)
-    → n ≤ length (page_text (files_of site) (left_from (reply_in site found a.capture) a.thread) []) → HttpdStands a site p
-    → HttpdStands (record a { thread = u; polls = 0 }) site (record p { acked = p.acked + n; polls = 0 })
-reply_acked a site found p n u e fits kept past enough s =
-    let is = replying a site p found e s in
+pub reply_acked : {F R : Type 0} (g : Giving F) (text : R → List ℕ) (a : Pages R) (site : SiteContent) (found : Option FileId) (p : Part) (n : ℕ) (u : Thread) → a.stage ≡ stage.Reply found → Fits (reply_by g text site found a.capture) u → KeepsOn (reply_by g text site found a.capture) a.thread u
+    → IsPast g (files_of site) n (left_from (reply_by g text site found a.capture) a.thread) (left_from (reply_by g text site found a.capture) u)
+    → n ≤ length (text_by g (files_of site) (left_from (reply_by g text site found a.capture) a.thread) []) → PagesStand g text a site p
+    → PagesStand g text (record a { thread = u; polls = 0 }) site (record p { acked = p.acked + n; polls = 0 })
+reply_acked g text a site found p n u e fits kept past enough s =
+    let is = replying g text a site p found e s in
     record {
       polls = refl;
-      stands = subst (λ st. StandsIn (record a { thread = u; polls = 0 }) site (record p { acked = p.acked + n; polls = 0 }) st) (sym e) (
+      stands = subst (λ st. StandsIn g text (record a { thread = u; polls = 0 }) site (record p { acked = p.acked + n; polls = 0 }) st) (sym e) (
         is.0,
         record {
           wanted = is.1.wanted;
@@ -131,19 +132,19 @@ reply_acked a site found p n u e fits kept past enough s =
           file = is.1.file;
           fits = fits;
           kept = kept p.captures is.1.kept;
-          left = acked_left (reply_in site found a.capture) a.thread u is.0 p n is.1.left past enough;
+          left = acked_left (reply_by g text site found a.capture) a.thread u is.0 p n is.1.left past enough;
         },
       );
     }
 
 -- where nothing is said nothing can be acknowledged
-nothing_acked : (a : Httpd) (site : SiteContent) (p : Part) (n : ℕ) (s : Stage) → ((found : Option FileId) → s ≡ stage.Reply found → ⊥) → n ≡ 0 → StandsIn a site p s
-    → StandsIn (record a { polls = 0 }) site (record p { acked = p.acked + n; polls = 0 }) s
-nothing_acked a site p n stage.Method never e (hears, none) = (hears, record { captures = none.captures; acked = omega (arith, none.acked, e) })
-nothing_acked a site p n stage.Target never e (hears, none) = (hears, record { captures = none.captures; acked = omega (arith, none.acked, e) })
-nothing_acked a site p n stage.Refused never e (refused, none) = (refused, record { captures = none.captures; acked = omega (arith, none.acked, e) })
-nothing_acked a site p n (stage.Reply found) never e stands = absurd (never found refl)
+nothing_acked : {F R : Type 0} (g : Giving F) (text : R → List ℕ) (a : Pages R) (site : SiteContent) (p : Part) (n : ℕ) (s : Stage) → ((found : Option FileId) → s ≡ stage.Reply found → ⊥) → n ≡ 0 → StandsIn g text a site p s
+    → StandsIn g text (record a { polls = 0 }) site (record p { acked = p.acked + n; polls = 0 }) s
+nothing_acked g text a site p n stage.Method never e (hears, none) = (hears, record { captures = none.captures; acked = omega (arith, none.acked, e) })
+nothing_acked g text a site p n stage.Target never e (hears, none) = (hears, record { captures = none.captures; acked = omega (arith, none.acked, e) })
+nothing_acked g text a site p n stage.Refused never e (refused, none) = (refused, record { captures = none.captures; acked = omega (arith, none.acked, e) })
+nothing_acked g text a site p n (stage.Reply found) never e stands = absurd (never found refl)
 
-pub quiet_acked : (a : Httpd) (site : SiteContent) (p : Part) (n : ℕ) → ((found : Option FileId) → a.stage ≡ stage.Reply found → ⊥) → CanSay means HttpdStands a site n → HttpdStands a site p
-    → HttpdStands (record a { polls = 0 }) site (record p { acked = p.acked + n; polls = 0 })
-quiet_acked a site p n never can s = record { polls = refl; stands = nothing_acked a site p n a.stage never (quiet_zero a site n never can) s.stands }
+pub quiet_acked : {F R : Type 0} (g : Giving F) (text : R → List ℕ) (a : Pages R) (site : SiteContent) (p : Part) (n : ℕ) → ((found : Option FileId) → a.stage ≡ stage.Reply found → ⊥) → CanSay (means g) (PagesStand g text) a site n → PagesStand g text a site p
+    → PagesStand g text (record a { polls = 0 }) site (record p { acked = p.acked + n; polls = 0 })
+quiet_acked g text a site p n never can s = record { polls = refl; stands = nothing_acked g text a site p n a.stage never (quiet_zero g text a site n never can) s.stands }

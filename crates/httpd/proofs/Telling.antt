@@ -1,64 +1,64 @@
 -- The parts after a piece was heard.
 use Rattle.std.proofs.Common.{◌≡◌, ℕ, ◌≤◌, List, ◌++◌, Option, None, Some, length, drop, refl, sym, ap, subst, ◌∙◌, arith}
 use Rattle.app_events.specs.Part.{Part}
-use Rattle.generators.specs.declared.capture.Capture.{Capture}
 use Rattle.site_image.specs.Files.{File, file_named}
 use Rattle.file_tree.specs.declared.file_id.FileId.{FileId}
 use Rattle.file_tree.specs.Site.{SiteContent, files_of}
 use Rattle.web_pages.specs.Requests.{Wanted, wanted}
 use Rattle.web_pages.specs.Requests.Wanted.{Name, NotYet, Refused}
-use Rattle.web_pages.specs.Pieces.{reply_pieces, reply_to}
-use Rattle.web_pages.specs.Pages.{reach_end, page_text}
+use Rattle.generators.specs.Giving.{Giving}
+use Rattle.web_pages.specs.Pieces.{reply_pieces_by, reply_to_by}
+use Rattle.web_pages.specs.Pages.{reach_by, text_by}
 use Rattle.web_pages.specs.WebMeaning.{hits_by}
 use Rattle.web_pages.specs.Lemmas.Deciding.{more_by}
-use Rattle.httpd.specs.declared.httpd.Httpd.{Httpd}
+use Rattle.httpd.specs.declared.httpd.Pages.{Pages}
 use Rattle.httpd.specs.declared.stage.Stage.{Stage}
 use Rattle.httpd.specs.declared.stage.Stage.TheVariants as stage
 use Rattle.httpd.specs.declared.thread.Thread.TheVariants.{Head}
-use Rattle.httpd.specs.Reply.{FileReply, calls_in, found_file, left_from, reply_in}
+use Rattle.httpd.specs.Reply.{FileReply, calls_in, found_file, left_from, reply_by}
 use Rattle.httpd.specs.Places.{Fits, IsFound}
 use Rattle.httpd.specs.Kept.{KeepsDirective}
 use Rattle.httpd.specs.Hearing.{HearsMethod, HearsTarget, IsDecided}
-use Rattle.httpd.specs.HttpdStands.{HttpdStands, IsLeft, IsReplying, SaysNothing, StandsIn}
+use Rattle.httpd.specs.HttpdStands.{PagesStand, IsLeft, IsReplying, SaysNothing, StandsIn}
 
 -- from the front of its head a reply says its pieces
-pub reply_start : (files : List File) (file : Option File) (capture : Capture) → left_from (record { files = files; file = file; capture = capture }) (Head 0) ≡ reply_to files file
+pub reply_start : {F : Type 0} (g : Giving F) (files : List File) (file : Option File) (made : List ℕ) → left_from (record { gives = g; files = files; file = file; made = made }) (Head 0) ≡ reply_to_by g.calling.named files file
 unfolding left_from
-reply_start files None capture = refl
-reply_start files (Some file) capture = refl
+reply_start g files None made = refl
+reply_start g files (Some file) made = refl
 
-front_left : (r : FileReply) (name : List ℕ) (p : Part) → r.file ≡ file_named r.files name → SaysNothing p → IsLeft r (Head 0) name p
+front_left : {F : Type 0} (r : FileReply F) (name : List ℕ) (p : Part) → r.file ≡ file_named r.files name → SaysNothing p → IsLeft r (Head 0) name p
 front_left r name p e none =
-    let pieces : left_from r (Head 0) ≡ reply_pieces r.files name = reply_start r.files r.file r.capture ∙ ap (reply_to r.files) e in
+    let pieces : left_from r (Head 0) ≡ reply_pieces_by r.gives.calling.named r.files name = reply_start r.gives r.files r.file r.made ∙ ap (reply_to_by r.gives.calling.named r.files) e in
     record {
-      text = λ later. ap (λ ps. page_text r.files ps later) pieces
-          ∙ (λ i. drop (sym none.acked i) (page_text r.files (reply_pieces r.files name) (sym none.captures i ++ later)));
-      whole = λ later. ap (λ ps. reach_end ps later) pieces ∙ ap (λ ks. reach_end (reply_pieces r.files name) (ks ++ later)) (sym none.captures);
-      calls = omega (arith, ap length none.captures, ap calls_in pieces);
-      within = subst (λ n. n ≤ length (page_text r.files (reply_pieces r.files name) p.captures)) (sym none.acked) (omega arith);
+      text = λ later. ap (λ ps. text_by r.gives r.files ps later) pieces
+          ∙ (λ i. drop (sym none.acked i) (text_by r.gives r.files (reply_pieces_by r.gives.calling.named r.files name) (sym none.captures i ++ later)));
+      whole = λ later. ap (λ ps. reach_by r.gives ps later) pieces ∙ ap (λ ks. reach_by r.gives (reply_pieces_by r.gives.calling.named r.files name) (ks ++ later)) (sym none.captures);
+      calls = omega (arith, ap length none.captures, ap (calls_in r.gives.calling) pieces);
+      within = subst (λ n. n ≤ length (text_by r.gives r.files (reply_pieces_by r.gives.calling.named r.files name) p.captures)) (sym none.acked) (omega arith);
     }
 
-pub front_fits : (r : FileReply) → Fits r (Head 0)
+pub front_fits : {F : Type 0} (r : FileReply F) → Fits r (Head 0)
 unfolding Fits
 front_fits r = omega arith
 
-begins : (a : Httpd) (site : SiteContent) (p : Part) (found : Option FileId) (name : List ℕ) → a.thread ≡ Head 0 → SaysNothing p → wanted p.heard ≡ Name name → IsFound (files_of site) found
-    → found_file (files_of site) found ≡ file_named (files_of site) name → IsReplying a site name found p
-begins a site p found name e none is there file = record {
+begins : {F R : Type 0} (g : Giving F) (text : R → List ℕ) (a : Pages R) (site : SiteContent) (p : Part) (found : Option FileId) (name : List ℕ) → a.thread ≡ Head 0 → SaysNothing p → wanted p.heard ≡ Name name → IsFound (files_of site) found
+    → found_file (files_of site) found ≡ file_named (files_of site) name → IsReplying g text a site name found p
+begins g text a site p found name e none is there file = record {
   wanted = is;
   there = there;
   file = file;
-  fits = subst (λ t. Fits (reply_in site found a.capture) t) (sym e) (front_fits (reply_in site found a.capture));
-  kept = subst (λ t. KeepsDirective (reply_in site found a.capture) p.captures t) (sym e) tt;
-  left = subst (λ t. IsLeft (reply_in site found a.capture) t name p) (sym e) (front_left (reply_in site found a.capture) name p file none);
+  fits = subst (λ t. Fits (reply_by g text site found a.capture) t) (sym e) (front_fits (reply_by g text site found a.capture));
+  kept = subst (λ t. KeepsDirective (reply_by g text site found a.capture) p.captures t) (sym e) tt;
+  left = subst (λ t. IsLeft (reply_by g text site found a.capture) t name p) (sym e) (front_left (reply_by g text site found a.capture) name p file none);
 }
 
 -- where a stage was decided
-pub decided_stands : (a : Httpd) (site : SiteContent) (p : Part) (s : Stage) → a.thread ≡ Head 0 → SaysNothing p → IsDecided (files_of site) a.line p.heard s → StandsIn a site p s
-decided_stands a site p stage.Method e none is = (is, none)
-decided_stands a site p stage.Target e none is = (is, none)
-decided_stands a site p stage.Refused e none is = (is, none)
-decided_stands a site p (stage.Reply found) e none is = (is.name, begins a site p found is.name e none is.wanted is.there is.file)
+pub decided_stands : {F R : Type 0} (g : Giving F) (text : R → List ℕ) (a : Pages R) (site : SiteContent) (p : Part) (s : Stage) → a.thread ≡ Head 0 → SaysNothing p → IsDecided (files_of site) a.line p.heard s → StandsIn g text a site p s
+decided_stands g text a site p stage.Method e none is = (is, none)
+decided_stands g text a site p stage.Target e none is = (is, none)
+decided_stands g text a site p stage.Refused e none is = (is, none)
+decided_stands g text a site p (stage.Reply found) e none is = (is.name, begins g text a site p found is.name e none is.wanted is.there is.file)
 
 abbrev pub with_more : Part → List ℕ → Part
 with_more p piece = record p { heard = p.heard ++ piece; polls = 0 }
@@ -66,26 +66,26 @@ with_more p piece = record p { heard = p.heard ++ piece; polls = 0 }
 still_nothing : (p : Part) (piece : List ℕ) → SaysNothing p → SaysNothing (with_more p piece)
 still_nothing p piece none = record { captures = none.captures; acked = none.acked }
 
-pub method_heard : (a : Httpd) (site : SiteContent) (p : Part) → a.stage ≡ stage.Method → HttpdStands a site p → HearsMethod a.line p.heard × SaysNothing p
-method_heard a site p e s = subst (λ st. StandsIn a site p st) e s.stands
+pub method_heard : {F R : Type 0} (g : Giving F) (text : R → List ℕ) (a : Pages R) (site : SiteContent) (p : Part) → a.stage ≡ stage.Method → PagesStand g text a site p → HearsMethod a.line p.heard × SaysNothing p
+method_heard g text a site p e s = subst (λ st. StandsIn g text a site p st) e s.stands
 
-pub target_heard : (a : Httpd) (site : SiteContent) (p : Part) → a.stage ≡ stage.Target → HttpdStands a site p → HearsTarget a.line p.heard × SaysNothing p
-target_heard a site p e s = subst (λ st. StandsIn a site p st) e s.stands
+pub target_heard : {F R : Type 0} (g : Giving F) (text : R → List ℕ) (a : Pages R) (site : SiteContent) (p : Part) → a.stage ≡ stage.Target → PagesStand g text a site p → HearsTarget a.line p.heard × SaysNothing p
+target_heard g text a site p e s = subst (λ st. StandsIn g text a site p st) e s.stands
 
-pub refused_heard : (a : Httpd) (site : SiteContent) (p : Part) → a.stage ≡ stage.Refused → HttpdStands a site p → (wanted p.heard ≡ Refused) × SaysNothing p
-refused_heard a site p e s = subst (λ st. StandsIn a site p st) e s.stands
+pub refused_heard : {F R : Type 0} (g : Giving F) (text : R → List ℕ) (a : Pages R) (site : SiteContent) (p : Part) → a.stage ≡ stage.Refused → PagesStand g text a site p → (wanted p.heard ≡ Refused) × SaysNothing p
+refused_heard g text a site p e s = subst (λ st. StandsIn g text a site p st) e s.stands
 
 -- a request that a piece may decide
-pub heard_stands : (a b : Httpd) (site : SiteContent) (p : Part) (piece : List ℕ) → SaysNothing p → b.thread ≡ Head 0 → b.polls ≡ 0 → IsDecided (files_of site) b.line (p.heard ++ piece) b.stage → HttpdStands b site (with_more p piece)
-heard_stands a b site p piece none e polls is = record { polls = polls; stands = decided_stands b site (with_more p piece) b.stage e (still_nothing p piece none) is }
+pub heard_stands : {F R : Type 0} (g : Giving F) (text : R → List ℕ) (a b : Pages R) (site : SiteContent) (p : Part) (piece : List ℕ) → SaysNothing p → b.thread ≡ Head 0 → b.polls ≡ 0 → IsDecided (files_of site) b.line (p.heard ++ piece) b.stage → PagesStand g text b site (with_more p piece)
+heard_stands g text a b site p piece none e polls is = record { polls = polls; stands = decided_stands g text b site (with_more p piece) b.stage e (still_nothing p piece none) is }
 
 -- a request that was decided
-pub reply_stays : (a : Httpd) (site : SiteContent) (p : Part) (piece : List ℕ) (found : Option FileId) → a.stage ≡ stage.Reply found → HttpdStands a site p → HttpdStands (record a { polls = 0 }) site (with_more p piece)
-reply_stays a site p piece found e s =
-    let is : (name : List ℕ) × IsReplying a site name found p = subst (λ st. StandsIn a site p st) e s.stands in
+pub reply_stays : {F R : Type 0} (g : Giving F) (text : R → List ℕ) (a : Pages R) (site : SiteContent) (p : Part) (piece : List ℕ) (found : Option FileId) → a.stage ≡ stage.Reply found → PagesStand g text a site p → PagesStand g text (record a { polls = 0 }) site (with_more p piece)
+reply_stays g text a site p piece found e s =
+    let is : (name : List ℕ) × IsReplying g text a site name found p = subst (λ st. StandsIn g text a site p st) e s.stands in
     record {
       polls = refl;
-      stands = subst (λ st. StandsIn (record a { polls = 0 }) site (with_more p piece) st) (sym e) (
+      stands = subst (λ st. StandsIn g text (record a { polls = 0 }) site (with_more p piece) st) (sym e) (
         is.0,
         record {
           wanted = more_by (Name is.0) p.heard piece is.1.wanted (λ h. cc);
@@ -98,12 +98,12 @@ reply_stays a site p piece found e s =
       );
     }
 
-pub refused_stays : (a : Httpd) (site : SiteContent) (p : Part) (piece : List ℕ) → a.stage ≡ stage.Refused → HttpdStands a site p → HttpdStands (record a { polls = 0 }) site (with_more p piece)
-refused_stays a site p piece e s =
-    let is = refused_heard a site p e s in
+pub refused_stays : {F R : Type 0} (g : Giving F) (text : R → List ℕ) (a : Pages R) (site : SiteContent) (p : Part) (piece : List ℕ) → a.stage ≡ stage.Refused → PagesStand g text a site p → PagesStand g text (record a { polls = 0 }) site (with_more p piece)
+refused_stays g text a site p piece e s =
+    let is = refused_heard g text a site p e s in
     record {
       polls = refl;
-      stands = subst (λ st. StandsIn (record a { polls = 0 }) site (with_more p piece) st) (sym e)
+      stands = subst (λ st. StandsIn g text (record a { polls = 0 }) site (with_more p piece) st) (sym e)
           (more_by Refused p.heard piece is.0 (λ h. cc), still_nothing p piece is.1);
     }
 

@@ -4,10 +4,10 @@ use Rattle.std.proofs.lemmas.Bool.{cases_eq, ne_eqb, lt-ltb}
 use Rattle.std.proofs.lemmas.List.{drop-drop, drop_at}
 use Rattle.app_events.specs.declared.want.Want.{Want}
 use Rattle.app_events.specs.declared.want.Want.TheVariants.{Nothing, Send, Close}
-use Rattle.script_lang.specs.declared.function.Function.{Function}
 use Rattle.site_image.specs.Files.{File}
+use Rattle.generators.specs.Giving.{Giving}
 use Rattle.web_pages.specs.Pieces.{Say}
-use Rattle.web_pages.specs.Pages.{reach_end, page_text}
+use Rattle.web_pages.specs.Pages.{reach_by, text_by}
 use Rattle.web_pages.specs.Lemmas.Growing.{stopped_text, stopped_end}
 use Rattle.httpd.specs.declared.span.Span.{Span}
 use Rattle.httpd.specs.declared.span.Span.TheVariants as span
@@ -23,33 +23,33 @@ use Rattle.httpd.proofs.Seeing.{keeps_in}
 
 -- ---- text past a place
 
-pub past_none : (files : List File) (a : List Say) → IsPast files 0 a a
-past_none files a = record { text = λ later. refl; whole = λ later. refl; calls = refl }
+pub past_none : {F : Type 0} (g : Giving F) (files : List File) (a : List (Say F)) → IsPast g files 0 a a
+past_none g files a = record { text = λ later. refl; whole = λ later. refl; calls = refl }
 
-pub past_more : (files : List File) (n m : ℕ) (a b c : List Say) → IsPast files n a b → IsPast files m b c → IsPast files (n + m) a c
-past_more files n m a b c p q = record {
-  text = λ later. q.text later ∙ ap (λ xs. drop m xs) (p.text later) ∙ drop-drop m n (page_text files a later);
+pub past_more : {F : Type 0} (g : Giving F) (files : List File) (n m : ℕ) (a b c : List (Say F)) → IsPast g files n a b → IsPast g files m b c → IsPast g files (n + m) a c
+past_more g files n m a b c p q = record {
+  text = λ later. q.text later ∙ ap (λ xs. drop m xs) (p.text later) ∙ drop-drop m n (text_by g files a later);
   whole = λ later. q.whole later ∙ p.whole later;
   calls = q.calls ∙ p.calls;
 }
 
-pub past_to : (files : List File) (n m : ℕ) (a b : List Say) → n ≡ m → IsPast files n a b → IsPast files m a b
-past_to files n m a b e p = subst (λ k. IsPast files k a b) e p
+pub past_to : {F : Type 0} (g : Giving F) (files : List File) (n m : ℕ) (a b : List (Say F)) → n ≡ m → IsPast g files n a b → IsPast g files m a b
+past_to g files n m a b e p = subst (λ k. IsPast g files k a b) e p
 
-past_leads : (files : List File) (a b : List Say) (front : List ℕ) (n : ℕ) → n ≡ length front → Leads files a front b → IsPast files n a b
-past_leads files a b front n e leads = record {
-  text = λ later. sym (ap (λ xs. drop n xs) (leads.text later) ∙ drop_at front (page_text files b later) n (sym e));
+past_leads : {F : Type 0} (g : Giving F) (files : List File) (a b : List (Say F)) (front : List ℕ) (n : ℕ) → n ≡ length front → Leads g files a front b → IsPast g files n a b
+past_leads g files a b front n e leads = record {
+  text = λ later. sym (ap (λ xs. drop n xs) (leads.text later) ∙ drop_at front (text_by g files b later) n (sym e));
   whole = λ later. sym (leads.whole later);
   calls = sym leads.calls;
 }
 
 -- how much is left past a place
-pub left_past : (files : List File) (n : ℕ) (a b : List Say) → IsPast files n a b → length (page_text files b []) ≡ length (page_text files a []) - n
-left_past files n a b p = ap length (p.text []) ∙ length-drop n (page_text files a [])
+pub left_past : {F : Type 0} (g : Giving F) (files : List File) (n : ℕ) (a b : List (Say F)) → IsPast g files n a b → length (text_by g files b []) ≡ length (text_by g files a []) - n
+left_past g files n a b p = ap length (p.text []) ∙ length-drop n (text_by g files a [])
 
 -- ---- what is seen where text is left
 
-pub call_before : (r : FileReply) (pieces : List Say) (f : Function) (argument : List ℕ) (t : Thread) → SeesCall r pieces f argument t → (next : ℕ) × IsCallBefore r pieces f argument next × (t ≡ Making next 0)
+pub call_before : {F : Type 0} (r : FileReply F) (pieces : List (Say F)) (f : F) (argument : List ℕ) (t : Thread) → SeesCall r pieces f argument t → (next : ℕ) × IsCallBefore r pieces f argument next × (t ≡ Making next 0)
 call_before r pieces f argument (Making next at) s = (next, s.0, ap (λ n. Making next n) s.1)
 call_before r pieces f argument (Head at) s = absurd s
 call_before r pieces f argument (Kind at) s = absurd s
@@ -58,140 +58,140 @@ call_before r pieces f argument (Inside next file at) s = absurd s
 call_before r pieces f argument End s = absurd s
 
 -- before a call nothing is left, and the end is not reached
-pub call_stops : (r : FileReply) (pieces : List Say) (f : Function) (argument : List ℕ) (t : Thread) → SeesCall r pieces f argument t
-    → (page_text r.files pieces [] ≡ []) × (reach_end pieces [] ≡ false)
+pub call_stops : {F : Type 0} (r : FileReply F) (pieces : List (Say F)) (f : F) (argument : List ℕ) (t : Thread) → SeesCall r pieces f argument t
+    → (text_by r.gives r.files pieces [] ≡ []) × (reach_by r.gives pieces [] ≡ false)
 call_stops r pieces f argument t s =
     let call = call_before r pieces f argument t s in
     let more = body_from r call.0 in (
-      ap (λ p. page_text r.files p []) call.1.first ∙ stopped_text r.files f argument more call.1.takes,
-      ap (λ p. reach_end p []) call.1.first ∙ stopped_end f argument more call.1.takes,
+      ap (λ p. text_by r.gives r.files p []) call.1.first ∙ stopped_text r.gives r.files f argument more call.1.takes,
+      ap (λ p. reach_by r.gives p []) call.1.first ∙ stopped_end r.gives f argument more call.1.takes,
     )
 
-some_by : (r : FileReply) (pieces : List Say) (look : Look) (s : Span) → SeesBy r pieces look s → 0 < length (page_text r.files pieces []) → SeesText r pieces look
-some_by r pieces look (span.Bytes world send) sees h = sees
-some_by r pieces look (span.Line kind at) sees h = sees
-some_by r pieces look (span.Made capture at end) sees h = sees
-some_by r pieces look (span.Call f argument) sees h =
-    let none : length (page_text r.files pieces []) ≡ 0 = ap length ((call_stops r pieces f argument.now look.next sees).0) in
+some_by : {R F : Type 0} (text : R → List ℕ) (r : FileReply F) (pieces : List (Say F)) (look : Look R F) (s : Span R F) → SeesBy text r pieces look s → 0 < length (text_by r.gives r.files pieces []) → SeesText text r pieces look
+some_by text r pieces look (span.Bytes world send) sees h = sees
+some_by text r pieces look (span.Line kind at) sees h = sees
+some_by text r pieces look (span.Made capture at end) sees h = sees
+some_by text r pieces look (span.Call f argument) sees h =
+    let none : length (text_by r.gives r.files pieces []) ≡ 0 = ap length ((call_stops r pieces f argument.now look.next sees).0) in
     absurd (omega (arith, none, h))
-some_by r pieces look span.End sees h =
-    let none : length (page_text r.files pieces []) ≡ 0 = ap (λ p. length (page_text r.files p [])) sees in
+some_by text r pieces look span.End sees h =
+    let none : length (text_by r.gives r.files pieces []) ≡ 0 = ap (λ p. length (text_by r.gives r.files p [])) sees in
     absurd (omega (arith, none, h))
 
-pub some_seen : (r : FileReply) (pieces : List Say) (look : Look) → Sees r pieces look → 0 < length (page_text r.files pieces []) → SeesText r pieces look
-some_seen r pieces look sees h = some_by r pieces look look.span sees.sees h
+pub some_seen : {R F : Type 0} (text : R → List ℕ) (r : FileReply F) (pieces : List (Say F)) (look : Look R F) → Sees text r pieces look → 0 < length (text_by r.gives r.files pieces []) → SeesText text r pieces look
+some_seen text r pieces look sees h = some_by text r pieces look look.span sees.sees h
 
 -- ---- a walk
 
 -- the thread is n bytes past the start
-pub record Walks (r : FileReply) (start thread : Thread) (n : ℕ) : Type 0 where
+pub record Walks {F : Type 0} (r : FileReply F) (start thread : Thread) (n : ℕ) : Type 0 where
   pub fits : Fits r thread
   pub kept : KeepsOn r start thread
-  pub past : IsPast r.files n (left_from r start) (left_from r thread)
+  pub past : IsPast r.gives r.files n (left_from r start) (left_from r thread)
 
-pub walks_none : (r : FileReply) (start : Thread) → Fits r start → Walks r start start 0
-walks_none r start fits = record { fits = fits; kept = λ captures keeps. keeps; past = past_none r.files (left_from r start) }
+pub walks_none : {F : Type 0} (r : FileReply F) (start : Thread) → Fits r start → Walks r start start 0
+walks_none r start fits = record { fits = fits; kept = λ captures keeps. keeps; past = past_none r.gives r.files (left_from r start) }
 
-pub walks_to : (r : FileReply) (start thread : Thread) (n m : ℕ) → n ≡ m → Walks r start thread n → Walks r start thread m
+pub walks_to : {F : Type 0} (r : FileReply F) (start thread : Thread) (n m : ℕ) → n ≡ m → Walks r start thread n → Walks r start thread m
 walks_to r start thread n m e w = subst (λ k. Walks r start thread k) e w
 
-pub walks_on : (r : FileReply) (start thread : Thread) (n len : ℕ) (look : Look) → Walks r start thread n → SeesText r (left_from r thread) look → len ≡ length (span_text look.span) → Walks r start look.next (n + len)
-walks_on r start thread n len look w sees e = record {
+pub walks_on : {R F : Type 0} (text : R → List ℕ) (r : FileReply F) (start thread : Thread) (n len : ℕ) (look : Look R F) → Walks r start thread n → SeesText text r (left_from r thread) look → len ≡ length (span_text text look.span) → Walks r start look.next (n + len)
+walks_on text r start thread n len look w sees e = record {
   fits = sees.next;
   kept = λ captures keeps. sees.begins captures;
-  past = past_more r.files n len (left_from r start) (left_from r thread) (left_from r look.next) w.past
-      (past_leads r.files (left_from r thread) (left_from r look.next) (span_text look.span) len e sees.leads);
+  past = past_more r.gives r.files n len (left_from r start) (left_from r thread) (left_from r look.next) w.past
+      (past_leads r.gives r.files (left_from r thread) (left_from r look.next) (span_text text look.span) len e sees.leads);
 }
 
-pub walks_in : (r : FileReply) (start thread : Thread) (n m : ℕ) (look : Look) → Walks r start thread n → SeesText r (left_from r thread) look → KeepsOn r thread look.here → m < length (span_text look.span)
+pub walks_in : {R F : Type 0} (text : R → List ℕ) (r : FileReply F) (start thread : Thread) (n m : ℕ) (look : Look R F) → Walks r start thread n → SeesText text r (left_from r thread) look → KeepsOn r thread look.here → m < length (span_text text look.span)
     → Walks r start (moved look.here m) (n + m)
-walks_in r start thread n m look w sees here h =
+walks_in text r start thread n m look w sees here h =
     let inside = sees.within m h in
     record {
       fits = inside.fits;
       kept = λ captures keeps. keeps_in r look.here m captures (here captures (w.kept captures keeps));
-      past = past_more r.files n m (left_from r start) (left_from r thread) (left_from r (moved look.here m)) w.past inside.past;
+      past = past_more r.gives r.files n m (left_from r start) (left_from r thread) (left_from r (moved look.here m)) w.past inside.past;
     }
 
 -- what is left of the text where the walk has come
-pub walks_left : (r : FileReply) (start thread : Thread) (n : ℕ) → Walks r start thread n → length (page_text r.files (left_from r thread) []) ≡ length (page_text r.files (left_from r start) []) - n
-walks_left r start thread n w = left_past r.files n (left_from r start) (left_from r thread) w.past
+pub walks_left : {F : Type 0} (r : FileReply F) (start thread : Thread) (n : ℕ) → Walks r start thread n → length (text_by r.gives r.files (left_from r thread) []) ≡ length (text_by r.gives r.files (left_from r start) []) - n
+walks_left r start thread n w = left_past r.gives r.files n (left_from r start) (left_from r thread) w.past
 
 -- ---- filling
 
 -- the front of a buffer is the front of the text, and the thread stands behind it unless the buffer is full
-pub record Fills (r : FileReply) (start thread : Thread) (from : ℕ) (out : List ℕ) : Type 0 where
+pub record Fills {F : Type 0} (r : FileReply F) (start thread : Thread) (from : ℕ) (out : List ℕ) : Type 0 where
   pub inside : from ≤ length out
-  pub filled : take from out ≡ take from (page_text r.files (left_from r start) [])
+  pub filled : take from out ≡ take from (text_by r.gives r.files (left_from r start) [])
   pub walks : from < length out → Walks r start thread from
 
-pub fills_none : (r : FileReply) (start : Thread) (out : List ℕ) → Fits r start → Fills r start start 0 out
+pub fills_none : {F : Type 0} (r : FileReply F) (start : Thread) (out : List ℕ) → Fits r start → Fills r start start 0 out
 fills_none r start out fits = record { inside = omega arith; filled = refl; walks = λ h. walks_none r start fits }
 
 take_parts : (xs : List ℕ) (n m : ℕ) → take (n + m) xs ≡ take n xs ++ take m (drop n xs)
 take_parts xs n m = Rattle.std.proofs.Math.Seq.take-add n m xs
 
 -- a buffer after one more piece of the text
-pub fills_on : (r : FileReply) (start thread : Thread) (from len count : ℕ) (out : List ℕ) (look : Look) → Fits r start → length out ≤ length (page_text r.files (left_from r start) [])
-    → Fills r start thread from out → from < length out → Sees r (left_from r thread) look → len ≡ length (span_text look.span) → count ≡ min len (length out - from)
-    → (new : List ℕ) → new ≡ take from out ++ take count (span_text look.span) ++ drop (from + count) out → Fills r start look.next (from + count) new
-fills_on r start thread from len count out look fits enough is lt sees size least new made =
-    let text : List ℕ = page_text r.files (left_from r start) [] in
+pub fills_on : {R F : Type 0} (text : R → List ℕ) (r : FileReply F) (start thread : Thread) (from len count : ℕ) (out : List ℕ) (look : Look R F) → Fits r start → length out ≤ length (text_by r.gives r.files (left_from r start) [])
+    → Fills r start thread from out → from < length out → Sees text r (left_from r thread) look → len ≡ length (span_text text look.span) → count ≡ min len (length out - from)
+    → (new : List ℕ) → new ≡ take from out ++ take count (span_text text look.span) ++ drop (from + count) out → Fills r start look.next (from + count) new
+fills_on text r start thread from len count out look fits enough is lt sees size least new made =
+    let page : List ℕ = text_by r.gives r.files (left_from r start) [] in
     let walks : Walks r start thread from = is.walks lt in
     let left = walks_left r start thread from walks in
-    let some : SeesText r (left_from r thread) look = some_seen r (left_from r thread) look sees (omega (arith, left, lt, enough)) in
-    let on : Walks r start look.next (from + len) = walks_on r start thread from len look walks some size in
-    let cut : count ≤ length (span_text look.span) = omega (arith, size, least) in
+    let some : SeesText text r (left_from r thread) look = some_seen text r (left_from r thread) look sees (omega (arith, left, lt, enough)) in
+    let on : Walks r start look.next (from + len) = walks_on text r start thread from len look walks some size in
+    let cut : count ≤ length (span_text text look.span) = omega (arith, size, least) in
     let long : length new ≡ length out = omega (
       arith,
       ap length made,
-      length-append (take from out ++ take count (span_text look.span)) (drop (from + count) out),
-      length-append (take from out) (take count (span_text look.span)),
+      length-append (take from out ++ take count (span_text text look.span)) (drop (from + count) out),
+      length-append (take from out) (take count (span_text text look.span)),
       Rattle.std.proofs.Common.length-take from out,
-      Rattle.std.proofs.Common.length-take count (span_text look.span),
+      Rattle.std.proofs.Common.length-take count (span_text text look.span),
       length-drop (from + count) out,
       cut,
       least,
       lt,
     ) in
-    let here : drop from text ≡ span_text look.span ++ page_text r.files (left_from r look.next) [] = sym (walks.past.text []) ∙ some.leads.text [] in
+    let here : drop from page ≡ span_text text look.span ++ text_by r.gives r.files (left_from r look.next) [] = sym (walks.past.text []) ∙ some.leads.text [] in
     record {
       inside = omega (arith, long, least, lt);
       filled =
           ap (λ xs. take (from + count) xs) made
-          ∙ Rattle.std.proofs.lemmas.List.take_at (take from out ++ take count (span_text look.span)) (drop (from + count) out) (from + count)
-          (omega (arith, length-append (take from out) (take count (span_text look.span)), Rattle.std.proofs.Common.length-take from out, Rattle.std.proofs.Common.length-take count (span_text look.span), cut, least, lt))
-          ∙ ap (λ xs. xs ++ take count (span_text look.span)) is.filled
-          ∙ ap (λ xs. take from text ++ xs) (sym (ap (λ xs. take count xs) here ∙ Rattle.std.proofs.lemmas.List.take-append-le count (span_text look.span) (page_text r.files (left_from r look.next) []) cut))
-          ∙ sym (take_parts text from count);
+          ∙ Rattle.std.proofs.lemmas.List.take_at (take from out ++ take count (span_text text look.span)) (drop (from + count) out) (from + count)
+          (omega (arith, length-append (take from out) (take count (span_text text look.span)), Rattle.std.proofs.Common.length-take from out, Rattle.std.proofs.Common.length-take count (span_text text look.span), cut, least, lt))
+          ∙ ap (λ xs. xs ++ take count (span_text text look.span)) is.filled
+          ∙ ap (λ xs. take from page ++ xs) (sym (ap (λ xs. take count xs) here ∙ Rattle.std.proofs.lemmas.List.take-append-le count (span_text text look.span) (text_by r.gives r.files (left_from r look.next) []) cut))
+          ∙ sym (take_parts page from count);
       walks = λ h. walks_to r start look.next (from + len) (from + count) (omega (arith, long, least, h)) on;
     }
 
 -- ---- acknowledging
 
-pub acked_on : (r : FileReply) (start thread : Thread) (count left len : ℕ) (look : Look) → count ≤ length (page_text r.files (left_from r start) []) → Walks r start thread (count - left) → left ≤ count → 0 < left
-    → Sees r (left_from r thread) look → len ≡ length (span_text look.span) → len ≤ left → Walks r start look.next (count - (left - len))
-acked_on r start thread count left len look enough walks h pos sees size le =
+pub acked_on : {R F : Type 0} (text : R → List ℕ) (r : FileReply F) (start thread : Thread) (count left len : ℕ) (look : Look R F) → count ≤ length (text_by r.gives r.files (left_from r start) []) → Walks r start thread (count - left) → left ≤ count → 0 < left
+    → Sees text r (left_from r thread) look → len ≡ length (span_text text look.span) → len ≤ left → Walks r start look.next (count - (left - len))
+acked_on text r start thread count left len look enough walks h pos sees size le =
     let here = walks_left r start thread (count - left) walks in
-    let some : SeesText r (left_from r thread) look = some_seen r (left_from r thread) look sees (omega (arith, here, enough, h, pos)) in
-    walks_to r start look.next ((count - left) + len) (count - (left - len)) (omega (arith, h, le)) (walks_on r start thread (count - left) len look walks some size)
+    let some : SeesText text r (left_from r thread) look = some_seen text r (left_from r thread) look sees (omega (arith, here, enough, h, pos)) in
+    walks_to r start look.next ((count - left) + len) (count - (left - len)) (omega (arith, h, le)) (walks_on text r start thread (count - left) len look walks some size)
 
-pub acked_in : (r : FileReply) (start thread : Thread) (count left : ℕ) (look : Look) → count ≤ length (page_text r.files (left_from r start) []) → Walks r start thread (count - left) → left ≤ count → 0 < left
-    → Sees r (left_from r thread) look → KeepsOn r thread look.here → left < length (span_text look.span) → Walks r start (moved look.here left) count × (thread_place look.here + left < 2147483648)
-acked_in r start thread count left look enough walks h pos sees kept lt =
+pub acked_in : {R F : Type 0} (text : R → List ℕ) (r : FileReply F) (start thread : Thread) (count left : ℕ) (look : Look R F) → count ≤ length (text_by r.gives r.files (left_from r start) []) → Walks r start thread (count - left) → left ≤ count → 0 < left
+    → Sees text r (left_from r thread) look → KeepsOn r thread look.here → left < length (span_text text look.span) → Walks r start (moved look.here left) count × (thread_place look.here + left < 2147483648)
+acked_in text r start thread count left look enough walks h pos sees kept lt =
     let here = walks_left r start thread (count - left) walks in
-    let some : SeesText r (left_from r thread) look = some_seen r (left_from r thread) look sees (omega (arith, here, enough, h, pos)) in (
-      walks_to r start (moved look.here left) ((count - left) + left) count (omega (arith, h)) (walks_in r start thread (count - left) left look walks some kept lt),
+    let some : SeesText text r (left_from r thread) look = some_seen text r (left_from r thread) look sees (omega (arith, here, enough, h, pos)) in (
+      walks_to r start (moved look.here left) ((count - left) + left) count (omega (arith, h)) (walks_in text r start thread (count - left) left look walks some kept lt),
       (some.within left lt).small,
     )
 
 -- where text is left, each look brings fewer pieces or fewer bytes
-pub nearer : (r : FileReply) (start thread : Thread) (n len : ℕ) (look : Look) → n < length (page_text r.files (left_from r start) []) → Walks r start thread n → Sees r (left_from r thread) look
-    → len ≡ length (span_text look.span)
+pub nearer : {R F : Type 0} (text : R → List ℕ) (r : FileReply F) (start thread : Thread) (n len : ℕ) (look : Look R F) → n < length (text_by r.gives r.files (left_from r start) []) → Walks r start thread n → Sees text r (left_from r thread) look
+    → len ≡ length (span_text text look.span)
     → (length (left_from r look.next) ≤ length (left_from r thread)) × (len ≡ 0 → length (left_from r look.next) < length (left_from r thread))
-nearer r start thread n len look enough walks sees e =
+nearer text r start thread n len look enough walks sees e =
     let here = walks_left r start thread n walks in
-    let some = some_seen r (left_from r thread) look sees (omega (arith, here, enough)) in
+    let some = some_seen text r (left_from r thread) look sees (omega (arith, here, enough)) in
     (some.no_more, λ none. some.fewer (sym e ∙ none))
 
 -- so the pieces and the room are less together
@@ -225,50 +225,50 @@ wanted_by other false n h e = elim (cases_eq n 0) [
 ]
 
 -- where nothing is left past n bytes, they are all
-all_left : (r : FileReply) (start thread : Thread) (n : ℕ) → Walks r start thread n → n ≤ length (page_text r.files (left_from r start) []) → page_text r.files (left_from r thread) [] ≡ []
-    → length (page_text r.files (left_from r start) []) ≡ n
+all_left : {F : Type 0} (r : FileReply F) (start thread : Thread) (n : ℕ) → Walks r start thread n → n ≤ length (text_by r.gives r.files (left_from r start) []) → text_by r.gives r.files (left_from r thread) [] ≡ []
+    → length (text_by r.gives r.files (left_from r start) []) ≡ n
 all_left r start thread n walks h none = omega (arith, walks_left r start thread n walks, h, ap length none)
 
-pub want_at : (r : FileReply) (start thread : Thread) (n : ℕ) (other : Want) (whole : Bool) → Walks r start thread n → n ≤ length (page_text r.files (left_from r start) []) → n < 1460
-    → page_text r.files (left_from r thread) [] ≡ [] → reach_end (left_from r thread) [] ≡ whole → other ≡ (if whole then Close else Nothing)
-    → sent_or other n ≡ want_left (page_text r.files (left_from r start) []) (reach_end (left_from r start) [])
+pub want_at : {F : Type 0} (r : FileReply F) (start thread : Thread) (n : ℕ) (other : Want) (whole : Bool) → Walks r start thread n → n ≤ length (text_by r.gives r.files (left_from r start) []) → n < 1460
+    → text_by r.gives r.files (left_from r thread) [] ≡ [] → reach_by r.gives (left_from r thread) [] ≡ whole → other ≡ (if whole then Close else Nothing)
+    → sent_or other n ≡ want_left (text_by r.gives r.files (left_from r start) []) (reach_by r.gives (left_from r start) [])
 want_at r start thread n other whole walks h lt none end e =
     wanted_by other whole n lt e
     ∙ ap (λ m. if whole && (m == 0) then Close else (if nat_lt 0 m then Send (min 1460 m) else Nothing)) (sym (all_left r start thread n walks h none))
-    ∙ ap (λ w. want_left (page_text r.files (left_from r start) []) w) (sym (sym (walks.past.whole []) ∙ end))
+    ∙ ap (λ w. want_left (text_by r.gives r.files (left_from r start) []) w) (sym (sym (walks.past.whole []) ∙ end))
 
 -- ---- what a span is
 
-pub text_unless : (s : Span) → ((f : Function) (argument : Rattle.std.proofs.Common.Bor (List ℕ)) → s ≡ span.Call f argument → ⊥) → (s ≡ span.End → ⊥) → IsText s
+pub text_unless : {R F : Type 0} (s : Span R F) → ((f : F) (argument : Rattle.std.proofs.Common.Bor (List ℕ)) → s ≡ span.Call f argument → ⊥) → (s ≡ span.End → ⊥) → IsText s
 text_unless (span.Bytes world send) call end = tt
 text_unless (span.Line kind at) call end = tt
 text_unless (span.Made capture at last) call end = tt
 text_unless (span.Call f argument) call end = call f argument refl
 text_unless span.End call end = end refl
 
-plain_by : (r : FileReply) (pieces : List Say) (look : Look) (s : Span) → IsText s → SeesBy r pieces look s → SeesText r pieces look
-plain_by r pieces look (span.Bytes world send) t sees = sees
-plain_by r pieces look (span.Line kind at) t sees = sees
-plain_by r pieces look (span.Made capture at end) t sees = sees
-plain_by r pieces look (span.Call f argument) t sees = absurd t
-plain_by r pieces look span.End t sees = absurd t
+plain_by : {R F : Type 0} (text : R → List ℕ) (r : FileReply F) (pieces : List (Say F)) (look : Look R F) (s : Span R F) → IsText s → SeesBy text r pieces look s → SeesText text r pieces look
+plain_by text r pieces look (span.Bytes world send) t sees = sees
+plain_by text r pieces look (span.Line kind at) t sees = sees
+plain_by text r pieces look (span.Made capture at end) t sees = sees
+plain_by text r pieces look (span.Call f argument) t sees = absurd t
+plain_by text r pieces look span.End t sees = absurd t
 
-pub plain_seen : (r : FileReply) (pieces : List Say) (look : Look) → IsText look.span → Sees r pieces look → SeesText r pieces look
-plain_seen r pieces look t sees = plain_by r pieces look look.span t sees.sees
+pub plain_seen : {R F : Type 0} (text : R → List ℕ) (r : FileReply F) (pieces : List (Say F)) (look : Look R F) → IsText look.span → Sees text r pieces look → SeesText text r pieces look
+plain_seen text r pieces look t sees = plain_by text r pieces look look.span t sees.sees
 
-pub call_seen : (r : FileReply) (pieces : List Say) (look : Look) (f : Function) (argument : Rattle.std.proofs.Common.Bor (List ℕ)) → look.span ≡ span.Call f argument → Sees r pieces look
+pub call_seen : {R F : Type 0} (text : R → List ℕ) (r : FileReply F) (pieces : List (Say F)) (look : Look R F) (f : F) (argument : Rattle.std.proofs.Common.Bor (List ℕ)) → look.span ≡ span.Call f argument → Sees text r pieces look
     → SeesCall r pieces f argument.now look.next
-call_seen r pieces look f argument e sees = subst (λ s. SeesBy r pieces look s) e sees.sees
+call_seen text r pieces look f argument e sees = subst (λ s. SeesBy text r pieces look s) e sees.sees
 
-pub end_reached : (r : FileReply) (pieces : List Say) (look : Look) → look.span ≡ span.End → Sees r pieces look → pieces ≡ []
-end_reached r pieces look e sees = subst (λ s. SeesBy r pieces look s) e sees.sees
+pub end_reached : {R F : Type 0} (text : R → List ℕ) (r : FileReply F) (pieces : List (Say F)) (look : Look R F) → look.span ≡ span.End → Sees text r pieces look → pieces ≡ []
+end_reached text r pieces look e sees = subst (λ s. SeesBy text r pieces look s) e sees.sees
 
 -- a walk goes on behind a piece that takes no capture
-pub ready_on : (r : FileReply) (start thread : Thread) (n len : ℕ) (look : Look) → Walks r start thread n → n ≤ length (page_text r.files (left_from r start) []) → IsText look.span → Sees r (left_from r thread) look
-    → len ≡ length (span_text look.span) → Walks r start look.next (n + len) × (n + len ≤ length (page_text r.files (left_from r start) []))
-ready_on r start thread n len look walks h t sees size =
-    let some : SeesText r (left_from r thread) look = plain_seen r (left_from r thread) look t sees in
+pub ready_on : {R F : Type 0} (text : R → List ℕ) (r : FileReply F) (start thread : Thread) (n len : ℕ) (look : Look R F) → Walks r start thread n → n ≤ length (text_by r.gives r.files (left_from r start) []) → IsText look.span → Sees text r (left_from r thread) look
+    → len ≡ length (span_text text look.span) → Walks r start look.next (n + len) × (n + len ≤ length (text_by r.gives r.files (left_from r start) []))
+ready_on text r start thread n len look walks h t sees size =
+    let some : SeesText text r (left_from r thread) look = plain_seen text r (left_from r thread) look t sees in
     let here = walks_left r start thread n walks in
-    let more = length-append (span_text look.span) (page_text r.files (left_from r look.next) []) in
-    let text = ap length (some.leads.text []) in
-    (walks_on r start thread n len look walks some size, omega (arith, size, here, more, text, h))
+    let more = length-append (span_text text look.span) (text_by r.gives r.files (left_from r look.next) []) in
+    let left = ap length (some.leads.text []) in
+    (walks_on text r start thread n len look walks some size, omega (arith, size, here, more, left, h))

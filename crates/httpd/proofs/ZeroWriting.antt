@@ -11,11 +11,14 @@ use Rattle.uip_edge.proofs.Writes.{writes_broken, writes_by, writes_none, writes
 use Rattle.script_lang.specs.declared.function.Function.{Function}
 use Rattle.generators.specs.declared.capture.Capture.{Capture}
 use Rattle.generators.specs.Captures.{capture_of}
+use Rattle.generators.specs.Giving.{uip}
 use Rattle.generators.specs.Text.{capture_text}
+use Rattle.script_lang.specs.Functions.{uip_calls}
 use Rattle.site_image.specs.Files.{File}
 use Rattle.web_pages.specs.Requests.{wanted}
 use Rattle.web_pages.specs.Requests.Wanted.{Refused, Name}
-use Rattle.web_pages.specs.Pieces.{Say}
+use Rattle.web_pages.specs.Pieces.{Say, reply_to_by}
+use Rattle.web_pages.specs.Pages.{text_by}
 use Rattle.web_pages.specs.ZeroPages.{request_for, zero_moment, zero_page, zero_reply, zero_said}
 use Rattle.web_pages.proofs.ZeroLaws.{zero_asked, zero_text}
 use Rattle.file_tree.specs.declared.file_id.FileId.{FileId}
@@ -32,66 +35,68 @@ use Rattle.httpd.proofs.Telling.{front_fits, reply_start}
 use Rattle.httpd.proofs.Walking.{call_before}
 
 -- what a thread has left to say where each call is given the zero record of its kind
-pub zero_left : FileReply → Thread → List ℕ
+pub zero_left : FileReply Function → Thread → List ℕ
 zero_left r t = flat_map zero_said (left_from r t)
 
 -- what was written of a reply so far, and what its thread still says
-pub record Saying (r : FileReply) (thread : Thread) (first now : SinkTold) : Type 0 where
+pub record Saying (r : FileReply Function) (thread : Thread) (first now : SinkTold) : Type 0 where
   pub front : List ℕ
   pub parts : zero_reply r.files r.file ≡ front ++ zero_left r thread
   pub fits : Fits r thread
   pub told : Appends first.written now.written front
   pub same : now.faults ≡ first.faults
 
-pub saying_starts : (r : FileReply) (first : SinkTold) → Saying r (Head 0) first first
+pub saying_starts : (r : FileReply Function) → r.gives ≡ uip → (first : SinkTold) → Saying r (Head 0) first first
 unfolding zero_left
-saying_starts r first = record {
+saying_starts r e first = record {
   front = [];
-  parts = sym (ap (flat_map zero_said) (reply_start r.files r.file r.capture));
+  parts = sym (ap (flat_map zero_said) (reply_start r.gives r.files r.file r.made ∙ ap (λ g. reply_to_by g.calling.named r.files r.file) e));
   fits = front_fits r;
   told = Appends-none first.written;
   same = refl;
 }
 
 -- the text that is seen comes first
-leads_zero : (r : FileReply) (thread : Thread) (look : Look) → SeesText r (left_from r thread) look → zero_left r thread ≡ span_text look.span ++ zero_left r look.next
+leads_zero : (r : FileReply Function) → r.gives ≡ uip → (thread : Thread) (look : Look Capture Function) → SeesText capture_text r (left_from r thread) look → zero_left r thread ≡ span_text capture_text look.span ++ zero_left r look.next
 unfolding zero_left
-leads_zero r thread look sees =
+leads_zero r e thread look sees =
     let n = length (left_from r thread) in
     sym (zero_text r.files (left_from r thread) n (omega arith))
+    ∙ ap (λ g. text_by g r.files (left_from r thread) (replicate n zero_moment)) (sym e)
     ∙ sees.leads.text (replicate n zero_moment)
-    ∙ ap (λ more. span_text look.span ++ more) (zero_text r.files (left_from r look.next) n sees.no_more)
+    ∙ ap (λ more. span_text capture_text look.span ++ more)
+    (ap (λ g. text_by g r.files (left_from r look.next) (replicate n zero_moment)) e ∙ zero_text r.files (left_from r look.next) n sees.no_more)
 
 -- a text more
-pub saying_more : {T : Type 0} (r : FileReply) (thread : Thread) (look : Look) (first mid now : SinkTold) (t : T) → Saying r thread first mid → SeesText r (left_from r thread) look
-    → Writes {T = T} {E = Failed} mid now (Ok t) (span_text look.span) → Saying r look.next first now
-saying_more r thread look first mid now t s sees w = record {
-  front = s.front ++ span_text look.span;
-  parts = s.parts ∙ ap (λ rest. s.front ++ rest) (leads_zero r thread look sees) ∙ sym (append_assoc s.front (span_text look.span) (zero_left r look.next));
+pub saying_more : {T : Type 0} (r : FileReply Function) → r.gives ≡ uip → (thread : Thread) (look : Look Capture Function) (first mid now : SinkTold) (t : T) → Saying r thread first mid → SeesText capture_text r (left_from r thread) look
+    → Writes {T = T} {E = Failed} mid now (Ok t) (span_text capture_text look.span) → Saying r look.next first now
+saying_more r is_uip thread look first mid now t s sees w = record {
+  front = s.front ++ span_text capture_text look.span;
+  parts = s.parts ∙ ap (λ rest. s.front ++ rest) (leads_zero r is_uip thread look sees) ∙ sym (append_assoc s.front (span_text capture_text look.span) (zero_left r look.next));
   fits = sees.next;
-  told = Appends-then first.written mid.written now.written s.front (span_text look.span) s.told w.whole;
+  told = Appends-then first.written mid.written now.written s.front (span_text capture_text look.span) s.told w.whole;
   same = w.cause.same ∙ s.same;
 }
 
 -- a text failed
-pub saying_stops : {T U : Type 0} (r : FileReply) (thread : Thread) (look : Look) (first mid now : SinkTold) (e : Failed) (result : Result U Failed) → IsErr result → Saying r thread first mid → SeesText r (left_from r thread) look
-    → Writes {T = T} {E = Failed} mid now (Err e) (span_text look.span) → Writes first now result (zero_reply r.files r.file)
-saying_stops {T = T} r thread look first mid now e result fails s sees w =
-    writes_broken {U = T} result fails e first mid now s.front (span_text look.span) (zero_left r look.next) (zero_reply r.files r.file)
-    (append_assoc s.front (span_text look.span) (zero_left r look.next) ∙ sym (s.parts ∙ ap (λ rest. s.front ++ rest) (leads_zero r thread look sees))) s.told s.same w
+pub saying_stops : {T U : Type 0} (r : FileReply Function) → r.gives ≡ uip → (thread : Thread) (look : Look Capture Function) (first mid now : SinkTold) (e : Failed) (result : Result U Failed) → IsErr result → Saying r thread first mid → SeesText capture_text r (left_from r thread) look
+    → Writes {T = T} {E = Failed} mid now (Err e) (span_text capture_text look.span) → Writes first now result (zero_reply r.files r.file)
+saying_stops {T = T} r is_uip thread look first mid now e result fails s sees w =
+    writes_broken {U = T} result fails e first mid now s.front (span_text capture_text look.span) (zero_left r look.next) (zero_reply r.files r.file)
+    (append_assoc s.front (span_text capture_text look.span) (zero_left r look.next) ∙ sym (s.parts ∙ ap (λ rest. s.front ++ rest) (leads_zero r is_uip thread look sees))) s.told s.same w
 
 -- the text of a call's record comes next
-call_zero : (site : SiteContent) (found : Option FileId) (old new : Capture) (pieces : List Say) (f : Function) (argument : List ℕ) (next : Thread) → SeesCall (reply_in site found old) pieces f argument next
+call_zero : (site : SiteContent) (found : Option FileId) (old new : Capture) (pieces : List (Say Function)) (f : Function) (argument : List ℕ) (next : Thread) → SeesCall (reply_in site found old) pieces f argument next
     → new ≡ capture_of f 0 zero_moment.now
-    → (flat_map zero_said pieces ≡ zero_left (reply_in site found new) next) × Fits (reply_in site found new) next × (calls_in pieces ≡ 1 + calls_in (left_from (reply_in site found new) next)) × (length pieces ≡ length (left_from (reply_in site found new) next))
+    → (flat_map zero_said pieces ≡ zero_left (reply_in site found new) next) × Fits (reply_in site found new) next × (calls_in uip_calls pieces ≡ 1 + calls_in uip_calls (left_from (reply_in site found new) next)) × (length pieces ≡ length (left_from (reply_in site found new) next))
 unfolding zero_left left_from Fits
 call_zero site found old new pieces f argument next sees made =
     let call = call_before (reply_in site found old) pieces f argument next sees in
     let more = body_from (reply_in site found old) call.0 in
-    subst (λ t. (flat_map zero_said pieces ≡ zero_left (reply_in site found new) t) × Fits (reply_in site found new) t × (calls_in pieces ≡ 1 + calls_in (left_from (reply_in site found new) t)) × (length pieces ≡ length (left_from (reply_in site found new) t))) (sym call.2) (
+    subst (λ t. (flat_map zero_said pieces ≡ zero_left (reply_in site found new) t) × Fits (reply_in site found new) t × (calls_in uip_calls pieces ≡ 1 + calls_in uip_calls (left_from (reply_in site found new) t)) × (length pieces ≡ length (left_from (reply_in site found new) t))) (sym call.2) (
       ap (flat_map zero_said) call.1.first ∙ ap (λ c. capture_text c ++ flat_map zero_said more) (sym made),
-      (other_inner site found old new call.0 call.1.inner, omega arith),
-      ap calls_in call.1.first ∙ ap (λ t. if t then 1 + calls_in more else calls_in more) call.1.takes,
+      (other_inner uip capture_text site found old new call.0 call.1.inner, omega arith),
+      ap (calls_in uip_calls) call.1.first ∙ ap (λ t. if t then 1 + calls_in uip_calls more else calls_in uip_calls more) call.1.takes,
       ap length call.1.first,
     )
 
@@ -104,7 +109,7 @@ saying_taken site found old new thread next f argument first now s sees made =
     record { front = s.front; parts = s.parts ∙ ap (λ rest. s.front ++ rest) call.0; fits = call.1; told = s.told; same = s.same }
 
 -- nothing is left
-pub saying_ends : {T E : Type 0} (r : FileReply) (thread : Thread) (first now : SinkTold) (t : T) → Saying r thread first now → left_from r thread ≡ [] → Writes {T = T} {E = E} first now (Ok t) (zero_reply r.files r.file)
+pub saying_ends : {T E : Type 0} (r : FileReply Function) (thread : Thread) (first now : SinkTold) (t : T) → Saying r thread first now → left_from r thread ≡ [] → Writes {T = T} {E = E} first now (Ok t) (zero_reply r.files r.file)
 unfolding zero_left
 saying_ends r thread first now t s none =
     writes_by (Ok t) first now (s.front ++ []) (zero_reply r.files r.file) (s.parts ∙ ap (λ ps. s.front ++ flat_map zero_said ps) none)
@@ -112,14 +117,14 @@ saying_ends r thread first now t s none =
 
 -- ---- each look brings fewer calls, fewer pieces or fewer bytes
 
-pub zero_size : FileReply → Thread → ℕ
-zero_size r t = calls_in (left_from r t) + length (left_from r t) + length (zero_left r t)
+pub zero_size : FileReply Function → Thread → ℕ
+zero_size r t = calls_in r.gives.calling (left_from r t) + length (left_from r t) + length (zero_left r t)
 
-pub smaller_text : (r : FileReply) (thread : Thread) (look : Look) → SeesText r (left_from r thread) look → zero_size r look.next < zero_size r thread
+pub smaller_text : (r : FileReply Function) → r.gives ≡ uip → (thread : Thread) (look : Look Capture Function) → SeesText capture_text r (left_from r thread) look → zero_size r look.next < zero_size r thread
 unfolding zero_size
-smaller_text r thread look sees =
-    let bytes = ap length (leads_zero r thread look sees) ∙ length-append (span_text look.span) (zero_left r look.next) in
-    elim (cases_eq (length (span_text look.span)) 0) [
+smaller_text r is_uip thread look sees =
+    let bytes = ap length (leads_zero r is_uip thread look sees) ∙ length-append (span_text capture_text look.span) (zero_left r look.next) in
+    elim (cases_eq (length (span_text capture_text look.span)) 0) [
       | inl none ↦ omega (arith, bytes, sees.leads.calls, sees.fewer none)
       | inr some ↦ omega (arith, bytes, sees.leads.calls, sees.no_more, some)
     ]

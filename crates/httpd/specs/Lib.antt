@@ -1,3 +1,4 @@
+pub mod First
 pub mod Reply
 pub mod Places
 pub mod Kept

@@ -1,13 +1,12 @@
 -- What a thread sees where it stands.
 use Rattle.std.specs.Prelude.{◌≡◌, ◌≤◌, ◌<◌, ℕ, ◌+◌, ◌^◌, true, List, [], ◌∷◌, ◌++◌, length, drop, slice_range}
 use Rattle.app_events.specs.Part.{Moment}
-use Rattle.generators.specs.Text.{capture_text}
-use Rattle.script_lang.specs.declared.function.Function.{Function}
+use Rattle.generators.specs.Giving.{Giving}
 use Rattle.site_image.specs.Files.{File}
 use Rattle.site_image.specs.declared.TheConstants.{LONGEST_IMAGE, LONGEST_KIND}
 use Rattle.web_pages.specs.Pieces.{Say, kind_line}
 use Rattle.web_pages.specs.Pieces.Say.{Made}
-use Rattle.web_pages.specs.Pages.{page_text, reach_end, takes_capture}
+use Rattle.web_pages.specs.Pages.{text_by, reach_by}
 use Rattle.httpd.specs.declared.texts.TheConstants.{LONGEST_TEXT}
 use Rattle.httpd.specs.declared.span.Span.{Span}
 use Rattle.httpd.specs.declared.span.Span.TheVariants as span
@@ -18,59 +17,61 @@ use Rattle.httpd.specs.Reply.{FileReply, body_from, calls_in, left_from}
 use Rattle.httpd.specs.Places.{Fits, IsInner, moved, thread_place}
 use Rattle.httpd.specs.Kept.{EndsCall, KeepsAll}
 
--- what is left of the piece
-abbrev pub span_text : Span → List ℕ
-span_text (span.Bytes world send) = slice_range world.now send.run.at send.run.end
-span_text (span.Line kind at) = drop at (kind_line kind.now)
-span_text (span.Made capture at end) = drop at (capture_text capture.now)
-span_text (span.Call function argument) = []
-span_text span.End = []
+-- What is left of the piece; `text` tells the text of a record.
+abbrev pub span_text : {R F : Type 0} → (R → List ℕ) → Span R F → List ℕ
+span_text text (span.Bytes world send) = slice_range world.now send.run.at send.run.end
+span_text text (span.Line kind at) = drop at (kind_line kind.now)
+span_text text (span.Made capture at end) = drop at (text capture.now)
+span_text text (span.Call function argument) = []
+span_text text span.End = []
 
 -- the places lie within the texts
-abbrev pub SpanFits : Span → Type 0
-SpanFits (span.Bytes world send) =
+abbrev pub SpanFits : {R F : Type 0} → (R → List ℕ) → Span R F → Type 0
+SpanFits text (span.Bytes world send) =
     (send.run.at ≤ send.run.end) × (send.run.end ≤ length world.now) × (length world.now ≤ LONGEST_IMAGE)
-SpanFits (span.Line kind at) = (length kind.now ≤ LONGEST_KIND) × (at ≤ length (kind_line kind.now))
-SpanFits (span.Made capture at end) = (at ≤ end) × (end ≡ length (capture_text capture.now)) × (end ≤ LONGEST_TEXT)
-SpanFits (span.Call function argument) = Unit {0}
-SpanFits span.End = Unit {0}
+SpanFits text (span.Line kind at) = (length kind.now ≤ LONGEST_KIND) × (at ≤ length (kind_line kind.now))
+SpanFits text (span.Made capture at end) = (at ≤ end) × (end ≡ length (text capture.now)) × (end ≤ LONGEST_TEXT)
+SpanFits text (span.Call function argument) = Unit {0}
+SpanFits text span.End = Unit {0}
 
 -- The pieces say the text first and then what the others say, whatever captures they have.
-pub record Leads (files : List File) (pieces : List Say) (front : List ℕ) (others : List Say) : Type 0 where
-  pub text : (later : List Moment) → page_text files pieces later ≡ front ++ page_text files others later
-  pub whole : (later : List Moment) → reach_end pieces later ≡ reach_end others later
-  pub calls : calls_in pieces ≡ calls_in others
+pub record Leads {F : Type 0} (g : Giving F) (files : List File) (pieces : List (Say F)) (front : List ℕ)
+    (others : List (Say F)) : Type 0 where
+  pub text : (later : List Moment) → text_by g files pieces later ≡ front ++ text_by g files others later
+  pub whole : (later : List Moment) → reach_by g pieces later ≡ reach_by g others later
+  pub calls : calls_in g.calling pieces ≡ calls_in g.calling others
 
 -- The others say what the pieces say past the first n bytes.
-pub record IsPast (files : List File) (n : ℕ) (pieces others : List Say) : Type 0 where
-  pub text : (later : List Moment) → page_text files others later ≡ drop n (page_text files pieces later)
-  pub whole : (later : List Moment) → reach_end others later ≡ reach_end pieces later
-  pub calls : calls_in others ≡ calls_in pieces
+pub record IsPast {F : Type 0} (g : Giving F) (files : List File) (n : ℕ) (pieces others : List (Say F)) : Type 0 where
+  pub text : (later : List Moment) → text_by g files others later ≡ drop n (text_by g files pieces later)
+  pub whole : (later : List Moment) → reach_by g others later ≡ reach_by g pieces later
+  pub calls : calls_in g.calling others ≡ calls_in g.calling pieces
 
 -- a place n bytes further in the same piece
-pub record IsInPiece (reply : FileReply) (pieces : List Say) (here : Thread) (n : ℕ) : Type 0 where
+pub record IsInPiece {F : Type 0} (reply : FileReply F) (pieces : List (Say F)) (here : Thread) (n : ℕ) : Type 0 where
   pub fits : Fits reply (moved here n)
   pub small : thread_place here + n < 2 ^ 31
-  pub past : IsPast reply.files n pieces (left_from reply (moved here n))
+  pub past : IsPast reply.gives reply.files n pieces (left_from reply (moved here n))
 
 -- The first piece takes no capture. What is seen is all that is left of it, or a front of a long one.
-pub record SeesText (reply : FileReply) (pieces : List Say) (look : Look) : Type 0 where
-  pub leads : Leads reply.files pieces (span_text look.span) (left_from reply look.next)
+pub record SeesText {R F : Type 0} (text : R → List ℕ) (reply : FileReply F) (pieces : List (Say F)) (look : Look R F) : Type 0 where
+  pub leads : Leads reply.gives reply.files pieces (span_text text look.span) (left_from reply look.next)
   pub no_more : length (left_from reply look.next) ≤ length pieces
-  pub fewer : length (span_text look.span) ≡ 0 → length (left_from reply look.next) < length pieces
+  pub fewer : length (span_text text look.span) ≡ 0 → length (left_from reply look.next) < length pieces
   pub next : Fits reply look.next
   pub begins : KeepsAll reply look.next
-  pub within : (n : ℕ) → n < length (span_text look.span) → IsInPiece reply pieces look.here n
+  pub within : (n : ℕ) → n < length (span_text text look.span) → IsInPiece reply pieces look.here n
 
 -- It is a call that takes a capture. The script goes on where the call's directive ends.
-pub record IsCallBefore (reply : FileReply) (pieces : List Say) (function : Function) (argument : List ℕ) (next : ℕ) : Type 0 where
+pub record IsCallBefore {F : Type 0} (reply : FileReply F) (pieces : List (Say F)) (function : F) (argument : List ℕ)
+    (next : ℕ) : Type 0 where
   pub first : pieces ≡ Made function argument ∷ body_from reply next
-  pub takes : takes_capture function ≡ true
+  pub takes : reply.gives.calling.takes_capture function ≡ true
   pub inner : IsInner reply next
   pub directive : EndsCall reply next function argument
 
 -- The thread stands at the front of the text of its record.
-abbrev pub SeesCall : FileReply → List Say → Function → List ℕ → Thread → Type 0
+abbrev pub SeesCall : {F : Type 0} → FileReply F → List (Say F) → F → List ℕ → Thread → Type 0
 SeesCall reply pieces function argument (Making next at) = IsCallBefore reply pieces function argument next × (at ≡ 0)
 SeesCall reply pieces function argument (Head at) = ⊥
 SeesCall reply pieces function argument (Kind at) = ⊥
@@ -78,20 +79,20 @@ SeesCall reply pieces function argument (Body at) = ⊥
 SeesCall reply pieces function argument (Inside next file at) = ⊥
 SeesCall reply pieces function argument End = ⊥
 
-abbrev pub SeesBy : FileReply → List Say → Look → Span → Type 0
-SeesBy reply pieces look (span.Bytes world send) = SeesText reply pieces look
-SeesBy reply pieces look (span.Line kind at) = SeesText reply pieces look
-SeesBy reply pieces look (span.Made capture at end) = SeesText reply pieces look
-SeesBy reply pieces look (span.Call function argument) = SeesCall reply pieces function argument.now look.next
-SeesBy reply pieces look span.End = pieces ≡ []
+abbrev pub SeesBy : {R F : Type 0} → (R → List ℕ) → FileReply F → List (Say F) → Look R F → Span R F → Type 0
+SeesBy text reply pieces look (span.Bytes world send) = SeesText text reply pieces look
+SeesBy text reply pieces look (span.Line kind at) = SeesText text reply pieces look
+SeesBy text reply pieces look (span.Made capture at end) = SeesText text reply pieces look
+SeesBy text reply pieces look (span.Call function argument) = SeesCall reply pieces function argument.now look.next
+SeesBy text reply pieces look span.End = pieces ≡ []
 
 -- what is seen where the pieces are left
-pub record Sees (reply : FileReply) (pieces : List Say) (look : Look) : Type 0 where
-  pub sees : SeesBy reply pieces look look.span
-  pub fits : SpanFits look.span
+pub record Sees {R F : Type 0} (text : R → List ℕ) (reply : FileReply F) (pieces : List (Say F)) (look : Look R F) : Type 0 where
+  pub sees : SeesBy text reply pieces look look.span
+  pub fits : SpanFits text look.span
 
 -- no call, and not the end
-abbrev pub IsText : Span → Type 0
+abbrev pub IsText : {R F : Type 0} → Span R F → Type 0
 IsText (span.Bytes world send) = Unit {0}
 IsText (span.Line kind at) = Unit {0}
 IsText (span.Made capture at end) = Unit {0}
@@ -99,7 +100,7 @@ IsText (span.Call function argument) = ⊥
 IsText span.End = ⊥
 
 -- the text is left of the piece
-pub record IsSpan (span : Span) (front : List ℕ) : Type 0 where
+pub record IsSpan {R F : Type 0} (text_of : R → List ℕ) (span : Span R F) (front : List ℕ) : Type 0 where
   pub plain : IsText span
-  pub text : span_text span ≡ front
-  pub fits : SpanFits span
+  pub text : span_text text_of span ≡ front
+  pub fits : SpanFits text_of span

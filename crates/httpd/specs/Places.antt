@@ -3,7 +3,6 @@ use Rattle.std.specs.Prelude.{◌≡◌, ◌≤◌, ◌<◌, ℕ, ◌+◌, true,
 use Rattle.script_lang.specs.Directives.{is_inside_directive}
 use Rattle.site_image.specs.Files.{File}
 use Rattle.file_tree.specs.declared.file_id.FileId.{FileId}
-use Rattle.generators.specs.Text.{capture_text}
 use Rattle.web_pages.specs.Pieces.{kind_line}
 use Rattle.httpd.specs.Reply.{FileReply, body, head_text, included, is_scripted, kind_text}
 use Rattle.httpd.specs.declared.thread.Thread.{Thread}
@@ -15,21 +14,21 @@ IsFound files None = Unit {0}
 IsFound files (Some id) = id.0 < length files
 
 -- a place of the body; in a script it is at or inside a text run, at the start of a directive, or the end
-pub record IsBodyPlace (reply : FileReply) (at : ℕ) : Type 0 where
+pub record IsBodyPlace {F : Type 0} (reply : FileReply F) (at : ℕ) : Type 0 where
   pub within : at ≤ length (body reply)
   pub between : is_scripted reply.file ≡ true → is_inside_directive (body reply) at ≡ true → at ≡ length (body reply)
 
 -- a place inside a piece of a script, which goes on at another
-pub record IsInner (reply : FileReply) (next : ℕ) : Type 0 where
+pub record IsInner {F : Type 0} (reply : FileReply F) (next : ℕ) : Type 0 where
   pub script : is_scripted reply.file ≡ true
   pub goes_on : IsBodyPlace reply next
 
-unfoldable pub Fits : FileReply → Thread → Type 0
+unfoldable pub Fits : {F : Type 0} → FileReply F → Thread → Type 0
 Fits reply (Head at) = at ≤ length (head_text reply.file)
 Fits reply (Kind at) = at ≤ length (kind_line (kind_text reply.file))
 Fits reply (Body at) = IsBodyPlace reply at
 Fits reply (Inside next file at) = IsInner reply next × (file.0 < length reply.files) × (at ≤ length (included reply file))
-Fits reply (Making next at) = IsInner reply next × (at ≤ length (capture_text reply.capture))
+Fits reply (Making next at) = IsInner reply next × (at ≤ length reply.made)
 Fits reply End = Unit {0}
 
 -- the thread after so many more bytes of its piece

@@ -1,31 +1,41 @@
 -- What a thread has still to say of a reply, as pieces.
 use Rattle.std.specs.Prelude.{ℕ, ◌+◌, Bool, false, List, [], ◌∷◌, map, drop, codes, slice_get, if◌then◌else◌, Option, None, Some}
 use Rattle.std.specs.Option.{option_and_then}
-use Rattle.script_lang.specs.Pieces.{pieces_from}
+use Rattle.script_lang.specs.declared.function.Function.{Function}
+use Rattle.script_lang.specs.Calling.{Calling}
+use Rattle.script_lang.specs.Pieces.{pieces_by}
 use Rattle.site_image.specs.Names.{is_script}
 use Rattle.site_image.specs.Files.{File, file_named, kind_of}
 use Rattle.file_tree.specs.declared.file_id.FileId.{FileId}
 use Rattle.file_tree.specs.Site.{SiteContent, files_of}
 use Rattle.generators.specs.declared.capture.Capture.{Capture}
+use Rattle.generators.specs.Giving.{Giving, uip}
 use Rattle.generators.specs.Text.{capture_text}
 use Rattle.web_pages.specs.Pieces.{Say, bytes_or, found_head, kind_line, missing_head, says}
 use Rattle.web_pages.specs.Pieces.Say.{Plain, Made}
-use Rattle.web_pages.specs.Pages.{takes_capture}
 use Rattle.httpd.specs.declared.thread.Thread.{Thread}
 use Rattle.httpd.specs.declared.thread.Thread.TheVariants.{Head, Kind, Body, Inside, Making, End}
 
--- What a reply is said from: the files, the file that was found, and the record of the call that is being said.
-pub record FileReply : Type 0 where
+-- What a reply is said from: what the calls of its script give, the files, the file that was found, and the text of the record of
+-- the call that is being said.
+pub record FileReply (F : Type 0) : Type 0 where
+  pub gives : Giving F
   pub files : List File
   pub file : Option File
-  pub capture : Capture
+  pub made : List ℕ
 
 -- the file that was found
 abbrev pub found_file : List File → Option FileId → Option File
 found_file files found = option_and_then (λ id. slice_get files id.0) found
 
-abbrev pub reply_in : SiteContent → Option FileId → Capture → FileReply
-reply_in site found capture = record { files = files_of site; file = found_file (files_of site) found; capture = capture }
+-- with the text of a record
+abbrev pub reply_by : {F R : Type 0} → Giving F → (R → List ℕ) → SiteContent → Option FileId → R → FileReply F
+reply_by g text site found capture =
+    record { gives = g; files = files_of site; file = found_file (files_of site) found; made = text capture }
+
+-- where the functions are those of uIP
+abbrev pub reply_in : SiteContent → Option FileId → Capture → FileReply Function
+reply_in = reply_by uip capture_text
 
 abbrev pub head_text : Option File → List ℕ
 head_text None = missing_head
@@ -44,30 +54,31 @@ abbrev pub is_scripted : Option File → Bool
 is_scripted None = false
 is_scripted (Some file) = is_script file.name
 
-abbrev pub body : FileReply → List ℕ
+abbrev pub body : {F : Type 0} → FileReply F → List ℕ
 body reply = body_bytes reply.files reply.file
 
 -- the pieces of the body from a place on
-abbrev pub body_from : FileReply → ℕ → List Say
+abbrev pub body_from : {F : Type 0} → FileReply F → ℕ → List (Say F)
 body_from reply at =
-    if is_scripted reply.file then map (λ found. says reply.files (body reply) found.piece) (pieces_from (body reply) at)
+    if is_scripted reply.file
+    then map (λ found. says reply.files (body reply) found.piece) (pieces_by reply.gives.calling.named (body reply) at)
     else Plain (drop at (body reply)) ∷ []
 
 -- the bytes of an included file
-abbrev pub included : FileReply → FileId → List ℕ
+abbrev pub included : {F : Type 0} → FileReply F → FileId → List ℕ
 included reply file = bytes_or [] (slice_get reply.files file.0)
 
 -- what is left to be said
-unfoldable pub left_from : FileReply → Thread → List Say
+unfoldable pub left_from : {F : Type 0} → FileReply F → Thread → List (Say F)
 left_from reply (Head at) = Plain (drop at (head_text reply.file)) ∷ Plain (kind_line (kind_text reply.file)) ∷ body_from reply 0
 left_from reply (Kind at) = Plain (drop at (kind_line (kind_text reply.file))) ∷ body_from reply 0
 left_from reply (Body at) = body_from reply at
 left_from reply (Inside next file at) = Plain (drop at (included reply file)) ∷ body_from reply next
-left_from reply (Making next at) = Plain (drop at (capture_text reply.capture)) ∷ body_from reply next
+left_from reply (Making next at) = Plain (drop at reply.made) ∷ body_from reply next
 left_from reply End = []
 
 -- the calls among pieces that take a capture
-abbrev pub calls_in : List Say → ℕ
-calls_in [] = 0
-calls_in (Plain text ∷ more) = calls_in more
-calls_in (Made function argument ∷ more) = if takes_capture function then 1 + calls_in more else calls_in more
+abbrev pub calls_in : {F : Type 0} → Calling F → List (Say F) → ℕ
+calls_in c [] = 0
+calls_in c (Plain text ∷ more) = calls_in c more
+calls_in c (Made function argument ∷ more) = if c.takes_capture function then 1 + calls_in c more else calls_in c more

@@ -3,7 +3,7 @@ use Rattle.std.specs.Prelude.{◌≡◌, ℕ, ◌==◌, ◌&&◌, Bool, true, Li
 use Rattle.app_events.specs.declared.want.Want.{Want}
 use Rattle.app_events.specs.declared.want.Want.TheVariants.{Nothing, Send, Close}
 use Rattle.web_pages.specs.Pieces.{Say}
-use Rattle.web_pages.specs.Pages.{reach_end, page_text}
+use Rattle.web_pages.specs.Pages.{reach_by, text_by}
 use Rattle.web_pages.specs.declared.TheConstants.{LARGEST_SEGMENT}
 use Rattle.httpd.specs.declared.saying.Due.{Due}
 use Rattle.httpd.specs.declared.thread.Thread.{Thread}
@@ -11,12 +11,12 @@ use Rattle.httpd.specs.Reply.{FileReply, left_from}
 use Rattle.httpd.specs.Looking.{IsPast, SeesCall}
 
 -- the text that is left, as far as no further capture is needed
-abbrev pub left_text : FileReply → Thread → List ℕ
-left_text reply thread = page_text reply.files (left_from reply thread) []
+abbrev pub left_text : {F : Type 0} → FileReply F → Thread → List ℕ
+left_text reply thread = text_by reply.gives reply.files (left_from reply thread) []
 
 -- and whether it reaches the end of the page
-abbrev pub left_whole : FileReply → Thread → Bool
-left_whole reply thread = reach_end (left_from reply thread) []
+abbrev pub left_whole : {F : Type 0} → FileReply F → Thread → Bool
+left_whole reply thread = reach_by reply.gives (left_from reply thread) []
 
 -- what is wanted by the two
 abbrev pub want_left : List ℕ → Bool → Want
@@ -26,11 +26,11 @@ want_left text whole =
     else Nothing
 
 -- text is left, or the end is reached
-abbrev pub IsNotDue : FileReply → Thread → Type 0
+abbrev pub IsNotDue : {F : Type 0} → FileReply F → Thread → Type 0
 IsNotDue reply thread = length (left_text reply thread) ≡ 0 → left_whole reply thread ≡ true
 
 -- what is left is what a call and the rest of the script behind it say
-pub record IsDueReply (reply : FileReply) (thread : Thread) (due : Due) : Type 0 where
-  pub pieces : List Say
-  pub past : IsPast reply.files 0 (left_from reply thread) pieces
+pub record IsDueReply {F : Type 0} (reply : FileReply F) (thread : Thread) (due : Due F) : Type 0 where
+  pub pieces : List (Say F)
+  pub past : IsPast reply.gives reply.files 0 (left_from reply thread) pieces
   pub call : SeesCall reply pieces due.function due.argument.now due.next

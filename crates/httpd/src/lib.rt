@@ -14,7 +14,7 @@ mod thread;
 mod web;
 mod zero;
 
-pub use httpd::Httpd;
+pub use httpd::{Httpd, Pages};
 pub use stage::Stage;
 pub use thread::Thread;
 pub use web::Web;

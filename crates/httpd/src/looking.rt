@@ -2,11 +2,12 @@
 
 ghost use Rattle.std.specs.Prelude.{◌≡◌, ◌≤◌, ◌<◌, ◌+◌, ◌∷◌, [], true, drop, length, slice_range};
 ghost use Rattle.file_tree.specs.Site.{files_of};
+ghost use Rattle.generators.specs.Giving.{gives};
 ghost use Rattle.site_image.specs.declared.TheConstants.{LONGEST_IMAGE};
 ghost use Rattle.site_image.specs.Files.{file_named};
 ghost use Rattle.web_pages.specs.Pieces.{bytes_or};
 ghost use Rattle.web_pages.specs.Pieces.Say.{Plain, Made};
-ghost use Rattle.httpd.specs.Reply.{body, body_from, found_file, is_scripted, left_from, reply_in};
+ghost use Rattle.httpd.specs.Reply.{body, body_from, found_file, is_scripted, left_from, reply_by};
 ghost use Rattle.script_lang.specs.Pieces.{run_end};
 ghost use Rattle.httpd.specs.Places.{Fits, IsBodyPlace, IsFound, IsInner};
 ghost use Rattle.httpd.specs.Kept.{EndsCall, EndsInclude, KeepsAll, KeepsOn};
@@ -17,53 +18,57 @@ use crate::texts::{body_of, bytes_at, head_of, is_scripted, kind_of};
 use crate::thread::Thread;
 use crate::web::place_in;
 use file_tree::{FileId, Site};
-use generators::{Capture, text_len};
+use generators::Record;
 use protosocket::SendOut;
 use protothread::Run;
-use script_lang::{Function, Piece, next_piece, runs_past};
+use script_lang::{Calls, PieceOf, next_piece_of, runs_past};
 use web_pages::LARGEST_SEGMENT;
 
 /// What the thread sees.
 #[inline(always)]
 #[tactic(auto, using(crate::proofs::Seeing::keeps_same))]
-pub(crate) fn look<'a>(
+pub(crate) fn look<'a, R: Record>(
     site: &'a Site,
     found: Option<FileId>,
-    capture: &'a Capture,
+    capture: &'a R,
     thread: Thread,
-) -> Look<'a>
+) -> Look<'a, R, R::Function>
     requires found { IsFound (files_of site.now) found }
-    requires fits { Fits (reply_in site.now found capture.now) thread }
-    ensures sees { Sees (reply_in site.now found capture.now) (left_from (reply_in site.now found capture.now) thread) result }
-    ensures kept { KeepsOn (reply_in site.now found capture.now) thread result.here }
+    requires fits { Fits (reply_by (gives R.Function.calling R.said) R.text site.now found capture.now) thread }
+    ensures sees { let reply = reply_by (gives R.Function.calling R.said) R.text site.now found capture.now in
+        Sees R.text reply (left_from reply thread) result }
+    ensures kept { KeepsOn (reply_by (gives R.Function.calling R.said) R.text site.now found capture.now) thread result.here }
 {
     match thread {
-        Thread::Head { at } => look_head(site, found, capture, at),
-        Thread::Kind { at } => look_kind(site, found, capture, at),
-        Thread::Body { at } => look_body(site, found, capture, at),
-        Thread::Inside { next, file, at } => look_inside(site, found, capture, next, file, at),
-        Thread::Making { next, at } => look_making(site, found, capture, next, at),
-        Thread::End => look_end(),
+        Thread::Head { at } => return look_head(site, found, capture, at),
+        Thread::Kind { at } => return look_kind(site, found, capture, at),
+        Thread::Body { at } => return look_body(site, found, capture, at),
+        Thread::Inside { next, file, at } => {
+            return look_inside(site, found, capture, next, file, at);
+        }
+        Thread::Making { next, at } => return look_making(site, found, capture, next, at),
+        Thread::End => {}
     }
+    look_end()
 }
 
 /// What is left of the bytes from a place on.
 #[inline(always)]
-fn rest_of(world: &[u8], at: u32) -> Span<'_>
+fn rest_of<R: Record>(world: &[u8], at: u32) -> Span<'_, R, R::Function>
     requires within { at ≤ length world.now }
     requires short { length world.now ≤ LONGEST_IMAGE }
-    ensures { IsSpan result (drop at world.now) }
+    ensures { IsSpan R.text result (drop at world.now) }
 {
     part_of(world, at, world.len() as u32)
 }
 
 /// A part of the bytes.
 #[inline(always)]
-fn part_of(world: &[u8], at: u32, end: u32) -> Span<'_>
+fn part_of<R: Record>(world: &[u8], at: u32, end: u32) -> Span<'_, R, R::Function>
     requires ordered { at ≤ end }
     requires within { end ≤ length world.now }
     requires short { length world.now ≤ LONGEST_IMAGE }
-    ensures { IsSpan result (slice_range world.now at end) }
+    ensures { IsSpan R.text result (slice_range world.now at end) }
 {
     let run = Run { at, end };
     Span::Bytes {
@@ -74,10 +79,16 @@ fn part_of(world: &[u8], at: u32, end: u32) -> Span<'_>
 
 /// In the head.
 #[inline(always)]
-fn look_head<'a>(site: &'a Site, found: Option<FileId>, capture: &'a Capture, at: u32) -> Look<'a>
+fn look_head<'a, R: Record>(
+    site: &'a Site,
+    found: Option<FileId>,
+    capture: &'a R,
+    at: u32,
+) -> Look<'a, R, R::Function>
     requires found { IsFound (files_of site.now) found }
-    requires fits { Fits (reply_in site.now found capture.now) (Thread.Head at) }
-    ensures sees { Sees (reply_in site.now found capture.now) (left_from (reply_in site.now found capture.now) (Thread.Head at)) result }
+    requires fits { Fits (reply_by (gives R.Function.calling R.said) R.text site.now found capture.now) (Thread.Head at) }
+    ensures sees { let reply = reply_by (gives R.Function.calling R.said) R.text site.now found capture.now in
+        Sees R.text reply (left_from reply (Thread.Head at)) result }
     ensures here { result.here ≡ Thread.Head at }
 {
     Look {
@@ -89,10 +100,16 @@ fn look_head<'a>(site: &'a Site, found: Option<FileId>, capture: &'a Capture, at
 
 /// In the line of the content type.
 #[inline(always)]
-fn look_kind<'a>(site: &'a Site, found: Option<FileId>, capture: &'a Capture, at: u32) -> Look<'a>
+fn look_kind<'a, R: Record>(
+    site: &'a Site,
+    found: Option<FileId>,
+    capture: &'a R,
+    at: u32,
+) -> Look<'a, R, R::Function>
     requires found { IsFound (files_of site.now) found }
-    requires fits { Fits (reply_in site.now found capture.now) (Thread.Kind at) }
-    ensures sees { Sees (reply_in site.now found capture.now) (left_from (reply_in site.now found capture.now) (Thread.Kind at)) result }
+    requires fits { Fits (reply_by (gives R.Function.calling R.said) R.text site.now found capture.now) (Thread.Kind at) }
+    ensures sees { let reply = reply_by (gives R.Function.calling R.said) R.text site.now found capture.now in
+        Sees R.text reply (left_from reply (Thread.Kind at)) result }
     ensures here { result.here ≡ Thread.Kind at }
 {
     Look {
@@ -106,11 +123,17 @@ fn look_kind<'a>(site: &'a Site, found: Option<FileId>, capture: &'a Capture, at
 }
 
 /// In the body.
-fn look_body<'a>(site: &'a Site, found: Option<FileId>, capture: &'a Capture, at: u32) -> Look<'a>
+fn look_body<'a, R: Record>(
+    site: &'a Site,
+    found: Option<FileId>,
+    capture: &'a R,
+    at: u32,
+) -> Look<'a, R, R::Function>
     requires found { IsFound (files_of site.now) found }
-    requires fits { Fits (reply_in site.now found capture.now) (Thread.Body at) }
-    ensures sees { Sees (reply_in site.now found capture.now) (left_from (reply_in site.now found capture.now) (Thread.Body at)) result }
-    ensures kept { KeepsAll (reply_in site.now found capture.now) result.here }
+    requires fits { Fits (reply_by (gives R.Function.calling R.said) R.text site.now found capture.now) (Thread.Body at) }
+    ensures sees { let reply = reply_by (gives R.Function.calling R.said) R.text site.now found capture.now in
+        Sees R.text reply (left_from reply (Thread.Body at)) result }
+    ensures kept { KeepsAll (reply_by (gives R.Function.calling R.said) R.text site.now found capture.now) result.here }
 {
     if is_scripted(site, found) {
         return look_script(site, found, capture, at);
@@ -123,12 +146,18 @@ fn look_body<'a>(site: &'a Site, found: Option<FileId>, capture: &'a Capture, at
 }
 
 /// In a script.
-fn look_script<'a>(site: &'a Site, found: Option<FileId>, capture: &'a Capture, at: u32) -> Look<'a>
+fn look_script<'a, R: Record>(
+    site: &'a Site,
+    found: Option<FileId>,
+    capture: &'a R,
+    at: u32,
+) -> Look<'a, R, R::Function>
     requires found { IsFound (files_of site.now) found }
     requires script { is_scripted (found_file (files_of site.now) found) ≡ true }
-    requires fits { IsBodyPlace (reply_in site.now found capture.now) at }
-    ensures sees { Sees (reply_in site.now found capture.now) (left_from (reply_in site.now found capture.now) (Thread.Body at)) result }
-    ensures kept { KeepsAll (reply_in site.now found capture.now) result.here }
+    requires fits { IsBodyPlace (reply_by (gives R.Function.calling R.said) R.text site.now found capture.now) at }
+    ensures sees { let reply = reply_by (gives R.Function.calling R.said) R.text site.now found capture.now in
+        Sees R.text reply (left_from reply (Thread.Body at)) result }
+    ensures kept { KeepsAll (reply_by (gives R.Function.calling R.said) R.text site.now found capture.now) result.here }
 {
     let script = body_of(site, found);
     let from = at as usize;
@@ -141,12 +170,19 @@ fn look_script<'a>(site: &'a Site, found: Option<FileId>, capture: &'a Capture, 
 /// In a text run of a script that is longer than a segment: as much of it as a segment takes. So no look is dearer than that, however long
 /// a run is.
 #[inline(always)]
-fn look_run<'a>(site: &'a Site, found: Option<FileId>, capture: &'a Capture, at: u32) -> Look<'a>
+fn look_run<'a, R: Record>(
+    site: &'a Site,
+    found: Option<FileId>,
+    capture: &'a R,
+    at: u32,
+) -> Look<'a, R, R::Function>
     requires found { IsFound (files_of site.now) found }
     requires script { is_scripted (found_file (files_of site.now) found) ≡ true }
-    requires fits { IsBodyPlace (reply_in site.now found capture.now) at }
-    requires long { at + LARGEST_SEGMENT < run_end (body (reply_in site.now found capture.now)) at }
-    ensures sees { Sees (reply_in site.now found capture.now) (left_from (reply_in site.now found capture.now) (Thread.Body at)) result }
+    requires fits { IsBodyPlace (reply_by (gives R.Function.calling R.said) R.text site.now found capture.now) at }
+    requires long { let reply = reply_by (gives R.Function.calling R.said) R.text site.now found capture.now in
+        at + LARGEST_SEGMENT < run_end (body reply) at }
+    ensures sees { let reply = reply_by (gives R.Function.calling R.said) R.text site.now found capture.now in
+        Sees R.text reply (left_from reply (Thread.Body at)) result }
     ensures here { result.here ≡ Thread.Body at }
 {
     let script = body_of(site, found);
@@ -159,28 +195,34 @@ fn look_run<'a>(site: &'a Site, found: Option<FileId>, capture: &'a Capture, at:
 }
 
 /// At a piece of a script.
-fn look_piece<'a>(site: &'a Site, found: Option<FileId>, capture: &'a Capture, at: u32) -> Look<'a>
+fn look_piece<'a, R: Record>(
+    site: &'a Site,
+    found: Option<FileId>,
+    capture: &'a R,
+    at: u32,
+) -> Look<'a, R, R::Function>
     requires found { IsFound (files_of site.now) found }
     requires script { is_scripted (found_file (files_of site.now) found) ≡ true }
-    requires fits { IsBodyPlace (reply_in site.now found capture.now) at }
-    ensures sees { Sees (reply_in site.now found capture.now) (left_from (reply_in site.now found capture.now) (Thread.Body at)) result }
-    ensures kept { KeepsAll (reply_in site.now found capture.now) result.here }
+    requires fits { IsBodyPlace (reply_by (gives R.Function.calling R.said) R.text site.now found capture.now) at }
+    ensures sees { let reply = reply_by (gives R.Function.calling R.said) R.text site.now found capture.now in
+        Sees R.text reply (left_from reply (Thread.Body at)) result }
+    ensures kept { KeepsAll (reply_by (gives R.Function.calling R.said) R.text site.now found capture.now) result.here }
 {
     let script = body_of(site, found);
-    let Some(read) = next_piece(script, at as usize) else {
+    let Some(read) = next_piece_of::<R::Function>(script, at as usize) else {
         return look_end();
     };
     let next = read.next as u32;
     match read.piece {
-        Piece::Text { len, .. } => Look {
+        PieceOf::Text { len, .. } => Look {
             span: part_of(script, at, at + len as u32),
             here: Thread::Body { at },
             next: Thread::Body { at: next },
         },
-        Piece::Include { at: from, len } => {
+        PieceOf::Include { at: from, len } => {
             look_include(site, found, capture, next, &script[from..from + len])
         }
-        Piece::Call {
+        PieceOf::Call {
             function,
             at: from,
             len,
@@ -196,29 +238,29 @@ fn look_piece<'a>(site: &'a Site, found: Option<FileId>, capture: &'a Capture, a
 }
 
 /// At an include.
-fn look_include<'a>(
+fn look_include<'a, R: Record>(
     site: &'a Site,
     found: Option<FileId>,
-    capture: &'a Capture,
+    capture: &'a R,
     next: u32,
     name: &[u8],
-) -> Look<'a>
+) -> Look<'a, R, R::Function>
     requires found { IsFound (files_of site.now) found }
-    requires inner { IsInner (reply_in site.now found capture.now) next }
-    requires directive { EndsInclude (reply_in site.now found capture.now) next name.now }
-    ensures sees { let reply = reply_in site.now found capture.now in
-        Sees reply (Plain (bytes_or [] (file_named reply.files name.now)) ∷ body_from reply next) result }
-    ensures kept { KeepsAll (reply_in site.now found capture.now) result.here }
+    requires inner { IsInner (reply_by (gives R.Function.calling R.said) R.text site.now found capture.now) next }
+    requires directive { EndsInclude (reply_by (gives R.Function.calling R.said) R.text site.now found capture.now) next name.now }
+    ensures sees { let reply = reply_by (gives R.Function.calling R.said) R.text site.now found capture.now in
+        Sees R.text reply (Plain (bytes_or [] (file_named reply.files name.now)) ∷ body_from reply next) result }
+    ensures kept { KeepsAll (reply_by (gives R.Function.calling R.said) R.text site.now found capture.now) result.here }
 {
-    match place_in(site, name) {
-        Some(file) => look_inside(site, found, capture, next, file, 0),
-        None => look_nothing(next),
-    }
+    let Some(file) = place_in(site, name) else {
+        return look_nothing(next);
+    };
+    look_inside(site, found, capture, next, file, 0)
 }
 
 /// At a piece that says nothing.
-fn look_nothing<'a>(next: u32) -> Look<'a>
-    ensures nothing { IsSpan result.span [] }
+fn look_nothing<'a, R: Record>(next: u32) -> Look<'a, R, R::Function>
+    ensures nothing { IsSpan R.text result.span [] }
     ensures here { result.here ≡ Thread.Body next }
     ensures next { result.next ≡ Thread.Body next }
 {
@@ -230,18 +272,19 @@ fn look_nothing<'a>(next: u32) -> Look<'a>
 }
 
 /// In the bytes of an included file.
-fn look_inside<'a>(
+fn look_inside<'a, R: Record>(
     site: &'a Site,
     found: Option<FileId>,
-    capture: &'a Capture,
+    capture: &'a R,
     next: u32,
     file: FileId,
     at: u32,
-) -> Look<'a>
+) -> Look<'a, R, R::Function>
     requires found { IsFound (files_of site.now) found }
-    requires fits { Fits (reply_in site.now found capture.now) (Thread.Inside next file at) }
-    ensures sees { let reply = reply_in site.now found capture.now in
-        Sees reply (left_from reply (Thread.Inside next file at)) result }
+    requires fits { let reply = reply_by (gives R.Function.calling R.said) R.text site.now found capture.now in
+        Fits reply (Thread.Inside next file at) }
+    ensures sees { let reply = reply_by (gives R.Function.calling R.said) R.text site.now found capture.now in
+        Sees R.text reply (left_from reply (Thread.Inside next file at)) result }
     ensures here { result.here ≡ Thread.Inside next file at }
 {
     Look {
@@ -252,46 +295,44 @@ fn look_inside<'a>(
 }
 
 /// At a call.
-fn look_call<'a>(
+fn look_call<'a, R: Record>(
     site: &'a Site,
     found: Option<FileId>,
-    capture: &'a Capture,
+    capture: &'a R,
     next: u32,
-    function: Function,
+    function: R::Function,
     argument: &'a [u8],
-) -> Look<'a>
-    requires inner { IsInner (reply_in site.now found capture.now) next }
-    requires directive { EndsCall (reply_in site.now found capture.now) next function argument.now }
-    ensures sees { let reply = reply_in site.now found capture.now in
-        Sees reply (Made function argument.now ∷ body_from reply next) result }
-    ensures kept { KeepsAll (reply_in site.now found capture.now) result.here }
+) -> Look<'a, R, R::Function>
+    requires inner { IsInner (reply_by (gives R.Function.calling R.said) R.text site.now found capture.now) next }
+    requires directive { EndsCall (reply_by (gives R.Function.calling R.said) R.text site.now found capture.now) next function argument.now }
+    ensures sees { let reply = reply_by (gives R.Function.calling R.said) R.text site.now found capture.now in
+        Sees R.text reply (Made function argument.now ∷ body_from reply next) result }
+    ensures kept { KeepsAll (reply_by (gives R.Function.calling R.said) R.text site.now found capture.now) result.here }
 {
-    match function {
-        Function::Unknown => look_nothing(next),
-        Function::FileStats | Function::TcpConnections | Function::NetStats | Function::Ticks => {
-            Look {
-                span: Span::Call { function, argument },
-                here: Thread::Body { at: next },
-                next: Thread::Making { next, at: 0 },
-            }
-        }
+    if !function.takes_capture() {
+        return look_nothing(next);
+    }
+    Look {
+        span: Span::Call { function, argument },
+        here: Thread::Body { at: next },
+        next: Thread::Making { next, at: 0 },
     }
 }
 
 /// In the text of a record.
-fn look_making<'a>(
+fn look_making<'a, R: Record>(
     site: &'a Site,
     found: Option<FileId>,
-    capture: &'a Capture,
+    capture: &'a R,
     next: u32,
     at: u32,
-) -> Look<'a>
-    requires { Fits (reply_in site.now found capture.now) (Thread.Making next at) }
-    ensures sees { let reply = reply_in site.now found capture.now in
-        Sees reply (left_from reply (Thread.Making next at)) result }
+) -> Look<'a, R, R::Function>
+    requires { Fits (reply_by (gives R.Function.calling R.said) R.text site.now found capture.now) (Thread.Making next at) }
+    ensures sees { let reply = reply_by (gives R.Function.calling R.said) R.text site.now found capture.now in
+        Sees R.text reply (left_from reply (Thread.Making next at)) result }
     ensures here { result.here ≡ Thread.Making next at }
 {
-    let end = text_len(capture) as u32;
+    let end = capture.text_len() as u32;
     Look {
         span: Span::Made { capture, at, end },
         here: Thread::Making { next, at },
@@ -301,7 +342,7 @@ fn look_making<'a>(
 
 /// At the end.
 #[inline(always)]
-fn look_end<'a>() -> Look<'a>
+fn look_end<'a, R: Record>() -> Look<'a, R, R::Function>
     ensures span { result.span ≡ Span.End }
     ensures here { result.here ≡ Thread.End }
 {

@@ -2,7 +2,8 @@
 
 ghost use Rattle.std.specs.Prelude.{◌≡◌, ◌==◌, ◌≤◌, ◌-◌, ◌∷◌, [], ℕ, true, length, take, MatchOption, if◌then◌else◌};
 ghost use Rattle.file_tree.specs.Site.{files_of};
-ghost use Rattle.httpd.specs.Reply.{left_from, reply_in};
+ghost use Rattle.generators.specs.Giving.{gives};
+ghost use Rattle.httpd.specs.Reply.{left_from, reply_by};
 ghost use Rattle.httpd.specs.Places.{Fits, IsFound};
 ghost use Rattle.httpd.specs.Kept.{KeepsOn};
 ghost use Rattle.httpd.specs.Looking.{IsPast};
@@ -13,22 +14,23 @@ use crate::span::{Span, span_len, write_at};
 use crate::thread::{Thread, moved};
 use app_events::Want;
 use file_tree::{FileId, Site};
-use generators::Capture;
-use script_lang::Function;
+use generators::Record;
 use web_pages::LARGEST_SEGMENT;
 
 /// Writes the front of the text that is left, as much as `out` holds.
-pub(crate) fn fill_reply(
+pub(crate) fn fill_reply<R: Record>(
     site: &Site,
     found: Option<FileId>,
-    capture: &Capture,
+    capture: &R,
     thread: Thread,
     out: &mut [u8],
 )
     requires found { IsFound (files_of site.now) found }
-    requires fits { Fits (reply_in site.now found capture.now) thread }
-    requires enough { length out.old ≤ length (left_text (reply_in site.now found capture.now) thread) }
-    ensures { out.new ≡ take (length out.old) (left_text (reply_in site.now found capture.now) thread) }
+    requires fits { Fits (reply_by (gives R.Function.calling R.said) R.text site.now found capture.now) thread }
+    requires enough { let reply = reply_by (gives R.Function.calling R.said) R.text site.now found capture.now in
+        length out.old ≤ length (left_text reply thread) }
+    ensures { let reply = reply_by (gives R.Function.calling R.said) R.text site.now found capture.now in
+        out.new ≡ take (length out.old) (left_text reply thread) }
 {
     let mut place = thread;
     let mut from = 0;
@@ -42,20 +44,21 @@ pub(crate) fn fill_reply(
 }
 
 /// The thread after so many bytes of the text that is left.
-pub(crate) fn acked_reply(
+pub(crate) fn acked_reply<R: Record>(
     site: &Site,
     found: Option<FileId>,
-    capture: &Capture,
+    capture: &R,
     thread: Thread,
     count: usize,
 ) -> Thread
     requires found { IsFound (files_of site.now) found }
-    requires fits { Fits (reply_in site.now found capture.now) thread }
-    requires enough { count ≤ length (left_text (reply_in site.now found capture.now) thread) }
-    ensures fits { Fits (reply_in site.now found capture.now) result }
-    ensures kept { KeepsOn (reply_in site.now found capture.now) thread result }
-    ensures past { let reply = reply_in site.now found capture.now in
-        IsPast reply.files count (left_from reply thread) (left_from reply result) }
+    requires fits { Fits (reply_by (gives R.Function.calling R.said) R.text site.now found capture.now) thread }
+    requires enough { let reply = reply_by (gives R.Function.calling R.said) R.text site.now found capture.now in
+        count ≤ length (left_text reply thread) }
+    ensures fits { Fits (reply_by (gives R.Function.calling R.said) R.text site.now found capture.now) result }
+    ensures kept { KeepsOn (reply_by (gives R.Function.calling R.said) R.text site.now found capture.now) thread result }
+    ensures past { let reply = reply_by (gives R.Function.calling R.said) R.text site.now found capture.now in
+        IsPast reply.gives reply.files count (left_from reply thread) (left_from reply result) }
 {
     let mut place = thread;
     let mut left = count;
@@ -72,15 +75,15 @@ pub(crate) fn acked_reply(
 }
 
 /// What is wanted, by the text that is left and whether it ends the page.
-pub(crate) fn want_reply(
+pub(crate) fn want_reply<R: Record>(
     site: &Site,
     found: Option<FileId>,
-    capture: &Capture,
+    capture: &R,
     thread: Thread,
 ) -> Want
     requires found { IsFound (files_of site.now) found }
-    requires fits { Fits (reply_in site.now found capture.now) thread }
-    ensures { let reply = reply_in site.now found capture.now in
+    requires fits { Fits (reply_by (gives R.Function.calling R.said) R.text site.now found capture.now) thread }
+    ensures { let reply = reply_by (gives R.Function.calling R.said) R.text site.now found capture.now in
         result ≡ want_left (left_text reply thread) (left_whole reply thread) }
 {
     let mut place = thread;
@@ -107,23 +110,23 @@ fn sent_or(other: Want, ready: usize) -> Want
 
 /// A call that is due: its record is to be taken.
 #[derive(Clone, Copy)]
-pub(crate) struct Due<'a> {
-    pub function: Function,
+pub(crate) struct Due<'a, F> {
+    pub function: F,
     pub argument: &'a [u8],
     /// The front of the text of its record.
     pub next: Thread,
 }
 
 /// The call before which no text is left.
-pub(crate) fn due_call<'a>(
+pub(crate) fn due_call<'a, R: Record>(
     site: &'a Site,
     found: Option<FileId>,
-    capture: &'a Capture,
+    capture: &'a R,
     thread: Thread,
-) -> Option<Due<'a>>
+) -> Option<Due<'a, R::Function>>
     requires found { IsFound (files_of site.now) found }
-    requires fits { Fits (reply_in site.now found capture.now) thread }
-    ensures { let reply = reply_in site.now found capture.now in
+    requires fits { Fits (reply_by (gives R.Function.calling R.said) R.text site.now found capture.now) thread }
+    ensures { let reply = reply_by (gives R.Function.calling R.said) R.text site.now found capture.now in
         MatchOption result (IsNotDue reply thread) (IsDueReply reply thread) }
 {
     let mut place = thread;

@@ -7,15 +7,14 @@ ghost use Rattle.httpd.specs.Looking.{SpanFits, span_text};
 
 use crate::texts::line_of;
 use crate::thread::Thread;
-use generators::{Capture, fill_at};
+use generators::Record;
 use protosocket::SendOut;
 use protothread::{Run, Says};
-use script_lang::Function;
 use site_image::KIND_LINE_LEN;
 
 /// What is left of a piece.
-#[derive(Clone, Copy)]
-pub(crate) enum Span<'a> {
+#[derive(Drop)]
+pub(crate) enum Span<'a, R, F> {
     /// Bytes of the site, or of a fixed text.
     Bytes {
         world: &'a [u8],
@@ -28,14 +27,14 @@ pub(crate) enum Span<'a> {
     },
     /// The text of a record, from place `at` on.
     Made {
-        capture: &'a Capture,
+        capture: &'a R,
         at: u32,
         /// The text's length.
         end: u32,
     },
     /// A call whose record is not taken yet.
     Call {
-        function: Function,
+        function: F,
         argument: &'a [u8],
     },
     /// All is said.
@@ -43,9 +42,9 @@ pub(crate) enum Span<'a> {
 }
 
 /// What a thread sees where it stands.
-#[derive(Clone, Copy)]
-pub(crate) struct Look<'a> {
-    pub span: Span<'a>,
+#[derive(Drop)]
+pub(crate) struct Look<'a, R, F> {
+    pub span: Span<'a, R, F>,
     /// The same place, as one inside the piece, where it is a piece of text.
     pub here: Thread,
     /// Where the next piece begins. Behind a call it is the front of the text of its record.
@@ -53,9 +52,9 @@ pub(crate) struct Look<'a> {
 }
 
 /// How many bytes are left.
-pub(crate) fn span_len(span: &Span) -> usize
-    requires { SpanFits span.now }
-    ensures length { result ≡ length (span_text span.now) }
+pub(crate) fn span_len<R: Record>(span: &Span<R, R::Function>) -> usize
+    requires { SpanFits R.text span.now }
+    ensures length { result ≡ length (span_text R.text span.now) }
     ensures bound { result ≤ LONGEST_IMAGE }
 {
     match span {
@@ -68,15 +67,15 @@ pub(crate) fn span_len(span: &Span) -> usize
 }
 
 /// Writes the front of what is left, as much as `out` holds.
-pub(crate) fn write_span(span: &Span, out: &mut [u8])
-    requires fits { SpanFits span.now }
-    requires enough { length out.old ≤ length (span_text span.now) }
-    ensures { out.new ≡ take (length out.old) (span_text span.now) }
+pub(crate) fn write_span<R: Record>(span: &Span<R, R::Function>, out: &mut [u8])
+    requires fits { SpanFits R.text span.now }
+    requires enough { length out.old ≤ length (span_text R.text span.now) }
+    ensures { out.new ≡ take (length out.old) (span_text R.text span.now) }
 {
     match span {
         Span::Bytes { world, send } => send.fill(world, out),
         Span::Line { kind, at } => write_line(kind, *at, out),
-        Span::Made { capture, at, .. } => fill_at(capture, *at as usize, out),
+        Span::Made { capture, at, .. } => capture.fill_at(*at as usize, out),
         Span::Call { .. } => {}
         Span::End => {}
     }
@@ -97,11 +96,16 @@ fn write_line(kind: &[u8], at: u32, out: &mut [u8])
 }
 
 /// Writes the front of what is left at a place of the buffer.
-pub(crate) fn write_at(span: &Span, out: &mut [u8], from: usize, count: usize)
-    requires fits { SpanFits span.now }
-    requires enough { count ≤ length (span_text span.now) }
+pub(crate) fn write_at<R: Record>(
+    span: &Span<R, R::Function>,
+    out: &mut [u8],
+    from: usize,
+    count: usize,
+)
+    requires fits { SpanFits R.text span.now }
+    requires enough { count ≤ length (span_text R.text span.now) }
     requires room { from + count ≤ length out.old }
-    ensures { out.new ≡ take from out.old ++ take count (span_text span.now) ++ drop (from + count) out.old }
+    ensures { out.new ≡ take from out.old ++ take count (span_text R.text span.now) ++ drop (from + count) out.old }
 {
     write_span(span, &mut out[from..from + count]);
 }

@@ -7,6 +7,7 @@ ghost use Rattle.web_pages.specs.ZeroPages.{request_for, zero_moment, zero_page,
 ghost use Rattle.httpd.specs.Hearing.{HearsTarget};
 ghost use Rattle.httpd.specs.Looking.{SpanFits, span_text};
 ghost use Rattle.httpd.specs.Places.{IsFound};
+ghost use Rattle.generators.specs.Text.{capture_text};
 ghost use Rattle.httpd.specs.Reply.{found_file};
 ghost use Rattle.httpd.specs.Zero.{IsAsked};
 ghost use Rattle.uip_edge.specs.Writing.{Writes};
@@ -22,6 +23,7 @@ use arrayvec::ArrayVec;
 use file_tree::{FileId, Site};
 use generators::{Capture, take};
 use protosocket::{LineIn, Stops};
+use script_lang::Function;
 use uip_edge::{Failed, Sink};
 
 /// Writes the page of the request `GET `, the target and a line feed, where each call is given the zero record of its kind: no
@@ -85,9 +87,9 @@ fn write_reply<K: Sink>(site: &Site, found: Option<FileId>, sink: &mut K) -> Res
 }
 
 /// Writes what is left of a piece.
-fn say_span<K: Sink>(span: &Span, sink: &mut K) -> Result<(), Failed>
-    requires { SpanFits span.now }
-    ensures { Writes (sink_told K.Sink sink.old) (sink_told K.Sink sink.new) result (span_text span.now) }
+fn say_span<K: Sink>(span: &Span<Capture, Function>, sink: &mut K) -> Result<(), Failed>
+    requires { SpanFits capture_text span.now }
+    ensures { Writes (sink_told K.Sink sink.old) (sink_told K.Sink sink.new) result (span_text capture_text span.now) }
 {
     if let Span::Bytes { world, send } = span {
         return say(sink, &world[send.run.at as usize..send.run.end as usize]);
@@ -98,10 +100,14 @@ fn say_span<K: Sink>(span: &Span, sink: &mut K) -> Result<(), Failed>
 }
 
 /// Writes what is left of a piece, by way of a room of its length.
-fn say_front<K: Sink>(span: &Span, room: &mut [u8], sink: &mut K) -> Result<(), Failed>
-    requires fits { SpanFits span.now }
-    requires room { length room.old ≡ length (span_text span.now) }
-    ensures { Writes (sink_told K.Sink sink.old) (sink_told K.Sink sink.new) result (span_text span.now) }
+fn say_front<K: Sink>(
+    span: &Span<Capture, Function>,
+    room: &mut [u8],
+    sink: &mut K,
+) -> Result<(), Failed>
+    requires fits { SpanFits capture_text span.now }
+    requires room { length room.old ≡ length (span_text capture_text span.now) }
+    ensures { Writes (sink_told K.Sink sink.old) (sink_told K.Sink sink.new) result (span_text capture_text span.now) }
 {
     write_span(span, room);
     say(sink, room)

@@ -11,19 +11,21 @@ use Rattle.app_events.specs.declared.want.Want.{Want}
 use Rattle.app_events.specs.declared.want.Want.TheVariants.{Nothing, Send, Close, Abort}
 use Rattle.script_lang.specs.declared.function.Function.{Function}
 use Rattle.script_lang.specs.declared.function.Function.TheVariants.{FileStats, TcpConnections, NetStats, Ticks, Unknown}
-use Rattle.script_lang.specs.Functions.{length_at_most}
+use Rattle.script_lang.specs.Functions.{length_at_most, takes_capture}
 use Rattle.site_image.specs.Files.{File}
 use Rattle.generators.specs.Text.{in_ten_places, counter_line, row_parts, row_text}
+use Rattle.generators.specs.Giving.{uip}
 use Rattle.web_pages.specs.Requests.{Wanted, wanted}
 use Rattle.web_pages.specs.Requests.Wanted.{NotYet, Refused, Name}
 use Rattle.web_pages.specs.Lemmas.Deciding.{name_stays}
 use Rattle.web_pages.specs.Pieces.{Say}
 use Rattle.web_pages.specs.Pieces.Say.{Plain, Made}
-use Rattle.web_pages.specs.Pages.{takes_capture, made_text, hits_of, page_text, reach_end, page_for, whole_for, page, is_page_whole}
+use Rattle.web_pages.specs.Pages.{made_text, hits_of, page_text, reach_end, page_for, whole_for, page, is_page_whole}
 use Rattle.web_pages.specs.Lemmas.Growing.{silent_text, silent_end, stopped_text, made_first, made_end}
 use Rattle.web_pages.specs.Lemmas.WebLaws.{newdata_grows, with_capture}
 use Rattle.web_pages.specs.WebMeaning.{web_meaning, web_want, is_acknowledged, waits_for_capture, left_of}
 use Rattle.web_pages.proofs.Bounds.{silent_none, text_bound}
+use Rattle.web_pages.proofs.Limits.{uip_short}
 use Rattle.link_world.specs.Honest.{GoesOnBy, AnswersIn}
 use Rattle.uip_node.proofs.Basics.{prefix_length, both_ways, ltb-zero, not-true}
 use Rattle.uip_node.proofs.Fits.{all_nil, all_cons}
@@ -56,11 +58,11 @@ module _ (files : List File) where
 
   made_short : (function : Function) (argument : List ℕ) (capture : Moment) → takes_capture function ≡ true → IsMoment capture → length (made_text files function argument capture) ≤ length_at_most function
   made_short function argument capture e is =
-      let all = text_bound files (Made function argument ∷ []) (capture ∷ []) (all_cons IsMoment capture [] is (all_nil IsMoment)) in
-      omega (arith, all, ap length (made_first files function argument [] capture [] e), length-append (made_text files function argument capture) [])
+      let all = text_bound uip uip_short files (Made function argument ∷ []) (capture ∷ []) (all_cons IsMoment capture [] is (all_nil IsMoment)) in
+      omega (arith, all, ap length (made_first uip files function argument [] capture [] e), length-append (made_text files function argument capture) [])
 
   -- ---- the lengths of pieces: of a call its greatest, until its capture is taken
-  abbrev pub sizes : List Say → List Moment → List ℕ
+  abbrev pub sizes : List (Say Function) → List Moment → List ℕ
   sizes [] captures = []
   sizes (Plain text ∷ more) captures = length text ∷ sizes more captures
   sizes (Made function argument ∷ more) [] = length_at_most function ∷ sizes more []
@@ -68,12 +70,12 @@ module _ (files : List File) where
       if takes_capture function then length (made_text files function argument capture) ∷ sizes more later
       else length_at_most function ∷ sizes more (capture ∷ later)
 
-  taken_size : (function : Function) (argument : List ℕ) (more : List Say) (capture : Moment) (later : List Moment) → takes_capture function ≡ true →
+  taken_size : (function : Function) (argument : List ℕ) (more : List (Say Function)) (capture : Moment) (later : List Moment) → takes_capture function ≡ true →
       sizes (Made function argument ∷ more) (capture ∷ later) ≡ length (made_text files function argument capture) ∷ sizes more later
   taken_size function argument more capture later e =
       ap (λ b. if b then length (made_text files function argument capture) ∷ sizes more later else length_at_most function ∷ sizes more (capture ∷ later)) e
 
-  silent_size : (function : Function) (argument : List ℕ) (more : List Say) (captures : List Moment) → takes_capture function ≡ false →
+  silent_size : (function : Function) (argument : List ℕ) (more : List (Say Function)) (captures : List Moment) → takes_capture function ≡ false →
       sizes (Made function argument ∷ more) captures ≡ length_at_most function ∷ sizes more captures
   silent_size function argument more [] e = refl
   silent_size function argument more (capture ∷ later) e =
@@ -88,31 +90,31 @@ module _ (files : List File) where
         one_less mss some n a x said ns l (omega (arith, within, e)) (elim whole [ inl i ↦ inl i | inr i ↦ inr (i ∙ e) ])
         (λ h. rest (a - n) (omega (arith, within, e, h)) (elim whole [ inl i ↦ inl i | inr i ↦ inr (omega (arith, i, e, h)) ]))
 
-    abbrev Less : List Say → List Moment → ℕ → ℕ → Type 0
+    abbrev Less : List (Say Function) → List Moment → ℕ → ℕ → Type 0
     Less pieces captures a x = left_in mss some (sizes pieces captures) (a + x) < left_in mss some (sizes pieces captures) a
 
-    pub less_left : (pieces : List Say) (captures : List Moment) (a x : ℕ) → 0 < x → a + x ≤ length (page_text files pieces captures) → (x ≡ mss) ⊎ (a + x ≡ length (page_text files pieces captures)) → Less pieces captures a x
+    pub less_left : (pieces : List (Say Function)) (captures : List Moment) (a x : ℕ) → 0 < x → a + x ≤ length (page_text files pieces captures) → (x ≡ mss) ⊎ (a + x ≡ length (page_text files pieces captures)) → Less pieces captures a x
     less_left [] captures a x l within whole = absurd (omega arith)
     less_left (Plain text ∷ more) captures a x l within whole =
         by_piece (length text) (length (page_text files more captures)) (length (text ++ page_text files more captures)) a x (sizes more captures) (length-append text (page_text files more captures)) l within whole
         (λ b w i. less_left more captures b x l w i)
     less_left (Made function argument ∷ more) [] a x l within whole =
         both_ways (takes_capture function)
-        (λ e. absurd (let z : ⊥ = omega (arith, l, within, ap length (stopped_text files function argument more e)) in z))
+        (λ e. absurd (let z : ⊥ = omega (arith, l, within, ap length (stopped_text uip files function argument more e)) in z))
         (λ e. by_piece (length_at_most function) (length (page_text files more [])) (length (page_text files (Made function argument ∷ more) [])) a x (sizes more [])
         (let z : length (page_text files (Made function argument ∷ more) []) ≡ length_at_most function + length (page_text files more []) =
-        omega (arith, ap length (silent_text files function argument more [] e), silent_none function e) in z) l within whole
+        omega (arith, ap length (silent_text uip files function argument more [] e), silent_none function e) in z) l within whole
         (λ b w i. less_left more [] b x l w i))
     less_left (Made function argument ∷ more) (capture ∷ later) a x l within whole =
         both_ways (takes_capture function)
         (λ e. subst (λ s. left_in mss some s (a + x) < left_in mss some s a) (sym (taken_size function argument more capture later e))
         (by_piece (length (made_text files function argument capture)) (length (page_text files more later)) (length (page_text files (Made function argument ∷ more) (capture ∷ later))) a x (sizes more later)
-        (ap length (made_first files function argument more capture later e) ∙ length-append (made_text files function argument capture) (page_text files more later)) l within whole
+        (ap length (made_first uip files function argument more capture later e) ∙ length-append (made_text files function argument capture) (page_text files more later)) l within whole
         (λ b w i. less_left more later b x l w i)))
         (λ e. subst (λ s. left_in mss some s (a + x) < left_in mss some s a) (sym (silent_size function argument more (capture ∷ later) e))
         (by_piece (length_at_most function) (length (page_text files more (capture ∷ later))) (length (page_text files (Made function argument ∷ more) (capture ∷ later))) a x (sizes more (capture ∷ later))
         (let z : length (page_text files (Made function argument ∷ more) (capture ∷ later)) ≡ length_at_most function + length (page_text files more (capture ∷ later)) =
-        omega (arith, ap length (silent_text files function argument more (capture ∷ later) e), silent_none function e) in z) l within whole
+        omega (arith, ap length (silent_text uip files function argument more (capture ∷ later) e), silent_none function e) in z) l within whole
         (λ b w i. less_left more (capture ∷ later) b x l w i)))
 
     -- ---- a capture is taken where the text ends
@@ -124,7 +126,7 @@ module _ (files : List File) where
         let rest : a - n ≡ said = omega (arith, e) in
         omega (arith, behind mss some n a after (omega (arith, e)), behind mss some n a before (omega (arith, e)), ap (λ k. left_in mss some after k) rest, ap (λ k. left_in mss some before k) rest, h)
 
-    fewer_left : (pieces : List Say) (captures : List Moment) (capture : Moment) (a : ℕ) → IsMoment capture → reach_end pieces captures ≡ false → a ≡ length (page_text files pieces captures) →
+    fewer_left : (pieces : List (Say Function)) (captures : List Moment) (capture : Moment) (a : ℕ) → IsMoment capture → reach_end pieces captures ≡ false → a ≡ length (page_text files pieces captures) →
         Fewer (sizes pieces (captures ++ capture ∷ [])) (sizes pieces captures) a
     fewer_left [] captures capture a is stops h = absurd (cc)
     fewer_left (Plain text ∷ more) captures capture a is stops h =
@@ -133,30 +135,30 @@ module _ (files : List File) where
     fewer_left (Made function argument ∷ more) [] capture a is stops h =
         both_ways (takes_capture function)
         (λ e. subst (λ s. Fewer s (length_at_most function ∷ sizes more []) a) (sym (taken_size function argument more capture [] e))
-        (subst (λ k. Fewer (length (made_text files function argument capture) ∷ sizes more []) (length_at_most function ∷ sizes more []) k) (sym (h ∙ ap length (stopped_text files function argument more e)))
+        (subst (λ k. Fewer (length (made_text files function argument capture) ∷ sizes more []) (length_at_most function ∷ sizes more []) k) (sym (h ∙ ap length (stopped_text uip files function argument more e)))
         (shorter mss some (length (made_text files function argument capture)) (length_at_most function) (sizes more []) (made_short function argument capture e is))))
         (λ e. subst (λ s. Fewer s (length_at_most function ∷ sizes more []) a) (sym (silent_size function argument more (capture ∷ []) e))
         (past_piece (length_at_most function) (length (page_text files more [])) a (sizes more (capture ∷ [])) (sizes more [])
-        (let z : a ≡ length_at_most function + length (page_text files more []) = omega (arith, h, ap length (silent_text files function argument more [] e), silent_none function e) in z)
-        (fewer_left more [] capture (length (page_text files more [])) is (sym (silent_end function argument more [] e) ∙ stops) refl)))
+        (let z : a ≡ length_at_most function + length (page_text files more []) = omega (arith, h, ap length (silent_text uip files function argument more [] e), silent_none function e) in z)
+        (fewer_left more [] capture (length (page_text files more [])) is (sym (silent_end uip function argument more [] e) ∙ stops) refl)))
     fewer_left (Made function argument ∷ more) (first ∷ later) capture a is stops h =
         both_ways (takes_capture function)
         (λ e. subst (λ s. Fewer s (sizes (Made function argument ∷ more) (first ∷ later)) a) (sym (taken_size function argument more first (later ++ capture ∷ []) e))
         (subst (λ s. Fewer (length (made_text files function argument first) ∷ sizes more (later ++ capture ∷ [])) s a) (sym (taken_size function argument more first later e))
         (past_piece (length (made_text files function argument first)) (length (page_text files more later)) a (sizes more (later ++ capture ∷ [])) (sizes more later)
-        (h ∙ ap length (made_first files function argument more first later e) ∙ length-append (made_text files function argument first) (page_text files more later))
-        (fewer_left more later capture (length (page_text files more later)) is (sym (made_end function argument more first later e) ∙ stops) refl))))
+        (h ∙ ap length (made_first uip files function argument more first later e) ∙ length-append (made_text files function argument first) (page_text files more later))
+        (fewer_left more later capture (length (page_text files more later)) is (sym (made_end uip function argument more first later e) ∙ stops) refl))))
         (λ e. subst (λ s. Fewer s (sizes (Made function argument ∷ more) (first ∷ later)) a) (sym (silent_size function argument more (first ∷ later ++ capture ∷ []) e))
         (subst (λ s. Fewer (length_at_most function ∷ sizes more (first ∷ later ++ capture ∷ [])) s a) (sym (silent_size function argument more (first ∷ later) e))
         (past_piece (length_at_most function) (length (page_text files more (first ∷ later))) a (sizes more (first ∷ later ++ capture ∷ [])) (sizes more (first ∷ later))
-        (let z : a ≡ length_at_most function + length (page_text files more (first ∷ later)) = omega (arith, h, ap length (silent_text files function argument more (first ∷ later) e), silent_none function e) in z)
-        (fewer_left more (first ∷ later) capture (length (page_text files more (first ∷ later))) is (sym (silent_end function argument more (first ∷ later) e) ∙ stops) refl))))
+        (let z : a ≡ length_at_most function + length (page_text files more (first ∷ later)) = omega (arith, h, ap length (silent_text uip files function argument more (first ∷ later) e), silent_none function e) in z)
+        (fewer_left more (first ∷ later) capture (length (page_text files more (first ∷ later))) is (sym (silent_end uip function argument more (first ∷ later) e) ∙ stops) refl))))
 
     -- and the text goes on
-    abbrev Longer : List Say → List Moment → Moment → Type 0
+    abbrev Longer : List (Say Function) → List Moment → Moment → Type 0
     Longer pieces captures capture = length (page_text files pieces captures) < length (page_text files pieces (captures ++ capture ∷ []))
 
-    text_longer : (pieces : List Say) (captures : List Moment) (capture : Moment) → IsMoment capture → 0 < length capture.now.rows → reach_end pieces captures ≡ false → Longer pieces captures capture
+    text_longer : (pieces : List (Say Function)) (captures : List Moment) (capture : Moment) → IsMoment capture → 0 < length capture.now.rows → reach_end pieces captures ≡ false → Longer pieces captures capture
     text_longer [] captures capture is l stops = absurd (cc)
     text_longer (Plain text ∷ more) captures capture is l stops =
         omega (arith, length-append text (page_text files more captures), length-append text (page_text files more (captures ++ capture ∷ [])), text_longer more captures capture is l stops)
@@ -164,36 +166,36 @@ module _ (files : List File) where
         both_ways (takes_capture function)
         (λ e. omega (
           arith,
-          ap length (stopped_text files function argument more e),
-          ap length (made_first files function argument more capture [] e),
+          ap length (stopped_text uip files function argument more e),
+          ap length (made_first uip files function argument more capture [] e),
           length-append (made_text files function argument capture) (page_text files more []),
           made_some function argument capture e is l,
         ))
         (λ e. omega (
           arith,
-          ap length (silent_text files function argument more [] e),
-          ap length (silent_text files function argument more (capture ∷ []) e),
-          text_longer more [] capture is l (sym (silent_end function argument more [] e) ∙ stops),
+          ap length (silent_text uip files function argument more [] e),
+          ap length (silent_text uip files function argument more (capture ∷ []) e),
+          text_longer more [] capture is l (sym (silent_end uip function argument more [] e) ∙ stops),
         ))
     text_longer (Made function argument ∷ more) (first ∷ later) capture is l stops =
         both_ways (takes_capture function)
         (λ e. omega (
           arith,
-          ap length (made_first files function argument more first later e),
-          ap length (made_first files function argument more first (later ++ capture ∷ []) e),
+          ap length (made_first uip files function argument more first later e),
+          ap length (made_first uip files function argument more first (later ++ capture ∷ []) e),
           length-append (made_text files function argument first) (page_text files more later),
           length-append (made_text files function argument first) (page_text files more (later ++ capture ∷ [])),
-          text_longer more later capture is l (sym (made_end function argument more first later e) ∙ stops),
+          text_longer more later capture is l (sym (made_end uip function argument more first later e) ∙ stops),
         ))
         (λ e. omega (
           arith,
-          ap length (silent_text files function argument more (first ∷ later) e),
-          ap length (silent_text files function argument more (first ∷ later ++ capture ∷ []) e),
-          text_longer more (first ∷ later) capture is l (sym (silent_end function argument more (first ∷ later) e) ∙ stops),
+          ap length (silent_text uip files function argument more (first ∷ later) e),
+          ap length (silent_text uip files function argument more (first ∷ later ++ capture ∷ []) e),
+          text_longer more (first ∷ later) capture is l (sym (silent_end uip function argument more (first ∷ later) e) ∙ stops),
         ))
 
     -- at the start
-    counted_all : (pieces : List Say) → left_in mss some (sizes pieces []) 0 ≤ texts_for mss pieces
+    counted_all : (pieces : List (Say Function)) → left_in mss some (sizes pieces []) 0 ≤ texts_for mss pieces
     counted_all [] = omega arith
     counted_all (Plain text ∷ more) =
         omega (arith, counted mss some (length text) (sizes more []), counted_all more, sum_by-cons (λ piece. div_ceil (most_of piece) mss) (Plain text) more)
@@ -201,7 +203,7 @@ module _ (files : List File) where
         omega (arith, counted mss some (length_at_most function) (sizes more []), counted_all more, sum_by-cons (λ piece. div_ceil (most_of piece) mss) (Made function argument) more)
 
 module _ (files : List File) (request : List ℕ) (decided : wanted request ≢ NotYet) (mss : ℕ) (some : 0 < mss) (low : mss ≤ 1460) where
-  abbrev wanted_pieces : List Say
+  abbrev wanted_pieces : List (Say Function)
   wanted_pieces = pieces_for files (wanted request)
 
   -- nothing came between that was not heard, and no more is acknowledged than said
@@ -312,7 +314,7 @@ module _ (files : List File) (request : List ℕ) (decided : wanted request ≢ 
     starts = λ hits port. (refl, counted_all files mss some wanted_pieces);
     hears = λ hits p piece rest f joined. (
       as_fine (record p { heard = p.heard ++ piece; polls = 0 }) refl
-          (let h = prefix_length (page files p.heard p.captures) (page files (p.heard ++ piece) p.captures) (newdata_grows files p piece) in omega (arith, (is_fine p f).acked, h)),
+          (let h = prefix_length (page files p.heard p.captures) (page files (p.heard ++ piece) p.captures) (newdata_grows uip files p piece) in omega (arith, (is_fine p f).acked, h)),
       omega arith,
     );
     goes_on = λ hits p now rest f joined words is l.

@@ -60,13 +60,13 @@ not_silent x xs e = absurd (let z : length (x ∷ xs) ≡ 0 = ltb-zero (length (
 -- ---- a capture makes a page longer
 
 module _ (files : List File) where
-  behind : (f : Function) (argument : List ℕ) (more : List Say) (first : Moment) (later : List Moment) (new : Moment) → length (page_text files more later) < length (page_text files more (later ++ new ∷ []))
+  behind : (f : Function) (argument : List ℕ) (more : List (Say Function)) (first : Moment) (later : List Moment) (new : Moment) → length (page_text files more later) < length (page_text files more (later ++ new ∷ []))
       → length (made_text files f argument first ++ page_text files more later) < length (made_text files f argument first ++ page_text files more (later ++ new ∷ []))
   behind f argument more first later new l =
       let said : List ℕ = made_text files f argument first in
       omega (arith, l, length-append said (page_text files more later), length-append said (page_text files more (later ++ new ∷ [])))
 
-  grows : (pieces : List Say) (captures : List Moment) (new : Moment) → IsSeen new.now → reach_end pieces captures ≡ false
+  grows : (pieces : List (Say Function)) (captures : List Moment) (new : Moment) → IsSeen new.now → reach_end pieces captures ≡ false
       → length (page_text files pieces captures) < length (page_text files pieces (captures ++ new ∷ []))
   grows [] captures new g h = absurd (cc)
   grows (Plain text ∷ more) captures new g h =

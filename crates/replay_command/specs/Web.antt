@@ -5,6 +5,7 @@ use Rattle.std.specs.Prelude.{◌≡◌, ◌≢◌, ℕ, ◌+◌, ◌*◌, ◌�
 use Rattle.uip_wire.specs.declared.addr.Addr.{Addr}
 use Rattle.app_events.specs.Pages.{IsWord, IsByte, IsAddr}
 use Rattle.tcp_machine.specs.OnSegment.{first_mss}
+use Rattle.script_lang.specs.declared.function.Function.{Function}
 use Rattle.script_lang.specs.Functions.{length_at_most}
 use Rattle.site_image.specs.Files.{File}
 use Rattle.file_tree.specs.Site.{SiteContent, IsLoaded, files_of}
@@ -40,16 +41,16 @@ PagesAreReceived =
     (k : ℕ) (side : Side) → slice_get w.sides k ≡ Some side → is_clean side ≡ true → IsServed (pages_of (files_of site)) w side
 
 -- the most bytes of what is said
-abbrev pub most_of : Say → ℕ
+abbrev pub most_of : Say Function → ℕ
 most_of (Plain text) = length text
 most_of (Made function argument) = length_at_most function
 
 -- how many texts of at most mss bytes hold the pieces, where each text stays in one piece
-abbrev pub texts_for : ℕ → List Say → ℕ
+abbrev pub texts_for : ℕ → List (Say Function) → ℕ
 texts_for mss pieces = sum_by (λ piece. div_ceil (most_of piece) mss) pieces
 
 -- the pieces of the reply to a request
-abbrev pub pieces_for : List File → Wanted → List Say
+abbrev pub pieces_for : List File → Wanted → List (Say Function)
 pieces_for files NotYet = []
 pieces_for files Refused = []
 pieces_for files (Name name) = reply_pieces files name

@@ -2,11 +2,11 @@
 use Rattle.std.proofs.Common.{◌≡◌, ℕ, zero, suc, ◌+◌, ◌-◌, ◌<◌, ◌≤◌, Bool, true, false, ◌||◌, cond, List, [], ◌∷◌, length, min, filter, map, eqb, refl, ap, ◌∙◌, sym, subst, inl, inr, ◌⊎◌, arith}
 use Rattle.std.specs.List.{range_with_len}
 use Rattle.std.proofs.lemmas.Bool.{cases_Bool, cond-false, cases_eq, or_left, ne_eqb, eq-eqb}
-use Rattle.script_lang.specs.declared.piece.Found.{Found}
+use Rattle.script_lang.specs.declared.piece.FoundOf.{FoundOf}
 use Rattle.script_lang.specs.Places.{places}
-use Rattle.script_lang.specs.declared.piece.Piece.TheVariants.{Text}
+use Rattle.script_lang.specs.declared.piece.PieceOf.TheVariants.{Text}
 use Rattle.script_lang.specs.Directives.{is_directive_mark, is_inside_directive, line_end, directive, IsPlace}
-use Rattle.script_lang.specs.Pieces.{starts, run_end, piece_at, pieces_from}
+use Rattle.script_lang.specs.Pieces.{starts, run_end, piece_by, pieces_by}
 use Rattle.script_lang.proofs.PlaceLemmas.{first_place-is, places-first, places-none}
 use Rattle.script_lang.proofs.StartLemmas.{GoesTo, directive-goes, run-goes, run-inside, run-same}
 
@@ -53,11 +53,11 @@ kept-start text a q h = elim (cases_eq q a) [
   | inr other ↦ kept-other text a q other
 ]
 
-pub pieces_from-end : (text : List ℕ) (a : ℕ) → a ≡ length text → pieces_from text a ≡ []
-pieces_from-end text a e = ap (λ ps. map (piece_at text) (filter (kept text a) ps)) (places-none a (length text) (omega arith))
+pub pieces_by-end : {F : Type 0} (named : List ℕ → F) (text : List ℕ) (a : ℕ) → a ≡ length text → pieces_by named text a ≡ []
+pieces_by-end named text a e = ap (λ ps. map (piece_by named text) (filter (kept text a) ps)) (places-none a (length text) (omega arith))
 
-pub pieces_from-step : (text : List ℕ) (a b : ℕ) → GoesTo text a b → pieces_from text a ≡ piece_at text a ∷ pieces_from text b
-pieces_from-step text a b goes =
+pub pieces_by-step : {F : Type 0} (named : List ℕ → F) (text : List ℕ) (a b : ℕ) → GoesTo text a b → pieces_by named text a ≡ piece_by named text a ∷ pieces_by named text b
+pieces_by-step named text a b goes =
     let after = goes.after in
     let inside = goes.inside in
     let n = length text in
@@ -74,46 +74,46 @@ pieces_from-step text a b goes =
     ∙ ap (λ k. filter (starts text) (range_with_len k (n - b))) is_from
     ∙ sym (filter-same (kept text b) (starts text) (n - b) b
     (λ k low high. kept-start text b k (λ e. ap (starts text) e ∙ goes.next (omega arith)))) in
-    ap (map (piece_at text)) (first ∙ ap (λ ps. a ∷ ps) rest)
+    ap (map (piece_by named text)) (first ∙ ap (λ ps. a ∷ ps) rest)
 
-next-chosen : (t : Bool) (x y : Found) → t ≡ true → x.next ≡ (cond t x y).next
+next-chosen : {F : Type 0} (t : Bool) (x y : FoundOf F) → t ≡ true → x.next ≡ (cond t x y).next
 next-chosen t x y e = sym (ap (λ b. (cond b x y).next) e)
 
-next-other : (t : Bool) (x y : Found) → t ≡ false → y.next ≡ (cond t x y).next
+next-other : {F : Type 0} (t : Bool) (x y : FoundOf F) → t ≡ false → y.next ≡ (cond t x y).next
 next-other t x y e = sym (ap (λ b. (cond b x y).next) e)
 
 -- the piece that is read from a place on goes to the next piece
-pub piece-goes : (text : List ℕ) (a : ℕ) → is_inside_directive text a ≡ false → a < length text → GoesTo text a ((piece_at text a).next)
-piece-goes text a closed lt =
-    let mark : Found = record { piece = directive text a; next = min (line_end text (a + 2) + 1) (length text) } in
-    let run : Found = record { piece = Text a (run_end text a - a); next = run_end text a } in
+pub piece-goes : {F : Type 0} (named : List ℕ → F) (text : List ℕ) (a : ℕ) → is_inside_directive text a ≡ false → a < length text → GoesTo text a ((piece_by named text a).next)
+piece-goes {F = F} named text a closed lt =
+    let mark : FoundOf F = record { piece = directive named text a; next = min (line_end text (a + 2) + 1) (length text) } in
+    let run : FoundOf F = record { piece = Text a (run_end text a - a); next = run_end text a } in
     elim (cases_Bool (is_directive_mark text a)) [
       | inl m ↦ subst (GoesTo text a) (next-chosen (is_directive_mark text a) mark run m) (directive-goes text a m)
       | inr m ↦ subst (GoesTo text a) (next-other (is_directive_mark text a) mark run m) (run-goes text a m closed lt)
     ]
 
 -- the same at any place, for the piece that was found there
-pub found-goes : (text : List ℕ) (a : ℕ) (found : Found) → IsPlace text a → (a ≡ length text → ⊥) → found ≡ piece_at text a → GoesTo text a found.next
-found-goes text a found place before e =
-    subst (λ b. GoesTo text a b) (sym (ap (λ f. f.next) e)) (piece-goes text a (closed place.1) (omega (arith, place.0, before)))
+pub found-goes : {F : Type 0} (named : List ℕ → F) (text : List ℕ) (a : ℕ) (found : FoundOf F) → IsPlace text a → (a ≡ length text → ⊥) → found ≡ piece_by named text a → GoesTo text a found.next
+found-goes named text a found place before e =
+    subst (λ b. GoesTo text a b) (sym (ap (λ f. f.next) e)) (piece-goes named text a (closed place.1) (omega (arith, place.0, before)))
   where
     closed : ◌⊎◌ (is_inside_directive text a ≡ false) (a ≡ length text) → is_inside_directive text a ≡ false
     closed (inl c) = c
     closed (inr end) = absurd (before end)
 
-pub found-pieces : (text : List ℕ) (a : ℕ) (found : Found) → GoesTo text a found.next → found ≡ piece_at text a → pieces_from text a ≡ found ∷ pieces_from text found.next
-found-pieces text a found goes e =
-    pieces_from-step text a found.next goes ∙ ap (λ f. f ∷ pieces_from text found.next) (sym e)
+pub found-pieces : {F : Type 0} (named : List ℕ → F) (text : List ℕ) (a : ℕ) (found : FoundOf F) → GoesTo text a found.next → found ≡ piece_by named text a → pieces_by named text a ≡ found ∷ pieces_by named text found.next
+found-pieces named text a found goes e =
+    pieces_by-step named text a found.next goes ∙ ap (λ f. f ∷ pieces_by named text found.next) (sym e)
 
 -- what is left of a text run from any place of it
-pub run-rest : (text : List ℕ) (a q : ℕ) → is_inside_directive text a ≡ false → a ≤ q → q < run_end text a → a ≤ length text
-    → pieces_from text q ≡ record { piece = Text q (run_end text a - q); next = run_end text a } ∷ pieces_from text (run_end text a)
-run-rest text a q closed le lt in_text =
+pub run-rest : {F : Type 0} (named : List ℕ → F) (text : List ℕ) (a q : ℕ) → is_inside_directive text a ≡ false → a ≤ q → q < run_end text a → a ≤ length text
+    → pieces_by named text q ≡ record { piece = Text q (run_end text a - q); next = run_end text a } ∷ pieces_by named text (run_end text a)
+run-rest {F = F} named text a q closed le lt in_text =
     let here = run-inside text a q closed le lt in_text in
     let same = run-same text a q le lt in_text in
     let high : run_end text a ≤ length text = (first_place-is (is_directive_mark text) a (length text) in_text).high in
-    let run : Found = record { piece = Text q (run_end text q - q); next = run_end text q } in
-    let mark : Found = record { piece = directive text q; next = min (line_end text (q + 2) + 1) (length text) } in
-    pieces_from-step text q (run_end text q) (run-goes text q here.0 here.1 (omega arith))
-    ∙ ap (λ f. f ∷ pieces_from text (run_end text q)) (cond-false (is_directive_mark text q) mark run here.0)
-    ∙ ap (λ r. (record { piece = Text q (r - q); next = r }) ∷ pieces_from text r) same
+    let run : FoundOf F = record { piece = Text q (run_end text q - q); next = run_end text q } in
+    let mark : FoundOf F = record { piece = directive named text q; next = min (line_end text (q + 2) + 1) (length text) } in
+    pieces_by-step named text q (run_end text q) (run-goes text q here.0 here.1 (omega arith))
+    ∙ ap (λ f. f ∷ pieces_by named text (run_end text q)) (cond-false (is_directive_mark text q) mark run here.0)
+    ∙ ap (λ r. (record { piece = Text q (r - q); next = r }) ∷ pieces_by named text r) same

@@ -1,7 +1,7 @@
 -- Scripts worked by hand: what the definition says of them.
 use Rattle.std.specs.Prelude.{◌≡◌, [], ◌∷◌, ◌++◌, codes, refl}
 use Rattle.script_lang.specs.declared.function.Function.TheVariants.{FileStats, NetStats, Ticks, Unknown}
-use Rattle.script_lang.specs.declared.piece.Piece.TheVariants.{Text, Include, Call}
+use Rattle.script_lang.specs.declared.piece.PieceOf.TheVariants.{Text, Include, Call}
 use Rattle.script_lang.specs.Pieces.{pieces}
 
 -- a lone `%`, an include inside a line, an unknown function, and a call without a last LF

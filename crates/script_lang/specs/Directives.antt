@@ -2,10 +2,8 @@
 -- end. So it lies within one line, and which bytes are directives is told by where `%!` and LF stand in the whole text.
 use Rattle.std.specs.Prelude.{◌≡◌, ◌≤◌, ◌⊎◌, ℕ, ◌+◌, ◌-◌, Bool, ◌&&◌, not, List, length, nat_lt, slice_range, if◌then◌else◌, IsFalse}
 use Rattle.std.specs.List.{list_any}
-use Rattle.script_lang.specs.declared.function.Function.{Function}
-use Rattle.script_lang.specs.declared.piece.Piece.{Piece}
-use Rattle.script_lang.specs.declared.piece.Piece.TheVariants.{Include, Call}
-use Rattle.script_lang.specs.Functions.{function_named}
+use Rattle.script_lang.specs.declared.piece.PieceOf.{PieceOf}
+use Rattle.script_lang.specs.declared.piece.PieceOf.TheVariants.{Include, Call}
 use Rattle.script_lang.specs.declared.words.Span.{Span}
 use Rattle.script_lang.specs.Places.{places, first_place, is_byte, word_start, word_end, word}
 
@@ -42,20 +40,20 @@ abbrev pub before_cr : List ℕ → ℕ → ℕ → ℕ
 before_cr text a b = if nat_lt a b && is_byte text 13 (b - 1) then b - 1 else b
 
 -- the include whose name is the word
-abbrev pub include : Span → Piece
+abbrev pub include : {F : Type 0} → Span → PieceOf F
 include name = Include name.at name.len
 
 -- the call whose argument is the word
-abbrev pub call : Function → Span → Piece
+abbrev pub call : {F : Type 0} → F → Span → PieceOf F
 call function argument = Call function argument.at argument.len
 
 -- the directive whose inner part goes from a up to before b. Where that begins with `:`, it is an include, whose name is
 -- the first word after the `:`; otherwise it is a call, whose function is the first word and whose argument the second
-abbrev pub directive_within : List ℕ → ℕ → ℕ → Piece
-directive_within text a b =
+abbrev pub directive_within : {F : Type 0} → (List ℕ → F) → List ℕ → ℕ → ℕ → PieceOf F
+directive_within named text a b =
     if nat_lt a b && is_byte text 58 a then include (word text (a + 1) b)
-    else call (function_named (slice_range text (word_start text a b) (word_end text a b))) (word text (word_end text a b) b)
+    else call (named (slice_range text (word_start text a b) (word_end text a b))) (word text (word_end text a b) b)
 
 -- the directive at p, whose inner part is what stands between `%!` and the line's end, without a CR at its end
-abbrev pub directive : List ℕ → ℕ → Piece
-directive text p = directive_within text (p + 2) (before_cr text (p + 2) (line_end text (p + 2)))
+abbrev pub directive : {F : Type 0} → (List ℕ → F) → List ℕ → ℕ → PieceOf F
+directive named text p = directive_within named text (p + 2) (before_cr text (p + 2) (line_end text (p + 2)))

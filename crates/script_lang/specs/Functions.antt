@@ -1,6 +1,7 @@
 -- The functions that a script can call.
-use Rattle.std.specs.Prelude.{ℕ, List, codes, if◌then◌else◌}
+use Rattle.std.specs.Prelude.{ℕ, Bool, true, false, List, codes, if◌then◌else◌}
 use Rattle.std.specs.Str.{bytes_eq}
+use Rattle.script_lang.specs.Calling.{Calling}
 use Rattle.script_lang.specs.declared.function.Function.{Function}
 use Rattle.script_lang.specs.declared.function.Function.TheVariants.{FileStats, TcpConnections, NetStats, Ticks, Unknown}
 
@@ -20,3 +21,12 @@ length_at_most TcpConnections = 1030
 length_at_most NetStats = 220
 length_at_most Ticks = 10
 length_at_most Unknown = 0
+
+-- a call of an unknown function takes no capture
+abbrev pub takes_capture : Function → Bool
+takes_capture Unknown = false
+takes_capture _ = true
+
+-- the functions of uIP
+abbrev pub uip_calls : Calling Function
+uip_calls = record { named = function_named; takes_capture = takes_capture; length_at_most = length_at_most }

@@ -1,3 +1,4 @@
+pub mod Calling
 pub mod Functions
 pub mod Places
 pub mod Directives

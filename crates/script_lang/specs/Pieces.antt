@@ -1,9 +1,11 @@
 -- The pieces of a script. A piece starts at the text's front, where a directive begins, and after a directive, and goes
 -- to where the next one starts.
 use Rattle.std.specs.Prelude.{◌≤◌, ℕ, ◌+◌, ◌-◌, ◌==◌, Bool, ◌||◌, List, length, min, map, filter, if◌then◌else◌}
-use Rattle.script_lang.specs.declared.piece.Found.{Found}
-use Rattle.script_lang.specs.declared.piece.Piece.{Piece}
-use Rattle.script_lang.specs.declared.piece.Piece.TheVariants.{Text, Include, Call}
+use Rattle.script_lang.specs.declared.piece.FoundOf.{FoundOf}
+use Rattle.script_lang.specs.declared.piece.PieceOf.{PieceOf}
+use Rattle.script_lang.specs.declared.piece.PieceOf.TheVariants.{Text, Include, Call}
+use Rattle.script_lang.specs.declared.function.Function.{Function}
+use Rattle.script_lang.specs.Functions.{function_named}
 use Rattle.script_lang.specs.Places.{places, first_place}
 use Rattle.script_lang.specs.Directives.{is_directive_mark, begins, ends, line_end, directive}
 
@@ -16,21 +18,27 @@ abbrev pub run_end : List ℕ → ℕ → ℕ
 run_end text p = first_place (is_directive_mark text) p (length text)
 
 -- the piece from p on: a directive where `%!` stands there, otherwise what is left of the text run
-abbrev pub piece_at : List ℕ → ℕ → Found
-piece_at text p =
-    if is_directive_mark text p then record { piece = directive text p; next = min (line_end text (p + 2) + 1) (length text) }
+abbrev pub piece_by : {F : Type 0} → (List ℕ → F) → List ℕ → ℕ → FoundOf F
+piece_by named text p =
+    if is_directive_mark text p then record { piece = directive named text p; next = min (line_end text (p + 2) + 1) (length text) }
     else record { piece = Text p (run_end text p - p); next = run_end text p }
 
 -- the part that a piece names lies within the first n bytes
-abbrev pub LiesWithin : ℕ → Piece → Type 0
+abbrev pub LiesWithin : {F : Type 0} → ℕ → PieceOf F → Type 0
 LiesWithin n (Text at len) = at + len ≤ n
 LiesWithin n (Include at len) = at + len ≤ n
 LiesWithin n (Call function at len) = at + len ≤ n
 
 -- the pieces from place p on, of which the first is what is left of the piece in which p lies
-abbrev pub pieces_from : List ℕ → ℕ → List Found
-pieces_from text p = map (piece_at text) (filter (λ q. (q == p) || starts text q) (places p (length text)))
+abbrev pub pieces_by : {F : Type 0} → (List ℕ → F) → List ℕ → ℕ → List (FoundOf F)
+pieces_by named text p = map (piece_by named text) (filter (λ q. (q == p) || starts text q) (places p (length text)))
 
--- the pieces of a script
-abbrev pub pieces : List ℕ → List Found
+-- Where the functions are those of uIP: the piece from place p on, those from there on, and all pieces of a script.
+abbrev pub piece_at : List ℕ → ℕ → FoundOf Function
+piece_at text p = piece_by function_named text p
+
+abbrev pub pieces_from : List ℕ → ℕ → List (FoundOf Function)
+pieces_from text p = pieces_by function_named text p
+
+abbrev pub pieces : List ℕ → List (FoundOf Function)
 pieces text = pieces_from text 0

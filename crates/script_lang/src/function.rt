@@ -1,6 +1,8 @@
 ghost use Rattle.std.specs.Prelude.{◌≡◌};
 ghost use Rattle.script_lang.specs.Functions.{function_named, length_at_most};
 
+use crate::calls::Calls;
+
 /// A function that a script calls by its name.
 #[derive(Clone, Copy, Debug, PartialEq, Eq)]
 pub enum Function {
@@ -48,5 +50,29 @@ pub fn greatest_len(function: Function) -> usize
         Function::TcpConnections => 1030,
         Function::NetStats => 220,
         Function::Unknown => 0,
+    }
+}
+
+impl Calls for Function {
+    ghost use Rattle.script_lang.specs.Functions.{uip_calls};
+
+    ghost calling = { uip_calls };
+
+    #[inline(always)]
+    fn named(name: &[u8]) -> Function {
+        function_of(name)
+    }
+
+    #[inline(always)]
+    fn takes_capture(self) -> bool {
+        match self {
+            Function::Unknown => false,
+            _ => true,
+        }
+    }
+
+    #[inline(always)]
+    fn greatest_len(self) -> usize {
+        greatest_len(self)
     }
 }

@@ -3,15 +3,17 @@
 //! thread keeps one number and no table of pieces. No call is given an allocator; that none takes memory is no clause.
 #![tactic(auto)]
 
+mod calls;
 mod function;
 mod piece;
 mod scan;
 mod search;
 mod words;
 
+pub use calls::Calls;
 pub use function::{Function, greatest_len};
-pub use piece::{Found, Piece};
-pub use scan::{next_piece, runs_past};
+pub use piece::{Found, FoundOf, Piece, PieceOf};
+pub use scan::{next_piece, next_piece_of, runs_past};
 
 #[cfg(test)]
 mod tests;

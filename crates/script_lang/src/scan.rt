@@ -1,14 +1,32 @@
 ghost use Rattle.std.specs.Prelude.{◌≡◌, ℕ, ◌+◌, ◌<◌, ◌≤◌, ◌↔◌, ◌∷◌, [], length, nat_lt, IsTrue, IsNone, IfSome, MatchOption};
 ghost use Rattle.script_lang.specs.Directives.{IsPlace, is_directive_mark, before_cr, directive_within};
-ghost use Rattle.script_lang.specs.Pieces.{piece_at, pieces_from, run_end, LiesWithin};
+ghost use Rattle.script_lang.specs.Pieces.{piece_by, pieces_by, pieces_from, run_end, LiesWithin};
 
-use crate::function::function_of;
-use crate::piece::{Found, Piece};
+use crate::calls::Calls;
+use crate::piece::{Found, FoundOf, PieceOf};
 use crate::search::{byte_from, is_mark_at, mark_from, other_from};
 use crate::words::word_in;
 
 /// The piece from `at` on, and `None` at the text's end. `at` is a place at or inside a text run, at the start of a
 /// directive, or the text's length; inside a text run the piece is the rest of that run.
+#[inline(always)]
+pub fn next_piece_of<F: Calls>(text: &[u8], at: usize) -> Option<FoundOf<F>>
+    requires { IsPlace text.now at }
+    ensures none { IsNone result ↔ (at ≡ length text.now) }
+
+    // Read from place to place, these are the pieces of the whole text.
+    ensures pieces { MatchOption result (pieces_by F.calling.named text.now at ≡ [])
+        (λ found. pieces_by F.calling.named text.now at ≡ found ∷ pieces_by F.calling.named text.now found.next) }
+    ensures within { IfSome result (λ found. LiesWithin (length text.now) found.piece) }
+    ensures next { IfSome result (λ found. (at < found.next) × IsPlace text.now found.next) }
+{
+    if at == text.len() {
+        return None;
+    }
+    Some(piece_from::<F>(text, at))
+}
+
+/// The same where a script calls the functions of uIP.
 #[inline(always)]
 pub fn next_piece(text: &[u8], at: usize) -> Option<Found>
     requires { IsPlace text.now at }
@@ -20,10 +38,7 @@ pub fn next_piece(text: &[u8], at: usize) -> Option<Found>
     ensures within { IfSome result (λ found. LiesWithin (length text.now) found.piece) }
     ensures next { IfSome result (λ found. (at < found.next) × IsPlace text.now found.next) }
 {
-    if at == text.len() {
-        return None;
-    }
-    Some(piece_from(text, at))
+    next_piece_of(text, at)
 }
 
 /// Whether a text run goes on for more than `count` bytes from `at` on. It looks at no byte that is further away.
@@ -41,33 +56,33 @@ pub fn runs_past(text: &[u8], at: usize, count: usize) -> bool
 
 /// The piece from `at` on.
 #[inline(always)]
-fn piece_from(text: &[u8], at: usize) -> Found
+fn piece_from<F: Calls>(text: &[u8], at: usize) -> FoundOf<F>
     requires { at < length text.now }
-    ensures piece { result ≡ piece_at text.now at }
+    ensures piece { result ≡ piece_by F.calling.named text.now at }
     ensures within { LiesWithin (length text.now) result.piece }
 {
     if is_mark_at(text, at) {
-        return directive_from(text, at);
+        return directive_from::<F>(text, at);
     }
     let next = mark_from(text, at, text.len());
-    let piece = Piece::Text { at, len: next - at };
-    Found { piece, next }
+    let piece = PieceOf::Text { at, len: next - at };
+    FoundOf { piece, next }
 }
 
 /// The directive that begins at `at`.
 #[inline(always)]
-fn directive_from(text: &[u8], at: usize) -> Found
+fn directive_from<F: Calls>(text: &[u8], at: usize) -> FoundOf<F>
     requires mark { IsTrue (is_directive_mark text.now at) }
     requires inside { at + 2 ≤ length text.now }
-    ensures piece { result ≡ piece_at text.now at }
+    ensures piece { result ≡ piece_by F.calling.named text.now at }
     ensures within { LiesWithin (length text.now) result.piece }
 {
     let inner = at + 2;
     let stop = byte_from(text, b'\n', inner, text.len());
     let end = without_cr(text, inner, stop);
-    let piece = directive_in(text, inner, end);
+    let piece = directive_in::<F>(text, inner, end);
     let next = text.len().min(stop + 1);
-    Found { piece, next }
+    FoundOf { piece, next }
 }
 
 /// Where the inner part from `from` on ends, if its line ends at `stop`: there, or at the CR before.
@@ -87,24 +102,24 @@ fn without_cr(text: &[u8], from: usize, stop: usize) -> usize
 
 /// The directive whose inner part goes from `from` up to before `to`.
 #[inline(always)]
-fn directive_in(text: &[u8], from: usize, to: usize) -> Piece
+fn directive_in<F: Calls>(text: &[u8], from: usize, to: usize) -> PieceOf<F>
     requires ordered { from ≤ to }
     requires inside { to ≤ length text.now }
-    ensures piece { result ≡ directive_within text.now from to }
+    ensures piece { result ≡ directive_within F.calling.named text.now from to }
     ensures within { LiesWithin (length text.now) result }
 {
     if from < to && text[from] == b':' {
         let name = word_in(text, from + 1, to);
-        return Piece::Include {
+        return PieceOf::Include {
             at: name.at,
             len: name.len,
         };
     }
     let start = other_from(text, b' ', from, to);
     let end = byte_from(text, b' ', start, to);
-    let function = function_of(&text[start..end]);
+    let function = F::named(&text[start..end]);
     let argument = word_in(text, end, to);
-    Piece::Call {
+    PieceOf::Call {
         function,
         at: argument.at,
         len: argument.len,

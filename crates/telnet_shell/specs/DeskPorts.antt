@@ -7,7 +7,7 @@ use Rattle.app_events.specs.declared.now.Now.{Now}
 use Rattle.site_image.specs.Files.{File}
 use Rattle.file_tree.specs.Site.{SiteContent}
 use Rattle.web_pages.specs.WebMeaning.{web_meaning}
-use Rattle.httpd.specs.declared.httpd.Httpd.{Httpd}
+use Rattle.httpd.specs.First.{Httpd}
 use Rattle.httpd.specs.HttpdStands.{HttpdStands}
 use Rattle.telnet_shell.specs.declared.shell.Shell.{Shell}
 use Rattle.telnet_shell.specs.declared.shell.TheConstants.{TELNET_PORT}

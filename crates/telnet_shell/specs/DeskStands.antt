@@ -4,7 +4,7 @@ use Rattle.app_events.specs.Part.{Part, Meaning, text_left}
 use Rattle.site_image.specs.Files.{File}
 use Rattle.file_tree.specs.Site.{SiteContent, files_of}
 use Rattle.web_pages.specs.WebMeaning.{web_meaning}
-use Rattle.httpd.specs.declared.httpd.Httpd.{Httpd}
+use Rattle.httpd.specs.First.{Httpd}
 use Rattle.httpd.specs.HttpdStands.{HttpdStands}
 use Rattle.httpd.specs.Lemmas.SameLeft.{same_left as web_same_left}
 use Rattle.telnet_shell.specs.declared.shell.Shell.{Shell}

@@ -8,7 +8,7 @@ use Rattle.generators.specs.Text.{capture_text}
 use Rattle.generators.specs.declared.capture.Capture.{Capture}
 use Rattle.generators.specs.declared.capture.Capture.TheVariants.{Empty}
 use Rattle.app_events.specs.Part.{Moment}
-use Rattle.web_pages.specs.Pages.{takes_capture}
+use Rattle.script_lang.specs.Functions.{takes_capture}
 use Rattle.telnet_shell.specs.declared.hearing.TheConstants.{IAC}
 use Rattle.telnet_shell.specs.declared.command.Command.{Command}
 use Rattle.telnet_shell.specs.declared.command.Command.TheVariants.{Refuse, Help, Stats, Conns, Ticks, Quit, Blank, Other}

@@ -8,3 +8,4 @@ pub mod WordLaws
 pub mod ZeroLaws
 mod WorkedRequests
 mod WorkedPages
+pub mod OwnState

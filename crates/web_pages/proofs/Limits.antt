@@ -6,7 +6,9 @@ use Rattle.std.specs.List.{list_any, list_all}
 use Rattle.std.proofs.lemmas.Bool.{leb-true, leb-false, and_parts}
 use Rattle.std.proofs.lemmas.List.Sums.{sum_by-cons}
 use Rattle.std.proofs.lemmas.Option.{slice_get-map, same_Some}
-use Rattle.script_lang.specs.Pieces.{pieces}
+use Rattle.script_lang.specs.Calling.{Calling}
+use Rattle.script_lang.specs.Functions.{uip_calls}
+use Rattle.script_lang.specs.Pieces.{pieces_by}
 use Rattle.site_image.specs.declared.TheConstants.{PAGE_LIMIT}
 use Rattle.site_image.specs.declared.place.Place.{Place}
 use Rattle.site_image.specs.declared.version.Version.{Version}
@@ -14,20 +16,22 @@ use Rattle.site_image.specs.declared.site_error.SiteError.{SiteError}
 use Rattle.site_image.specs.declared.site_error.SiteWhy.TheVariants.{Rest, Include, PageTooLong}
 use Rattle.site_image.specs.Names.{is_script, is_kind, is_kind_byte, kind_by_name}
 use Rattle.site_image.specs.Files.{File, file_named, kind_of}
-use Rattle.site_image.specs.Pages.{misses, script_fault, piece_length, page_length, body_length}
+use Rattle.site_image.specs.Pages.{misses, script_fault_by, piece_length_by, page_length_by, body_length_by}
 use Rattle.site_image.specs.Places.{file_in}
 use Rattle.site_image.specs.Faults.{◌>>=◌, refuse, image_head, entries, scripts, read_image}
 use Rattle.site_image.proofs.ImageLaws.{AreSound, bind_ok, scripts-sound}
-use Rattle.file_tree.specs.Site.{SiteContent, IsLoaded, files_of, image_files}
+use Rattle.file_tree.specs.Site.{SiteContent, IsLoaded, HasSoundScripts, files_of, image_files}
 use Rattle.file_tree.proofs.KindLemmas.{kind-short}
 use Rattle.app_events.specs.Part.{Moment}
 use Rattle.app_events.specs.Pages.{IsMoment}
 use Rattle.web_pages.specs.Requests.{Wanted, wanted}
 use Rattle.web_pages.specs.Requests.Wanted.{NotYet, Refused, Name}
-use Rattle.web_pages.specs.Pieces.{Say, bytes_or, missing_reply, missing_head, reply_to, reply_pieces, found_reply, kind_line}
+use Rattle.generators.specs.Giving.{Giving, AreShort, uip}
+use Rattle.generators.specs.Lemmas.Lengths.{texts_short}
+use Rattle.web_pages.specs.Pieces.{Say, bytes_or, missing_reply, missing_head, reply_to_by, reply_pieces_by, found_reply_by, kind_line}
 use Rattle.web_pages.specs.Pieces.Say.{Plain}
-use Rattle.web_pages.specs.Pages.{page_text, page_for, page}
-use Rattle.web_pages.specs.Claims.{IsAtMostGreatest}
+use Rattle.web_pages.specs.Pages.{text_by, page_for_by, page_by}
+use Rattle.web_pages.specs.Claims.{IsAtMostGreatest, IsAtMostGreatestBy}
 use Rattle.web_pages.proofs.Found.{found_there, found_itself}
 use Rattle.web_pages.proofs.Bounds.{all_said, most_said, text_bound, found_bound}
 
@@ -81,33 +85,33 @@ kind_small file is = by_own (length file.kind == 0)
     by_own true = (let short = kind-short file.name in omega arith)
     by_own false = kind_good file.kind is
 
-script_short : (files : List File) (file : File) → script_fault files file ≡ None → is_script file.name ≡ true → page_length files file < 1073741824
-script_short files file sound script =
-    by_misses (list_any (λ found. misses files file.content found.piece) (pieces file.content)) (nat_le PAGE_LIMIT (page_length files file)) refl
+script_short : {F : Type 0} (c : Calling F) (files : List File) (file : File) → script_fault_by c files file ≡ None → is_script file.name ≡ true → page_length_by c files file < 1073741824
+script_short c files file sound script =
+    by_misses (list_any (λ found. misses files file.content found.piece) (pieces_by c.named file.content 0)) (nat_le PAGE_LIMIT (page_length_by c files file)) refl
     (ap (λ b. if b then
-    (if list_any (λ found. misses files file.content found.piece) (pieces file.content) then Some Include
-    else (if nat_le PAGE_LIMIT (page_length files file) then Some PageTooLong else None))
+    (if list_any (λ found. misses files file.content found.piece) (pieces_by c.named file.content 0) then Some Include
+    else (if nat_le PAGE_LIMIT (page_length_by c files file) then Some PageTooLong else None))
     else None) (sym script) ∙ sound)
   where
-    by_misses : (m long : Bool) → nat_le PAGE_LIMIT (page_length files file) ≡ long
-        → (if m then Some Include else (if long then Some PageTooLong else None)) ≡ None → page_length files file < 1073741824
+    by_misses : (m long : Bool) → nat_le PAGE_LIMIT (page_length_by c files file) ≡ long
+        → (if m then Some Include else (if long then Some PageTooLong else None)) ≡ None → page_length_by c files file < 1073741824
     by_misses true long e h = absurd cc
     by_misses false true e h = absurd cc
-    by_misses false false e h = leb-false 1073741824 (page_length files file) e
+    by_misses false false e h = leb-false 1073741824 (page_length_by c files file) e
 
-plain_body : (files : List File) (file : File) → is_script file.name ≡ false → body_length files file ≡ length file.content
-plain_body files file plain =
-    ap (λ b. if b then sum_by (λ found. piece_length files file.content found.piece) (pieces file.content) else length file.content) plain
+plain_body : {F : Type 0} (c : Calling F) (files : List File) (file : File) → is_script file.name ≡ false → body_length_by c files file ≡ length file.content
+plain_body c files file plain =
+    ap (λ b. if b then sum_by (λ found. piece_length_by c files file.content found.piece) (pieces_by c.named file.content 0) else length file.content) plain
 
 -- the greatest length of a file's page is below the limit
-pub greatest_short : (site : SiteContent) → IsLoaded site → (k : ℕ) (file : File) → slice_get (files_of site) k ≡ Some file
-    → page_length (files_of site) file < 1073741824
-greatest_short site is k file s = by_script (is_script file.name) refl
+pub greatest_short : {F : Type 0} (c : Calling F) (site : SiteContent) → IsLoaded site → HasSoundScripts c (files_of site) → (k : ℕ) (file : File) → slice_get (files_of site) k ≡ Some file
+    → page_length_by c (files_of site) file < 1073741824
+greatest_short c site is sound k file s = by_script (is_script file.name) refl
   where
-    by_script : (b : Bool) → is_script file.name ≡ b → page_length (files_of site) file < 1073741824
-    by_script true e = script_short (files_of site) file (image_sound site.image (files_of site) is.read k file s) e
+    by_script : (b : Bool) → is_script file.name ≡ b → page_length_by c (files_of site) file < 1073741824
+    by_script true e = script_short c (files_of site) file (sound k file s) e
     by_script false e =
-        let body = plain_body (files_of site) file e in
+        let body = plain_body c (files_of site) file e in
         let content = content_small site is k file s in
         let kind = kind_small file (is.good k file s).1 in
         omega arith
@@ -121,49 +125,60 @@ missing_small site is (Some file) e =
     let there = found_there (files_of site) (codes "/404.html") file e in
     content_small site is there.place file there.at
 
-missing_bound : (site : SiteContent) → IsLoaded site → all_said (missing_reply (files_of site)) < 1073741824
-missing_bound site is =
+missing_bound : {F : Type 0} (c : Calling F) (site : SiteContent) → IsLoaded site → all_said c (missing_reply (files_of site)) < 1073741824
+missing_bound {F = F} c site is =
     let body = missing_small site is (file_named (files_of site) (codes "/404.html")) refl in
-    let last : Say = Plain (bytes_or (codes "not found\n") (file_named (files_of site) (codes "/404.html"))) in
-    let line : Say = Plain (kind_line (codes "text/html")) in
+    let last : Say F = Plain (bytes_or (codes "not found\n") (file_named (files_of site) (codes "/404.html"))) in
+    let line : Say F = Plain (kind_line (codes "text/html")) in
     let head_length : length missing_head ≡ 60 = refl in
     let line_length : length (kind_line (codes "text/html")) ≡ 27 = refl in
     omega (
       arith,
-      sum_by-cons most_said (Plain missing_head) (line ∷ last ∷ []),
-      sum_by-cons most_said line (last ∷ []),
-      sum_by-cons most_said last [],
+      sum_by-cons (most_said c) (Plain missing_head) (line ∷ last ∷ []),
+      sum_by-cons (most_said c) line (last ∷ []),
+      sum_by-cons (most_said c) last [],
     )
 
-reply_bound : (site : SiteContent) → IsLoaded site → (name : List ℕ) (found : Option File) → file_named (files_of site) name ≡ found
-    → all_said (reply_to (files_of site) found) < 1073741824
-reply_bound site is name None e = missing_bound site is
-reply_bound site is name (Some file) e =
+reply_bound : {F : Type 0} (c : Calling F) (site : SiteContent) → IsLoaded site → HasSoundScripts c (files_of site) → (name : List ℕ) (found : Option File) → file_named (files_of site) name ≡ found
+    → all_said c (reply_to_by c.named (files_of site) found) < 1073741824
+reply_bound c site is sound name None e = missing_bound c site is
+reply_bound c site is sound name (Some file) e =
     let there = found_there (files_of site) name file e in
-    let short = greatest_short site is there.place file there.at in
-    let said = found_bound (files_of site) file in
+    let short = greatest_short c site is sound there.place file there.at in
+    let said = found_bound c (files_of site) file in
     omega arith
 
-short_by : (site : SiteContent) → IsLoaded site → (asked : Wanted) (captures : List Moment) → All IsMoment captures
-    → length (page_for (files_of site) asked captures) < 1073741824
-short_by site is NotYet captures all = lit< tt
-short_by site is Refused captures all = lit< tt
-short_by site is (Name name) captures all =
-    let text = text_bound (files_of site) (reply_pieces (files_of site) name) captures all in
-    let said = reply_bound site is name (file_named (files_of site) name) refl in
+short_by : {F : Type 0} (g : Giving F) → AreShort g → (site : SiteContent) → IsLoaded site → HasSoundScripts g.calling (files_of site)
+    → (asked : Wanted) (captures : List Moment) → All IsMoment captures → length (page_for_by g (files_of site) asked captures) < 1073741824
+short_by g short site is sound NotYet captures all = lit< tt
+short_by g short site is sound Refused captures all = lit< tt
+short_by g short site is sound (Name name) captures all =
+    let text = text_bound g short (files_of site) (reply_pieces_by g.calling.named (files_of site) name) captures all in
+    let said = reply_bound g.calling site is sound name (file_named (files_of site) name) refl in
     omega arith
 
-pub page_short : (site : SiteContent) → IsLoaded site → (request : List ℕ) (captures : List Moment) → All IsMoment captures
-    → length (page (files_of site) request captures) < 1073741824
-page_short site is request captures all = short_by site is (wanted request) captures all
+pub page_short : {F : Type 0} (g : Giving F) → AreShort g → (site : SiteContent) → IsLoaded site → HasSoundScripts g.calling (files_of site)
+    → (request : List ℕ) (captures : List Moment) → All IsMoment captures → length (page_by g (files_of site) request captures) < 1073741824
+page_short g short site is sound request captures all = short_by g short site is sound (wanted request) captures all
 
--- the page of a file is at most as long as the site tells
-pub at_most_greatest : IsAtMostGreatest
-at_most_greatest site is id file s request captures asked all =
+-- the page of a file is at most as long as its greatest length
+pub at_most_greatest_by : {F : Type 0} (g : Giving F) → AreShort g → IsAtMostGreatestBy g
+at_most_greatest_by g short site is id file s request captures asked all =
     let files = files_of site in
     let itself : file_named files file.name ≡ Some file = found_itself files is.apart id file s in
-    let same : page files request captures ≡ page_text files (found_reply files file) captures =
-    ap (λ w. page_for files w captures) asked ∙ ap (λ found. page_text files (reply_to files found) captures) itself in
-    let text = text_bound files (found_reply files file) captures all in
-    let said = found_bound files file in
+    let same : page_by g files request captures ≡ text_by g files (found_reply_by g.calling.named files file) captures =
+    ap (λ w. page_for_by g files w captures) asked ∙ ap (λ found. text_by g files (reply_to_by g.calling.named files found) captures) itself in
+    let text = text_bound g short files (found_reply_by g.calling.named files file) captures all in
+    let said = found_bound g.calling files file in
     omega (arith, ap length same)
+
+-- ---- the functions of uIP
+
+pub uip_short : AreShort uip
+uip_short function argument hits own now word is_now = texts_short function hits now word is_now
+
+pub uip_sound : (site : SiteContent) → IsLoaded site → HasSoundScripts uip_calls (files_of site)
+uip_sound site is = image_sound site.image (files_of site) is.read
+
+pub at_most_greatest : IsAtMostGreatest
+at_most_greatest = at_most_greatest_by uip uip_short

@@ -7,14 +7,15 @@ use Rattle.site_image.specs.Files.{File}
 use Rattle.file_tree.specs.Site.{files_of}
 use Rattle.app_events.specs.Part.{Part, Moment}
 use Rattle.app_events.specs.Pages.{IsWord}
+use Rattle.generators.specs.Giving.{Giving, AreShort, uip}
 use Rattle.web_pages.specs.Requests.{Wanted, wanted}
 use Rattle.web_pages.specs.Requests.Wanted.{NotYet, Refused, Name}
 use Rattle.web_pages.specs.Pages.{place_of}
-use Rattle.web_pages.specs.WebMeaning.{hit_at, hits_by, is_acknowledged, waits_for_capture}
+use Rattle.web_pages.specs.WebMeaning.{hit_at, hits_by, is_acknowledged_by, waits_for_capture_by}
 use Rattle.web_pages.specs.Lemmas.Growing.{page_grows, page_stays}
 use Rattle.web_pages.specs.Lemmas.WebLaws.{with_capture, may_want}
-use Rattle.web_pages.specs.Claims.{KeepsPageLaws}
-use Rattle.web_pages.proofs.Limits.{page_short}
+use Rattle.web_pages.specs.Claims.{KeepsPageLaws, KeepsPageLawsBy}
+use Rattle.web_pages.proofs.Limits.{page_short, uip_short, uip_sound}
 
 hit_words : (hits : List ℕ) (place : Option ℕ) → All IsWord hits → All IsWord (hit_at hits place)
 hit_words hits None all = all
@@ -43,15 +44,15 @@ either_acked : (waits : Bool) (part : Part) (capture : Moment) → (either waits
 either_acked true part capture = refl
 either_acked false part capture = refl
 
-abbrev waits : List File → Part → Bool
-waits files part = is_acknowledged files part && waits_for_capture files (wanted part.heard) part
+abbrev waits : {F : Type 0} → Giving F → List File → Part → Bool
+waits g files part = is_acknowledged_by g files part && waits_for_capture_by g files (wanted part.heard) part
 
-pub keeps_page_laws : KeepsPageLaws
-keeps_page_laws site is = record {
-  grows = λ q more k later. page_grows (files_of site) q more k later;
-  stays = λ q more k later whole. (page_stays (files_of site) q more k later whole).0;
-  stays_whole = λ q more k later whole. (page_stays (files_of site) q more k later whole).1;
-  short = λ q k all. page_short site is q k all;
+pub keeps_page_laws_by : {F : Type 0} (g : Giving F) → AreShort g → KeepsPageLawsBy g
+keeps_page_laws_by g short site is sound = record {
+  grows = λ q more k later. page_grows g (files_of site) q more k later;
+  stays = λ q more k later whole. (page_stays g (files_of site) q more k later whole).0;
+  stays_whole = λ q more k later whole. (page_stays g (files_of site) q more k later whole).1;
+  short = λ q k all. page_short g short site is sound q k all;
   said = λ part. refl;
   connected_heard = λ hits port. refl;
   connected_captures = λ hits port. refl;
@@ -59,17 +60,20 @@ keeps_page_laws site is = record {
   newdata_heard = λ hits part piece. refl;
   newdata_captures = λ hits part piece. refl;
   newdata_acked = λ hits part piece. refl;
-  prepare_heard = λ hits part now. either_heard (waits (files_of site) part) part (record { numbers = hits; now = now });
-  prepare_captures = λ hits part now. either_captures (waits (files_of site) part) part (record { numbers = hits; now = now });
-  prepare_acked = λ hits part now. either_acked (waits (files_of site) part) part (record { numbers = hits; now = now });
+  prepare_heard = λ hits part now. either_heard (waits g (files_of site) part) part (record { numbers = hits; now = now });
+  prepare_captures = λ hits part now. either_captures (waits g (files_of site) part) part (record { numbers = hits; now = now });
+  prepare_acked = λ hits part now. either_acked (waits g (files_of site) part) part (record { numbers = hits; now = now });
   acked_like = λ hits part n. refl;
   acked_captures = λ hits part n. refl;
   acked_moves = λ hits part n. refl;
   polled_like = λ hits part. record { heard = refl; captures = refl; acked = refl };
-  wants = λ hits part. may_want (files_of site) part;
+  wants = λ hits part. may_want g (files_of site) part;
   connected_numbers = λ hits port all. all;
   newdata_numbers = λ hits part piece all. hits_words (files_of site) hits (wanted part.heard) (wanted (part.heard ++ piece)) all;
   acked_numbers = λ hits part n all. all;
   polled_numbers = λ hits part all. all;
   ended_numbers = λ hits part how all. all;
 }
+
+pub keeps_page_laws : KeepsPageLaws
+keeps_page_laws site is = keeps_page_laws_by uip uip_short site is (uip_sound site is)

@@ -9,9 +9,9 @@ use Rattle.std.proofs.lemmas.Option.{same_Some, slice_get_within, slice_get_read
 use Rattle.std.proofs.lemmas.Slice.Eq.{bytes_eq-Decides}
 use Rattle.std.specs.Option.{option_map_or}
 use Rattle.script_lang.specs.declared.function.Function.{Function}
-use Rattle.script_lang.specs.declared.piece.Piece.{Piece}
-use Rattle.script_lang.specs.declared.piece.Piece.TheVariants.{Text, Include, Call}
-use Rattle.script_lang.specs.declared.piece.Found.{Found}
+use Rattle.script_lang.specs.declared.piece.PieceOf.{PieceOf}
+use Rattle.script_lang.specs.declared.piece.PieceOf.TheVariants.{Text, Include, Call}
+use Rattle.script_lang.specs.declared.piece.FoundOf.{FoundOf}
 use Rattle.script_lang.specs.Pieces.{pieces}
 use Rattle.site_image.specs.Names.{is_script, kind_by_name}
 use Rattle.site_image.specs.Files.{File, has_name, file_named, kind_of}
@@ -23,7 +23,8 @@ use Rattle.web_pages.specs.Requests.{Wanted, wanted}
 use Rattle.web_pages.specs.Requests.Wanted.{NotYet, Refused, Name}
 use Rattle.web_pages.specs.Pieces.{Say, says, bytes_or, body_of, missing_head, found_head, kind_line, reply_to, reply_pieces}
 use Rattle.web_pages.specs.Pieces.Say.{Plain, Made}
-use Rattle.web_pages.specs.Pages.{takes_capture, place_of, made_text, page_text, reach_end, page_for, whole_for}
+use Rattle.script_lang.specs.Functions.{takes_capture}
+use Rattle.web_pages.specs.Pages.{place_of, made_text, page_text, reach_end, page_for, whole_for}
 use Rattle.web_pages.specs.Claims.{UpgradeKeepsPages}
 use Rattle.web_pages.proofs.Found.{found_there}
 
@@ -60,15 +61,15 @@ missing_upgraded words (Some file) = refl
 
 -- ---- what is said
 
-says_upgraded : (words : List KindContent) (files : List File) (script : List ℕ) (piece : Piece) → says (upgraded words files) script piece ≡ says files script piece
+says_upgraded : (words : List KindContent) (files : List File) (script : List ℕ) (piece : PieceOf Function) → says (upgraded words files) script piece ≡ says files script piece
 says_upgraded words files script (Text at len) = refl
 says_upgraded words files script (Include at len) =
     let name = slice_range script at (at + len) in
     ap (λ bytes. Plain bytes) (ap (bytes_or []) (named_upgraded words files name) ∙ bytes_upgraded words (file_named files name))
 says_upgraded words files script (Call function at len) = refl
 
-all_upgraded : (words : List KindContent) (files : List File) (script : List ℕ) (found : List Found)
-    → map (λ (f : Found). says (upgraded words files) script f.piece) found ≡ map (λ (f : Found). says files script f.piece) found
+all_upgraded : (words : List KindContent) (files : List File) (script : List ℕ) (found : List (FoundOf Function))
+    → map (λ (f : FoundOf Function). says (upgraded words files) script f.piece) found ≡ map (λ (f : FoundOf Function). says files script f.piece) found
 all_upgraded words files script [] = refl
 all_upgraded words files script (f ∷ found) = λ i. says_upgraded words files script f.piece i ∷ all_upgraded words files script found i
 
@@ -156,7 +157,7 @@ made_upgraded : (words : List KindContent) (files : List File) (function : Funct
 made_upgraded words files function argument moment =
     ap (λ place. capture_text (capture_of function (option_map_or (λ at. slice_index_or moment.numbers at 0) place 0) moment.now)) (place_upgraded words files argument)
 
-text_upgraded : (words : List KindContent) (files : List File) (said : List Say) (captures : List Moment) → page_text (upgraded words files) said captures ≡ page_text files said captures
+text_upgraded : (words : List KindContent) (files : List File) (said : List (Say Function)) (captures : List Moment) → page_text (upgraded words files) said captures ≡ page_text files said captures
 text_upgraded words files [] captures = refl
 text_upgraded words files (Plain text ∷ more) captures = ap (λ rest. text ++ rest) (text_upgraded words files more captures)
 text_upgraded words files (Made function argument ∷ more) [] =

@@ -17,8 +17,10 @@ use Rattle.web_pages.specs.Requests.{Wanted, wanted, wanted_by, has_ended}
 use Rattle.web_pages.specs.Requests.Wanted.{NotYet, Refused, Name}
 use Rattle.web_pages.specs.Pieces.{Say, reply_pieces}
 use Rattle.web_pages.specs.Pieces.Say.{Plain, Made}
-use Rattle.web_pages.specs.Pages.{takes_capture, place_of, made_text, page_text, page_for}
+use Rattle.script_lang.specs.Functions.{takes_capture}
+use Rattle.web_pages.specs.Pages.{place_of, made_text, page_text, page_for}
 use Rattle.web_pages.specs.ZeroPages.{zero_moment, zero_said, zero_reply, request_for, zero_page, most_captures}
+use Rattle.generators.specs.Giving.{uip}
 use Rattle.web_pages.specs.Lemmas.Growing.{silent_text, made_first}
 use Rattle.web_pages.specs.Lemmas.Deciding.{decided_by_target}
 
@@ -38,7 +40,7 @@ silent_zero Unknown argument e = refl
 made_zero : (files : List File) (function : Function) (argument : List ℕ) → made_text files function argument zero_moment ≡ zero_said (Made function argument)
 made_zero files function argument = ap (λ hits. capture_text (capture_of function hits zero_moment.now)) (no_number (place_of files argument))
 
-pub zero_text : (files : List File) (says : List Say) (n : ℕ) → length says ≤ n → page_text files says (replicate n zero_moment) ≡ flat_map zero_said says
+pub zero_text : (files : List File) (says : List (Say Function)) (n : ℕ) → length says ≤ n → page_text files says (replicate n zero_moment) ≡ flat_map zero_said says
 zero_text files [] n h = refl
 zero_text files (Plain text ∷ more) n h = ap (λ rest. text ++ rest) (zero_text files more n (omega arith))
 zero_text files (Made function argument ∷ more) zero h = absurd (omega arith)
@@ -46,10 +48,10 @@ zero_text files (Made function argument ∷ more) (suc n) h =
     elim (takes_capture function) as (λ b. takes_capture function ≡ b
     → page_text files (Made function argument ∷ more) (replicate (suc n) zero_moment) ≡ zero_said (Made function argument) ++ flat_map zero_said more) [
       | true ↦ λ e.
-          made_first files function argument more zero_moment (replicate n zero_moment) e
+          made_first uip files function argument more zero_moment (replicate n zero_moment) e
           ∙ (λ i. made_zero files function argument i ++ zero_text files more n (omega arith) i)
       | false ↦ λ e.
-          silent_text files function argument more (replicate (suc n) zero_moment) e
+          silent_text uip files function argument more (replicate (suc n) zero_moment) e
           ∙ zero_text files more (suc n) (omega arith)
           ∙ ap (λ front. front ++ flat_map zero_said more) (sym (silent_zero function argument e))
     ] refl

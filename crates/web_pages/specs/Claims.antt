@@ -4,30 +4,44 @@ use Rattle.std.specs.Prelude.{◌≡◌, ◌≢◌, ◌≤◌, ℕ, false, List,
 use Rattle.app_events.specs.Part.{Moment}
 use Rattle.app_events.specs.Pages.{IsPaged, IsMoment, IsByte}
 use Rattle.site_image.specs.Files.{File, has_name}
-use Rattle.site_image.specs.Pages.{page_length}
-use Rattle.file_tree.specs.Site.{SiteContent, IsLoaded, files_of}
+use Rattle.site_image.specs.Pages.{page_length_by}
+use Rattle.file_tree.specs.Site.{SiteContent, IsLoaded, HasSoundScripts, files_of}
 use Rattle.file_tree.specs.Upgrading.{KindContent, upgraded}
 use Rattle.web_pages.specs.Requests.{wanted}
 use Rattle.web_pages.specs.Requests.Wanted.{NotYet, Name}
-use Rattle.web_pages.specs.Pages.{page, is_page_whole, pages_of}
-use Rattle.web_pages.specs.WebMeaning.{web_meaning}
+use Rattle.generators.specs.Giving.{Giving, uip}
+use Rattle.web_pages.specs.Pages.{page, is_page_whole, pages_of, page_by, pages_by}
+use Rattle.web_pages.specs.WebMeaning.{web_meaning, web_meaning_by}
 
--- The web server of a site keeps the laws from which the headline follows.
+-- The web server of a site keeps the laws from which the headline follows, whatever the calls of its scripts give; no page
+-- can be too long.
+abbrev pub KeepsPageLawsBy : {F : Type 0} → Giving F → Type 0
+KeepsPageLawsBy g =
+    (site : SiteContent) → IsLoaded site → HasSoundScripts g.calling (files_of site) →
+    IsPaged (web_meaning_by g (files_of site)) (pages_by g (files_of site))
+
+-- A page of a file is at most as long as its greatest length.
+abbrev pub IsAtMostGreatestBy : {F : Type 0} → Giving F → Type 0
+IsAtMostGreatestBy g =
+    (site : SiteContent) → IsLoaded site → (id : ℕ) (file : File) → slice_get (files_of site) id ≡ Some file →
+    (request : List ℕ) (captures : List Moment) → wanted request ≡ Name file.name → All IsMoment captures →
+    length (page_by g (files_of site) request captures) ≤ page_length_by g.calling (files_of site) file
+
+-- A page of a site of bytes is bytes.
+abbrev pub IsMadeOfBytesBy : {F : Type 0} → Giving F → Type 0
+IsMadeOfBytesBy g =
+    (site : SiteContent) → All IsByte site.image → (request : List ℕ) (captures : List Moment) → All IsMoment captures →
+    All IsByte (page_by g (files_of site) request captures)
+
+-- Where the functions are those of uIP, no page of a loaded site can be too long.
 abbrev pub KeepsPageLaws : Type 0
 KeepsPageLaws = (site : SiteContent) → IsLoaded site → IsPaged (web_meaning (files_of site)) (pages_of (files_of site))
 
--- A page of a file is at most as long as the greatest length that the site tells for it.
 abbrev pub IsAtMostGreatest : Type 0
-IsAtMostGreatest =
-    (site : SiteContent) → IsLoaded site → (id : ℕ) (file : File) → slice_get (files_of site) id ≡ Some file →
-    (request : List ℕ) (captures : List Moment) → wanted request ≡ Name file.name → All IsMoment captures →
-    length (page (files_of site) request captures) ≤ page_length (files_of site) file
+IsAtMostGreatest = IsAtMostGreatestBy uip
 
--- A page of a site of bytes is bytes.
 abbrev pub IsMadeOfBytes : Type 0
-IsMadeOfBytes =
-    (site : SiteContent) → All IsByte site.image → (request : List ℕ) (captures : List Moment) → All IsMoment captures →
-    All IsByte (page (files_of site) request captures)
+IsMadeOfBytes = IsMadeOfBytesBy uip
 
 -- An upgrade in which no word names a file keeps every page.
 abbrev pub UpgradeKeepsPages : Type 0

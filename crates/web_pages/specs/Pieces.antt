@@ -2,16 +2,17 @@
 use Rattle.std.specs.Prelude.{ℕ, ◌+◌, List, [], ◌∷◌, ◌++◌, map, codes, slice_range, if◌then◌else◌, Option}
 use Rattle.std.specs.Option.{option_map_or}
 use Rattle.script_lang.specs.declared.function.Function.{Function}
-use Rattle.script_lang.specs.declared.piece.Piece.{Piece}
-use Rattle.script_lang.specs.declared.piece.Piece.TheVariants.{Text, Include, Call}
-use Rattle.script_lang.specs.Pieces.{pieces}
+use Rattle.script_lang.specs.declared.piece.PieceOf.{PieceOf}
+use Rattle.script_lang.specs.declared.piece.PieceOf.TheVariants.{Text, Include, Call}
+use Rattle.script_lang.specs.Functions.{function_named}
+use Rattle.script_lang.specs.Pieces.{pieces_by}
 use Rattle.site_image.specs.Names.{is_script}
 use Rattle.site_image.specs.Files.{File, file_named, kind_of}
 
 -- Bytes that stand in the site, or a call of a function whose text is made.
-pub data Say : Type 0 where
-  Plain : (text : List ℕ) → Say
-  Made : (function : Function) (argument : List ℕ) → Say
+pub data Say (F : Type 0) : Type 0 where
+  Plain : (text : List ℕ) → Say F
+  Made : (function : F) (argument : List ℕ) → Say F
 
 -- the head of a reply (RFC 1945, section 6.1)
 abbrev pub found_head : List ℕ
@@ -29,30 +30,43 @@ abbrev pub bytes_or : List ℕ → Option File → List ℕ
 bytes_or bytes found = option_map_or (λ file. file.content) found bytes
 
 -- what a piece of a script says: a text run its bytes, an include the bytes of the file that it names, as they are
-abbrev pub says : List File → List ℕ → Piece → Say
+abbrev pub says : {F : Type 0} → List File → List ℕ → PieceOf F → Say F
 says files script (Text at len) = Plain (slice_range script at (at + len))
 says files script (Include at len) = Plain (bytes_or [] (file_named files (slice_range script at (at + len))))
 says files script (Call function at len) = Made function (slice_range script at (at + len))
 
--- the pieces of a file's body: those of a script, or its bytes
-abbrev pub body_of : List File → File → List Say
-body_of files file =
-    if is_script file.name then map (λ found. says files file.content found.piece) (pieces file.content)
+-- the pieces of a file's body, with the functions of these names: those of a script, or its bytes
+abbrev pub body_by : {F : Type 0} → (List ℕ → F) → List File → File → List (Say F)
+body_by named files file =
+    if is_script file.name then map (λ found. says files file.content found.piece) (pieces_by named file.content 0)
     else Plain file.content ∷ []
 
 -- the reply of a file that is found
-abbrev pub found_reply : List File → File → List Say
-found_reply files file = Plain found_head ∷ Plain (kind_line (kind_of file)) ∷ body_of files file
+abbrev pub found_reply_by : {F : Type 0} → (List ℕ → F) → List File → File → List (Say F)
+found_reply_by named files file = Plain found_head ∷ Plain (kind_line (kind_of file)) ∷ body_by named files file
 
 -- the reply where no file has the name: its body is the bytes of `/404.html`, as they are, or a short text
-abbrev pub missing_reply : List File → List Say
+abbrev pub missing_reply : {F : Type 0} → List File → List (Say F)
 missing_reply files =
     Plain missing_head ∷ Plain (kind_line (codes "text/html"))
     ∷ Plain (bytes_or (codes "not found\n") (file_named files (codes "/404.html"))) ∷ []
 
-abbrev pub reply_to : List File → Option File → List Say
-reply_to files found = option_map_or (found_reply files) found (missing_reply files)
+abbrev pub reply_to_by : {F : Type 0} → (List ℕ → F) → List File → Option File → List (Say F)
+reply_to_by named files found = option_map_or (found_reply_by named files) found (missing_reply files)
 
 -- the reply to a request for a name
-abbrev pub reply_pieces : List File → List ℕ → List Say
-reply_pieces files name = reply_to files (file_named files name)
+abbrev pub reply_pieces_by : {F : Type 0} → (List ℕ → F) → List File → List ℕ → List (Say F)
+reply_pieces_by named files name = reply_to_by named files (file_named files name)
+
+-- Where the functions are those of uIP.
+abbrev pub body_of : List File → File → List (Say Function)
+body_of = body_by function_named
+
+abbrev pub found_reply : List File → File → List (Say Function)
+found_reply = found_reply_by function_named
+
+abbrev pub reply_to : List File → Option File → List (Say Function)
+reply_to = reply_to_by function_named
+
+abbrev pub reply_pieces : List File → List ℕ → List (Say Function)
+reply_pieces = reply_pieces_by function_named

@@ -9,7 +9,8 @@ use Rattle.app_events.specs.declared.want.Want.TheVariants.{Nothing, Send, Close
 use Rattle.site_image.specs.Files.{File}
 use Rattle.web_pages.specs.Requests.{Wanted, wanted}
 use Rattle.web_pages.specs.Requests.Wanted.{NotYet, Name}
-use Rattle.web_pages.specs.Pages.{page, is_page_whole, place_of}
+use Rattle.generators.specs.Giving.{Giving, uip}
+use Rattle.web_pages.specs.Pages.{page_by, is_whole_by, place_of}
 use Rattle.web_pages.specs.declared.TheConstants.{MOST_POLLS, LARGEST_SEGMENT}
 
 -- a hit of the file at a place: its count rises by one modulo 2^32
@@ -22,30 +23,30 @@ hits_by files hits NotYet (Name name) = hit_at hits (place_of files name)
 hits_by files hits _ _ = hits
 
 -- all of the page so far is acknowledged
-abbrev pub is_acknowledged : List File → Part → Bool
-is_acknowledged files part = part.acked == length (page files part.heard part.captures)
+abbrev pub is_acknowledged_by : {F : Type 0} → Giving F → List File → Part → Bool
+is_acknowledged_by g files part = part.acked == length (page_by g files part.heard part.captures)
 
 -- a call that has no capture stops the page of a request that is decided
-abbrev pub waits_for_capture : List File → Wanted → Part → Bool
-waits_for_capture files (Name name) part = not (is_page_whole files part.heard part.captures)
-waits_for_capture files _ part = false
+abbrev pub waits_for_capture_by : {F : Type 0} → Giving F → List File → Wanted → Part → Bool
+waits_for_capture_by g files (Name name) part = not (is_whole_by g files part.heard part.captures)
+waits_for_capture_by g files _ part = false
 
 -- what is left of the page so far
-abbrev pub left_of : List File → Part → ℕ
-left_of files part = length (page files part.heard part.captures) - part.acked
+abbrev pub left_of_by : {F : Type 0} → Giving F → List File → Part → ℕ
+left_of_by g files part = length (page_by g files part.heard part.captures) - part.acked
 
 -- It gives up after so many ticks with nothing to send, closes when the whole page is acknowledged, and sends what is left of the
 -- page so far.
-abbrev pub web_want : List File → Part → Want
-web_want files part =
+abbrev pub web_want_by : {F : Type 0} → Giving F → List File → Part → Want
+web_want_by g files part =
     if part.polls == MOST_POLLS then Abort
-    else if is_page_whole files part.heard part.captures && is_acknowledged files part then Close
-    else if nat_lt 0 (left_of files part) then Send (min LARGEST_SEGMENT (left_of files part))
+    else if is_whole_by g files part.heard part.captures && is_acknowledged_by g files part then Close
+    else if nat_lt 0 (left_of_by g files part) then Send (min LARGEST_SEGMENT (left_of_by g files part))
     else Nothing
 
-abbrev pub web_meaning : List File → Meaning
-web_meaning files = record {
-  said = λ part. page files part.heard part.captures;
+abbrev pub web_meaning_by : {F : Type 0} → Giving F → List File → Meaning
+web_meaning_by g files = record {
+  said = λ part. page_by g files part.heard part.captures;
   connected = λ hits port. record {
     part = record { port = port; heard = []; captures = []; acked = 0; polls = 0; own = 0 };
     numbers = hits;
@@ -55,11 +56,27 @@ web_meaning files = record {
     numbers = hits_by files hits (wanted part.heard) (wanted (part.heard ++ piece));
   };
   prepare = λ hits part now.
-      if is_acknowledged files part && waits_for_capture files (wanted part.heard) part
+      if is_acknowledged_by g files part && waits_for_capture_by g files (wanted part.heard) part
       then record part { captures = part.captures ++ record { numbers = hits; now = now } ∷ [] }
       else part;
-  want = λ hits part. web_want files part;
+  want = λ hits part. web_want_by g files part;
   acked = λ hits part count. record { part = record part { acked = part.acked + count; polls = 0 }; numbers = hits };
   polled = λ hits part. record { part = record part { polls = min MOST_POLLS (part.polls + 1) }; numbers = hits };
   ended = λ hits part how. hits;
 }
+
+-- Where the functions are those of uIP.
+abbrev pub is_acknowledged : List File → Part → Bool
+is_acknowledged = is_acknowledged_by uip
+
+abbrev pub waits_for_capture : List File → Wanted → Part → Bool
+waits_for_capture = waits_for_capture_by uip
+
+abbrev pub left_of : List File → Part → ℕ
+left_of = left_of_by uip
+
+abbrev pub web_want : List File → Part → Want
+web_want = web_want_by uip
+
+abbrev pub web_meaning : List File → Meaning
+web_meaning = web_meaning_by uip

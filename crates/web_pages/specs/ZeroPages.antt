@@ -7,6 +7,7 @@ use Rattle.generators.specs.Text.{capture_text}
 use Rattle.site_image.specs.Files.{File}
 use Rattle.web_pages.specs.Requests.{Wanted, wanted}
 use Rattle.web_pages.specs.Requests.Wanted.{Name}
+use Rattle.script_lang.specs.declared.function.Function.{Function}
 use Rattle.web_pages.specs.Pieces.{Say, reply_to, reply_pieces}
 use Rattle.web_pages.specs.Pieces.Say.{Plain, Made}
 use Rattle.web_pages.specs.Pages.{page}
@@ -27,7 +28,7 @@ abbrev pub zero_page : List File → List ℕ → List ℕ
 zero_page files target = page files (request_for target) (replicate (most_captures files (wanted (request_for target))) zero_moment)
 
 -- what a piece says at the zero record of its kind
-abbrev pub zero_said : Say → List ℕ
+abbrev pub zero_said : Say Function → List ℕ
 zero_said (Plain text) = text
 zero_said (Made function argument) = capture_text (capture_of function 0 zero_moment.now)
 

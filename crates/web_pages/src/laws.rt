@@ -1,9 +1,12 @@
 //! What holds of the pages of every site.
 
-ghost use Rattle.web_pages.specs.Claims.{DecisionStays, KeepsPageLaws, IsAtMostGreatest, IsMadeOfBytes, UpgradeKeepsPages};
+ghost use Rattle.web_pages.specs.Claims.{DecisionStays, KeepsPageLaws, KeepsPageLawsBy, IsAtMostGreatest, IsAtMostGreatestBy, IsMadeOfBytes, IsMadeOfBytesBy, UpgradeKeepsPages};
+ghost use Rattle.generators.specs.Giving.{gives};
 ghost use Rattle.web_pages.specs.Words.{ToldInPieces, LongNames};
 ghost use Rattle.web_pages.specs.WorkedRequests.{AreWorkedRequests};
 ghost use Rattle.web_pages.specs.WorkedPages.{AreWorkedPages};
+
+use generators::Record;
 
 /// Requests that were worked by hand are read as the definition reads them.
 #[tactic(auto, using(crate::proofs::WorkedRequests::worked))]
@@ -28,6 +31,14 @@ pub fn page_laws()
 #[tactic(auto, using(crate::proofs::Limits::at_most_greatest))]
 pub fn pages_within_greatest()
     ensures { IsAtMostGreatest }
+{}
+
+/// The same of every kind of calls, where no script of the site has a fault by them: the laws of pages, that a page is at most
+/// as long as its greatest length, and that it is bytes.
+pub fn pages_of_any_calls<R: Record>()
+    ensures laws { KeepsPageLawsBy (gives R.Function.calling R.said) }
+    ensures greatest { IsAtMostGreatestBy (gives R.Function.calling R.said) }
+    ensures bytes { IsMadeOfBytesBy (gives R.Function.calling R.said) }
 {}
 
 /// What is decided of a request stays, whatever bytes follow.

@@ -4,6 +4,7 @@ use Rattle.site_image.specs.Files.{File}
 use Rattle.app_events.specs.Part.{Part, Meaning}
 use Rattle.app_events.specs.Laws.{IsLawful, StartsAnew, Grows}
 use Rattle.app_events.specs.declared.now.Now.{Now}
+use Rattle.generators.specs.Giving.{uip}
 use Rattle.web_pages.specs.Requests.{wanted}
 use Rattle.web_pages.specs.WebMeaning.{web_meaning, is_acknowledged, waits_for_capture}
 use Rattle.web_pages.specs.Lemmas.WebLaws.{web_lawful, web_starts}
@@ -67,10 +68,10 @@ IsLawfulAnywhere m = IsLawful m (λ p. Unit {0})
 -- of the application of each port
 lawful_at : (files : List File) (port : ℕ) → IsLawfulAnywhere (meaning_at files port)
 lawful_at files port =
-    by_port IsLawfulAnywhere files (port == TELNET_PORT) (web_lawful files (λ p. Unit {0})) (shell_lawful (λ p. Unit {0}))
+    by_port IsLawfulAnywhere files (port == TELNET_PORT) (web_lawful uip files (λ p. Unit {0})) (shell_lawful (λ p. Unit {0}))
 
 starts_at : (files : List File) (port : ℕ) → StartsAnew (meaning_at files port)
-starts_at files port = by_port StartsAnew files (port == TELNET_PORT) (web_starts files) shell_starts
+starts_at files port = by_port StartsAnew files (port == TELNET_PORT) (web_starts uip files) shell_starts
 
 pub port_at : (files : List File) (port : ℕ) → KeepsPort (meaning_at files port)
 port_at files port = by_port KeepsPort files (port == TELNET_PORT) (web_port files) shell_port

@@ -8,34 +8,35 @@ use Rattle.app_events.specs.Pages.{MayWant}
 use Rattle.app_events.specs.declared.want.Want.{Want}
 use Rattle.app_events.specs.declared.want.Want.TheVariants.{Nothing, Send, Close, Abort}
 use Rattle.web_pages.specs.Requests.{wanted}
-use Rattle.web_pages.specs.Pages.{page, is_page_whole, pages_of}
-use Rattle.web_pages.specs.WebMeaning.{web_meaning, web_want, is_acknowledged, waits_for_capture, left_of}
+use Rattle.generators.specs.Giving.{Giving}
+use Rattle.web_pages.specs.Pages.{page_by, is_whole_by, pages_by}
+use Rattle.web_pages.specs.WebMeaning.{web_meaning_by, web_want_by, is_acknowledged_by, waits_for_capture_by, left_of_by}
 use Rattle.web_pages.specs.Lemmas.Growing.{page_grows, same_prefix}
 use Rattle.web_pages.specs.declared.TheConstants.{MOST_POLLS, LARGEST_SEGMENT}
 
 no_more : (xs : List ℕ) → xs ++ [] ≡ xs
 no_more xs = append-nil xs
 
-pub newdata_grows : (files : List File) (part : Part) (piece : List ℕ)
-    → IsPrefixOf (page files part.heard part.captures) (page files (part.heard ++ piece) part.captures)
-newdata_grows files part piece =
-    let p = page_grows files part.heard piece part.captures [] in
-    record { rest = p.rest; joined = p.joined ∙ ap (λ captures. page files (part.heard ++ piece) captures) (append-nil part.captures) }
+pub newdata_grows : {F : Type 0} (g : Giving F) (files : List File) (part : Part) (piece : List ℕ)
+    → IsPrefixOf (page_by g files part.heard part.captures) (page_by g files (part.heard ++ piece) part.captures)
+newdata_grows g files part piece =
+    let p = page_grows g files part.heard piece part.captures [] in
+    record { rest = p.rest; joined = p.joined ∙ ap (λ captures. page_by g files (part.heard ++ piece) captures) (append-nil part.captures) }
 
-capture_grows : (files : List File) (part : Part) (capture : Moment)
-    → IsPrefixOf (page files part.heard part.captures) (page files part.heard (part.captures ++ capture ∷ []))
-capture_grows files part capture =
-    let p = page_grows files part.heard [] part.captures (capture ∷ []) in
-    record { rest = p.rest; joined = p.joined ∙ ap (λ heard. page files heard (part.captures ++ capture ∷ [])) (no_more part.heard) }
+capture_grows : {F : Type 0} (g : Giving F) (files : List File) (part : Part) (capture : Moment)
+    → IsPrefixOf (page_by g files part.heard part.captures) (page_by g files part.heard (part.captures ++ capture ∷ []))
+capture_grows g files part capture =
+    let p = page_grows g files part.heard [] part.captures (capture ∷ []) in
+    record { rest = p.rest; joined = p.joined ∙ ap (λ heard. page_by g files heard (part.captures ++ capture ∷ [])) (no_more part.heard) }
 
 abbrev pub with_capture : Part → Moment → Part
 with_capture part capture = record part { captures = part.captures ++ capture ∷ [] }
 
-either_grows : (files : List File) (part : Part) (capture : Moment) (waits : Bool)
-    → Grows (web_meaning files) part (if waits then with_capture part capture else part)
-either_grows files part capture true = record { text = capture_grows files part capture; offset = refl }
-either_grows files part capture false =
-    record { text = same_prefix (page files part.heard part.captures) (page files part.heard part.captures) refl; offset = refl }
+either_grows : {F : Type 0} (g : Giving F) (files : List File) (part : Part) (capture : Moment) (waits : Bool)
+    → Grows (web_meaning_by g files) part (if waits then with_capture part capture else part)
+either_grows g files part capture true = record { text = capture_grows g files part capture; offset = refl }
+either_grows g files part capture false =
+    record { text = same_prefix (page_by g files part.heard part.captures) (page_by g files part.heard part.captures) refl; offset = refl }
 
 -- ---- what it wants
 
@@ -45,52 +46,55 @@ some_left most left one e =
     let some = ltb-true 0 left e in
     (omega arith, omega arith)
 
-wants_by : (files : List File) (part : Part) (P : Want → Type 0) → P Abort → P Nothing
-    → (is_page_whole files part.heard part.captures ≡ true → part.acked ≡ length (page files part.heard part.captures) → P Close)
-    → ((n : ℕ) → 1 ≤ n → n ≤ left_of files part → P (Send n)) → P (web_want files part)
-wants_by files part P abort nothing close send =
-    by_polls (part.polls == MOST_POLLS) _ (by_end (is_page_whole files part.heard part.captures && is_acknowledged files part) refl)
+wants_by : {F : Type 0} (g : Giving F) (files : List File) (part : Part) (P : Want → Type 0) → P Abort → P Nothing
+    → (is_whole_by g files part.heard part.captures ≡ true → part.acked ≡ length (page_by g files part.heard part.captures) → P Close)
+    → ((n : ℕ) → 1 ≤ n → n ≤ left_of_by g files part → P (Send n)) → P (web_want_by g files part)
+wants_by g files part P abort nothing close send =
+    by_polls (part.polls == MOST_POLLS) _ (by_end (is_whole_by g files part.heard part.captures && is_acknowledged_by g files part) refl)
   where
-    by_left : (b : Bool) → nat_lt 0 (left_of files part) ≡ b → P (if b then Send (min LARGEST_SEGMENT (left_of files part)) else Nothing)
+    by_left : (b : Bool) → nat_lt 0 (left_of_by g files part) ≡ b
+        → P (if b then Send (min LARGEST_SEGMENT (left_of_by g files part)) else Nothing)
     by_left true e =
-        let some = some_left LARGEST_SEGMENT (left_of files part) (omega arith) e in
-        send (min LARGEST_SEGMENT (left_of files part)) some.0 some.1
+        let some = some_left LARGEST_SEGMENT (left_of_by g files part) (omega arith) e in
+        send (min LARGEST_SEGMENT (left_of_by g files part)) some.0 some.1
     by_left false e = nothing
 
-    by_end : (b : Bool) → (is_page_whole files part.heard part.captures && is_acknowledged files part) ≡ b
-        → P (if b then Close else (if nat_lt 0 (left_of files part) then Send (min LARGEST_SEGMENT (left_of files part)) else Nothing))
+    by_end : (b : Bool) → (is_whole_by g files part.heard part.captures && is_acknowledged_by g files part) ≡ b
+        → P (if b then Close
+        else (if nat_lt 0 (left_of_by g files part) then Send (min LARGEST_SEGMENT (left_of_by g files part)) else Nothing))
     by_end true e =
-        let both = and_parts (is_page_whole files part.heard part.captures) (is_acknowledged files part) e in
-        close both.0 (eqb-true part.acked (length (page files part.heard part.captures)) both.1)
-    by_end false e = by_left (nat_lt 0 (left_of files part)) refl
+        let both = and_parts (is_whole_by g files part.heard part.captures) (is_acknowledged_by g files part) e in
+        close both.0 (eqb-true part.acked (length (page_by g files part.heard part.captures)) both.1)
+    by_end false e = by_left (nat_lt 0 (left_of_by g files part)) refl
 
     by_polls : (b : Bool) (want : Want) → P want → P (if b then Abort else want)
     by_polls true want rest = abort
     by_polls false want rest = rest
 
-pub may_want : (files : List File) (part : Part) → MayWant (pages_of files) part (web_want files part)
-may_want files part =
-    wants_by files part (MayWant (pages_of files) part) tt tt (λ whole all. (whole, all)) (λ n one most. (one, omega arith))
+pub may_want : {F : Type 0} (g : Giving F) (files : List File) (part : Part) → MayWant (pages_by g files) part (web_want_by g files part)
+may_want g files part =
+    wants_by g files part (MayWant (pages_by g files) part) tt tt (λ whole all. (whole, all)) (λ n one most. (one, omega arith))
 
-can_send : (files : List File) (part : Part)
-    → CanSend (web_want files part) (length (drop part.acked (page files part.heard part.captures)))
-can_send files part =
-    let left = length-drop part.acked (page files part.heard part.captures) in
-    wants_by files part (λ want. CanSend want (length (drop part.acked (page files part.heard part.captures)))) tt tt (λ whole all. tt)
+can_send : {F : Type 0} (g : Giving F) (files : List File) (part : Part)
+    → CanSend (web_want_by g files part) (length (drop part.acked (page_by g files part.heard part.captures)))
+can_send g files part =
+    let left = length-drop part.acked (page_by g files part.heard part.captures) in
+    wants_by g files part (λ want. CanSend want (length (drop part.acked (page_by g files part.heard part.captures)))) tt tt
+    (λ whole all. tt)
     (λ n one most. (one, omega arith))
 
 -- ---- the laws
 
-pub web_lawful : (files : List File) (stands : Part → Type 0) → IsLawful (web_meaning files) stands
-web_lawful files stands = record {
-  newdata_grows = λ hits part piece s. record { text = newdata_grows files part piece; offset = refl };
+pub web_lawful : {F : Type 0} (g : Giving F) (files : List File) (stands : Part → Type 0) → IsLawful (web_meaning_by g files) stands
+web_lawful g files stands = record {
+  newdata_grows = λ hits part piece s. record { text = newdata_grows g files part piece; offset = refl };
   prepare_grows = λ hits part now s.
-      either_grows files part (record { numbers = hits; now = now })
-      (is_acknowledged files part && waits_for_capture files (wanted part.heard) part);
+      either_grows g files part (record { numbers = hits; now = now })
+      (is_acknowledged_by g files part && waits_for_capture_by g files (wanted part.heard) part);
   acked_moves = λ hits part n s h. (refl, refl);
   polled_keeps = λ hits part s. (refl, refl);
-  sends = λ hits part s. can_send files part;
+  sends = λ hits part s. can_send g files part;
 }
 
-pub web_starts : (files : List File) → StartsAnew (web_meaning files)
-web_starts files hits port = (refl, refl)
+pub web_starts : {F : Type 0} (g : Giving F) (files : List File) → StartsAnew (web_meaning_by g files)
+web_starts g files hits port = (refl, refl)

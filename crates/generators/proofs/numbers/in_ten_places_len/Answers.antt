@@ -1,6 +1,6 @@
 -- Ten places.
 use Rattle.std.proofs.Common.{arith, sym}
-use Rattle.generators.proofs.Lengths.{in_ten}
+use Rattle.generators.specs.Lemmas.Lengths.{in_ten}
 use Rattle.generators.proofs.numbers.in_ten_places_len.Goals as goal
 
 pub returns-clause-length : goal.returns-clause-length

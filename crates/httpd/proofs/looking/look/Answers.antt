@@ -1,13 +1,14 @@
 use Rattle.std.proofs.Common.{ap}
-use Rattle.httpd.specs.Reply.{left_from, reply_in}
+use Rattle.generators.specs.Giving.{gives}
+use Rattle.httpd.specs.Reply.{left_from, reply_by}
 use Rattle.httpd.proofs.Seeing.{end_seen}
 use Rattle.httpd.proofs.looking.look.Goals as goal
 
-pub returns-in-End-clause-sees : goal.returns-in-End-clause-sees
+pub returns-clause-sees : goal.returns-clause-sees
 unfolding left_from
-returns-in-End-clause-sees c =
-    let r = reply_in c.args.site.now c.args.found c.args.capture.now in
-    end_seen r (left_from r c.args.thread) c.look_end.result (ap (λ t. left_from r t) c.in-End.is) c.look_end.ensures.span
+returns-clause-sees g c =
+    let r = reply_by (gives g.R.Function.Calls.calling g.R.Record.said) g.R.Record.text c.args.site.now c.args.found c.args.capture.now in
+    end_seen g.R.Record.text r (left_from r c.args.thread) c.look_end.result (ap (λ t. left_from r t) c.in-End.is) c.look_end.ensures.span
 
 pub returns-in-Body-clause-kept : goal.returns-in-Body-clause-kept
-returns-in-Body-clause-kept c = λ captures keeps. c.look_body.ensures.kept captures
+returns-in-Body-clause-kept g c = λ captures keeps. c.look_body.ensures.kept captures

@@ -1,5 +1,6 @@
 use Rattle.std.proofs.Common.{◌≤◌, length, drop, sym, ap, subst, ◌∙◌}
-use Rattle.httpd.specs.Reply.{left_from, reply_in}
+use Rattle.generators.specs.Giving.{gives}
+use Rattle.httpd.specs.Reply.{left_from, reply_by}
 use Rattle.httpd.specs.Places.{Fits}
 use Rattle.httpd.specs.Looking.{Sees}
 use Rattle.httpd.specs.declared.thread.Thread.TheVariants.{Body, End}
@@ -9,17 +10,17 @@ use Rattle.httpd.proofs.looking.look_body.Goals as goal
 
 pub look_script-requires-clause-fits : goal.look_script-requires-clause-fits
 unfolding Fits
-look_script-requires-clause-fits c = c.requires.fits
+look_script-requires-clause-fits g c = c.requires.fits
 
 pub rest_of-requires-clause-within : goal.rest_of-requires-clause-within
 unfolding Fits
-rest_of-requires-clause-within c = subst (λ xs. c.args.at ≤ length xs) (sym c.body_of.ensures.text) c.requires.fits.within
+rest_of-requires-clause-within g c = subst (λ xs. c.args.at ≤ length xs) (sym c.body_of.ensures.text) c.requires.fits.within
 
 pub returns-clause-sees : goal.returns-clause-sees
 unfolding Fits left_from
-returns-clause-sees c =
-    let r = reply_in c.args.site.now c.args.found c.args.capture.now in
+returns-clause-sees g c =
+    let r = reply_by (gives g.R.Function.Calls.calling g.R.Record.said) g.R.Record.text c.args.site.now c.args.found c.args.capture.now in
     let plain = sym c.is_scripted.ensures ∙ c.if-is_scripted.false in
-    subst (λ ps. Sees r ps (record { span = c.rest_of.result; here = Body c.args.at; next = End })) (sym (plain_from r c.args.at plain))
-    (plain_seen r c.args.at c.rest_of.result plain c.requires.fits.within (subst (λ xs. length xs ≤ 16777216) c.body_of.ensures.text c.body_of.ensures.short)
-    (span_along c.rest_of.result _ _ (ap (λ xs. drop c.args.at xs) c.body_of.ensures.text) c.rest_of.ensures))
+    subst (λ ps. Sees g.R.Record.text r ps (record { span = c.rest_of.result; here = Body c.args.at; next = End })) (sym (plain_from r c.args.at plain))
+    (plain_seen g.R.Record.text r c.args.at c.rest_of.result plain c.requires.fits.within (subst (λ xs. length xs ≤ 16777216) c.body_of.ensures.text c.body_of.ensures.short)
+    (span_along g.R.Record.text c.rest_of.result _ _ (ap (λ xs. drop c.args.at xs) c.body_of.ensures.text) c.rest_of.ensures))

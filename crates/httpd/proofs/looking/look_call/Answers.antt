@@ -1,25 +1,25 @@
-use Rattle.std.proofs.Common.{◌∷◌, refl, sym, subst, ap}
-use Rattle.script_lang.specs.declared.function.Function.TheVariants.{Unknown}
+use Rattle.std.proofs.Common.{◌∷◌, ◌+◌, ◌∙◌, sym, subst, ap, if◌then◌else◌}
+use Rattle.generators.specs.Giving.{gives}
 use Rattle.httpd.specs.declared.thread.Thread.TheVariants.{Body}
 use Rattle.web_pages.specs.Pieces.Say.{Made}
 use Rattle.web_pages.specs.Lemmas.Growing.{silent_text, silent_end}
-use Rattle.httpd.specs.Reply.{body_from, left_from, reply_in}
+use Rattle.httpd.specs.Reply.{body_from, calls_in, left_from, reply_by}
 use Rattle.httpd.specs.Places.{Fits}
 use Rattle.httpd.specs.Looking.{Sees}
 use Rattle.httpd.proofs.Seeing.{keeps_all, nothing_seen}
 use Rattle.httpd.proofs.looking.look_call.Goals as goal
 
-pub returns-in-Unknown-clause-sees : goal.returns-in-Unknown-clause-sees
+pub returns-then-not-takes_capture-clause-sees : goal.returns-then-not-takes_capture-clause-sees
 unfolding left_from Fits
-returns-in-Unknown-clause-sees c =
-    let r = reply_in c.args.site.now c.args.found c.args.capture.now in
+returns-then-not-takes_capture-clause-sees g c =
+    let r = reply_by (gives g.R.Function.Calls.calling g.R.Record.said) g.R.Record.text c.args.site.now c.args.found c.args.capture.now in
     let more = body_from r c.args.next in
-    subst (λ f. Sees r (Made f c.args.argument.now ∷ more) c.look_nothing.result) (sym c.in-Unknown.is)
-    (nothing_seen r (Made Unknown c.args.argument.now) more c.look_nothing.result c.look_nothing.ensures.nothing
+    let silent = sym c.takes_capture.ensures ∙ c.if-not-takes_capture.true in
+    nothing_seen g.R.Record.text r (Made c.args.function c.args.argument.now) more c.look_nothing.result c.look_nothing.ensures.nothing
     (ap (λ t. left_from r t) c.look_nothing.ensures.next) (subst (λ t. Fits r t) (sym c.look_nothing.ensures.next) c.requires.inner.goes_on)
     (keeps_all r (Body c.args.next) c.look_nothing.result.next c.look_nothing.ensures.next (λ captures. tt))
     (record {
-      text = λ later. silent_text r.files Unknown c.args.argument.now more later refl;
-      whole = λ later. silent_end Unknown c.args.argument.now more later refl;
-      calls = refl;
-    }))
+      text = λ later. silent_text r.gives r.files c.args.function c.args.argument.now more later silent;
+      whole = λ later. silent_end r.gives c.args.function c.args.argument.now more later silent;
+      calls = ap (λ b. if b then 1 + calls_in r.gives.calling more else calls_in r.gives.calling more) silent;
+    })

@@ -1,5 +1,6 @@
 use Rattle.std.proofs.Common.{◌≤◌, length, drop, sym, ap, subst}
-use Rattle.httpd.specs.Reply.{reply_in}
+use Rattle.generators.specs.Giving.{gives}
+use Rattle.httpd.specs.Reply.{reply_by}
 use Rattle.httpd.specs.Places.{Fits}
 use Rattle.httpd.proofs.Seeing.{span_along}
 use Rattle.httpd.proofs.Threads.{head_seen}
@@ -7,11 +8,11 @@ use Rattle.httpd.proofs.looking.look_head.Goals as goal
 
 pub rest_of-requires-clause-within : goal.rest_of-requires-clause-within
 unfolding Fits
-rest_of-requires-clause-within c = subst (λ xs. c.args.at ≤ length xs) (sym c.head_of.ensures.text) c.requires.fits
+rest_of-requires-clause-within g c = subst (λ xs. c.args.at ≤ length xs) (sym c.head_of.ensures.text) c.requires.fits
 
 pub returns-clause-sees : goal.returns-clause-sees
 unfolding Fits
-returns-clause-sees c =
-    let r = reply_in c.args.site.now c.args.found c.args.capture.now in
-    head_seen r c.args.at c.rest_of.result c.requires.fits (subst (λ xs. length xs ≤ 60) c.head_of.ensures.text c.head_of.ensures.short)
-    (span_along c.rest_of.result _ _ (ap (λ xs. drop c.args.at xs) c.head_of.ensures.text) c.rest_of.ensures)
+returns-clause-sees g c =
+    let r = reply_by (gives g.R.Function.Calls.calling g.R.Record.said) g.R.Record.text c.args.site.now c.args.found c.args.capture.now in
+    head_seen g.R.Record.text r c.args.at c.rest_of.result c.requires.fits (subst (λ xs. length xs ≤ 60) c.head_of.ensures.text c.head_of.ensures.short)
+    (span_along g.R.Record.text c.rest_of.result _ _ (ap (λ xs. drop c.args.at xs) c.head_of.ensures.text) c.rest_of.ensures)

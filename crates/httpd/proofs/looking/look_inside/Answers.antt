@@ -1,5 +1,6 @@
 use Rattle.std.proofs.Common.{◌≤◌, length, drop, sym, ap, subst}
-use Rattle.httpd.specs.Reply.{reply_in}
+use Rattle.generators.specs.Giving.{gives}
+use Rattle.httpd.specs.Reply.{reply_by}
 use Rattle.httpd.specs.Places.{Fits}
 use Rattle.httpd.proofs.Seeing.{span_along}
 use Rattle.httpd.proofs.Threads.{inside_seen}
@@ -7,16 +8,16 @@ use Rattle.httpd.proofs.looking.look_inside.Goals as goal
 
 pub bytes_at-requires : goal.bytes_at-requires
 unfolding Fits
-bytes_at-requires c = c.requires.fits.1
+bytes_at-requires g c = c.requires.fits.1
 
 pub rest_of-requires-clause-within : goal.rest_of-requires-clause-within
 unfolding Fits
-rest_of-requires-clause-within c = subst (λ xs. c.args.at ≤ length xs) (sym c.bytes_at.ensures.text) c.requires.fits.2
+rest_of-requires-clause-within g c = subst (λ xs. c.args.at ≤ length xs) (sym c.bytes_at.ensures.text) c.requires.fits.2
 
 pub returns-clause-sees : goal.returns-clause-sees
 unfolding Fits
-returns-clause-sees c =
-    let r = reply_in c.args.site.now c.args.found c.args.capture.now in
-    inside_seen r c.args.next c.args.file c.args.at c.rest_of.result c.requires.fits.0 c.requires.fits.1 c.requires.fits.2
+returns-clause-sees g c =
+    let r = reply_by (gives g.R.Function.Calls.calling g.R.Record.said) g.R.Record.text c.args.site.now c.args.found c.args.capture.now in
+    inside_seen g.R.Record.text r c.args.next c.args.file c.args.at c.rest_of.result c.requires.fits.0 c.requires.fits.1 c.requires.fits.2
     (subst (λ xs. length xs ≤ 16777216) c.bytes_at.ensures.text c.bytes_at.ensures.short)
-    (span_along c.rest_of.result _ _ (ap (λ xs. drop c.args.at xs) c.bytes_at.ensures.text) c.rest_of.ensures)
+    (span_along g.R.Record.text c.rest_of.result _ _ (ap (λ xs. drop c.args.at xs) c.bytes_at.ensures.text) c.rest_of.ensures)

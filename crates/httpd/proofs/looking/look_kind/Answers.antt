@@ -1,6 +1,7 @@
 use Rattle.std.proofs.Common.{◌≤◌, length, drop, sym, ap, subst}
 use Rattle.web_pages.specs.Pieces.{kind_line}
-use Rattle.httpd.specs.Reply.{reply_in}
+use Rattle.generators.specs.Giving.{gives}
+use Rattle.httpd.specs.Reply.{reply_by}
 use Rattle.httpd.specs.Places.{Fits}
 use Rattle.httpd.specs.declared.span.Span.TheVariants as span
 use Rattle.httpd.proofs.Threads.{kind_seen}
@@ -8,9 +9,9 @@ use Rattle.httpd.proofs.looking.look_kind.Goals as goal
 
 pub returns-clause-sees : goal.returns-clause-sees
 unfolding Fits
-returns-clause-sees c =
-    let r = reply_in c.args.site.now c.args.found c.args.capture.now in
-    kind_seen r c.args.at (span.Line c.kind_of.result c.args.at) c.requires.fits (subst (λ xs. length xs ≤ 64) c.kind_of.ensures.text c.kind_of.ensures.short)
+returns-clause-sees g c =
+    let r = reply_by (gives g.R.Function.Calls.calling g.R.Record.said) g.R.Record.text c.args.site.now c.args.found c.args.capture.now in
+    kind_seen g.R.Record.text r c.args.at (span.Line c.kind_of.result c.args.at) c.requires.fits (subst (λ xs. length xs ≤ 64) c.kind_of.ensures.text c.kind_of.ensures.short)
     (record {
       plain = tt;
       text = ap (λ xs. drop c.args.at (kind_line xs)) c.kind_of.ensures.text;

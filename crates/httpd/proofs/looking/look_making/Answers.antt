@@ -1,5 +1,6 @@
 use Rattle.std.proofs.Common.{refl, arith}
-use Rattle.httpd.specs.Reply.{reply_in}
+use Rattle.generators.specs.Giving.{gives}
+use Rattle.httpd.specs.Reply.{reply_by}
 use Rattle.httpd.specs.Places.{Fits}
 use Rattle.httpd.specs.declared.span.Span.TheVariants as span
 use Rattle.httpd.proofs.Threads.{making_seen}
@@ -7,9 +8,9 @@ use Rattle.httpd.proofs.looking.look_making.Goals as goal
 
 pub returns-clause-sees : goal.returns-clause-sees
 unfolding Fits
-returns-clause-sees c =
-    let r = reply_in c.args.site.now c.args.found c.args.capture.now in
+returns-clause-sees g c =
+    let r = reply_by (gives g.R.Function.Calls.calling g.R.Record.said) g.R.Record.text c.args.site.now c.args.found c.args.capture.now in
     let size = c.text_len-end.ensures.length in
     let bound = c.text_len-end.ensures.short in
-    making_seen r c.args.next c.args.at (span.Made c.args.capture c.args.at c.text_len-end.result) c.requires.0 c.requires.1 (omega (arith, size, bound))
+    making_seen g.R.Record.text r c.args.next c.args.at (span.Made c.args.capture c.args.at c.text_len-end.result) c.requires.0 c.requires.1 (omega (arith, size, bound))
     (record { plain = tt; text = refl; fits = (omega (arith, size, c.requires.1), size, bound) })

@@ -1,15 +1,16 @@
 use Rattle.std.proofs.Common.{◌≤◌, ◌+◌, ◌-◌, [], length}
 use Rattle.file_tree.specs.Site.{files_of}
-use Rattle.web_pages.specs.Pages.{page_text}
+use Rattle.web_pages.specs.Pages.{text_by}
 use Rattle.web_pages.specs.declared.TheConstants.{LARGEST_SEGMENT}
-use Rattle.httpd.specs.Reply.{left_from, reply_in}
+use Rattle.generators.specs.Giving.{gives}
+use Rattle.httpd.specs.Reply.{left_from, reply_by}
 use Rattle.httpd.proofs.Walking.{Walks}
 use Rattle.httpd.proofs.saying.want_reply.Given as goal
 
 abbrev pub invariant-loop-ready : goal.invariant-loop-ready
-invariant-loop-ready l =
-    Walks (reply_in l.site l.found l.capture) l.fn.thread l.place l.ready
-    × (l.ready ≤ length (page_text (files_of l.site) (left_from (reply_in l.site l.found l.capture) l.fn.thread) []))
+invariant-loop-ready g l =
+    Walks (reply_by (gives g.R.Function.Calls.calling g.R.Record.said) g.R.Record.text l.site l.found l.capture) l.fn.thread l.place l.ready
+    × (l.ready ≤ length (text_by (gives g.R.Function.Calls.calling g.R.Record.said) (files_of l.site) (left_from (reply_by (gives g.R.Function.Calls.calling g.R.Record.said) g.R.Record.text l.site l.found l.capture) l.fn.thread) []))
 
 abbrev pub decreases-loop-ready : goal.decreases-loop-ready
-decreases-loop-ready l = length (left_from (reply_in l.site l.found l.capture) l.place) + (LARGEST_SEGMENT - l.ready)
+decreases-loop-ready g l = length (left_from (reply_by (gives g.R.Function.Calls.calling g.R.Record.said) g.R.Record.text l.site l.found l.capture) l.place) + (LARGEST_SEGMENT - l.ready)

@@ -1,0 +1,3 @@
+-- What is proved of the definitions beside: it need not be believed.
+pub mod Lengths
+pub mod Bytes
