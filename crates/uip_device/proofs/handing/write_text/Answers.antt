@@ -1,9 +1,9 @@
 use Rattle.std.proofs.Common.{◌++◌, ◌∙◌, ap, take}
 use Rattle.std.specs.Option.{is_some}
 use Rattle.packet_buffer.specs.Buffer.{datagram_in}
-use Rattle.slip_node.specs.Handing.{text_to_come, rest_text}
-use Rattle.slip_node.proofs.HandLaws.{sent_text}
-use Rattle.slip_node.proofs.handing.write_text.Goals as goal
+use Rattle.uip_device.specs.Handing.{text_to_come, rest_text}
+use Rattle.uip_device.proofs.HandLaws.{sent_text}
+use Rattle.uip_device.proofs.handing.write_text.Goals as goal
 
 pub returns-in-Some-clause-text : goal.returns-in-Some-clause-text
 returns-in-Some-clause-text g c = λ own reply is.

@@ -9,8 +9,8 @@ use Rattle.packet_buffer.specs.Buffer.{Buffer, datagram_in}
 use Rattle.uip_slip.specs.Text.{escaped, escaped_byte, slip_text}
 use Rattle.uip_node.specs.Events.{Reply}
 use Rattle.uip_node.specs.Spoken.{IsSent}
-use Rattle.serve_loop.specs.Running.{text_for}
-use Rattle.slip_node.specs.Handing.{rest_text}
+use Rattle.serve_loop.specs.Texts.{text_for}
+use Rattle.uip_device.specs.Handing.{rest_text}
 
 -- a front is put, and its text is no longer behind
 pub front_put : (before made rest front after : List ℕ) → made ≡ before ++ escaped front → rest ≡ front ++ after → made ++ rest_text after ≡ before ++ rest_text rest

@@ -1,32 +1,45 @@
--- What a caller does to a node, and what that brings to it.
-use Rattle.std.specs.Prelude.{◌≡◌, ℕ, ◌+◌, List, [], ◌∷◌, ◌++◌, map, if◌then◌else◌}
+-- What a caller does to a device, and what that brings to its node.
+use Rattle.std.specs.Prelude.{◌≡◌, ℕ, Bool, true, false, ◌+◌, List, [], ◌∷◌, ◌++◌, map, if◌then◌else◌}
 use Rattle.std.specs.List.{flat_map}
 use Rattle.uip_wire.specs.declared.addr.Addr.{Addr}
 use Rattle.uip_edge.specs.declared.item.Item.{Item}
 use Rattle.uip_edge.specs.declared.item.Item.TheVariants.{Byte, Quiet}
+use Rattle.uip_node.specs.Edge.{event_of}
 use Rattle.uip_node.specs.Events.{Event}
 use Rattle.uip_node.specs.Events.Event.{Periodic}
 use Rattle.serve_loop.specs.LineEvents.{events_behind}
 use Rattle.serve_loop.specs.Pace.{is_beat}
 
--- a call over a serial line: the node hears bytes, its slot is called, or what is left of a text is handed on
+-- a call: over a serial line bytes are heard, a slot is called, or what is left of a text is handed on; over a link that carries
+-- datagrams a datagram is heard, or a slot is called; and a call that is refused, or reads a count, does nothing
 pub data Call : Type 0 where
   Hears : List ℕ → Call
   Calls : ℕ → Call
   HandsOn : Call
+  HearsDatagram : List ℕ → Call
+  CallsByDatagram : ℕ → Call
+  DoesNothing : Call
 
--- the bytes that come by a call
+-- whether it is over a link that carries datagrams
+abbrev pub is_by_datagram : Call → Bool
+is_by_datagram (HearsDatagram datagram) = true
+is_by_datagram (CallsByDatagram slot) = true
+is_by_datagram _ = false
+
+-- the bytes that come by a call over a serial line
 abbrev pub bytes_of_call : Call → List ℕ
 bytes_of_call (Hears bytes) = bytes
-bytes_of_call (Calls slot) = []
-bytes_of_call HandsOn = []
+bytes_of_call _ = []
 
--- what a call brings to the node at the address `own`, behind the bytes that were heard before: the frames that its bytes
--- complete, or the periodic call of the slot; what is handed on brings nothing
+-- What a call brings to the node at the address `own`, behind the bytes that were heard before: the frames that its bytes
+-- complete, its datagram, or the periodic call of its slot. What is handed on brings nothing.
 abbrev pub events_by : List ℕ → Call → Addr → List Event
 events_by before (Hears bytes) own = events_behind own 0 before (map Byte bytes)
 events_by before (Calls slot) own = Periodic slot ∷ []
 events_by before HandsOn own = []
+events_by before (HearsDatagram datagram) own = event_of own datagram ∷ []
+events_by before (CallsByDatagram slot) own = Periodic slot ∷ []
+events_by before DoesNothing own = []
 
 -- what calls in turn bring, behind the bytes that were heard before
 abbrev pub events_of_calls : List ℕ → List Call → Addr → List Event
@@ -50,6 +63,9 @@ abbrev pub byte_calls : Call → List Call
 byte_calls (Hears bytes) = map (λ b. Hears (b ∷ [])) bytes
 byte_calls (Calls slot) = Calls slot ∷ []
 byte_calls HandsOn = []
+byte_calls (HearsDatagram datagram) = HearsDatagram datagram ∷ []
+byte_calls (CallsByDatagram slot) = CallsByDatagram slot ∷ []
+byte_calls DoesNothing = []
 
 -- The calls bring the items of a line at a pace, in order, however its bytes are cut among the calls.
 pub record Bring (pace : ℕ) (items : List Item) (calls : List Call) : Type 0 where

@@ -1,6 +1,6 @@
 use Rattle.std.proofs.Common.{◌≡◌, ◌++◌, ◌+◌, ◌*◌, ◌-◌, ◌≤◌, List, ℕ, length, take, drop}
-use Rattle.slip_node.specs.Handing.{rest_text}
-use Rattle.slip_node.proofs.handing.write_on.Given as goal
+use Rattle.uip_device.specs.Handing.{rest_text}
+use Rattle.uip_device.proofs.handing.write_on.Given as goal
 
 abbrev pub invariant-loop-out : goal.invariant-loop-out
 invariant-loop-out l = record {

@@ -1,9 +1,9 @@
 use Rattle.std.proofs.Common.{◌++◌, ◌∙◌, ◌-◌, arith, drop, length, length-drop, length-take, refl, sym, ap, take}
 use Rattle.std.proofs.lemmas.List.{take-append-drop, take_rest}
 use Rattle.uip_edge.proofs.Told.{moved_on}
-use Rattle.slip_node.specs.Handing.{rest_text}
-use Rattle.slip_node.proofs.HandLaws.{front_put}
-use Rattle.slip_node.proofs.handing.write_on.Goals as goal
+use Rattle.uip_device.specs.Handing.{rest_text}
+use Rattle.uip_device.proofs.HandLaws.{front_put}
+use Rattle.uip_device.proofs.handing.write_on.Goals as goal
 
 pub loop-out-init : goal.loop-out-init
 loop-out-init c =

@@ -7,8 +7,8 @@ ghost use Rattle.uip_wire.specs.declared.addr.Addr.{Addr as Address};
 ghost use Rattle.uip_node.specs.Events.{Reply};
 ghost use Rattle.uip_node.specs.Spoken.{IsSent};
 ghost use Rattle.uip_node.specs.StandsFor.{IsWhole};
-ghost use Rattle.serve_loop.specs.Running.{text_for};
-ghost use Rattle.slip_node.specs.Handing.{text_to_come};
+ghost use Rattle.serve_loop.specs.Texts.{text_for};
+ghost use Rattle.uip_device.specs.Handing.{text_to_come};
 
 use app_events::App;
 use uip_node::Node;
@@ -21,7 +21,7 @@ pub const LARGEST_TEXT: usize = 2 * LARGEST_DATAGRAM + 2;
 /// How many bytes were written to the front of the area, and behind how many bytes of the datagram in the packet the text
 /// goes on; nowhere where all was written.
 #[derive(Clone, Copy, Debug, PartialEq, Eq)]
-pub struct Written {
+pub(crate) struct Written {
     pub wrote: usize,
     pub left: Option<usize>,
 }
@@ -96,7 +96,7 @@ pub(crate) fn write_on(out: &mut [u8], len: usize, datagram: &[u8], at: usize) -
 }
 
 /// Writes on what is left of the text of the datagram that a node has sent, behind so many of its bytes.
-pub fn hand_on<A: App>(node: &Node<A>, at: usize, out: &mut [u8]) -> Written
+pub(crate) fn hand_on<A: App>(node: &Node<A>, at: usize, out: &mut [u8]) -> Written
     requires within { at ≤ length (datagram_in node.now.packet) }
     ensures long { length out.new ≡ length out.old }
     ensures fits { result.wrote ≤ length out.new }
