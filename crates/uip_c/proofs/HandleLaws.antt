@@ -10,22 +10,22 @@ use Rattle.httpd.specs.contracts.httpd.HttpdApp.TheImpl.{ghosts}
 use Rattle.uip_edge.specs.declared.item.Item.{Item}
 use Rattle.uip_wire.specs.declared.addr.Addr.{Addr}
 use Rattle.uip_device.specs.Calls.{Bring, Call, Calls, CallsByDatagram, DoesNothing, HandsOn, Hears, HearsDatagram}
-use Rattle.uip_device.specs.Devices.{Answered, Answers as AnswersDevice, AnswersAll as DeviceAnswersAll, calls_of, datagrams_handed, left_text_of, line_handed}
+use Rattle.uip_device.specs.Devices.{Answered, Answers, AnswersAll, calls_of, datagrams_handed, left_text_of, line_handed}
 use Rattle.uip_device.specs.WebDevices.{WebDevice, web_datagrams_sent, web_line_sent, web_output}
 use Rattle.uip_device.proofs.AnswerLaws.{answers_nothing, datagrams_told, line_served, line_told}
-use Rattle.uip_c.specs.Handles.{Answers, AnswersAll, Did, IsOf, OpensAs}
+use Rattle.uip_c.specs.Handles.{Did, DidAll, HandleAnswers, IsOf, OpensAs}
 
 -- a call on a handle is one of the device that it has
 record OnDevice (call : Call) (d : WebDevice) (b : Option WebDevice) (handed : List ℕ) : Type 0 where
   after : WebDevice
   is : b ≡ Some after
-  answers : AnswersDevice ghosts call d after handed
+  answers : Answers ghosts call d after handed
 
-on_device : (call : Call) (d : WebDevice) (a b : Option WebDevice) (handed : List ℕ) → a ≡ Some d → Answers call a b handed → OnDevice call d b handed
+on_device : (call : Call) (d : WebDevice) (a b : Option WebDevice) (handed : List ℕ) → a ≡ Some d → HandleAnswers call a b handed → OnDevice call d b handed
 on_device call d a b handed is it = record {
   after = it.after;
   is = it.is;
-  answers = subst (λ (x : WebDevice). AnswersDevice ghosts call x it.after handed) (same_Some it.before d (sym it.was ∙ is)) it.answers;
+  answers = subst (λ (x : WebDevice). Answers ghosts call x it.after handed) (same_Some it.before d (sym it.was ∙ is)) it.answers;
 }
 
 did_device : (call : Call) (d : WebDevice) (a b : Option WebDevice) (handed : List ℕ) → a ≡ Some d → Did call a b handed → OnDevice call d b handed
@@ -37,23 +37,23 @@ did_device (CallsByDatagram slot) d a b handed is it = on_device (CallsByDatagra
 did_device DoesNothing d a b handed is it = record {
   after = d;
   is = it.0 ∙ is;
-  answers = subst (λ (l : List ℕ). AnswersDevice ghosts DoesNothing d d l) (sym it.1) (answers_nothing ghosts d);
+  answers = subst (λ (l : List ℕ). Answers ghosts DoesNothing d d l) (sym it.1) (answers_nothing ghosts d);
 }
 
 -- and so for calls in turn
 record OnDevices (all : List Answered) (d : WebDevice) (c : Option WebDevice) : Type 0 where
   last : WebDevice
   is : c ≡ Some last
-  answers : DeviceAnswersAll ghosts all d last
+  answers : AnswersAll ghosts all d last
 
-on_devices : (all : List Answered) (d : WebDevice) (a c : Option WebDevice) → a ≡ Some d → AnswersAll all a c → OnDevices all d c
+on_devices : (all : List Answered) (d : WebDevice) (a c : Option WebDevice) → a ≡ Some d → DidAll all a c → OnDevices all d c
 on_devices [] d a c is same = record { last = d; is = sym same ∙ is; answers = refl }
 on_devices (it ∷ all) d a c is more =
     let first = did_device it.call d a more.0 it.handed is more.1 in
     let later = on_devices all first.after more.0 c first.is more.2 in
     record { last = later.last; is = later.is; answers = (first.after, first.answers, later.answers) }
 
-module _ (files : List File) (own : Addr) (all : List Answered) (closed old new : Option WebDevice) (opens : OpensAs files own closed old) (answered : AnswersAll all old new) where
+module _ (files : List File) (own : Addr) (all : List Answered) (closed old new : Option WebDevice) (opens : OpensAs files own closed old) (answered : DidAll all old new) where
   devices : OnDevices all opens.1.0 new
   devices = on_devices all opens.1.0 old new opens.1.1 answered
 

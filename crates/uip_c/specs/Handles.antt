@@ -7,7 +7,7 @@ use Rattle.site_image.specs.Files.{File}
 use Rattle.httpd.specs.contracts.httpd.HttpdApp.TheImpl.{ghosts}
 use Rattle.uip_wire.specs.declared.addr.Addr.{Addr}
 use Rattle.uip_device.specs.Calls.{Call, DoesNothing}
-use Rattle.uip_device.specs.Devices.{Answered, Answers as AnswersDevice}
+use Rattle.uip_device.specs.Devices.{Answered, Answers}
 use Rattle.uip_device.specs.WebDevices.{IsFreshWebDevice, WebDevice}
 use Rattle.uip_c.specs.declared.status.UipDone.{UipDone}
 use Rattle.uip_c.specs.declared.status.TheConstants.{BAD_CALL, FINE, NO_DEVICE, TEXT_LEFT}
@@ -21,22 +21,22 @@ abbrev pub OpensAs : List File → Addr → Option WebDevice → Option WebDevic
 OpensAs files own old new = (old ≡ None) × IsOf (IsFreshWebDevice files own) new
 
 -- there was a device and there is one, and the call was answered by these bytes
-pub record Answers (call : Call) (old new : Option WebDevice) (handed : List ℕ) : Type 0 where
+pub record HandleAnswers (call : Call) (old new : Option WebDevice) (handed : List ℕ) : Type 0 where
   pub before : WebDevice
   pub after : WebDevice
   pub was : old ≡ Some before
   pub is : new ≡ Some after
-  pub answers : AnswersDevice ghosts call before after handed
+  pub answers : Answers ghosts call before after handed
 
 -- What a call did, by its clauses: one that was refused, or that read a count, left the handle as it was and handed out nothing.
 abbrev pub Did : Call → Option WebDevice → Option WebDevice → List ℕ → Type 0
 Did DoesNothing old new handed = (new ≡ old) × (handed ≡ [])
-Did call old new handed = Answers call old new handed
+Did call old new handed = HandleAnswers call old new handed
 
 -- calls in turn on a handle that nothing else touches
-abbrev pub AnswersAll : List Answered → Option WebDevice → Option WebDevice → Type 0
-AnswersAll [] a c = a ≡ c
-AnswersAll (it ∷ all) a c = (b : Option WebDevice) × Did it.call a b it.handed × AnswersAll all b c
+abbrev pub DidAll : List Answered → Option WebDevice → Option WebDevice → Type 0
+DidAll [] a c = a ≡ c
+DidAll (it ∷ all) a c = (b : Option WebDevice) × Did it.call a b it.handed × DidAll all b c
 
 -- the statuses of a call that hands out a text or a datagram of its own
 abbrev pub IsTextStatus : ℕ → Type 0

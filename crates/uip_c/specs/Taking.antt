@@ -14,7 +14,7 @@ pub record TakesIdle (taken : WebDevice) (old new : Option WebDevice) : Type 0 w
   pub idle : taken.left ≡ NothingLeft
 
 -- the call is refused with this status, which says whether there is no device or a text is left, and the handle stays as it was
-pub record Refuses (status : ℕ) (old new : Option WebDevice) : Type 0 where
+pub record TakesNone (status : ℕ) (old new : Option WebDevice) : Type 0 where
   pub known : IsTextStatus status
   pub not_fine : status ≡ FINE → ⊥
   pub not_bad : (status == BAD_CALL) ≡ false

@@ -4,7 +4,7 @@ ghost use Rattle.std.specs.Prelude.{◌≡◌, ◌==◌, ◌||◌, ◌<◌, ◌�
 ghost use Rattle.std.specs.Option.{is_some};
 ghost use Rattle.std.specs.declared.option.Option.TheVariants.{None};
 ghost use Rattle.uip_device.specs.Calls.{Calls, HandsOn, Hears};
-ghost use Rattle.uip_c.specs.Handles.{Answers, HasText, IsOf, IsTextStatus, Refused, left_flag};
+ghost use Rattle.uip_c.specs.Handles.{HandleAnswers, HasText, IsOf, IsTextStatus, Refused, left_flag};
 
 use crate::handle::{UipDevice, put_in, take_idle, take_out};
 use crate::status::{BAD_CALL, FINE, NO_DEVICE, TEXT_LEFT, UipDone, is_left};
@@ -25,7 +25,7 @@ pub extern "C" fn uip_hear(
 ) -> UipDone
     ensures known { IsTextStatus result.status }
     ensures fine { result.status ≡ FINE
-        → Answers (Hears (take result.taken bytes.now)) device.old.held.device device.new.held.device (take result.wrote out.new) }
+        → HandleAnswers (Hears (take result.taken bytes.now)) device.old.held.device device.new.held.device (take result.wrote out.new) }
     ensures some { result.status ≡ FINE → 0 < result.taken }
     ensures within { (result.taken ≤ length bytes.now) × (result.wrote ≤ length out.new) }
     ensures left { result.status ≡ FINE → IsOf (λ d. result.left ≡ left_flag d.left) device.new.held.device }
@@ -65,7 +65,7 @@ pub extern "C" fn uip_call(
 ) -> UipDone
     ensures known { IsTextStatus result.status }
     ensures fine { result.status ≡ FINE
-        → Answers (Calls slot) device.old.held.device device.new.held.device (take result.wrote out.new) }
+        → HandleAnswers (Calls slot) device.old.held.device device.new.held.device (take result.wrote out.new) }
     ensures within { (result.taken ≡ 0) × (result.wrote ≤ length out.new) }
     ensures left { result.status ≡ FINE → IsOf (λ d. result.left ≡ left_flag d.left) device.new.held.device }
     ensures all { result.status ≡ FINE → LARGEST_TEXT ≤ length out.old → result.left ≡ 0 }
@@ -98,7 +98,7 @@ pub extern "C" fn uip_call(
 pub extern "C" fn uip_more(alloc: Global, device: &mut UipDevice, out: &mut [u8]) -> UipDone
     ensures known { (result.status ≡ FINE) ⊎ (result.status ≡ NO_DEVICE) ⊎ (result.status ≡ BAD_CALL) }
     ensures fine { result.status ≡ FINE
-        → Answers HandsOn device.old.held.device device.new.held.device (take result.wrote out.new) }
+        → HandleAnswers HandsOn device.old.held.device device.new.held.device (take result.wrote out.new) }
     ensures some { result.status ≡ FINE → IsOf (λ d. is_some d.left ≡ true → 0 < result.wrote) device.old.held.device }
     ensures within { (result.taken ≡ 0) × (result.wrote ≤ length out.new) }
     ensures left { result.status ≡ FINE → IsOf (λ d. result.left ≡ left_flag d.left) device.new.held.device }

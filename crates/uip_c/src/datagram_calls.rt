@@ -3,7 +3,7 @@
 ghost use Rattle.std.specs.Prelude.{◌≡◌, ◌==◌, ◌||◌, ◌≤◌, length, nat_le, nat_lt, take};
 ghost use Rattle.std.specs.declared.option.Option.TheVariants.{None};
 ghost use Rattle.uip_device.specs.Calls.{CallsByDatagram, HearsDatagram};
-ghost use Rattle.uip_c.specs.Handles.{Answers, HasText, IsTextStatus, Refused};
+ghost use Rattle.uip_c.specs.Handles.{HandleAnswers, HasText, IsTextStatus, Refused};
 
 use crate::handle::{UipDevice, put_in, take_idle};
 use crate::status::{BAD_CALL, FINE, NO_DEVICE, TEXT_LEFT, UipDone};
@@ -20,7 +20,7 @@ pub extern "C" fn uip_hear_datagram(
 ) -> UipDone
     ensures known { IsTextStatus result.status }
     ensures fine { result.status ≡ FINE
-        → Answers (HearsDatagram datagram.now) device.old.held.device device.new.held.device (take result.wrote out.new) }
+        → HandleAnswers (HearsDatagram datagram.now) device.old.held.device device.new.held.device (take result.wrote out.new) }
     ensures whole { result.status ≡ FINE → result.taken ≡ length datagram.now }
     ensures within { result.wrote ≤ length out.new }
     ensures no_device { result.status ≡ NO_DEVICE → device.old.held.device ≡ None }
@@ -57,7 +57,7 @@ pub extern "C" fn uip_call_datagram(
 ) -> UipDone
     ensures known { IsTextStatus result.status }
     ensures fine { result.status ≡ FINE
-        → Answers (CallsByDatagram slot) device.old.held.device device.new.held.device (take result.wrote out.new) }
+        → HandleAnswers (CallsByDatagram slot) device.old.held.device device.new.held.device (take result.wrote out.new) }
     ensures within { (result.taken ≡ 0) × (result.wrote ≤ length out.new) }
     ensures no_device { result.status ≡ NO_DEVICE → device.old.held.device ≡ None }
     ensures bad_call { (result.status == BAD_CALL) ≡ (nat_le 10 slot || nat_lt (length out.old) LARGEST_DATAGRAM) }

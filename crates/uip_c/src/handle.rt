@@ -2,7 +2,7 @@ ghost use Rattle.std.specs.Prelude.{◌≡◌, ◌==◌, option_map, IfErr, IfOk
 ghost use Rattle.std.specs.Option.{is_some};
 ghost use Rattle.std.specs.declared.option.Option.TheVariants.{None, Some};
 ghost use Rattle.uip_device.specs.WebDevices.{IsSoundWebDevice};
-ghost use Rattle.uip_c.specs.Taking.{Refuses, TakesIdle};
+ghost use Rattle.uip_c.specs.Taking.{TakesNone, TakesIdle};
 
 use crate::held::Held;
 use crate::status::{NO_DEVICE, TEXT_LEFT};
@@ -44,7 +44,7 @@ pub(crate) fn take_out(alloc: Global, device: &mut UipDevice) -> Option<Box<WebD
 /// text is left, the call is refused, and the handle stays as it is.
 pub(crate) fn take_idle(alloc: Global, device: &mut UipDevice) -> Result<Box<WebDevice>, u32>
     ensures taken { IfOk result (λ b. TakesIdle b.value device.old.held.device device.new.held.device) }
-    ensures refused { IfErr result (λ status. Refuses status device.old.held.device device.new.held.device) }
+    ensures refused { IfErr result (λ status. TakesNone status device.old.held.device device.new.held.device) }
 {
     match take_out(alloc, device) {
         None => Err(NO_DEVICE),

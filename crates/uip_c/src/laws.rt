@@ -8,17 +8,17 @@ ghost use Rattle.uip_wire.specs.declared.addr.Addr.{Addr};
 ghost use Rattle.uip_device.specs.Calls.{Bring};
 ghost use Rattle.uip_device.specs.Devices.{Answered, calls_of, datagrams_handed, left_text_of, line_handed};
 ghost use Rattle.uip_device.specs.WebDevices.{WebDevice, web_datagrams_sent, web_line_sent, web_output};
-ghost use Rattle.uip_c.specs.Handles.{AnswersAll, IsOf, OpensAs};
+ghost use Rattle.uip_c.specs.Handles.{DidAll, IsOf, OpensAs};
 
 /// Whatever C calls in turn on a handle that was just opened, over either kind of link, fine or refused: what is handed out over the
 /// serial line, with what is left, is the text of what the opening node sends over what the calls there bring; and each call over a link
 /// that carries datagrams hands out the datagram that is sent at its event, or none.
 pub fn calls_from_c_are_told()
     ensures line { (files : List File) (own : Addr) (all : List Answered) (closed old new : Option WebDevice)
-        → OpensAs files own closed old → AnswersAll all old new
+        → OpensAs files own closed old → DidAll all old new
         → IsOf (λ d. line_handed all ++ left_text_of d ≡ web_line_sent files own (calls_of all)) new }
     ensures datagrams { (files : List File) (own : Addr) (all : List Answered) (closed old new : Option WebDevice)
-        → OpensAs files own closed old → AnswersAll all old new
+        → OpensAs files own closed old → DidAll all old new
         → datagrams_handed all ≡ web_datagrams_sent files own (calls_of all) }
 {}
 
@@ -26,6 +26,6 @@ pub fn calls_from_c_are_told()
 /// serial line writes for them.
 pub fn line_from_c_is_served()
     ensures { (files : List File) (own : Addr) (pace : ℕ) (items : List Item) (all : List Answered) (closed old new : Option WebDevice)
-        → OpensAs files own closed old → Bring pace items (calls_of all) → AnswersAll all old new
+        → OpensAs files own closed old → Bring pace items (calls_of all) → DidAll all old new
         → IsOf (λ d. d.left ≡ NothingLeft) new → line_handed all ≡ web_output files own pace items }
 {}

@@ -17,7 +17,7 @@ use Rattle.uip_device.specs.Calls.{Bring, Call, DoesNothing, HandsOn, bytes_of_c
 use Rattle.uip_device.specs.Devices.{Answered, Answers, AnswersAll, HasHeard, IsFreshDevice, calls_of, datagrams_handed, left_text_of, line_handed}
 use Rattle.uip_device.specs.Handing.{text_to_come}
 use Rattle.uip_device.specs.Output.{datagrams_sent, line_sent}
-use Rattle.uip_device.specs.Sending.{HandsOut, datagram_of}
+use Rattle.uip_device.specs.Sending.{HandsOut, datagram_sent}
 use Rattle.uip_device.specs.declared.device.Device.{Device}
 use Rattle.uip_device.proofs.CallLaws.{line_text}
 use Rattle.uip_device.proofs.SendLaws.{sends_none}
@@ -31,8 +31,8 @@ line_step false own replies before handed left rest more last h e =
 
 -- and over the other link
 datagram_step : (v : Bool) (own : Addr) (replies : List Reply) (before handed left : List ℕ) (more others : List (List ℕ)) → HandsOut v own before handed left replies → more ≡ others
-    → (if v then handed ∷ [] else []) ++ more ≡ (if v then datagram_of own replies ∷ [] else []) ++ others
-datagram_step true own replies before handed left more others h e = ap (λ d. d ∷ more) h.0 ∙ ap (λ l. datagram_of own replies ∷ l) e
+    → (if v then handed ∷ [] else []) ++ more ≡ (if v then datagram_sent own replies ∷ [] else []) ++ others
+datagram_step true own replies before handed left more others h e = ap (λ d. d ∷ more) h.0 ∙ ap (λ l. datagram_sent own replies ∷ l) e
 datagram_step false own replies before handed left more others h e = e
 
 -- nothing is left of a text

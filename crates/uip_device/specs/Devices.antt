@@ -11,7 +11,7 @@ use Rattle.uip_slip.specs.Decoding.{WasFed}
 use Rattle.serve_loop.specs.Turns.{IsNode}
 use Rattle.uip_device.specs.Calls.{Call, bytes_of_call, events_by, is_by_datagram}
 use Rattle.uip_device.specs.Handing.{text_to_come}
-use Rattle.uip_device.specs.Sending.{HandsOut, Sends}
+use Rattle.uip_device.specs.Sending.{HandsOut, SendsOver}
 use Rattle.uip_device.specs.declared.device.Device.{Device}
 
 -- every connection of the device's node is sound, and what is left of a text is of the datagram in its packet
@@ -39,7 +39,7 @@ pub record IsFreshDevice {A S : Type 0} (g : Ghosts A S) (m : Meaning) (numbers 
 -- node goes on over what the call brings, of which this is handed out.
 pub record Answers {A S : Type 0} (g : Ghosts A S) (call : Call) (old new : Device A S) (handed : List ℕ) : Type 0 where
   pub heard : (before : List ℕ) → HasHeard before old → HasHeard (before ++ bytes_of_call call) new
-  pub sends : (before : List ℕ) → HasHeard before old → Sends g (events_by before call) old.node new.node
+  pub sends : (before : List ℕ) → HasHeard before old → SendsOver g (events_by before call) old.node new.node
       (λ own replies. HandsOut (is_by_datagram call) own (left_text_of old) handed (left_text_of new) replies)
 
 -- a call, and the bytes by which it was answered

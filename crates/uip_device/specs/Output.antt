@@ -5,7 +5,7 @@ use Rattle.uip_node.specs.Node.{AbstractNode, run}
 use Rattle.uip_wire.specs.declared.addr.Addr.{Addr}
 use Rattle.serve_loop.specs.Texts.{text_of}
 use Rattle.uip_device.specs.Calls.{Call, bytes_of_call, events_by, is_by_datagram}
-use Rattle.uip_device.specs.Sending.{datagram_of}
+use Rattle.uip_device.specs.Sending.{datagram_sent}
 
 -- the texts of what is sent at the calls over the serial line, behind the bytes that were heard before
 abbrev pub line_sent : Meaning → (ℕ → Bool) → Addr → List ℕ → List Call → AbstractNode → List ℕ
@@ -18,5 +18,5 @@ line_sent m served own before (call ∷ calls) n =
 abbrev pub datagrams_sent : Meaning → (ℕ → Bool) → Addr → List ℕ → List Call → AbstractNode → List (List ℕ)
 datagrams_sent m served own before [] n = []
 datagrams_sent m served own before (call ∷ calls) n =
-    (if is_by_datagram call then datagram_of own (run m served (events_by before call own) n).sent ∷ [] else [])
+    (if is_by_datagram call then datagram_sent own (run m served (events_by before call own) n).sent ∷ [] else [])
     ++ datagrams_sent m served own (before ++ bytes_of_call call) calls (run m served (events_by before call own) n).node

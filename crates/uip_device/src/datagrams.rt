@@ -7,7 +7,7 @@ ghost use Rattle.uip_node.specs.Events.{Reply};
 ghost use Rattle.uip_node.specs.Node.{joined};
 ghost use Rattle.uip_node.specs.Spoken.{IsSent};
 ghost use Rattle.uip_node.specs.StandsFor.{IsWhole};
-ghost use Rattle.uip_device.specs.Sending.{datagram_of};
+ghost use Rattle.uip_device.specs.Sending.{datagram_sent};
 
 use app_events::App;
 use uip_node::Node;
@@ -20,7 +20,7 @@ pub(crate) fn copy_sent<A: App>(node: &Node<A>, sent: Option<usize>, out: &mut [
     ensures long { length out.new ≡ length out.old }
     ensures within { result ≤ length out.new }
     ensures bytes { (own : Address) (reply : Option Reply) → IsSent own reply sent node.now.packet
-        → take result out.new ≡ datagram_of own (joined reply []) }
+        → take result out.new ≡ datagram_sent own (joined reply []) }
 {
     if sent.is_none() {
         return 0;

@@ -1,15 +1,15 @@
 //! A device, and the calls of it.
 
-ghost use Rattle.std.specs.Prelude.{◌≡◌, ◌<◌, ◌≤◌, ◌++◌, ◌∷◌, [], List, IfSome, None, Some, length, take};
+ghost use Rattle.std.specs.Prelude.{◌≡◌, ◌<◌, ◌≤◌, ◌++◌, ◌∷◌, [], List, ℕ, IfSome, None, length, map, take};
 ghost use Rattle.packet_buffer.specs.Buffer.{datagram_in};
-ghost use Rattle.uip_wire.specs.declared.addr.Addr.{Addr as Address};
+ghost use Rattle.uip_edge.specs.declared.item.Item.TheVariants.{Byte};
+ghost use Rattle.uip_slip.specs.Decoding.{WasFed};
 ghost use Rattle.uip_node.specs.Edge.{event_of};
-ghost use Rattle.uip_node.specs.Events.{Reply};
-ghost use Rattle.uip_node.specs.Spoken.{IsSent};
 ghost use Rattle.uip_node.specs.StandsFor.{IsWhole};
+ghost use Rattle.serve_loop.specs.LineEvents.{events_behind};
 ghost use Rattle.serve_loop.specs.Texts.{text_of};
 ghost use Rattle.uip_device.specs.Handing.{text_to_come};
-ghost use Rattle.uip_device.specs.Sending.{Sends};
+ghost use Rattle.uip_device.specs.Sending.{SendsOver};
 
 use crate::datagrams::copy_sent;
 use crate::handing::{LARGEST_TEXT, Written, hand_on, write_text};
@@ -46,11 +46,55 @@ fn answer<A: App>(node: &mut Node<A>, datagram: &[u8], out: &mut [u8]) -> Writte
     ensures fits { result.wrote ≤ length out.new }
     ensures left { IfSome result.left (λ k. k ≤ length (datagram_in node.new.packet)) }
     ensures all { LARGEST_TEXT ≤ length out.old → result.left ≡ None }
-    ensures sends { Sends A.App (λ own. event_of own datagram.now ∷ []) node.old node.new (λ own replies. text_of own replies
+    ensures sends { SendsOver A.App (λ own. event_of own datagram.now ∷ []) node.old node.new (λ own replies. text_of own replies
         ≡ take result.wrote out.new ++ text_to_come (datagram_in node.new.packet) result.left) }
 {
     let sent = node.input(datagram);
     write_text(node, sent, out)
+}
+
+/// So many bytes were taken, and this was written.
+#[derive(Clone, Copy, Debug)]
+struct Taken {
+    count: usize,
+    written: Written,
+}
+
+/// Takes a front of the bytes, of which the last alone may complete a frame, and writes the text of the answer.
+fn take<A: App>(
+    decoder: &mut Decoder,
+    node: &mut Node<A>,
+    bytes: &[u8],
+    out: &mut [u8],
+) -> Taken
+    requires some { 0 < length bytes.now }
+    requires whole { IsWhole A.App node.old }
+    requires room { 0 < length out.old }
+    ensures whole { IsWhole A.App node.new }
+    ensures taken { (0 < result.count) × (result.count ≤ length bytes.now) }
+    ensures long { length out.new ≡ length out.old }
+    ensures fits { result.written.wrote ≤ length out.new }
+    ensures left { IfSome result.written.left (λ k. k ≤ length (datagram_in node.new.packet)) }
+    ensures all { LARGEST_TEXT ≤ length out.old → result.written.left ≡ None }
+    ensures fed { (before : List ℕ) → WasFed before decoder.old → WasFed (before ++ take result.count bytes.now) decoder.new }
+    ensures sends { (before : List ℕ) → WasFed before decoder.old
+        → SendsOver A.App (λ own. events_behind own 0 before (map Byte (take result.count bytes.now))) node.old node.new
+        (λ own replies. text_of own replies
+        ≡ take result.written.wrote out.new ++ text_to_come (datagram_in node.new.packet) result.written.left) }
+{
+    let run = decoder.feed_run(bytes);
+    let written = match run.fed {
+        Fed::More => Written::nothing(),
+        Fed::Overlong => {
+            node.count_overlong();
+            Written::nothing()
+        }
+        Fed::Datagram(count) => answer(node, decoder.bytes(count), out),
+    };
+    Taken {
+        count: run.count,
+        written,
+    }
 }
 
 impl<A: App> Device<A> {
@@ -87,19 +131,11 @@ impl<A: App> Device<A> {
         ensures all { LARGEST_TEXT ≤ length out.old → self.new.left ≡ None }
         ensures answers { Answers A.App (Hears (take result.taken bytes.now)) self.old self.new (take result.wrote out.new) }
     {
-        let run = self.decoder.feed_run(bytes);
-        let written = match run.fed {
-            Fed::More => Written::nothing(),
-            Fed::Overlong => {
-                self.node.count_overlong();
-                Written::nothing()
-            }
-            Fed::Datagram(count) => answer(&mut self.node, self.decoder.bytes(count), out),
-        };
-        self.left = written.left;
+        let taken = take(&mut self.decoder, &mut self.node, bytes, out);
+        self.left = taken.written.left;
         Heard {
-            taken: run.count,
-            wrote: written.wrote,
+            taken: taken.count,
+            wrote: taken.written.wrote,
         }
     }
 
