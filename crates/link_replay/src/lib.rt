@@ -36,6 +36,8 @@ mod world;
 pub use kind::Kind;
 pub use laws::{damage_loses, worked_reports, worked_summaries};
 pub use link::Link;
+pub use link_schedule::{ClientPlan, Event, Line, ReadSchedule, Schedule, Why};
+pub use link_world::{Act, StepFault, Who};
 pub use playing::play;
 pub use sent::Sent;
 pub use side::Side;

@@ -10,9 +10,6 @@ use Rattle.line_medium.specs.Ways.{Way, all_brought}
 use Rattle.uip_edge.specs.Coming.{bytes_among}
 use Rattle.uip_edge.proofs.Told.{bytes_among-map}
 
-pub counted : (n : ℕ) (buf : List ℕ) → n ≤ length buf → length (map Byte (take n buf)) ≡ n
-counted n buf h = rw length-map (length-take-le n buf h)
-
 -- no byte makes a tick, but maybe the last
 abbrev pub IsSilent : ℕ → ℕ → ℕ → Type 0
 IsSilent pace before count = (k : ℕ) → 0 < k → k < count → is_beat pace (before + k) ≡ false

@@ -12,7 +12,7 @@ use Rattle.uip_node.specs.Events.Event.{Periodic}
 use Rattle.uip_node.specs.Node.{AbstractNode, step}
 use Rattle.uip_node.specs.Spoken.{IsSent}
 use Rattle.uip_node.specs.StandsFor.{Stands, Steps}
-use Rattle.serve_loop.specs.Breaking.{BreaksOff}
+use Rattle.uip_edge.specs.Writing.{BreaksOff}
 use Rattle.serve_loop.specs.DeedRuns.{FrontSaid, Deed, Does, Happens, Station, AllSaid, after_deeds, after_deed, said, text_behind}
 use Rattle.line_medium.specs.Ways.{Way, all_said}
 use Rattle.serve_loop.specs.Turns.{IsHere, IsNode}

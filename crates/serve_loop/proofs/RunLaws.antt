@@ -3,38 +3,14 @@ use Rattle.std.proofs.Common.{◌≡◌, ◌<◌, ℕ, Bool, List, [], ◌∷◌
 use Rattle.std.specs.Io.KnownBytes.{Appends}
 use Rattle.uip_wire.specs.declared.addr.Addr.{Addr}
 use Rattle.app_events.specs.Part.{Meaning}
-use Rattle.uip_edge.specs.Writing.{AppendsPrefix}
+use Rattle.uip_edge.specs.Writing.{BreaksOff}
+use Rattle.uip_edge.proofs.Breaking.{breaks_by, breaks_then}
 use Rattle.uip_edge.proofs.Told.{Appends-then, appends_by, Appends-none}
 use Rattle.uip_node.specs.Events.{Event, Reply}
 use Rattle.uip_node.specs.Node.{AbstractNode, NodeStep, Ran, joined, run, step}
-use Rattle.serve_loop.specs.Breaking.{BreaksOff}
-use Rattle.serve_loop.specs.Running.{text_for, text_of}
+use Rattle.serve_loop.specs.Texts.{text_for, text_of}
 use Rattle.serve_loop.specs.DeedRuns.{FrontSaid, Deed, Station, StopsIn, AllSaid, after_deeds, after_deed, said, said_by_deed}
 use Rattle.line_medium.specs.Ways.{Way}
-
--- other words for what stands before a text and for the text
-pub breaks_by : (us vs xs ys : List ℕ) (a b : Option (List ℕ)) → us ≡ vs → xs ≡ ys → BreaksOff vs ys a b → BreaksOff us xs a b
-breaks_by us vs xs ys a b e f h = record {
-  some = subst (λ (l : List ℕ). 0 < length l) (sym f) h.some;
-  front = h.front;
-  rest = h.rest;
-  cut = f ∙ h.cut;
-  written = appends_by a b _ _ (ap (λ l. l ++ h.front) e) h.written;
-}
-
--- what was written is a front of all
-pub breaks_front : (us xs : List ℕ) (a b : Option (List ℕ)) → BreaksOff us xs a b → AppendsPrefix a b (us ++ xs)
-breaks_front us xs a b h = (us ++ h.front, h.rest, ap (λ l. us ++ l) h.cut ∙ sym (append_assoc us h.front h.rest), h.written)
-
--- a text that broke off behind others
-breaks_then : (us vs text : List ℕ) (a b c : Option (List ℕ)) → Appends a b us → BreaksOff vs text b c → BreaksOff (us ++ vs) text a c
-breaks_then us vs text a b c first h = record {
-  some = h.some;
-  front = h.front;
-  rest = h.rest;
-  cut = h.cut;
-  written = appends_by a c _ _ (append_assoc us vs h.front) (Appends-then a b c us (vs ++ h.front) first h.written);
-}
 
 module _ {A : Type 0} (m : Meaning) (served : ℕ → Bool) (w : Way A) (own : Addr) where
   after-append : (xs ys : List (Deed A)) (s : Station A) → after_deeds m served (xs ++ ys) s ≡ after_deeds m served ys (after_deeds m served xs s)

@@ -7,39 +7,29 @@ use Rattle.uip_edge.specs.declared.item.Item.{Item}
 use Rattle.uip_edge.specs.declared.serve_end.ServeEnd.{ServeEnd}
 use Rattle.uip_edge.specs.declared.serve_end.ServeEnd.TheVariants as ends
 use Rattle.uip_edge.specs.Coming.{Consumes, bytes_among}
-use Rattle.uip_edge.proofs.Told.{Consumes-then, none_more, taken_within, took_all}
+use Rattle.uip_edge.specs.declared.turn.Turn.TheVariants.{Ended}
+use Rattle.uip_edge.proofs.Told.{Consumes-then, taken_within}
+use Rattle.uip_edge.proofs.Turns.{ends_by}
 use Rattle.uip_node.specs.declared.node.Node.{Node}
 use Rattle.line_medium.specs.declared.medium.Medium.{Ghosts as MediumGhosts}
-use Rattle.serve_loop.specs.declared.turn.Turn.TheVariants.{Stopped}
 use Rattle.serve_loop.specs.declared.pacer.Pacer.{Pacer}
 use Rattle.serve_loop.specs.LineDeeds.{deeds_behind, line_deeds}
 use Rattle.serve_loop.specs.DeedRuns.{Deed, Station, AllSaid}
 use Rattle.line_medium.specs.Ways.{Way}
 use Rattle.serve_loop.specs.DeedServing.{IsStationed, SaidBy, ServesOver}
-use Rattle.serve_loop.specs.Turns.{IsHere, Turns, TurnsBy, WritesOn}
+use Rattle.serve_loop.specs.Turns.{IsHere, Turns}
 use Rattle.serve_loop.proofs.EventLaws.{events-then}
 use Rattle.serve_loop.proofs.RunLaws.{broke_by, broke_then, wrote_by, wrote_then}
-use Rattle.uip_edge.specs.Told.{LineTold, LineUnfailed}
+use Rattle.uip_edge.specs.Told.{IsCalm, LineTold, LineUnfailed}
 use Rattle.uip_edge.specs.Ending.{EndsBy}
-
--- the cause of the end that a turn tells
-pub ends_by : (n : ℕ) (taken items : List Item) (old mid new : LineTold) (end : ServeEnd)
-    → Consumes old.link.coming mid.link.coming taken → length taken < n → length items + length taken ≤ n
-    → mid.link.faults ≡ old.link.faults → mid.sink.faults ≡ old.sink.faults
-    → TurnsBy mid new items (Stopped end) → EndsBy n old new (taken ++ items) end
-ends_by n taken items old mid new ends.End c below fits l k t =
-    rw (none_more taken items t.0) (took_all _ _ taken c t.1, below, t.2 ∙ l, t.3 ∙ k)
-ends_by n taken items old mid new ends.LinkFault c below fits l k t = rw (none_more taken items t.0) (below, rw l at t.1, t.2 ∙ k)
-ends_by n taken items old mid new ends.WriteFault c below fits l k t = (omega (arith, length-append taken items), t.0 ∙ l, rw k at t.1)
-ends_by n taken items old mid new ends.Budget c below fits l k t = absurd t
 
 -- what was written up to such an end
 written_by : {C : Type 0} (m : Meaning) (served : ℕ → Bool) (w : Way C) (own : Addr) (xs ys zs : List (Deed C)) (P Q R : Station C → Type 0) (a b c : Option (List ℕ)) (end : ServeEnd)
-    → zs ≡ xs ++ ys → AllSaid m served w own xs P Q a b → WritesOn (Stopped end) m served w own ys Q R b c → SaidBy end m served w own zs P R a c
+    → zs ≡ xs ++ ys → AllSaid m served w own xs P Q a b → SaidBy end m served w own ys Q R b c → SaidBy end m served w own zs P R a c
 written_by m served w own xs ys zs P Q R a b c ends.End e u v = wrote_by m served w own _ _ _ _ _ _ e (wrote_then m served w own xs ys P Q R a b c u v)
 written_by m served w own xs ys zs P Q R a b c ends.LinkFault e u v = wrote_by m served w own _ _ _ _ _ _ e (wrote_then m served w own xs ys P Q R a b c u v)
+written_by m served w own xs ys zs P Q R a b c ends.Budget e u v = wrote_by m served w own _ _ _ _ _ _ e (wrote_then m served w own xs ys P Q R a b c u v)
 written_by m served w own xs ys zs P Q R a b c ends.WriteFault e u v = broke_by m served w own _ _ _ _ _ _ e (broke_then m served w own xs ys P Q R a b c u v)
-written_by m served w own xs ys zs P Q R a b c ends.Budget e u v = absurd v
 
 -- an end that no fault brought is the link's, where fewer items are told than are allowed
 pub end_told : (n : ℕ) (old new : LineTold) (all taken : List Item) (end : ServeEnd) → old.link.coming ≡ Some all → length all < n
@@ -89,13 +79,13 @@ module _ {A S : Type 0} (g : Ghosts A S) {C : Type 0} (w : Way C) where
 
   -- a serving that took all that it might
   pub spent : (did did1 : List C → Type 0) (pace n : ℕ) (taken : List Item) (start node : Node A S) (old new : LineTold)
-      → Consumes old.link.coming new.link.coming taken → length taken ≡ n → new.link.faults ≡ old.link.faults → new.sink.faults ≡ old.sink.faults
+      → Consumes old.link.coming new.link.coming taken → length taken ≡ n → IsCalm old new
       → ((m : Meaning) (own : Addr) → AllSaid m g.served w own (line_deeds w own pace taken) (At did m own start) (At did1 m own node) old.sink.written new.sink.written)
       → ServesOver g w did did1 pace n start node old new ends.Budget
-  spent did did1 pace n taken start node old new c all l k v = record {
+  spent did did1 pace n taken start node old new c all calm v = record {
     taken = taken;
     consumed = c;
-    ends = (all, l, k);
+    ends = (all, calm.link, calm.sink);
     wrote = public_wrote did did1 ends.Budget _ start node _ _ (v (g.meaning (g.kept start.shared)) start.addr);
   }
 
@@ -108,17 +98,17 @@ module _ {A S M : Type 0} (g : Ghosts A S) (h : MediumGhosts M) (k : h.Set) (med
   Here x m own node s = IsHere g (h.did x k) m own node s
 
   pub stopped : (pace n : ℕ) (taken : List Item) (start node node' : Node A S) (old mid new : LineTold) (pacer : Pacer) (room : ℕ) (end : ServeEnd)
-      → Consumes old.link.coming mid.link.coming taken → length taken < n → room + length taken ≤ n → mid.link.faults ≡ old.link.faults → mid.sink.faults ≡ old.sink.faults
+      → Consumes old.link.coming mid.link.coming taken → length taken < n → room + length taken ≤ n → IsCalm old mid
       → ((m : Meaning) (own : Addr) → AllSaid m g.served w own (line_deeds w own pace taken) (Here medium0 m own start) (Here medium m own node) old.sink.written mid.sink.written)
-      → Turns g h k pace (bytes_among taken) medium medium' node node' mid new pacer room (Stopped end)
+      → Turns g h k pace (bytes_among taken) medium medium' node node' mid new pacer room (Ended end)
       → ServesOver g w (h.did medium0 k) (h.did medium' k) pace n start node' old new end
-  stopped pace n taken start node node' old mid new pacer room end c below fits l f v t =
+  stopped pace n taken start node node' old mid new pacer room end c below fits calm v t =
       let m = g.meaning (g.kept start.shared) in
       let own = start.addr in
       record {
         taken = taken ++ t.items;
         consumed = Consumes-then _ _ _ taken t.items c t.consumed;
-        ends = ends_by n taken t.items old mid new end c below (let within = t.within in omega arith) l f t.cause;
+        ends = ends_by n taken t.items old mid new end c below (let within = t.within in omega arith) calm t.cause;
         wrote = public_wrote g w (h.did medium0 k) (h.did medium' k) end _ start node' _ _
             (written_by m g.served w own (line_deeds w own pace taken) (deeds_behind w own pace (bytes_among taken) t.items) _
             (Here medium0 m own start) (Here medium m own node) (Here medium' m own node') old.sink.written mid.sink.written new.sink.written end

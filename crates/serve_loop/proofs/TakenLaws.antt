@@ -11,13 +11,14 @@ use Rattle.uip_node.specs.Counted.{seen}
 use Rattle.uip_node.specs.Events.Event.{Overlong as OverlongFrame}
 use Rattle.uip_node.specs.Node.{AbstractNode, step}
 use Rattle.uip_node.specs.StandsFor.{Stands}
-use Rattle.serve_loop.specs.Breaking.{BreaksOff}
+use Rattle.uip_edge.specs.Writing.{BreaksOff}
 use Rattle.serve_loop.specs.LineDeeds.{deed_by}
 use Rattle.serve_loop.specs.DeedRuns.{FrontSaid, Does, Happens, Station, AllSaid}
 use Rattle.serve_loop.specs.Turns.{IsHere}
 use Rattle.line_medium.specs.Ways.{Came, Datagram, Overlong, Own, Way, acts_among, all_brought}
 use Rattle.serve_loop.proofs.NodeLaws.{node_on}
-use Rattle.serve_loop.proofs.RunLaws.{breaks_by, broke_by, broke_from, broke_one, wrote_by, wrote_from, wrote_none, wrote_one}
+use Rattle.uip_edge.proofs.Breaking.{breaks_by}
+use Rattle.serve_loop.proofs.RunLaws.{broke_by, broke_from, broke_one, wrote_by, wrote_from, wrote_none, wrote_one}
 
 module _ {A S Set C : Type 0} (g : Ghosts A S)
     (way : Set → Way C) (fed : Set → List ℕ → Type 0) (did did' : Set → List C → Type 0) (bytes : List ℕ) (n : ℕ) (shown : List ℕ) (node : Node A S)

@@ -8,7 +8,7 @@ use Rattle.uip_node.specs.Edge.{reply_bytes}
 use Rattle.uip_node.specs.Events.{Event, Reply}
 use Rattle.uip_node.specs.Node.{AbstractNode, step}
 use Rattle.line_medium.specs.Ways.{Way}
-use Rattle.serve_loop.specs.Breaking.{BreaksOff}
+use Rattle.uip_edge.specs.Writing.{BreaksOff}
 
 -- a medium that has done these acts, and the node behind it
 pub record Station (A : Type 0) : Type 0 where

@@ -1,11 +1,9 @@
-pub mod Breaking
 pub mod DeedRuns
 pub mod DeedServing
 pub mod LineDeeds
 pub mod LineEvents
 pub mod LineOutput
 pub mod Pace
-pub mod Running
-pub mod Serving
 pub mod SlipWay
+pub mod Texts
 pub mod Turns

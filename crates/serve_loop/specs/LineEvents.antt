@@ -1,9 +1,9 @@
 -- The events of a line: what its items bring to the node, in order.
-use Rattle.std.specs.Prelude.{ℕ, ◌+◌, ◌==◌, if◌then◌else◌, List, [], ◌∷◌, ◌++◌, length, map}
+use Rattle.std.specs.Prelude.{ℕ, ◌+◌, if◌then◌else◌, List, [], ◌∷◌, ◌++◌, length, map}
 use Rattle.uip_wire.specs.declared.addr.Addr.{Addr}
 use Rattle.uip_edge.specs.declared.item.Item.{Item}
 use Rattle.uip_edge.specs.declared.item.Item.TheVariants.{Byte, Quiet}
-use Rattle.uip_slip.specs.Frames.{Frame, Datagram, Overlong, frame_of, open_part, unescaped}
+use Rattle.uip_slip.specs.Frames.{Frame, Datagram, Overlong, completed}
 use Rattle.uip_node.specs.Edge.{event_of}
 use Rattle.uip_node.specs.Events.{Event, tick}
 use Rattle.uip_node.specs.Events.Event.{Overlong as OverlongFrame}
@@ -13,10 +13,6 @@ use Rattle.serve_loop.specs.Pace.{is_beat}
 abbrev pub event_by : Addr → Frame → Event
 event_by own (Datagram bytes) = event_of own bytes
 event_by own Overlong = OverlongFrame
-
--- the frame that a byte completes behind the bytes before it: an END completes the part since the last END
-abbrev pub completed : List ℕ → ℕ → List Frame
-completed before b = if b == 192 then frame_of (unescaped (open_part before)) else []
 
 -- the tick that the byte of this number makes at a pace
 abbrev pub beat : ℕ → ℕ → List Event

@@ -1,21 +1,22 @@
 -- What a server does in one turn, told of all bytes that it took before.
-use Rattle.std.specs.Prelude.{◌≡◌, ◌<◌, ◌≤◌, ℕ, Bool, List, [], ◌++◌, Option, length, ⊤}
+use Rattle.std.specs.Prelude.{◌≡◌, ◌≤◌, ℕ, Bool, List, ◌++◌, Option, length}
 use Rattle.uip_wire.specs.declared.addr.Addr.{Addr}
 use Rattle.app_events.specs.Part.{Meaning}
 use Rattle.app_events.specs.declared.app.App.{Ghosts}
 use Rattle.uip_edge.specs.declared.item.Item.{Item}
-use Rattle.uip_edge.specs.declared.serve_end.ServeEnd.TheVariants as ends
-use Rattle.uip_edge.specs.Causes.{Rose}
-use Rattle.uip_edge.specs.Coming.{Consumes, bytes_among, TookAll}
+use Rattle.uip_edge.specs.declared.serve_end.ServeEnd.{ServeEnd}
+use Rattle.uip_edge.specs.declared.turn.Turn.{Turn}
+use Rattle.uip_edge.specs.declared.turn.Turn.TheVariants as turns
+use Rattle.uip_edge.specs.Coming.{Consumes, bytes_among}
+use Rattle.uip_edge.specs.Turns.{IfTook, TurnsBy}
 use Rattle.uip_node.specs.declared.node.Node.{Node}
 use Rattle.uip_node.specs.Node.{AbstractNode}
 use Rattle.uip_node.specs.StandsFor.{Stands}
 use Rattle.line_medium.specs.Ways.{Way}
 use Rattle.line_medium.specs.declared.medium.Medium.{Ghosts as MediumGhosts}
-use Rattle.serve_loop.specs.declared.turn.Turn.{Turn}
-use Rattle.serve_loop.specs.declared.turn.Turn.TheVariants as turns
 use Rattle.serve_loop.specs.declared.pacer.Pacer.{Pacer}
 use Rattle.serve_loop.specs.DeedRuns.{AllSaid, Deed, FrontSaid, Station}
+use Rattle.serve_loop.specs.DeedServing.{SaidBy}
 use Rattle.serve_loop.specs.LineDeeds.{deeds_behind}
 use Rattle.serve_loop.specs.Pace.{HasPassed}
 use Rattle.uip_edge.specs.Told.{LineTold}
@@ -61,43 +62,20 @@ pub record HasTaken (pace : ℕ) (before : List ℕ) (fed : List ℕ → Type 0)
   pub paced : pacer.pace ≡ pace
   pub passed : HasPassed (length before) pacer
 
--- a turn takes at least one item and no more than there is room for
-abbrev pub TurnFits : Turn → ℕ → Type 0
-TurnFits (turns.Went n) room = (0 < n) × (n ≤ room)
-TurnFits (turns.Stopped s) room = ⊤
-
--- the cause of what a turn tells that took these items
-abbrev pub TurnsBy : LineTold → LineTold → List Item → Turn → Type 0
-TurnsBy old new items (turns.Went n) = (length items ≡ n) × (new.link.faults ≡ old.link.faults) × (new.sink.faults ≡ old.sink.faults)
-TurnsBy old new items (turns.Stopped ends.End) =
-    (items ≡ []) × TookAll old.link.coming [] × (new.link.faults ≡ old.link.faults) × (new.sink.faults ≡ old.sink.faults)
-TurnsBy old new items (turns.Stopped ends.LinkFault) =
-    (items ≡ []) × Rose old.link.faults new.link.faults × (new.sink.faults ≡ old.sink.faults)
-TurnsBy old new items (turns.Stopped ends.WriteFault) = (new.link.faults ≡ old.link.faults) × Rose old.sink.faults new.sink.faults
-TurnsBy old new items (turns.Stopped ends.Budget) = ⊥
-
--- a turn that went on has taken the bytes
-abbrev pub TakesOn : ℕ → List ℕ → List ℕ → (List ℕ → Type 0) → Pacer → Turn → Type 0
-TakesOn pace before bytes fed pacer (turns.Went n) = HasTaken pace (before ++ bytes) fed pacer
-TakesOn pace before bytes fed pacer (turns.Stopped end) = ⊤
-
 -- what a turn wrote for these deeds
-abbrev pub WritesOn : {C : Type 0} → Turn → Meaning → (ℕ → Bool) → Way C → Addr → List (Deed C)
+abbrev pub WritesOn : {C : Type 0} → Turn ServeEnd → Meaning → (ℕ → Bool) → Way C → Addr → List (Deed C)
     → (Station C → Type 0) → (Station C → Type 0) → Option (List ℕ) → Option (List ℕ) → Type 0
-WritesOn (turns.Went n) m served w own deeds Before After old new = AllSaid m served w own deeds Before After old new
-WritesOn (turns.Stopped ends.End) m served w own deeds Before After old new = AllSaid m served w own deeds Before After old new
-WritesOn (turns.Stopped ends.LinkFault) m served w own deeds Before After old new = AllSaid m served w own deeds Before After old new
-WritesOn (turns.Stopped ends.WriteFault) m served w own deeds Before After old new = FrontSaid m served w own deeds Before After old new
-WritesOn (turns.Stopped ends.Budget) m served w own deeds Before After old new = ⊥
+WritesOn (turns.Took n) m served w own deeds Before After old new = AllSaid m served w own deeds Before After old new
+WritesOn (turns.Ended end) m served w own deeds Before After old new = SaidBy end m served w own deeds Before After old new
 
 -- a turn, with the medium and the node before and after it
 pub record Turns {A S M : Type 0} (g : Ghosts A S) (h : MediumGhosts M) (k : h.Set) (pace : ℕ) (before : List ℕ) (medium medium' : M)
-    (node node' : Node A S) (old new : LineTold) (pacer : Pacer) (room : ℕ) (turn : Turn) : Type 0 where
+    (node node' : Node A S) (old new : LineTold) (pacer : Pacer) (room : ℕ) (turn : Turn ServeEnd) : Type 0 where
   pub items : List Item
   pub consumed : Consumes old.link.coming new.link.coming items
   pub within : length items ≤ room
   pub cause : TurnsBy old new items turn
-  pub on : TakesOn pace before (bytes_among items) (h.fed medium' k) pacer turn
+  pub on : IfTook turn (λ n. HasTaken pace (before ++ bytes_among items) (h.fed medium' k) pacer)
   pub wrote : (m : Meaning) (own : Addr)
       → WritesOn turn m g.served (h.way k) own (deeds_behind (h.way k) own pace before items)
       (IsHere g (h.did medium k) m own node) (IsHere g (h.did medium' k) m own node') old.sink.written new.sink.written

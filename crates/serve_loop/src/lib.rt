@@ -3,13 +3,13 @@
 //! taken, however the link cut them. A serial line is the first medium.
 #![tactic(auto)]
 
+mod laws;
 mod line;
 mod node_calls;
 mod pacer;
 mod serving;
 mod slip;
-mod turn;
 
+pub use laws::serial_deeds_are_events;
 pub use serving::{budget_is_told, end_is_told, serve, serve_over};
 pub use slip::Slip;
-pub use turn::Turn;

@@ -2,19 +2,19 @@ ghost use Rattle.std.specs.Prelude.{◌≡◌, ◌<◌, ◌≤◌, ◌++◌, [],
 ghost use Rattle.std.specs.Io.KnownBytes.{Appends};
 ghost use Rattle.uip_edge.specs.declared.item.Item.TheVariants.{Byte};
 ghost use Rattle.uip_edge.specs.Causes.{HasCause};
+ghost use Rattle.uip_edge.specs.Turns.{TurnFits};
+ghost use Rattle.uip_edge.specs.Writing.{BreaksOff};
 ghost use Rattle.uip_node.specs.StandsFor.{IsWhole};
 ghost use Rattle.line_medium.specs.Ways.{all_brought};
-ghost use Rattle.serve_loop.specs.Breaking.{BreaksOff};
 ghost use Rattle.serve_loop.specs.LineDeeds.{deed_by, deeds_behind};
-ghost use Rattle.serve_loop.specs.Turns.{Breaks, TurnFits, HasTaken, Plays, Turns, place};
+ghost use Rattle.serve_loop.specs.Turns.{Breaks, HasTaken, Plays, Turns, place};
 ghost use Rattle.uip_edge.specs.Telling.{line_told};
 
 use crate::node_calls::{take_datagram, tick};
 use crate::pacer::Pacer;
-use crate::turn::Turn;
 use app_events::App;
 use line_medium::{Brought, Medium};
-use uip_edge::{Failed, Got, Link, ServeEnd, Sink};
+use uip_edge::{Failed, Got, Link, ServeEnd, Sink, Turn};
 use uip_node::Node;
 
 /// Hands to the node what the link gives next, and writes what the node sends.
@@ -25,7 +25,7 @@ pub(crate) fn take_turn<A: App, M: Medium, L: Link, K: Sink>(
     buf: &mut [u8],
     link: &mut L,
     sink: &mut K,
-) -> Turn
+) -> Turn<ServeEnd>
     requires room { 0 < length buf.old }
     requires whole { IsWhole A.App node.old }
     ensures whole { IsWhole A.App node.new }
@@ -37,15 +37,15 @@ pub(crate) fn take_turn<A: App, M: Medium, L: Link, K: Sink>(
         (line_told L.Link K.Sink link.new sink.new) pacer.new (length buf.old) result }
 {
     match link.next(buf) {
-        Err(Failed) => Turn::Stopped(ServeEnd::LinkFault),
-        Ok(Got::End) => Turn::Stopped(ServeEnd::End),
+        Err(Failed) => Turn::Ended(ServeEnd::LinkFault),
+        Ok(Got::End) => Turn::Ended(ServeEnd::End),
         Ok(Got::Quiet) => match tick(node, medium, sink) {
-            Ok(()) => Turn::Went(1),
-            Err(Failed) => Turn::Stopped(ServeEnd::WriteFault),
+            Ok(()) => Turn::Took(1),
+            Err(Failed) => Turn::Ended(ServeEnd::WriteFault),
         },
         Ok(Got::Bytes(count)) => match take_bytes(medium, pacer, node, &buf[..count], sink) {
-            Ok(()) => Turn::Went(count as u64),
-            Err(Failed) => Turn::Stopped(ServeEnd::WriteFault),
+            Ok(()) => Turn::Took(count as u64),
+            Err(Failed) => Turn::Ended(ServeEnd::WriteFault),
         },
     }
 }

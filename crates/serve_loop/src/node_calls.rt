@@ -1,13 +1,13 @@
 ghost use Rattle.std.specs.Prelude.{◌≡◌, ◌<◌, ◌≤◌, [], ◌∷◌, List, ℕ, length, map, Option, OnOk, OnErr};
 ghost use Rattle.std.specs.Io.KnownBytes.{Appends};
 ghost use Rattle.uip_edge.specs.Causes.{HasCause};
+ghost use Rattle.uip_edge.specs.Writing.{BreaksOff};
 ghost use Rattle.uip_wire.specs.declared.addr.Addr.{Addr as Address};
 ghost use Rattle.uip_node.specs.Edge.{event_of};
 ghost use Rattle.uip_node.specs.Events.{Reply, tick};
 ghost use Rattle.uip_node.specs.Events.Event.{Periodic};
 ghost use Rattle.uip_node.specs.Spoken.{IsSent};
 ghost use Rattle.uip_node.specs.StandsFor.{IsWhole};
-ghost use Rattle.serve_loop.specs.Breaking.{BreaksOff};
 ghost use Rattle.serve_loop.specs.DeedRuns.{Happens, text_behind};
 ghost use Rattle.serve_loop.specs.LineDeeds.{tick_on};
 ghost use Rattle.serve_loop.specs.Turns.{Breaks, Plays, place};

@@ -5,7 +5,7 @@ ghost use Rattle.uip_edge.specs.declared.serve_end.ServeEnd.{ServeEnd as AnyEnd}
 ghost use Rattle.uip_edge.specs.declared.serve_end.ServeEnd.TheVariants.{Budget, End};
 ghost use Rattle.uip_node.specs.StandsFor.{IsWhole};
 ghost use Rattle.serve_loop.specs.DeedServing.{ServesOver};
-ghost use Rattle.serve_loop.specs.Serving.{Serves};
+ghost use Rattle.serve_loop.specs.SlipWay.{any_acts, slip_way};
 ghost use Rattle.serve_loop.specs.Turns.{HasTaken};
 ghost use Rattle.uip_edge.specs.Telling.{line_told};
 ghost use Rattle.uip_edge.specs.Told.{LineTold, LineUnfailed};
@@ -14,10 +14,9 @@ ghost use Rattle.uip_edge.specs.Ending.{EndsBy};
 use crate::line::take_turn;
 use crate::pacer::Pacer;
 use crate::slip::Slip;
-use crate::turn::Turn;
 use app_events::App;
 use line_medium::Medium;
-use uip_edge::{Link, ServeEnd, Sink};
+use uip_edge::{Link, ServeEnd, Sink, Turn};
 use uip_node::Node;
 
 /// The most bytes that are asked of a link at once.
@@ -36,7 +35,7 @@ pub fn serve<A: App, L: Link, K: Sink>(
     requires whole { IsWhole A.App node.old }
     ensures whole { IsWhole A.App node.new }
     ensures same { A.kept node.new.shared ≡ A.kept node.old.shared }
-    ensures serves { Serves A.App pace items node.old node.new
+    ensures serves { ServesOver A.App slip_way any_acts any_acts pace items node.old node.new
         (line_told L.Link K.Sink link.old sink.old)
         (line_told L.Link K.Sink link.new sink.new) result }
 {
@@ -88,8 +87,8 @@ fn serve_line<A: App, M: Medium, L: Link, K: Sink>(
     while left > 0 {
         let room = left.min(BLOCK as u64) as usize;
         match take_turn(medium, pacer, node, &mut buf[..room], link, sink) {
-            Turn::Went(count) => left -= count,
-            Turn::Stopped(end) => return end,
+            Turn::Took(count) => left -= count,
+            Turn::Ended(end) => return end,
         }
     }
     ServeEnd::Budget

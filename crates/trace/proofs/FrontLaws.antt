@@ -2,13 +2,15 @@
 use Rattle.std.proofs.Common.{◌≡◌, ℕ, ◌+◌, ◌<◌, List, [], ◌∷◌, ◌++◌, Option, length, map, take, drop, refl, sym, ap, ◌∙◌, append-nil, append_assoc, arith, length-append, subst}
 use Rattle.std.proofs.lemmas.List.{length-map, map-append, take-append-drop}
 use Rattle.std.specs.Io.KnownBytes.{Appends}
-use Rattle.uip_edge.proofs.Told.{Appends-then, appends_by, prefix_more, prefix_then, bytes_among-append, bytes_among-map}
+use Rattle.uip_edge.specs.Writing.{BreaksOff}
+use Rattle.uip_edge.proofs.Breaking.{breaks_by, breaks_then, breaks_whole}
+use Rattle.uip_edge.proofs.Told.{Appends-then, appends_by, bytes_among-append, bytes_among-map}
 use Rattle.uip_edge.specs.declared.item.Item.{Item}
 use Rattle.uip_edge.specs.declared.item.Item.TheVariants.{Byte, Quiet}
 use Rattle.uip_slip.specs.Decoding.{State, WasFed}
 use Rattle.uip_slip.specs.Frames.{Frame, frames}
 use Rattle.trace.specs.Seen.{seen_at, seen_behind, seen_on, silences_of}
-use Rattle.trace.specs.Watching.{BreaksIn, HasSeen, text_after, texts_from}
+use Rattle.trace.specs.Watching.{HasSeen, text_after, texts_from}
 use Rattle.trace.specs.declared.form.Form.{Form}
 use Rattle.trace.proofs.SeenLaws.{seen-told, seen_on-append, silences-append, silences-bytes, text-then}
 use Rattle.uip_edge.specs.Coming.{bytes_among}
@@ -42,34 +44,23 @@ module _ (decoder decoder' : State) (count silences : ℕ) (bytes : List ℕ) (t
       ap (λ l. texts_from form (length (seen_on before) + 1) l) (brought before h)
       ∙ ap (λ n. texts_from form (n + 1) (map (seen_at silences) told)) (sym h.numbered)
 
-breaks_by : (a b : Option (List ℕ)) (xs ys : List ℕ) → ys ≡ xs → BreaksIn a b xs → BreaksIn a b ys
-breaks_by a b xs ys e p = subst (λ (l : List ℕ). BreaksIn a b l) (sym e) p
-
-breaks_more : (a b : Option (List ℕ)) (xs more whole : List ℕ) → xs ++ more ≡ whole → BreaksIn a b xs → BreaksIn a b whole
-breaks_more a b xs more whole e p =
-    record { some = let some = p.some in omega (arith, some, length-append xs more, ap (λ l. length l) e); front = prefix_more a b xs more whole e p.front }
-
-pub breaks_then : (a m b : Option (List ℕ)) (xs ys : List ℕ) → Appends a m xs → BreaksIn m b ys → BreaksIn a b (xs ++ ys)
-breaks_then a m b xs ys w p =
-    record { some = let some = p.some in omega (arith, some, length-append xs ys); front = prefix_then a m b xs ys w p.front }
-
 -- what broke off in the text of bytes broke off in the text of more bytes
 pub broke_in_more : (form : Form) (before : List Item) (n : ℕ) (bytes : List ℕ) (a b : Option (List ℕ))
-    → BreaksIn a b (text_after form before (map Byte (take n bytes))) → BreaksIn a b (text_after form before (map Byte bytes))
+    → BreaksOff [] (text_after form before (map Byte (take n bytes))) a b → BreaksOff [] (text_after form before (map Byte bytes)) a b
 broke_in_more form before n bytes a b p =
     let first = map Byte (take n bytes) in
     let rest = map Byte (drop n bytes) in
     let whole : map Byte bytes ≡ first ++ rest = ap (λ l. map Byte l) (sym (take-append-drop n bytes)) ∙ map-append Byte (take n bytes) (drop n bytes) in
-    breaks_more a b (text_after form before first) (text_after form (before ++ first) rest) (text_after form before (map Byte bytes))
-    (sym (ap (λ l. text_after form before l) whole ∙ text-then form before first rest)) p
+    breaks_whole [] (text_after form before first) (text_after form (before ++ first) rest) (text_after form before (map Byte bytes)) a b
+    (ap (λ l. text_after form before l) whole ∙ text-then form before first rest) p
 
 -- what was written of a frame broke off
 pub front_broke : (decoder decoder' : State) (count silences n : ℕ) (bytes : List ℕ) (told : List Frame) → Told decoder decoder' (take n bytes) told
-    → (form : Form) (area : List ℕ) (a b : Option (List ℕ)) → area ≡ texts_from form (count + 1) (map (seen_at silences) told) → BreaksIn a b area
-    → (before : List Item) → HasSeen before decoder count silences → BreaksIn a b (text_after form before (map Byte bytes))
+    → (form : Form) (area : List ℕ) (a b : Option (List ℕ)) → area ≡ texts_from form (count + 1) (map (seen_at silences) told) → BreaksOff [] area a b
+    → (before : List Item) → HasSeen before decoder count silences → BreaksOff [] (text_after form before (map Byte bytes)) a b
 front_broke decoder decoder' count silences n bytes told fed form area a b e p = λ before h.
     broke_in_more form before n bytes a b
-    (breaks_by a b area (text_after form before (map Byte (take n bytes)))
+    (breaks_by [] [] (text_after form before (map Byte (take n bytes))) area a b refl
     (front_text decoder decoder' count silences (take n bytes) told fed form before h ∙ sym e) p)
 
 module _ (form form' : Form) (same : form' ≡ form) (decoder decoder' : State) (count count' silences silences' : ℕ) (front : List ℕ)
@@ -100,11 +91,14 @@ module _ (form form' : Form) (same : form' ≡ form) (decoder decoder' : State) 
 
   -- or it broke off
   pub broke_both : (c : Option (List ℕ)) (bytes whole : List ℕ) → whole ≡ front ++ bytes
-      → ((before : List Item) → HasSeen before decoder' count' silences' → BreaksIn b c (text_after form' before (map Byte bytes)))
-      → (before : List Item) → HasSeen before decoder count silences → BreaksIn a c (text_after form before (map Byte whole))
+      → ((before : List Item) → HasSeen before decoder' count' silences' → BreaksOff [] (text_after form' before (map Byte bytes)) b c)
+      → (before : List Item) → HasSeen before decoder count silences → BreaksOff [] (text_after form before (map Byte whole)) a c
   broke_both c bytes whole e more = λ before h.
-      breaks_by a c _ _ (ap (λ l. text_after form before (map Byte l)) e ∙ both_text before bytes)
-      (breaks_then a b c _ _ (written before h) (more (before ++ map Byte front) (seen before h)))
+      let first = text_after form before (map Byte front) in
+      let next = text_after form' (before ++ map Byte front) (map Byte bytes) in
+      breaks_whole (first ++ []) next [] (text_after form before (map Byte whole)) a c
+      (ap (λ l. text_after form before (map Byte l)) e ∙ both_text before bytes ∙ ap (λ l. l ++ next) (sym (append-nil first)) ∙ sym (append-nil ((first ++ []) ++ next)))
+      (breaks_then first [] next a b c (written before h) (more (before ++ map Byte front) (seen before h)))
 
 -- a silence brings no frame
 pub silence_seen : (before : List Item) (decoder : State) (count silences : ℕ) → HasSeen before decoder count silences

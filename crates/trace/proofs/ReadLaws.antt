@@ -118,13 +118,19 @@ module _ (start old new : Option (List ℕ)) (bytes : List ℕ) (number : ℕ) (
       let on = reads_on (length more + 1) order (at.records ++ captured ∷ []) more (bytes ++ more) (omega arith)
       (more_rest order (at.records ++ captured ∷ []) [] bytes more whole) in
       let lines = ap (λ l. lines_of l) on.first ∙ flat_map-append captured_line (at.records ++ captured ∷ []) on.more in
+      let front = prefix_more start new (lines_of (at.records ++ captured ∷ [])) (lines_of on.more) (lines_of (captured_in on.reading))
+      (sym lines)
+      (prefix_by start new _ _ text (prefix_then start old new _ _ at.written w)) in
       record {
         reading = on.reading;
         read = on.read;
-        written = prefix_more start new (lines_of (at.records ++ captured ∷ [])) (lines_of on.more) (lines_of (captured_in on.reading))
-            (sym lines)
-            (prefix_by start new _ _ text (prefix_then start old new _ _ at.written w));
-        some = omega (arith, text_some, ap (λ l. length l) lines, length-append (lines_of (at.records ++ captured ∷ [])) (lines_of on.more));
+        broke = record {
+          some = omega (arith, text_some, ap (λ l. length l) lines, length-append (lines_of (at.records ++ captured ∷ [])) (lines_of on.more));
+          front = front.0;
+          rest = front.1;
+          cut = front.2;
+          written = front.3;
+        };
       }
 
 -- the writing of its line broke off, whatever was read before

@@ -1,42 +1,17 @@
 -- The frames that items bring behind others, and what is written of them.
-use Rattle.std.proofs.Common.{◌≡◌, ℕ, ◌+◌, true, false, List, [], ◌∷◌, ◌++◌, if◌then◌else◌, eqb, length, map, refl, sym, ap, ◌∙◌, append-nil, append_assoc, arith, length-append}
+use Rattle.std.proofs.Common.{◌≡◌, ℕ, ◌+◌, List, [], ◌∷◌, ◌++◌, length, map, refl, sym, ap, ◌∙◌, append-nil, append_assoc, arith, length-append}
 use Rattle.std.specs.List.{enumerate_from, flat_map}
 use Rattle.std.proofs.lemmas.List.{map-append}
 use Rattle.std.proofs.lemmas.List.Concat.{flat_map-append}
 use Rattle.uip_edge.specs.declared.item.Item.{Item}
 use Rattle.uip_edge.specs.declared.item.Item.TheVariants.{Byte, Quiet}
-use Rattle.uip_slip.specs.Frames.{Frame, frame_of, frames, open_part, unescaped}
-use Rattle.uip_slip.proofs.PartLaws.{frames-end, frames-plain, parts-byte}
-use Rattle.serve_loop.specs.LineEvents.{completed}
+use Rattle.uip_slip.specs.Frames.{Frame, completed, frames}
+use Rattle.uip_slip.proofs.FrameLaws.{completed_by, completed_told, frames-then}
 use Rattle.trace.specs.Seen.{Seen, seen_at, seen_behind, seen_on, silences_of}
 use Rattle.trace.specs.Watching.{frame_text, text_after, texts_from}
 use Rattle.trace.specs.declared.form.Form.{Form}
 use Rattle.uip_edge.specs.Coming.{bytes_among}
 use Rattle.uip_edge.proofs.Told.{bytes_among-append}
-
--- the frames that bytes complete behind others
-abbrev pub completed_by : List ℕ → List ℕ → List Frame
-completed_by before [] = []
-completed_by before (b ∷ bytes) = completed before b ++ completed_by (before ++ b ∷ []) bytes
-
-frames-byte : (before : List ℕ) (b : ℕ) → frames (before ++ b ∷ []) ≡ frames before ++ completed before b
-frames-byte before b =
-    elim (eqb b 192) as (λ v. eqb b 192 ≡ v → frames (before ++ b ∷ []) ≡ frames before ++ (if v then frame_of (unescaped (open_part before)) else [])) [
-      | true ↦ λ e. frames-end before b e
-      | false ↦ λ e. frames-plain before (b ∷ []) (parts-byte b e)
-    ] refl
-
-pub frames-then : (before bytes : List ℕ) → frames (before ++ bytes) ≡ frames before ++ completed_by before bytes
-frames-then before [] = ap (λ l. frames l) (append-nil before) ∙ sym (append-nil (frames before))
-frames-then before (b ∷ bytes) =
-    ap (λ l. frames l) (sym (append_assoc before (b ∷ []) bytes))
-    ∙ frames-then (before ++ b ∷ []) bytes
-    ∙ ap (λ l. l ++ completed_by (before ++ b ∷ []) bytes) (frames-byte before b)
-    ∙ append_assoc (frames before) (completed before b) (completed_by (before ++ b ∷ []) bytes)
-
-same_rest : (xs ys zs : List Frame) → xs ++ ys ≡ xs ++ zs → ys ≡ zs
-same_rest [] ys zs e = e
-same_rest (x ∷ xs) ys zs e = same_rest xs ys zs cc
 
 -- bytes bring the frames that they complete
 seen-bytes : (before : List ℕ) (silences : ℕ) (bytes : List ℕ) → seen_behind before silences (map Byte bytes) ≡ map (seen_at silences) (completed_by before bytes)
@@ -50,7 +25,7 @@ pub seen-told : (before : List ℕ) (silences : ℕ) (bytes : List ℕ) (told : 
     → seen_behind before silences (map Byte bytes) ≡ map (seen_at silences) told
 seen-told before silences bytes told e =
     seen-bytes before silences bytes
-    ∙ ap (λ l. map (seen_at silences) l) (same_rest (frames before) (completed_by before bytes) told (sym (frames-then before bytes) ∙ e))
+    ∙ ap (λ l. map (seen_at silences) l) (completed_told before bytes told e)
 
 frames_seen_at : (silences : ℕ) (told : List Frame) → map (λ seen. seen.frame) (map (seen_at silences) told) ≡ told
 frames_seen_at silences [] = refl

@@ -10,23 +10,24 @@ use Rattle.uip_slip.specs.Decoding.{State}
 use Rattle.trace.specs.Telling.{TellsLine}
 use Rattle.trace.specs.Watching.{Watches, TellsOn, text_after}
 use Rattle.trace.specs.declared.form.Form.{Form}
-use Rattle.serve_loop.specs.declared.turn.Turn.TheVariants.{Stopped}
-use Rattle.serve_loop.proofs.ServeLaws.{ends_by}
+use Rattle.uip_edge.specs.declared.turn.Turn.TheVariants.{Ended}
+use Rattle.uip_edge.proofs.Breaking.{breaks_front}
+use Rattle.uip_edge.proofs.Turns.{ends_by}
 use Rattle.trace.proofs.SeenLaws.{text-then}
-use Rattle.uip_edge.specs.Told.{LineTold}
+use Rattle.uip_edge.specs.Told.{IsCalm, LineTold}
 use Rattle.uip_edge.specs.Ending.{EndsBy, WrittenBy}
 
 -- what was written up to such an end
 wrote_by : (first more whole : List ℕ) (a b c : Option (List ℕ)) (end : ServeEnd) → whole ≡ first ++ more
-    → Appends a b first → TellsOn (Stopped end) b c more → WrittenBy end a c whole
+    → Appends a b first → TellsOn (Ended end) b c more → WrittenBy end a c whole
 wrote_by first more whole a b c ends.End e v w = appends_by a c _ _ e (Appends-then a b c first more v w)
 wrote_by first more whole a b c ends.LinkFault e v w = appends_by a c _ _ e (Appends-then a b c first more v w)
-wrote_by first more whole a b c ends.WriteFault e v w = prefix_by a c _ _ e (prefix_then a b c first more v w.front)
+wrote_by first more whole a b c ends.WriteFault e v w = prefix_by a c _ _ e (prefix_then a b c first more v (breaks_front [] more b c w))
 wrote_by first more whole a b c ends.Budget e v w = absurd w
 
 -- and where that broke off there was something to write
 some_by : (first more whole : List ℕ) (b c : Option (List ℕ)) (end : ServeEnd) → whole ≡ first ++ more
-    → TellsOn (Stopped end) b c more → end ≡ ends.WriteFault → 0 < length whole
+    → TellsOn (Ended end) b c more → end ≡ ends.WriteFault → 0 < length whole
 some_by first more whole b c ends.WriteFault e w is =
     let some = w.some in omega (arith, some, length-append first more, ap (λ l. length l) e)
 some_by first more whole b c ends.End e w is = absurd (cc is)
@@ -35,14 +36,14 @@ some_by first more whole b c ends.Budget e w is = absurd (cc is)
 
 -- a reading that ends in a turn
 pub stopped : (form form' : Form) (n : ℕ) (taken : List Item) (old mid new : LineTold) (decoder : State) (frames silences room : ℕ) (end : ServeEnd) → form' ≡ form
-    → Consumes old.link.coming mid.link.coming taken → length taken < n → room + length taken ≤ n → mid.link.faults ≡ old.link.faults → mid.sink.faults ≡ old.sink.faults
-    → Appends old.sink.written mid.sink.written (text_after form [] taken) → Watches form' taken mid new decoder frames silences room (Stopped end)
+    → Consumes old.link.coming mid.link.coming taken → length taken < n → room + length taken ≤ n → IsCalm old mid
+    → Appends old.sink.written mid.sink.written (text_after form [] taken) → Watches form' taken mid new decoder frames silences room (Ended end)
     → TellsLine (text_after form []) n old new end
-stopped form form' n taken old mid new decoder frames silences room end same c below fits l k w t =
+stopped form form' n taken old mid new decoder frames silences room end same c below fits calm w t =
     let both = text-then form [] taken t.items ∙ ap (λ f. text_after form [] taken ++ text_after f taken t.items) (sym same) in record {
       taken = taken ++ t.items;
       consumed = Consumes-then _ _ _ taken t.items c t.consumed;
-      ends = ends_by n taken t.items old mid new end c below (let within = t.within in omega arith) l k t.cause;
+      ends = ends_by n taken t.items old mid new end c below (let within = t.within in omega arith) calm t.cause;
       wrote = wrote_by _ _ _ _ _ _ end both w t.wrote;
       some = some_by _ _ _ _ _ end both t.wrote;
     }

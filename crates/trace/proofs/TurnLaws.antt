@@ -9,8 +9,9 @@ use Rattle.uip_edge.specs.declared.item.Item.TheVariants.{Byte, Quiet}
 use Rattle.trace.specs.CaptureReading.{Captured, IsReadAs, Reading, cut_in, captured_in, fault_in, lines_of}
 use Rattle.trace.specs.CaptureReading.Reading.{BadHeader, BadLength, InRecord, InHeader, Whole}
 use Rattle.trace.specs.Gathering.{BrokeOff, IsReadTo, IsAtFault, IsOpen, EndsIn, ReadBy, ReadsTurn, StopsBy, end_at}
-use Rattle.serve_loop.proofs.EventLaws.{counted}
-use Rattle.trace.specs.declared.reader.Turn.{Turn}
+use Rattle.uip_edge.proofs.Breaking.{breaks_front}
+use Rattle.uip_edge.proofs.Turns.{counted}
+use Rattle.uip_edge.specs.declared.turn.Turn.{Turn}
 use Rattle.trace.specs.declared.slip_end.CaptureWhy.{CaptureWhy}
 use Rattle.trace.specs.declared.slip_end.CaptureWhy.TheVariants as whys
 use Rattle.trace.specs.declared.slip_end.SlipEnd.{SlipEnd}
@@ -120,7 +121,7 @@ bytes_on before bytes = ap (λ l. bytes_among before ++ l) (sym (bytes_among-map
 
 -- a write failed
 -- a turn that took bytes
-pub took_bytes : (start : Option (List ℕ)) (before : List Item) (old new : LineTold) (stage : Stage) (number : ℕ) (part : List ℕ) (room : ℕ) (turn : Turn) (n : ℕ) (buf : List ℕ) → n ≤ length buf
+pub took_bytes : (start : Option (List ℕ)) (before : List Item) (old new : LineTold) (stage : Stage) (number : ℕ) (part : List ℕ) (room : ℕ) (turn : Turn SlipEnd) (n : ℕ) (buf : List ℕ) → n ≤ length buf
     → length buf ≡ room → Consumes old.link.coming new.link.coming (map Byte (take n buf))
     → ReadBy start before (map Byte (take n buf)) old new stage number part turn → ReadsTurn start before old new stage number part room turn
 took_bytes start before old new stage number part room turn n buf fits size c by =
@@ -132,8 +133,8 @@ write_failed start before bytes old new b calm rose = record {
   reading = b.reading;
   read = subst (λ (l : List ℕ). IsReadAs l b.reading) (bytes_on before bytes) b.read;
   cause = (calm, rose);
-  wrote = b.written;
-  some = λ is. b.some;
+  wrote = breaks_front [] _ start new.sink.written b.broke;
+  some = λ is. b.broke.some;
 }
 
 why_of : Option (ℕ × CaptureWhy) → CaptureWhy

@@ -1,18 +1,18 @@
 -- What the reader of a capture file knows of the bytes that it took, and what it does in one turn.
-use Rattle.std.specs.Prelude.{◌≡◌, ◌<◌, ◌≤◌, ◌+◌, ⊤, ℕ, List, [], ◌∷◌, ◌++◌, Option, Some, None, Result, Ok, Err, length}
+use Rattle.std.specs.Prelude.{◌≡◌, ◌<◌, ◌≤◌, ◌+◌, ℕ, List, [], ◌∷◌, ◌++◌, Option, Some, None, Result, Ok, Err, length}
 use Rattle.std.specs.Io.KnownBytes.{Appends}
 use Rattle.uip_edge.specs.Causes.{Rose}
 use Rattle.uip_edge.specs.Coming.{Consumes, bytes_among, TookAll}
-use Rattle.uip_edge.specs.Writing.{AppendsPrefix}
+use Rattle.uip_edge.specs.Writing.{BreaksOff}
 use Rattle.uip_edge.specs.declared.item.Item.{Item}
+use Rattle.uip_edge.specs.declared.turn.Turn.{Turn}
+use Rattle.uip_edge.specs.declared.turn.Turn.TheVariants as turns
 use Rattle.trace.specs.CaptureReading.{BeginsWith, Captured, IsReadAs, Reading, cut_in, captured_in, fault_in, length_in, lines_of}
 use Rattle.trace.specs.Converting.{WroteLine}
 use Rattle.trace.specs.declared.area.TheConstants.{LONGEST_RECORD}
 use Rattle.trace.specs.declared.reader.Reader.{Reader}
 use Rattle.trace.specs.declared.reader.Stop.{Stop}
 use Rattle.trace.specs.declared.reader.Stop.TheVariants as stops
-use Rattle.trace.specs.declared.reader.Turn.{Turn}
-use Rattle.trace.specs.declared.reader.Turn.TheVariants as turns
 use Rattle.trace.specs.declared.slip_end.CaptureWhy.{CaptureWhy}
 use Rattle.trace.specs.declared.slip_end.CaptureWhy.TheVariants as whys
 use Rattle.trace.specs.declared.slip_end.SlipEnd.{SlipEnd}
@@ -60,12 +60,11 @@ IsFullIn reader = IsFull reader.stage reader.part reader.want
 abbrev pub HasReadTo : Option (List ℕ) → Option (List ℕ) → List ℕ → Reader → Type 0
 HasReadTo start now bytes reader = IsReadTo start now bytes reader.stage reader.number reader.part
 
--- the writing of a line broke off: these bytes are read so, and a front of their records' line was written, which is not empty
+-- these bytes are read so, and the writing of their records' line broke off
 pub record BrokeOff (start now : Option (List ℕ)) (bytes : List ℕ) : Type 0 where
   pub reading : Reading
   pub read : IsReadAs bytes reading
-  pub written : AppendsPrefix start now (lines_of (captured_in reading))
-  pub some : 0 < length (lines_of (captured_in reading))
+  pub broke : BreaksOff [] (lines_of (captured_in reading)) start now
 
 -- the file is at fault: these bytes are read so, and the line of the records before the fault was written
 pub record IsAtFault (why : CaptureWhy) (start now : Option (List ℕ)) (bytes : List ℕ) (number : ℕ) : Type 0 where
@@ -92,16 +91,6 @@ end_at (stages.Head order) (b ∷ part) number = ends.Bad number whys.Cut
 end_at (stages.Body order) part number = ends.Bad number whys.Cut
 end_at stages.Header part number = ends.Bad number whys.Cut
 
--- a turn takes at least one item and no more than there is room for, and numbers no more records than it takes items
-abbrev pub ReadFits : Turn → ℕ → ℕ → ℕ → Type 0
-ReadFits (turns.Went n) room number number' = (0 < n) × (n ≤ room) × (number' ≤ number + n)
-ReadFits (turns.Stopped end) room number number' = ⊤
-
--- a turn that went on leaves the part open
-abbrev pub OpenOn : Turn → Stage → List ℕ → ℕ → Type 0
-OpenOn (turns.Went n) stage part want = IsOpen stage part want
-OpenOn (turns.Stopped end) stage part want = ⊤
-
 -- the cause of an end that a turn tells which took these items
 abbrev pub StopsBy : LineTold → LineTold → List Item → Reading → SlipEnd → Type 0
 StopsBy old new items reading ends.End =
@@ -123,14 +112,14 @@ pub record EndsIn (start : Option (List ℕ)) (before items : List Item) (old ne
   pub wrote : WroteLine end start new.sink.written (lines_of (captured_in reading))
   pub some : end ≡ ends.WriteFault → 0 < length (lines_of (captured_in reading))
 
-abbrev pub ReadBy : Option (List ℕ) → List Item → List Item → LineTold → LineTold → Stage → ℕ → List ℕ → Turn → Type 0
-ReadBy start before items old new stage number part (turns.Went n) =
+abbrev pub ReadBy : Option (List ℕ) → List Item → List Item → LineTold → LineTold → Stage → ℕ → List ℕ → Turn SlipEnd → Type 0
+ReadBy start before items old new stage number part (turns.Took n) =
     (length items ≡ n) × IsCalm old new × IsReadTo start new.sink.written (bytes_among (before ++ items)) stage number part
-ReadBy start before items old new stage number part (turns.Stopped end) = EndsIn start before items old new end
+ReadBy start before items old new stage number part (turns.Ended end) = EndsIn start before items old new end
 
 -- a turn, behind the items before it
 pub record ReadsTurn (start : Option (List ℕ)) (before : List Item) (old new : LineTold)
-    (stage : Stage) (number : ℕ) (part : List ℕ) (room : ℕ) (turn : Turn) : Type 0 where
+    (stage : Stage) (number : ℕ) (part : List ℕ) (room : ℕ) (turn : Turn SlipEnd) : Type 0 where
   pub items : List Item
   pub consumed : Consumes old.link.coming new.link.coming items
   pub within : length items ≤ room

@@ -2,8 +2,7 @@
 use Rattle.std.specs.Prelude.{ℕ, ◌+◌, List, [], ◌∷◌, ◌++◌, map}
 use Rattle.uip_edge.specs.declared.item.Item.{Item}
 use Rattle.uip_edge.specs.declared.item.Item.TheVariants.{Byte, Quiet}
-use Rattle.uip_slip.specs.Frames.{Frame}
-use Rattle.serve_loop.specs.LineEvents.{completed}
+use Rattle.uip_slip.specs.Frames.{Frame, completed}
 
 -- a frame, and how many silences there were on the line before the END that closes it
 pub record Seen : Type 0 where

@@ -1,11 +1,15 @@
 -- What the reader of a serial line does in one turn, told of all items that it took before.
-use Rattle.std.specs.Prelude.{◌≡◌, ◌<◌, ◌≤◌, ◌+◌, ⊤, ℕ, List, [], ◌++◌, Option, length}
+use Rattle.std.specs.Prelude.{◌≡◌, ◌≤◌, ◌+◌, ℕ, List, [], ◌++◌, Option, length}
 use Rattle.std.specs.List.{enumerate_from, flat_map}
 use Rattle.std.specs.Io.KnownBytes.{Appends}
 use Rattle.uip_edge.specs.Coming.{Consumes, bytes_among}
-use Rattle.uip_edge.specs.Writing.{AppendsPrefix}
+use Rattle.uip_edge.specs.Turns.{IfTook, TurnsBy}
+use Rattle.uip_edge.specs.Writing.{BreaksOff}
 use Rattle.uip_edge.specs.declared.item.Item.{Item}
+use Rattle.uip_edge.specs.declared.serve_end.ServeEnd.{ServeEnd}
 use Rattle.uip_edge.specs.declared.serve_end.ServeEnd.TheVariants as ends
+use Rattle.uip_edge.specs.declared.turn.Turn.{Turn}
+use Rattle.uip_edge.specs.declared.turn.Turn.TheVariants as turns
 use Rattle.uip_slip.specs.Decoding.{State, WasFed}
 use Rattle.trace.specs.CaptureText.{frame_record}
 use Rattle.trace.specs.DumpText.{dump_line}
@@ -14,9 +18,6 @@ use Rattle.trace.specs.declared.form.Form.{Form}
 use Rattle.trace.specs.declared.form.Form.TheVariants.{Capture, Dump}
 use Rattle.trace.specs.declared.watch.Watch.{Watch}
 use Rattle.uip_edge.specs.Told.{LineTold}
-use Rattle.serve_loop.specs.Turns.{TurnsBy}
-use Rattle.serve_loop.specs.declared.turn.Turn.{Turn}
-use Rattle.serve_loop.specs.declared.turn.Turn.TheVariants as turns
 
 -- what is written of a frame with its number
 abbrev pub frame_text : Form → ℕ × Seen → List ℕ
@@ -41,36 +42,20 @@ pub record HasSeen (before : List Item) (decoder : State) (frames silences : ℕ
 abbrev pub Saw : List Item → Watch → Type 0
 Saw before watch = HasSeen before watch.decoder watch.frames watch.silences
 
--- a turn takes at least one item and no more than there is room for, and counts no more than it takes
-abbrev pub WatchFits : Turn → ℕ → ℕ → ℕ → ℕ → ℕ → Type 0
-WatchFits (turns.Went n) room frames silences frames' silences' =
-    (0 < n) × (n ≤ room) × (frames' ≤ frames + n) × (silences' ≤ silences + n)
-WatchFits (turns.Stopped s) room frames silences frames' silences' = ⊤
-
--- a turn that went on has read the items
-abbrev pub ReadsOn : Turn → List Item → State → ℕ → ℕ → Type 0
-ReadsOn (turns.Went n) items decoder frames silences = HasSeen items decoder frames silences
-ReadsOn (turns.Stopped end) items decoder frames silences = ⊤
-
--- writing broke off: there was something to write, and a front of it was written
-pub record BreaksIn (old new : Option (List ℕ)) (text : List ℕ) : Type 0 where
-  pub some : 0 < length text
-  pub front : AppendsPrefix old new text
-
 -- what a turn wrote of this text
-abbrev pub TellsOn : Turn → Option (List ℕ) → Option (List ℕ) → List ℕ → Type 0
-TellsOn (turns.Went n) old new text = Appends old new text
-TellsOn (turns.Stopped ends.End) old new text = Appends old new text
-TellsOn (turns.Stopped ends.LinkFault) old new text = Appends old new text
-TellsOn (turns.Stopped ends.WriteFault) old new text = BreaksIn old new text
-TellsOn (turns.Stopped ends.Budget) old new text = ⊥
+abbrev pub TellsOn : Turn ServeEnd → Option (List ℕ) → Option (List ℕ) → List ℕ → Type 0
+TellsOn (turns.Took n) old new text = Appends old new text
+TellsOn (turns.Ended ends.End) old new text = Appends old new text
+TellsOn (turns.Ended ends.LinkFault) old new text = Appends old new text
+TellsOn (turns.Ended ends.WriteFault) old new text = BreaksOff [] text old new
+TellsOn (turns.Ended ends.Budget) old new text = ⊥
 
 -- a turn, behind the items before it
 pub record Watches (form : Form) (before : List Item) (old new : LineTold) (decoder : State)
-    (frames silences : ℕ) (room : ℕ) (turn : Turn) : Type 0 where
+    (frames silences : ℕ) (room : ℕ) (turn : Turn ServeEnd) : Type 0 where
   pub items : List Item
   pub consumed : Consumes old.link.coming new.link.coming items
   pub within : length items ≤ room
   pub cause : TurnsBy old new items turn
-  pub on : ReadsOn turn (before ++ items) decoder frames silences
+  pub on : IfTook turn (λ n. HasSeen (before ++ items) decoder frames silences)
   pub wrote : TellsOn turn old.sink.written new.sink.written (text_after form before items)

@@ -2,10 +2,10 @@ ghost use Rattle.std.specs.Prelude.{◌≡◌, List, ℕ, Option};
 ghost use Rattle.trace.specs.Converting.{Converts};
 ghost use Rattle.uip_edge.specs.Telling.{line_told};
 
-use crate::reader::{Reader, Turn};
+use crate::reader::Reader;
 use crate::slip_end::SlipEnd;
 use crate::telling::BLOCK;
-use uip_edge::{Link, Sink};
+use uip_edge::{Link, Sink, Turn};
 
 /// Reads a capture file and writes its datagrams as a serial line, up to so many items.
 #[inline(never)]
@@ -20,8 +20,8 @@ pub fn slip<L: Link, K: Sink>(link: &mut L, sink: &mut K, items: u64) -> SlipEnd
     while left > 0 {
         let room = left.min(BLOCK as u64) as usize;
         match reader.turn(&mut buf[..room], link, sink) {
-            Turn::Went(count) => left -= count,
-            Turn::Stopped(end) => return end,
+            Turn::Took(count) => left -= count,
+            Turn::Ended(end) => return end,
         }
     }
     SlipEnd::Budget

@@ -1,7 +1,8 @@
 ghost use Rattle.std.specs.Prelude.{◌≡◌, ◌<◌, ◌≤◌, ◌+◌, ◌^◌, ◌++◌, [], List, ℕ, Option, length, take, IfErr, IfOk, OnErr, OnOk};
 ghost use Rattle.uip_edge.specs.Causes.{HasCause};
+ghost use Rattle.uip_edge.specs.Turns.{IfTook, TurnFits};
 ghost use Rattle.uip_edge.specs.declared.item.Item.{Item};
-ghost use Rattle.trace.specs.Gathering.{BrokeOff, ReadFits, HasReadTo, IsAtFault, IsFullIn, IsOpenIn, OpenOn, SinkBy, StopsAt, ReadsTurn, end_at};
+ghost use Rattle.trace.specs.Gathering.{BrokeOff, HasReadTo, IsAtFault, IsFullIn, IsOpenIn, SinkBy, StopsAt, ReadsTurn, end_at};
 ghost use Rattle.trace.specs.declared.reader.Stop.TheVariants.{Bad as BadStop, WriteFault};
 ghost use Rattle.trace.specs.declared.slip_end.SlipEnd.TheVariants.{Bad as BadEnd};
 ghost use Rattle.uip_edge.specs.Coming.{bytes_among};
@@ -13,7 +14,7 @@ use crate::byte_order::ByteOrder;
 use crate::fields::{field, order_of};
 use crate::slip_end::{CaptureWhy, SlipEnd};
 use crate::stage::Stage;
-use uip_edge::{Failed, Got, Link, Sink};
+use uip_edge::{Failed, Got, Link, Sink, Turn};
 use uip_slip::Encoder;
 use uip_wire::LARGEST_DATAGRAM;
 
@@ -22,12 +23,6 @@ const HEADER_LEN: usize = 24;
 
 /// The bytes of a record's times and lengths.
 const HEAD_LEN: usize = 16;
-
-/// What became of one turn: so many items were taken, or the reading ends.
-pub(crate) enum Turn {
-    Went(u64),
-    Stopped(SlipEnd),
-}
 
 /// Why the reading goes no further.
 #[derive(Clone, Copy, Debug, PartialEq, Eq)]
@@ -82,12 +77,18 @@ impl Reader {
     }
 
     /// Takes what the link gives next. A silence says nothing.
-    pub fn turn<L: Link, K: Sink>(&mut self, buf: &mut [u8], link: &mut L, sink: &mut K) -> Turn
+    pub fn turn<L: Link, K: Sink>(
+        &mut self,
+        buf: &mut [u8],
+        link: &mut L,
+        sink: &mut K,
+    ) -> Turn<SlipEnd>
         requires room { 0 < length buf.old }
         requires open { IsOpenIn self.old }
         requires number { self.old.number + length buf.old < 2 ^ 64 }
-        ensures open { OpenOn result self.new.stage self.new.part self.new.want }
-        ensures fits { ReadFits result (length buf.old) self.old.number self.new.number }
+        ensures open { IfTook result (λ n. IsOpenIn self.new) }
+        ensures fits { TurnFits result (length buf.old) }
+        ensures number { IfTook result (λ n. self.new.number ≤ self.old.number + n) }
         ensures turns { (start : Option (List ℕ)) (before : List Item)
             → HasReadTo start (K.written sink.old) (bytes_among before) self.old
             → ReadsTurn start before (line_told L.Link K.Sink link.old sink.old)
@@ -95,13 +96,13 @@ impl Reader {
             self.new.stage self.new.number self.new.part (length buf.old) result }
     {
         match link.next(buf) {
-            Err(Failed) => Turn::Stopped(SlipEnd::LinkFault),
-            Ok(Got::End) => Turn::Stopped(self.end()),
-            Ok(Got::Quiet) => Turn::Went(1),
+            Err(Failed) => Turn::Ended(SlipEnd::LinkFault),
+            Ok(Got::End) => Turn::Ended(self.end()),
+            Ok(Got::Quiet) => Turn::Took(1),
             Ok(Got::Bytes(count)) => match self.take(&buf[..count], sink) {
-                Ok(()) => Turn::Went(count as u64),
-                Err(Stop::WriteFault) => Turn::Stopped(SlipEnd::WriteFault),
-                Err(Stop::Bad(why)) => Turn::Stopped(self.bad(why)),
+                Ok(()) => Turn::Took(count as u64),
+                Err(Stop::WriteFault) => Turn::Ended(SlipEnd::WriteFault),
+                Err(Stop::Bad(why)) => Turn::Ended(self.bad(why)),
             },
         }
     }

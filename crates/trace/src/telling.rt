@@ -10,8 +10,7 @@ ghost use Rattle.uip_edge.specs.Telling.{line_told};
 use crate::form::Form;
 use crate::record::HEADER;
 use crate::watch::Watch;
-use serve_loop::Turn;
-use uip_edge::{Link, ServeEnd, Sink};
+use uip_edge::{Link, ServeEnd, Sink, Turn};
 
 /// The most bytes that are asked of a link at once.
 pub(crate) const BLOCK: usize = 4096;
@@ -51,8 +50,8 @@ fn watch_line<L: Link, K: Sink>(form: Form, link: &mut L, sink: &mut K, items: u
     while left > 0 {
         let room = left.min(BLOCK as u64) as usize;
         match watch.turn(&mut buf[..room], link, sink) {
-            Turn::Went(count) => left -= count,
-            Turn::Stopped(end) => return end,
+            Turn::Took(count) => left -= count,
+            Turn::Ended(end) => return end,
         }
     }
     ServeEnd::Budget

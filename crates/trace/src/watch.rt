@@ -1,20 +1,21 @@
 ghost use Rattle.std.specs.Prelude.{◌≡◌, ◌<◌, ◌≤◌, ◌+◌, ◌^◌, ◌++◌, ◌∷◌, [], List, ℕ, length, map, take, true, OnOk, OnErr, IfOk};
 ghost use Rattle.std.specs.Io.KnownBytes.{Appends};
 ghost use Rattle.uip_edge.specs.Causes.{HasCause};
+ghost use Rattle.uip_edge.specs.Turns.{IfTook, TurnFits};
+ghost use Rattle.uip_edge.specs.Writing.{BreaksOff};
 ghost use Rattle.uip_edge.specs.declared.item.Item.{Item};
 ghost use Rattle.uip_edge.specs.declared.item.Item.TheVariants.{Byte};
 ghost use Rattle.uip_slip.specs.Decoding.{Leaves, told_by};
 ghost use Rattle.uip_slip.specs.Frames.{Datagram, Overlong};
 ghost use Rattle.trace.specs.Seen.{seen_at};
-ghost use Rattle.trace.specs.Watching.{BreaksIn, WatchFits, Saw, Watches, frame_text, text_after, texts_from};
+ghost use Rattle.trace.specs.Watching.{Saw, Watches, frame_text, text_after, texts_from};
 ghost use Rattle.uip_edge.specs.Telling.{line_told};
 
 use crate::area::Area;
 use crate::dump_line::{put_datagram_line, put_overlong_line};
 use crate::form::Form;
 use crate::record::put_record;
-use serve_loop::Turn;
-use uip_edge::{Failed, Got, Link, ServeEnd, Sink};
+use uip_edge::{Failed, Got, Link, ServeEnd, Sink, Turn};
 use uip_slip::{Decoder, Fed};
 use uip_wire::LARGEST_DATAGRAM;
 
@@ -48,27 +49,34 @@ impl Watch {
     }
 
     /// Takes what the link gives next, and writes what is told of it.
-    pub fn turn<L: Link, K: Sink>(&mut self, buf: &mut [u8], link: &mut L, sink: &mut K) -> Turn
+    pub fn turn<L: Link, K: Sink>(
+        &mut self,
+        buf: &mut [u8],
+        link: &mut L,
+        sink: &mut K,
+    ) -> Turn<ServeEnd>
         requires room { 0 < length buf.old }
         requires frames { self.old.frames + length buf.old < 2 ^ 64 }
         requires silences { self.old.silences + length buf.old < 2 ^ 64 }
         ensures form { self.new.form ≡ self.old.form }
-        ensures fits { WatchFits result (length buf.old) self.old.frames self.old.silences self.new.frames self.new.silences }
+        ensures fits { TurnFits result (length buf.old) }
+        ensures frames { IfTook result (λ n. self.new.frames ≤ self.old.frames + n) }
+        ensures silences { IfTook result (λ n. self.new.silences ≤ self.old.silences + n) }
         ensures turns { (before : List Item) → Saw before self.old
             → Watches self.old.form before (line_told L.Link K.Sink link.old sink.old)
             (line_told L.Link K.Sink link.new sink.new)
             self.new.decoder self.new.frames self.new.silences (length buf.old) result }
     {
         match link.next(buf) {
-            Err(Failed) => Turn::Stopped(ServeEnd::LinkFault),
-            Ok(Got::End) => Turn::Stopped(ServeEnd::End),
+            Err(Failed) => Turn::Ended(ServeEnd::LinkFault),
+            Ok(Got::End) => Turn::Ended(ServeEnd::End),
             Ok(Got::Quiet) => {
                 self.silences += 1;
-                Turn::Went(1)
+                Turn::Took(1)
             }
             Ok(Got::Bytes(count)) => match self.take(&buf[..count], sink) {
-                Ok(()) => Turn::Went(count as u64),
-                Err(Failed) => Turn::Stopped(ServeEnd::WriteFault),
+                Ok(()) => Turn::Took(count as u64),
+                Err(Failed) => Turn::Ended(ServeEnd::WriteFault),
             },
         }
     }
@@ -84,7 +92,7 @@ impl Watch {
         ensures ok { OnOk result ((before : List Item) → Saw before self.old
             → Appends (K.written sink.old) (K.written sink.new) (text_after self.old.form before (map Byte bytes.now))) }
         ensures err { OnErr result ((before : List Item) → Saw before self.old
-            → BreaksIn (K.written sink.old) (K.written sink.new) (text_after self.old.form before (map Byte bytes.now))) }
+            → BreaksOff [] (text_after self.old.form before (map Byte bytes.now)) (K.written sink.old) (K.written sink.new)) }
         ensures cause { HasCause (K.faults sink.old) (K.faults sink.new) result }
     {
         let mut rest = bytes;
@@ -108,7 +116,7 @@ impl Watch {
         ensures ok { IfOk result (λ n. (before : List Item) → Saw before self.old
             → Appends (K.written sink.old) (K.written sink.new) (text_after self.old.form before (map Byte (take n bytes.now)))) }
         ensures err { OnErr result ((before : List Item) → Saw before self.old
-            → BreaksIn (K.written sink.old) (K.written sink.new) (text_after self.old.form before (map Byte bytes.now))) }
+            → BreaksOff [] (text_after self.old.form before (map Byte bytes.now)) (K.written sink.old) (K.written sink.new)) }
         ensures cause { HasCause (K.faults sink.old) (K.faults sink.new) result }
     {
         let run = self.decoder.feed_run(bytes);
@@ -121,7 +129,7 @@ impl Watch {
     /// Writes what the area has, where it has something.
     fn write_area<K: Sink>(&self, sink: &mut K) -> Result<(), Failed>
         ensures whole { OnOk result (Appends (K.written sink.old) (K.written sink.new) self.now.area) }
-        ensures broke { OnErr result (BreaksIn (K.written sink.old) (K.written sink.new) self.now.area) }
+        ensures broke { OnErr result (BreaksOff [] self.now.area (K.written sink.old) (K.written sink.new)) }
         ensures cause { HasCause (K.faults sink.old) (K.faults sink.new) result }
     {
         let text = self.area.bytes();

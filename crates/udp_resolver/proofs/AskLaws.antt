@@ -10,9 +10,12 @@ use Rattle.udp_resolver.specs.Asked.{line_text}
 use Rattle.udp_resolver.specs.Fates.{Question}
 use Rattle.udp_resolver.specs.LineEvents.{events}
 use Rattle.udp_resolver.specs.Resolving.{IsOpen, LastAsked}
-use Rattle.udp_resolver.specs.Standing.{Asks, Adds, AskTurnsBy}
+use Rattle.udp_resolver.specs.Standing.{Asks, Adds, AsksOn}
 use Rattle.udp_resolver.specs.declared.run.Run.{Run}
-use Rattle.udp_resolver.specs.declared.run.Turn.TheVariants.{Stopped}
+use Rattle.uip_edge.specs.declared.turn.Turn.TheVariants.{Ended}
+use Rattle.uip_edge.specs.Turns.{TurnsBy}
+use Rattle.uip_edge.proofs.Breaking.{breaks_front}
+use Rattle.uip_edge.proofs.Turns.{calm_then}
 use Rattle.uip_edge.specs.Told.{IsCalm, LineTold}
 
 pub open_by_test : (b t : Bool) → t ≡ not b → t ≡ true → b ≡ false
@@ -39,37 +42,37 @@ kept_out a b c text same p = subst (λ (o : Option (List ℕ)). Appends a o text
 pub stopped : (asked : List Question) (n : ℕ) (taken more : List Item) (run : Run) (old mid new : LineTold) (room : ℕ) (end : ServeEnd)
     → IsOpen asked taken → Consumes old.link.coming mid.link.coming taken → Consumes mid.link.coming new.link.coming more → length taken < n → length more ≤ room → room + length taken ≤ n
     → IsCalm old mid → (taken ≡ []) ⊎ LastAsked asked taken → Appends old.sink.written mid.sink.written (line_text asked (events taken))
-    → AskTurnsBy asked taken more run mid new (Stopped end) → Asks asked n run old new end
-stopped asked n taken more run old mid new room ends.End is_open c d few size fits calm needed wrote t = record {
+    → TurnsBy mid new more (Ended end) → AsksOn asked taken more run mid new (Ended end) → Asks asked n run old new end
+stopped asked n taken more run old mid new room ends.End is_open c more_c few size fits calm needed wrote why t = record {
   taken = taken;
   within = omega arith;
-  consumed = consumed_none old.link.coming mid.link.coming new.link.coming taken more t.0.none c d;
+  consumed = consumed_none old.link.coming mid.link.coming new.link.coming taken more why.0 c more_c;
   needed = needed;
   by = record {
-    done = inr (record { is_open = is_open; all = took_all old.link.coming mid.link.coming taken c t.1; few = few });
-    calm = record { link = t.2 ∙ calm.link; sink = t.0.same ∙ calm.sink };
-    knows = t.0.knows;
-    out = kept_out old.sink.written mid.sink.written new.sink.written (line_text asked (events taken)) t.0.out wrote;
+    done = inr (record { is_open = is_open; all = took_all old.link.coming mid.link.coming taken c why.1; few = few });
+    calm = calm_then old mid new calm why.2;
+    knows = t.knows;
+    out = kept_out old.sink.written mid.sink.written new.sink.written (line_text asked (events taken)) t.out wrote;
   };
 }
-stopped asked n taken more run old mid new room ends.LinkFault is_open c d few size fits calm needed wrote t = record {
+stopped asked n taken more run old mid new room ends.LinkFault is_open c more_c few size fits calm needed wrote why t = record {
   taken = taken;
   within = omega arith;
-  consumed = consumed_none old.link.coming mid.link.coming new.link.coming taken more t.0.none c d;
+  consumed = consumed_none old.link.coming mid.link.coming new.link.coming taken more why.0 c more_c;
   needed = needed;
-  by = (is_open, few, rw calm.link at t.1, t.0.same ∙ calm.sink, kept_out old.sink.written mid.sink.written new.sink.written (line_text asked (events taken)) t.0.out wrote);
+  by = (is_open, few, rw calm.link at why.1, why.2 ∙ calm.sink, kept_out old.sink.written mid.sink.written new.sink.written (line_text asked (events taken)) t.out wrote);
 }
-stopped asked n taken more run old mid new room ends.WriteFault is_open c d few size fits calm needed wrote t = record {
+stopped asked n taken more run old mid new room ends.WriteFault is_open c more_c few size fits calm needed wrote why t = record {
   taken = taken ++ more;
   within = omega (arith, length-append taken more);
-  consumed = Consumes-then old.link.coming mid.link.coming new.link.coming taken more c d;
+  consumed = Consumes-then old.link.coming mid.link.coming new.link.coming taken more c more_c;
   needed = inr (record { before = taken; last = more; whole = refl; is_open = is_open; once = t.once });
   by = (
-    t.same ∙ calm.link,
-    rw calm.sink at t.rose,
+    why.0 ∙ calm.link,
+    rw calm.sink at why.1,
     prefix_by old.sink.written new.sink.written (line_text asked (events taken) ++ t.text) (line_text asked (events (taken ++ more))) t.adds
-        (prefix_then old.sink.written mid.sink.written new.sink.written (line_text asked (events taken)) t.text wrote t.out),
-    (let some = t.some in omega (arith, some, length-append (line_text asked (events taken)) t.text, ap (λ l. length l) t.adds)),
+        (prefix_then old.sink.written mid.sink.written new.sink.written (line_text asked (events taken)) t.text wrote (breaks_front [] t.text mid.sink.written new.sink.written t.broke)),
+    (let some = t.broke.some in omega (arith, some, length-append (line_text asked (events taken)) t.text, ap (λ l. length l) t.adds)),
   );
 }
-stopped asked n taken more run old mid new room ends.Budget is_open c d few size fits calm needed wrote t = absurd t
+stopped asked n taken more run old mid new room ends.Budget is_open c more_c few size fits calm needed wrote why t = absurd why

@@ -3,10 +3,10 @@ use Rattle.std.proofs.Common.{◌≡◌, ℕ, true, false, eqb, leb, if◌then�
 use Rattle.std.specs.List.{flat_map}
 use Rattle.uip_edge.specs.declared.item.Item.{Item}
 use Rattle.uip_edge.specs.declared.item.Item.TheVariants.{Byte, Quiet}
-use Rattle.uip_slip.specs.Frames.{Frame, Datagram, Overlong, frame_of, frames, open_part, unescaped}
-use Rattle.uip_slip.proofs.PartLaws.{frames-end, frames-plain, parts-byte}
+use Rattle.uip_slip.specs.Frames.{Frame, Datagram, Overlong, completed, frame_of, frames, open_part, unescaped}
+use Rattle.uip_slip.proofs.FrameLaws.{completed_told}
 use Rattle.udp_resolver.specs.Fates.{silences}
-use Rattle.udp_resolver.specs.LineEvents.{Silence, by_byte, by_frame, events, came_behind}
+use Rattle.udp_resolver.specs.LineEvents.{Silence, by_frame, events, came_behind}
 use Rattle.udp_resolver.proofs.EventLaws.{silences-append}
 use Rattle.uip_edge.specs.Coming.{bytes_among}
 
@@ -15,38 +15,30 @@ pub events-append : (before : List ℕ) (xs ys : List Item)
 events-append before [] ys = ap (λ l. came_behind l ys) (sym (append-nil before))
 events-append before (Byte b ∷ xs) ys =
     let behind = before ++ b ∷ [] in
-    ap (λ l. by_byte before b ++ l) (events-append behind xs ys)
-    ∙ ap (λ l. by_byte before b ++ (came_behind behind xs ++ came_behind l ys)) (append_assoc before (b ∷ []) (bytes_among xs))
-    ∙ sym (append_assoc (by_byte before b) (came_behind behind xs) (came_behind (before ++ b ∷ bytes_among xs) ys))
+    ap (λ l. flat_map by_frame (completed before b) ++ l) (events-append behind xs ys)
+    ∙ ap (λ l. flat_map by_frame (completed before b) ++ (came_behind behind xs ++ came_behind l ys)) (append_assoc before (b ∷ []) (bytes_among xs))
+    ∙ sym (append_assoc (flat_map by_frame (completed before b)) (came_behind behind xs) (came_behind (before ++ b ∷ bytes_among xs) ys))
 events-append before (Quiet ∷ xs) ys = ap (λ l. Silence ∷ l) (events-append before xs ys)
 
-pub events_byte : (items : List Item) (b : ℕ) → events (items ++ Byte b ∷ []) ≡ events items ++ by_byte (bytes_among items) b
-events_byte items b = events-append [] items (Byte b ∷ []) ∙ ap (λ l. events items ++ l) (append-nil (by_byte (bytes_among items) b))
-
-same_rest : (xs ys zs : List Frame) → xs ++ ys ≡ xs ++ zs → ys ≡ zs
-same_rest [] ys zs e = e
-same_rest (x ∷ xs) ys zs e = same_rest xs ys zs cc
+pub events_byte : (items : List Item) (b : ℕ) → events (items ++ Byte b ∷ []) ≡ events items ++ flat_map by_frame (completed (bytes_among items) b)
+events_byte items b = events-append [] items (Byte b ∷ []) ∙ ap (λ l. events items ++ l) (append-nil (flat_map by_frame (completed (bytes_among items) b)))
 
 -- what a decoder tells of a byte is what the byte brings
-pub by_told : (before : List ℕ) (b : ℕ) (told : List Frame) → frames (before ++ b ∷ []) ≡ frames before ++ told → flat_map by_frame told ≡ by_byte before b
-by_told before b told e =
-    elim (eqb b 192) as (λ v. eqb b 192 ≡ v → flat_map by_frame told ≡ (if v then flat_map by_frame (frame_of (unescaped (open_part before))) else [])) [
-      | true ↦ λ end. ap (λ l. flat_map by_frame l) (same_rest (frames before) told (frame_of (unescaped (open_part before))) (sym e ∙ frames-end before b end))
-      | false ↦ λ plain. ap (λ l. flat_map by_frame l) (same_rest (frames before) told [] (sym e ∙ frames-plain before (b ∷ []) (parts-byte b plain)))
-    ] refl
+pub by_told : (before : List ℕ) (b : ℕ) (told : List Frame) → frames (before ++ b ∷ []) ≡ frames before ++ told → flat_map by_frame told ≡ flat_map by_frame (completed before b)
+by_told before b told e = ap (λ l. flat_map by_frame l) (sym (completed_told before (b ∷ []) told e) ∙ append-nil (completed before b))
 
 calm_frames : (bytes : List ℕ) → silences (flat_map by_frame (frame_of bytes)) ≡ 0
 calm_frames [] = refl
 calm_frames (b ∷ bytes) =
     elim (leb (length (b ∷ bytes)) 1500) as (λ v. silences (flat_map by_frame (if v then Datagram (b ∷ bytes) ∷ [] else Overlong ∷ [])) ≡ 0) [ true ↦ refl | false ↦ refl ]
 
-calm_byte : (before : List ℕ) (b : ℕ) → silences (by_byte before b) ≡ 0
+calm_byte : (before : List ℕ) (b : ℕ) → silences (flat_map by_frame (completed before b)) ≡ 0
 calm_byte before b =
-    elim (eqb b 192) as (λ v. silences (if v then flat_map by_frame (frame_of (unescaped (open_part before))) else []) ≡ 0)
+    elim (eqb b 192) as (λ v. silences (flat_map by_frame (if v then frame_of (unescaped (open_part before)) else [])) ≡ 0)
     [ true ↦ calm_frames (unescaped (open_part before)) | false ↦ refl ]
 
 -- bytes are no silences
 pub calm_bytes : (before bytes : List ℕ) → silences (came_behind before (map Byte bytes)) ≡ 0
 calm_bytes before [] = refl
 calm_bytes before (b ∷ bytes) =
-    omega (arith, silences-append (by_byte before b) (came_behind (before ++ b ∷ []) (map Byte bytes)), calm_byte before b, calm_bytes (before ++ b ∷ []) bytes)
+    omega (arith, silences-append (flat_map by_frame (completed before b)) (came_behind (before ++ b ∷ []) (map Byte bytes)), calm_byte before b, calm_bytes (before ++ b ∷ []) bytes)

@@ -1,6 +1,6 @@
 -- What a run knows after one more item.
 use Rattle.std.proofs.Common.{◌≡◌, ℕ, zero, suc, ◌+◌, ◌<◌, ◌≤◌, Bool, true, false, not, ◌&&◌, leb, if◌then◌else◌, List, [], ◌∷◌, ◌++◌, length, map, take, replicate, get_or, refl, sym, ap, ◌∙◌, arith, append-nil, append_assoc, subst, None, Option, Result}
-use Rattle.std.proofs.lemmas.List.{drop_all, length-map, length-take-le, map-append, take_more}
+use Rattle.std.proofs.lemmas.List.{drop_all, map-append, take_more}
 use Rattle.std.proofs.Math.Seq.{take-length}
 use Rattle.std.specs.List.{flat_map, list_any, refill}
 use Rattle.std.specs.Option.{is_none}
@@ -10,11 +10,12 @@ use Rattle.dns_message.specs.declared.asking.Asking.{Asking}
 use Rattle.uip_edge.specs.declared.item.Item.{Item}
 use Rattle.uip_edge.specs.declared.item.Item.TheVariants.{Byte, Quiet}
 use Rattle.uip_slip.specs.Decoding.{State, WasFed, told_by}
+use Rattle.uip_slip.specs.Frames.{completed}
 use Rattle.uip_slip.specs.declared.fed.Fed.{Fed}
 use Rattle.uip_slip.specs.declared.fed.Fed.TheVariants as fed
 use Rattle.udp_resolver.specs.Asked.{last_ident, line_text, open_ones, queries, query_texts}
 use Rattle.udp_resolver.specs.Fates.{Question, all_settled, answer_among, fate_of, is_given_up, next_asking, questions, silences}
-use Rattle.udp_resolver.specs.LineEvents.{LineEvent, Came, Silence, by_byte, by_frame, events, came_behind}
+use Rattle.udp_resolver.specs.LineEvents.{LineEvent, Came, Silence, by_frame, events, came_behind}
 use Rattle.udp_resolver.specs.Lines.{line_of, lines}
 use Rattle.udp_resolver.specs.Standing.{Adds, Knows, WritesSome}
 use Rattle.udp_resolver.specs.Steps.{IsClockAt, asked_next, heard_now, is_due, lines_by, unanswered}
@@ -70,7 +71,7 @@ at_calm happened more clock calm at =
 
 -- a byte that brings nothing
 pub knows_byte : (asked : List Question) (items : List Item) (b : ℕ) (old new : Run) → Knows asked items old
-    → WasFed (bytes_among items ++ b ∷ []) new.decoder → by_byte (bytes_among items) b ≡ []
+    → WasFed (bytes_among items ++ b ∷ []) new.decoder → flat_map by_frame (completed (bytes_among items) b) ≡ []
     → new.clock ≡ old.clock → new.sender ≡ old.sender → new.answers ≡ old.answers → Knows asked (items ++ Byte b ∷ []) new
 knows_byte asked items b old new k fed brings clock sender answers =
     knows_events asked (items ++ Byte b ∷ []) (events items) (bytes_among items ++ b ∷ []) new
@@ -79,7 +80,7 @@ knows_byte asked items b old new k fed brings clock sender answers =
 
 -- a byte that brings a datagram
 pub knows_came : (asked : List Question) (items : List Item) (b : ℕ) (datagram : List ℕ) (old new : Run) → is_given_up (events items) ≡ false → Knows asked items old
-    → WasFed (bytes_among items ++ b ∷ []) new.decoder → by_byte (bytes_among items) b ≡ Came datagram ∷ []
+    → WasFed (bytes_among items ++ b ∷ []) new.decoder → flat_map by_frame (completed (bytes_among items) b) ≡ Came datagram ∷ []
     → new.clock ≡ old.clock → new.sender ≡ old.sender → new.answers.items ≡ heard_now datagram asked old.answers.items → Knows asked (items ++ Byte b ∷ []) new
 knows_came asked items b datagram old new e k fed brings clock sender answers =
     let es = events items in
@@ -175,9 +176,6 @@ pub byte_more : (items : List Item) (bytes : List ℕ) (i : ℕ) → i < length 
 byte_more items bytes i h =
     append_assoc items (map Byte (take i bytes)) (Byte (get_or bytes i 0) ∷ [])
     ∙ ap (λ l. items ++ l) (sym (map-append Byte (take i bytes) (get_or bytes i 0 ∷ [])) ∙ ap (λ l. map Byte l) (sym (take_more bytes i 0 h)))
-
-pub counted : (n : ℕ) (buf : List ℕ) → n ≤ length buf → length (map Byte (take n buf)) ≡ n
-counted n buf h = rw length-map (length-take-le n buf h)
 
 all_open : (asked : List Question) → open_ones asked [] ≡ asked
 all_open [] = refl

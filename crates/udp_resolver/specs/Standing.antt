@@ -1,13 +1,16 @@
 -- What a run of the resolver knows of the items that it took, and what its turns add.
-use Rattle.std.specs.Prelude.{◌≡◌, ◌<◌, ◌≤◌, ◌⊎◌, ℕ, List, [], ◌++◌, length, map, ⊤, OnErr, Result}
+use Rattle.std.specs.Prelude.{◌≡◌, ◌<◌, ◌≤◌, ◌⊎◌, ℕ, List, [], ◌++◌, length, map, OnErr, Result}
 use Rattle.std.specs.Io.KnownBytes.{Appends}
 use Rattle.uip_edge.specs.Causes.{Rose}
-use Rattle.uip_edge.specs.Coming.{Consumes, bytes_among, TookAll}
+use Rattle.uip_edge.specs.Coming.{Consumes, bytes_among}
 use Rattle.uip_edge.specs.Told.{LineTold, IsCalm, SinkTold}
-use Rattle.uip_edge.specs.Writing.{AppendsPrefix, Writes}
+use Rattle.uip_edge.specs.Turns.{TurnsBy}
+use Rattle.uip_edge.specs.Writing.{AppendsPrefix, BreaksOff, Writes}
 use Rattle.uip_edge.specs.declared.item.Item.{Item}
 use Rattle.uip_edge.specs.declared.serve_end.ServeEnd.{ServeEnd}
 use Rattle.uip_edge.specs.declared.serve_end.ServeEnd.TheVariants as ends
+use Rattle.uip_edge.specs.declared.turn.Turn.{Turn}
+use Rattle.uip_edge.specs.declared.turn.Turn.TheVariants as turns
 use Rattle.uip_slip.specs.Decoding.{WasFed}
 use Rattle.udp_resolver.specs.Asked.{last_ident, line_text, queries}
 use Rattle.udp_resolver.specs.Fates.{Question, answer_among}
@@ -15,8 +18,6 @@ use Rattle.udp_resolver.specs.LineEvents.{events}
 use Rattle.udp_resolver.specs.Resolving.{IsDone, IsOneAnswer, IsOpen, LastAsked}
 use Rattle.udp_resolver.specs.Steps.{IsClockAt}
 use Rattle.udp_resolver.specs.declared.run.Run.{Run}
-use Rattle.udp_resolver.specs.declared.run.Turn.{Turn}
-use Rattle.udp_resolver.specs.declared.run.Turn.TheVariants as turns
 
 -- the text was written whole, or a front of it where the sink failed, and it has bytes then
 pub record WritesSome {T E : Type 0} (old new : SinkTold) (result : Result T E) (text : List ℕ) : Type 0 where
@@ -36,7 +37,6 @@ Adds asked items more text = line_text asked (events (items ++ more)) ≡ line_t
 
 -- a turn that took items
 pub record Went (asked : List Question) (items more : List Item) (run : Run) (old new : LineTold) : Type 0 where
-  pub calm : IsCalm old new
   pub knows : Knows asked (items ++ more) run
   pub once : IsOneAnswer more
   pub text : List ℕ
@@ -44,43 +44,32 @@ pub record Went (asked : List Question) (items more : List Item) (run : Run) (ol
   pub out : Appends old.sink.written new.sink.written text
 
 -- a turn at which the link ended or failed
-pub record Kept (asked : List Question) (items more : List Item) (run : Run) (old new : LineTold) : Type 0 where
-  pub none : more ≡ []
+pub record Kept (asked : List Question) (items : List Item) (run : Run) (old new : LineTold) : Type 0 where
   pub knows : Knows asked items run
-  pub same : new.sink.faults ≡ old.sink.faults
   pub out : new.sink.written ≡ old.sink.written
 
 -- a turn at which the line out failed
 pub record OutBroke (asked : List Question) (items more : List Item) (old new : LineTold) : Type 0 where
-  pub same : new.link.faults ≡ old.link.faults
-  pub rose : Rose old.sink.faults new.sink.faults
   pub once : IsOneAnswer more
   pub text : List ℕ
   pub adds : Adds asked items more text
-  pub some : 0 < length text
-  pub out : AppendsPrefix old.sink.written new.sink.written text
+  pub broke : BreaksOff [] text old.sink.written new.sink.written
 
--- what a turn tells
-abbrev pub AskTurnsBy : List Question → List Item → List Item → Run → LineTold → LineTold → Turn → Type 0
-AskTurnsBy asked items more run old new (turns.Went n) = (length more ≡ n) × Went asked items more run old new
-AskTurnsBy asked items more run old new (turns.Stopped ends.End) =
-    Kept asked items more run old new × TookAll old.link.coming [] × (new.link.faults ≡ old.link.faults)
-AskTurnsBy asked items more run old new (turns.Stopped ends.LinkFault) =
-    Kept asked items more run old new × Rose old.link.faults new.link.faults
-AskTurnsBy asked items more run old new (turns.Stopped ends.WriteFault) = OutBroke asked items more old new
-AskTurnsBy asked items more run old new (turns.Stopped ends.Budget) = ⊥
+-- what a turn did
+abbrev pub AsksOn : List Question → List Item → List Item → Run → LineTold → LineTold → Turn ServeEnd → Type 0
+AsksOn asked items more run old new (turns.Took n) = Went asked items more run old new
+AsksOn asked items more run old new (turns.Ended ends.End) = Kept asked items run old new
+AsksOn asked items more run old new (turns.Ended ends.LinkFault) = Kept asked items run old new
+AsksOn asked items more run old new (turns.Ended ends.WriteFault) = OutBroke asked items more old new
+AsksOn asked items more run old new (turns.Ended ends.Budget) = ⊥
 
 -- a turn behind these items
-pub record Turns (asked : List Question) (items : List Item) (run : Run) (old new : LineTold) (room : ℕ) (turn : Turn) : Type 0 where
+pub record Turns (asked : List Question) (items : List Item) (run : Run) (old new : LineTold) (room : ℕ) (turn : Turn ServeEnd) : Type 0 where
   pub more : List Item
   pub consumed : Consumes old.link.coming new.link.coming more
   pub within : length more ≤ room
-  pub by : AskTurnsBy asked items more run old new turn
-
--- a turn takes at least one item and no more than there is room for
-abbrev pub AskFits : Turn → ℕ → Type 0
-AskFits (turns.Went n) room = (0 < n) × (n ≤ room)
-AskFits (turns.Stopped end) room = ⊤
+  pub cause : TurnsBy old new more turn
+  pub by : AsksOn asked items more run old new turn
 
 -- why no more is asked, and what was written, where the line did not fail
 pub record Done (asked : List Question) (n : ℕ) (taken : List Item) (run : Run) (old new : LineTold) (end : ServeEnd) : Type 0 where

@@ -1,6 +1,7 @@
 ghost use Rattle.std.specs.Prelude.{◌≡◌, ◌≤◌, ◌<◌, ◌∷◌, ◌++◌, [], List, None, false, length, map, not, replicate, OnOk};
 ghost use Rattle.rexmit_timer.specs.declared.timer.TheConstants.{TEXT_LIMIT};
 ghost use Rattle.uip_edge.specs.Causes.{HasCause};
+ghost use Rattle.uip_edge.specs.Turns.{TurnFits};
 ghost use Rattle.uip_edge.specs.declared.item.Item.{Item};
 ghost use Rattle.uip_edge.specs.declared.item.Item.TheVariants.{Byte, Quiet};
 ghost use Rattle.uip_slip.specs.Decoding.{WasFed};
@@ -8,7 +9,7 @@ ghost use Rattle.udp_resolver.specs.Asked.{line_text, query_texts};
 ghost use Rattle.udp_resolver.specs.Fates.{all_settled, is_given_up, questions};
 ghost use Rattle.udp_resolver.specs.LineEvents.{events};
 ghost use Rattle.udp_resolver.specs.Resolving.{IsOpen};
-ghost use Rattle.udp_resolver.specs.Standing.{Asks, AskFits, Knows, Turns, WritesSome};
+ghost use Rattle.udp_resolver.specs.Standing.{Asks, Knows, Turns, WritesSome};
 ghost use Rattle.udp_resolver.specs.Steps.{IsClockAt, asked_next};
 ghost use Rattle.uip_edge.specs.Telling.{line_told, sink_told};
 
@@ -19,15 +20,9 @@ use crate::sender::Sender;
 use arrayvec::ArrayVec;
 use dns_message::{Answer, Asking, Name};
 use packet_buffer::Packet;
-use uip_edge::{Failed, Got, Link, ServeEnd, Sink};
+use uip_edge::{Failed, Got, Link, ServeEnd, Sink, Turn};
 use uip_slip::{Decoder, Fed};
 use uip_wire::LARGEST_DATAGRAM;
-
-/// What became of one turn: so many items were taken, or no more are.
-pub(crate) enum Turn {
-    Went(u64),
-    Stopped(ServeEnd),
-}
 
 /// A run of the resolver, as far as it came.
 #[derive(Drop)]
@@ -159,7 +154,7 @@ impl Run {
         buf: &mut [u8],
         link: &mut L,
         out: &mut K,
-    ) -> Turn
+    ) -> Turn<ServeEnd>
         requires room { 0 < length buf.old }
         requires tries { self.old.clock.timer.tries ≤ TEXT_LIMIT }
         requires area { length packet.old.area ≡ LARGEST_DATAGRAM }
@@ -167,22 +162,22 @@ impl Run {
         ensures tries { self.new.clock.timer.tries ≤ TEXT_LIMIT }
         ensures area { length packet.new.area ≡ LARGEST_DATAGRAM }
         ensures each { length self.new.answers.items ≡ length names.now }
-        ensures fits { AskFits result (length buf.old) }
+        ensures fits { TurnFits result (length buf.old) }
         ensures turns { (items : List Item) → IsOpen (questions asking names.now) items → Knows (questions asking names.now) items self.old
             → Turns (questions asking names.now) items self.new
             (line_told L.Link K.Sink link.old out.old)
             (line_told L.Link K.Sink link.new out.new) (length buf.old) result }
     {
         match link.next(buf) {
-            Err(Failed) => Turn::Stopped(ServeEnd::LinkFault),
-            Ok(Got::End) => Turn::Stopped(ServeEnd::End),
+            Err(Failed) => Turn::Ended(ServeEnd::LinkFault),
+            Ok(Got::End) => Turn::Ended(ServeEnd::End),
             Ok(Got::Quiet) => match self.tick(packet, asking, names, out) {
-                Ok(()) => Turn::Went(1),
-                Err(Failed) => Turn::Stopped(ServeEnd::WriteFault),
+                Ok(()) => Turn::Took(1),
+                Err(Failed) => Turn::Ended(ServeEnd::WriteFault),
             },
             Ok(Got::Bytes(count)) => {
                 self.take(asking, names, &buf[..count]);
-                Turn::Went(count as u64)
+                Turn::Took(count as u64)
             }
         }
     }
@@ -224,8 +219,8 @@ pub(crate) fn ask<L: Link, K: Sink>(
         }
         let room = left.min(BLOCK as u64) as usize;
         match run.turn(packet, asking, names, &mut buf[..room], link, out) {
-            Turn::Went(count) => left -= count,
-            Turn::Stopped(end) => return end,
+            Turn::Took(count) => left -= count,
+            Turn::Ended(end) => return end,
         }
     }
     ServeEnd::End

@@ -1,59 +1,70 @@
 -- Calls in turn on a handle are calls in turn of its device.
 use Rattle.std.proofs.Common.{◌≡◌, ℕ, List, [], ◌∷◌, ◌++◌, None as NothingLeft, refl, sym, ◌∙◌, subst}
-use Rattle.std.specs.List.{concat}
 use Rattle.std.proofs.lemmas.Option.{same_Some}
 use Rattle.std.specs.declared.option.Option.{Option}
 use Rattle.std.specs.declared.option.Option.TheVariants.{Some}
 use Rattle.site_image.specs.Files.{File}
+use Rattle.web_pages.specs.Serving.{no_hits}
+use Rattle.web_pages.specs.WebMeaning.{web_meaning}
+use Rattle.httpd.specs.contracts.httpd.HttpdApp.TheImpl.{ghosts}
 use Rattle.uip_edge.specs.declared.item.Item.{Item}
 use Rattle.uip_wire.specs.declared.addr.Addr.{Addr}
-use Rattle.slip_node.specs.Calls.{Bring, Call}
-use Rattle.slip_node.specs.DatagramCalls.{DatagramCall}
-use Rattle.uip_device.specs.declared.device.Device.{Device}
-use Rattle.uip_device.specs.Devices.{Answers, AnswersAll, AnswersAllDatagrams, AnswersDatagram, left_text_of}
-use Rattle.uip_device.specs.Output.{call_output, datagram_output, web_output}
-use Rattle.uip_device.proofs.AnswerLaws.{all_told, datagrams_told, line_served}
-use Rattle.uip_c.specs.Handles.{AllFine, AllFineDatagrams, GoesOn, IsOf, OpensAs}
+use Rattle.uip_device.specs.Calls.{Bring, Call, Calls, CallsByDatagram, DoesNothing, HandsOn, Hears, HearsDatagram}
+use Rattle.uip_device.specs.Devices.{Answered, Answers, AnswersAll, calls_of, datagrams_handed, left_text_of, line_handed}
+use Rattle.uip_device.specs.WebDevices.{WebDevice, web_datagrams_sent, web_line_sent, web_output}
+use Rattle.uip_device.proofs.AnswerLaws.{answers_nothing, datagrams_told, line_served, line_told}
+use Rattle.uip_c.specs.Handles.{Did, DidAll, HandleAnswers, IsOf, OpensAs}
 
-device_answers : (calls : List Call) (d : Device) (a c : Option Device) (texts : List (List ℕ)) → a ≡ Some d → AllFine calls a c texts → (d' : Device) × (c ≡ Some d') × AnswersAll calls d d' texts
-device_answers [] d a c [] is same = (d, sym same ∙ is, refl)
-device_answers [] d a c (text ∷ texts) is none = absurd none
-device_answers (call ∷ calls) d a c [] is none = absurd none
-device_answers (call ∷ calls) d a c (text ∷ texts) is more =
-    let on : GoesOn (λ x y. Answers call x y text) a more.0 = more.1 in
-    let later = device_answers calls on.1 more.0 c texts on.3 more.2 in
-    let same : on.0 ≡ d = same_Some on.0 d (sym on.2 ∙ is) in
-    (later.0, later.1, (on.1, subst (λ (x : Device). Answers call x on.1 text) same on.4, later.2))
+-- a call on a handle is one of the device that it has
+record OnDevice (call : Call) (d : WebDevice) (b : Option WebDevice) (handed : List ℕ) : Type 0 where
+  after : WebDevice
+  is : b ≡ Some after
+  answers : Answers ghosts call d after handed
 
-pub c_told : (files : List File) (own : Addr) (calls : List Call) (closed old new : Option Device) (texts : List (List ℕ)) → OpensAs files own closed old → AllFine calls old new texts
-    → IsOf (λ d. concat texts ++ left_text_of d ≡ call_output files own calls) new
-c_told files own calls closed old new texts opens all =
-    let there = opens.1 in
-    let it = device_answers calls there.0 old new texts there.1 all in
-    (it.0, it.1, all_told files own calls there.0 it.0 texts there.2 it.2)
+on_device : (call : Call) (d : WebDevice) (a b : Option WebDevice) (handed : List ℕ) → a ≡ Some d → HandleAnswers call a b handed → OnDevice call d b handed
+on_device call d a b handed is it = record {
+  after = it.after;
+  is = it.is;
+  answers = subst (λ (x : WebDevice). Answers ghosts call x it.after handed) (same_Some it.before d (sym it.was ∙ is)) it.answers;
+}
 
-pub c_served : (files : List File) (own : Addr) (pace : ℕ) (items : List Item) (calls : List Call) (closed old new : Option Device) (texts : List (List ℕ)) → OpensAs files own closed old
-    → Bring pace items calls → AllFine calls old new texts → IsOf (λ d. d.left ≡ NothingLeft) new → concat texts ≡ web_output files own pace items
-c_served files own pace items calls closed old new texts opens bring all handed =
-    let there = opens.1 in
-    let it = device_answers calls there.0 old new texts there.1 all in
-    let last : handed.0 ≡ it.0 = same_Some handed.0 it.0 (sym handed.1 ∙ it.1) in
-    line_served files own pace items calls there.0 it.0 texts there.2 bring it.2 (subst (λ (d : Device). d.left ≡ NothingLeft) last handed.2)
+did_device : (call : Call) (d : WebDevice) (a b : Option WebDevice) (handed : List ℕ) → a ≡ Some d → Did call a b handed → OnDevice call d b handed
+did_device (Hears bytes) d a b handed is it = on_device (Hears bytes) d a b handed is it
+did_device (Calls slot) d a b handed is it = on_device (Calls slot) d a b handed is it
+did_device HandsOn d a b handed is it = on_device HandsOn d a b handed is it
+did_device (HearsDatagram datagram) d a b handed is it = on_device (HearsDatagram datagram) d a b handed is it
+did_device (CallsByDatagram slot) d a b handed is it = on_device (CallsByDatagram slot) d a b handed is it
+did_device DoesNothing d a b handed is it = record {
+  after = d;
+  is = it.0 ∙ is;
+  answers = subst (λ (l : List ℕ). Answers ghosts DoesNothing d d l) (sym it.1) (answers_nothing ghosts d);
+}
 
-device_replies : (calls : List DatagramCall) (d : Device) (a c : Option Device) (datagrams : List (List ℕ)) → a ≡ Some d → AllFineDatagrams calls a c datagrams
-    → (d' : Device) × AnswersAllDatagrams calls d d' datagrams
-device_replies [] d a c [] is same = (d, refl)
-device_replies [] d a c (datagram ∷ datagrams) is none = absurd none
-device_replies (call ∷ calls) d a c [] is none = absurd none
-device_replies (call ∷ calls) d a c (datagram ∷ datagrams) is more =
-    let on : GoesOn (λ x y. AnswersDatagram call x y datagram) a more.0 = more.1 in
-    let later = device_replies calls on.1 more.0 c datagrams on.3 more.2 in
-    let same : on.0 ≡ d = same_Some on.0 d (sym on.2 ∙ is) in
-    (later.0, (on.1, subst (λ (x : Device). AnswersDatagram call x on.1 datagram) same on.4, later.1))
+-- and so for calls in turn
+record OnDevices (all : List Answered) (d : WebDevice) (c : Option WebDevice) : Type 0 where
+  last : WebDevice
+  is : c ≡ Some last
+  answers : AnswersAll ghosts all d last
 
-pub c_datagrams_told : (files : List File) (own : Addr) (calls : List DatagramCall) (closed old new : Option Device) (datagrams : List (List ℕ)) → OpensAs files own closed old
-    → AllFineDatagrams calls old new datagrams → datagrams ≡ datagram_output files own calls
-c_datagrams_told files own calls closed old new datagrams opens all =
-    let there = opens.1 in
-    let it = device_replies calls there.0 old new datagrams there.1 all in
-    datagrams_told files own calls there.0 it.0 datagrams there.2 it.1
+on_devices : (all : List Answered) (d : WebDevice) (a c : Option WebDevice) → a ≡ Some d → DidAll all a c → OnDevices all d c
+on_devices [] d a c is same = record { last = d; is = sym same ∙ is; answers = refl }
+on_devices (it ∷ all) d a c is more =
+    let first = did_device it.call d a more.0 it.handed is more.1 in
+    let later = on_devices all first.after more.0 c first.is more.2 in
+    record { last = later.last; is = later.is; answers = (first.after, first.answers, later.answers) }
+
+module _ (files : List File) (own : Addr) (all : List Answered) (closed old new : Option WebDevice) (opens : OpensAs files own closed old) (answered : DidAll all old new) where
+  devices : OnDevices all opens.1.0 new
+  devices = on_devices all opens.1.0 old new opens.1.1 answered
+
+  pub c_line : IsOf (λ d. line_handed all ++ left_text_of d ≡ web_line_sent files own (calls_of all)) new
+  c_line = (devices.last, devices.is, line_told ghosts (web_meaning files) (no_hits files) own all opens.1.0 devices.last opens.1.2 devices.answers)
+
+  pub c_datagrams : datagrams_handed all ≡ web_datagrams_sent files own (calls_of all)
+  c_datagrams = datagrams_told ghosts (web_meaning files) (no_hits files) own all opens.1.0 devices.last opens.1.2 devices.answers
+
+  pub c_served : (pace : ℕ) (items : List Item) → Bring pace items (calls_of all) → IsOf (λ d. d.left ≡ NothingLeft) new → line_handed all ≡ web_output files own pace items
+  c_served pace items bring handed =
+      let last : handed.0 ≡ devices.last = same_Some handed.0 devices.last (sym handed.1 ∙ devices.is) in
+      line_served ghosts (web_meaning files) (no_hits files) own all opens.1.0 devices.last opens.1.2 devices.answers pace items bring
+      (subst (λ (d : WebDevice). d.left ≡ NothingLeft) last handed.2)

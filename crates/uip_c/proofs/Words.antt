@@ -1,13 +1,15 @@
 -- The machine words of `Held`: a pointer, and what the allocator is stored as. Assumes `Logic`.
-use Rattle.std.proofs.Common.{◌≡◌, List, [], ◌∷◌, ◌++◌, refl, subst}
+use Rattle.std.proofs.Common.{◌≡◌, List, [], ◌∷◌, ◌++◌, refl, subst, lit<}
 use seplogic.Ra.Ura.{Ura}
-use mir.Syntax.{impl, tnil, dnil}
-use mir.Val.{Val, vstruct, of_list}
+use lib.Dec.{T}
+use mathlib.Core.Bool.{true, ◌&&◌}
+use mir.Syntax.{impl, tnil, dnil, ty_ptr}
+use mir.Val.{Val, vstruct, of_list, has_ty, WT}
 use types.Logic.{Logic}
 use types.Kit.{Item, Goal, Seq, Step, step, ‵, ◌$◌, move, drop, fsplit, fjoin, fpick, fpack, feq_i, feq_l}
 use denote.RattleType.{RattleType, Valss}
 use denote.Builtin.{RawPtr}
-use denote.RawPtr.{Ptr, ptr_val}
+use denote.RawPtr.{Ptr, block_ptr, null_ptr, ptr_val}
 use denote.Steps.{nothing}
 use denote.Param.{layout}
 use denote.Struct.Struct.{within}
@@ -19,8 +21,8 @@ use Rattle.std.specs.declared.alloc.Global.{Global}
 use Rattle.std.specs.contracts.alloc.Global as heap
 use Rattle.std.proofs.alloc.Global.TheLaws as heap_laws
 use Rattle.std.specs.contracts.impls.GlobalAllocator.TheImpl.{ghosts}
-use Rattle.loose_box.proofs.Words.{two_words}
-use Rattle.uip_device.specs.declared.device.Device.{Device}
+use Rattle.loose_box.proofs.Words.{two_words, words_typed}
+use Rattle.uip_device.specs.WebDevices.{WebDevice}
 use Rattle.uip_device.specs.contracts.device.Device as device
 use Rattle.uip_c.specs.declared.held.Held.{Held}
 use Rattle.uip_c.specs.contracts.held.Held as held
@@ -39,6 +41,16 @@ HeldRow = held.the_row
 abbrev pub allocator : Al
 allocator = record { row = HeapRow; laws = heap_laws.the_row_laws; g = ghosts; d = impl [] tnil dnil; drops = impl [] tnil dnil }
 
+-- a pointer is of its type, and so are the words of a `Held`
+pub pointer_typed : (p : Ptr) → T (has_ty ty_ptr (ptr_val p)) × WT (ptr_val p)
+pointer_typed (block_ptr b o) = (tt, tt)
+pointer_typed null_ptr = (tt, record { fits = lit< tt })
+
+pub held_typed : (p : Ptr) (h : Val) → Good (layout HeapRow) h → T (has_ty (layout HeapRow) h && true) × WT (two_words (ptr_val p) h)
+held_typed (block_ptr b o) h good = words_typed DeviceRow HeapRow heap_laws.the_row_laws ghosts b o h good
+held_typed null_ptr h good =
+    ((words_typed DeviceRow HeapRow heap_laws.the_row_laws ghosts 0 0 h good).0, (record { fits = lit< tt }, (good.1, tt)))
+
 module _ {M : Type 1} {𝓤 : Ura M} {𝓛 : Logic 𝓤} {K : Type 0} {Γ : List (Item 𝓤)} {G : Goal 𝓤 𝓛.H} where
   -- It is opened.
   pub held_out : K → (d : Held) (words : List Val)
@@ -53,7 +65,7 @@ module _ {M : Type 1} {𝓤 : Ura M} {𝓛 : Logic 𝓤} {K : Type 0} {Γ : List
       next h (subst (λ (hs : List Val). words ≡ vstruct (of_list (ptr_val d.at ∷ (hs ++ []))) ∷ []) handle by_pointer) good))))
 
   -- It is made.
-  pub held_in : K → (p : Ptr) (h : Val) (a : Global) (o : Option Device)
+  pub held_in : K → (p : Ptr) (h : Val) (a : Global) (o : Option WebDevice)
       → Step K 𝓛 (‵ (HeldRow.own_val (record { at = p; alloc = a; device = o }) (two_words (ptr_val p) h ∷ [])) ∷ Γ) G
       (‵ (holds a p o) ∷ ‵ (HeapRow.own_val a (h ∷ [])) ∷ Γ) G
   held_in k p h a o = step (λ rest.

@@ -4,51 +4,50 @@ use Rattle.std.specs.Option.{is_some}
 use Rattle.std.specs.declared.option.Option.{Option}
 use Rattle.std.specs.declared.option.Option.TheVariants.{None, Some}
 use Rattle.site_image.specs.Files.{File}
+use Rattle.httpd.specs.contracts.httpd.HttpdApp.TheImpl.{ghosts}
 use Rattle.uip_wire.specs.declared.addr.Addr.{Addr}
-use Rattle.slip_node.specs.Calls.{Call}
-use Rattle.slip_node.specs.DatagramCalls.{DatagramCall}
-use Rattle.uip_device.specs.declared.device.Device.{Device}
-use Rattle.uip_device.specs.Devices.{Answers, AnswersDatagram, IsFreshDevice}
+use Rattle.uip_device.specs.Calls.{Call, DoesNothing}
+use Rattle.uip_device.specs.Devices.{Answered, Answers}
+use Rattle.uip_device.specs.WebDevices.{IsFreshWebDevice, WebDevice}
 use Rattle.uip_c.specs.declared.status.UipDone.{UipDone}
 use Rattle.uip_c.specs.declared.status.TheConstants.{BAD_CALL, FINE, NO_DEVICE, TEXT_LEFT}
 
 -- there is a device, and this holds of it
-abbrev pub IsOf : (Device → Type 0) → Option Device → Type 0
-IsOf P there = (d : Device) × (there ≡ Some d) × P d
-
--- there was a device and there is one, of which this holds
-abbrev pub GoesOn : (Device → Device → Type 0) → Option Device → Option Device → Type 0
-GoesOn P old new = (d : Device) × (d' : Device) × (old ≡ Some d) × (new ≡ Some d') × P d d'
+abbrev pub IsOf : (WebDevice → Type 0) → Option WebDevice → Type 0
+IsOf P there = (d : WebDevice) × (there ≡ Some d) × P d
 
 -- there was no device, and there is one with these files at this address, fresh
-abbrev pub OpensAs : List File → Addr → Option Device → Option Device → Type 0
-OpensAs files own old new = (old ≡ None) × IsOf (IsFreshDevice files own) new
+abbrev pub OpensAs : List File → Addr → Option WebDevice → Option WebDevice → Type 0
+OpensAs files own old new = (old ≡ None) × IsOf (IsFreshWebDevice files own) new
 
--- calls in turn on a handle that nothing else touches were fine, and handed out these texts
-abbrev pub AllFine : List Call → Option Device → Option Device → List (List ℕ) → Type 0
-AllFine [] a c [] = a ≡ c
-AllFine [] a c (text ∷ texts) = ⊥
-AllFine (call ∷ calls) a c [] = ⊥
-AllFine (call ∷ calls) a c (text ∷ texts) = (b : Option Device) × GoesOn (λ d d'. Answers call d d' text) a b × AllFine calls b c texts
+-- there was a device and there is one, and the call was answered by these bytes
+pub record HandleAnswers (call : Call) (old new : Option WebDevice) (handed : List ℕ) : Type 0 where
+  pub before : WebDevice
+  pub after : WebDevice
+  pub was : old ≡ Some before
+  pub is : new ≡ Some after
+  pub answers : Answers ghosts call before after handed
 
--- the same over a link that carries datagrams
-abbrev pub AllFineDatagrams : List DatagramCall → Option Device → Option Device → List (List ℕ) → Type 0
-AllFineDatagrams [] a c [] = a ≡ c
-AllFineDatagrams [] a c (datagram ∷ datagrams) = ⊥
-AllFineDatagrams (call ∷ calls) a c [] = ⊥
-AllFineDatagrams (call ∷ calls) a c (datagram ∷ datagrams) =
-    (b : Option Device) × GoesOn (λ d d'. AnswersDatagram call d d' datagram) a b × AllFineDatagrams calls b c datagrams
+-- What a call did, by its clauses: one that was refused, or that read a count, left the handle as it was and handed out nothing.
+abbrev pub Did : Call → Option WebDevice → Option WebDevice → List ℕ → Type 0
+Did DoesNothing old new handed = (new ≡ old) × (handed ≡ [])
+Did call old new handed = HandleAnswers call old new handed
+
+-- calls in turn on a handle that nothing else touches
+abbrev pub DidAll : List Answered → Option WebDevice → Option WebDevice → Type 0
+DidAll [] a c = a ≡ c
+DidAll (it ∷ all) a c = (b : Option WebDevice) × Did it.call a b it.handed × DidAll all b c
 
 -- the statuses of a call that hands out a text or a datagram of its own
 abbrev pub IsTextStatus : ℕ → Type 0
 IsTextStatus status = (status ≡ FINE) ⊎ (status ≡ NO_DEVICE) ⊎ (status ≡ BAD_CALL) ⊎ (status ≡ TEXT_LEFT)
 
 -- a call took and wrote nothing, and left the area and the device as they were
-abbrev pub DoesNothing : UipDone → List ℕ → List ℕ → Option Device → Option Device → Type 0
-DoesNothing done area area' old new = (done.taken ≡ 0) × (done.wrote ≡ 0) × (area' ≡ area) × (new ≡ old)
+abbrev pub Refused : UipDone → List ℕ → List ℕ → Option WebDevice → Option WebDevice → Type 0
+Refused done area area' old new = (done.taken ≡ 0) × (done.wrote ≡ 0) × (area' ≡ area) × (new ≡ old)
 
 -- there is a device, of which a text is left
-abbrev pub HasText : Option Device → Type 0
+abbrev pub HasText : Option WebDevice → Type 0
 HasText there = IsOf (λ d. is_some d.left ≡ true) there
 
 -- how C is told whether a text is left

@@ -7,11 +7,11 @@ use Rattle.site_image.specs.Faults.{read_image}
 use Rattle.site_image.specs.Files.{File}
 use Rattle.site_image.specs.Grammar.{IsImage}
 use Rattle.site_commands.specs.Report.{why_word}
-use Rattle.uip_device.specs.declared.device.Device.{Device}
+use Rattle.uip_device.specs.WebDevices.{WebDevice}
 use Rattle.uip_c.specs.Handles.{OpensAs}
 
 -- the image stands for files by the grammar and is read as them, and a device was opened with them at this address
-pub record OpensFine (image own : List ℕ) (old new : Option Device) : Type 0 where
+pub record OpensFine (image own : List ℕ) (old new : Option WebDevice) : Type 0 where
   pub files : List File
   pub read : read_image image ≡ Ok files
   pub spelled : IsImage image files

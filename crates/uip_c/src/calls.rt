@@ -3,11 +3,10 @@
 ghost use Rattle.std.specs.Prelude.{◌≡◌, ◌==◌, ◌||◌, ◌<◌, ◌≤◌, ◌⊎◌, length, nat_le, nat_lt, take, true};
 ghost use Rattle.std.specs.Option.{is_some};
 ghost use Rattle.std.specs.declared.option.Option.TheVariants.{None};
-ghost use Rattle.slip_node.specs.Calls.{Calls, HandsOn, Hears};
-ghost use Rattle.uip_device.specs.Devices.{Answers};
-ghost use Rattle.uip_c.specs.Handles.{DoesNothing, GoesOn, HasText, IsOf, IsTextStatus, left_flag};
+ghost use Rattle.uip_device.specs.Calls.{Calls, HandsOn, Hears};
+ghost use Rattle.uip_c.specs.Handles.{HandleAnswers, HasText, IsOf, IsTextStatus, Refused, left_flag};
 
-use crate::handle::{Idle, UipDevice, put_in, take_idle, take_out};
+use crate::handle::{UipDevice, put_in, take_idle, take_out};
 use crate::status::{BAD_CALL, FINE, NO_DEVICE, TEXT_LEFT, UipDone, is_left};
 use std::alloc::Global;
 use uip_device::LARGEST_TEXT;
@@ -26,8 +25,7 @@ pub extern "C" fn uip_hear(
 ) -> UipDone
     ensures known { IsTextStatus result.status }
     ensures fine { result.status ≡ FINE
-        → GoesOn (λ d d'. Answers (Hears (take result.taken bytes.now)) d d' (take result.wrote out.new))
-        device.old.held.device device.new.held.device }
+        → HandleAnswers (Hears (take result.taken bytes.now)) device.old.held.device device.new.held.device (take result.wrote out.new) }
     ensures some { result.status ≡ FINE → 0 < result.taken }
     ensures within { (result.taken ≤ length bytes.now) × (result.wrote ≤ length out.new) }
     ensures left { result.status ≡ FINE → IsOf (λ d. result.left ≡ left_flag d.left) device.new.held.device }
@@ -36,15 +34,14 @@ pub extern "C" fn uip_hear(
     ensures bad_call { (result.status == BAD_CALL) ≡ ((length bytes.now == 0) || nat_lt (length out.old) LEAST_ROOM) }
     ensures text_left { result.status ≡ TEXT_LEFT → HasText device.old.held.device }
     ensures refused { (result.status ≡ FINE → ⊥)
-        → DoesNothing result out.old out.new device.old.held.device device.new.held.device }
+        → Refused result out.old out.new device.old.held.device device.new.held.device }
 {
     if bytes.is_empty() || out.len() < LEAST_ROOM {
         return UipDone::refused(BAD_CALL);
     }
     let mut opened = match take_idle(alloc, device) {
-        Idle::Taken(opened) => opened,
-        Idle::Missing => return UipDone::refused(NO_DEVICE),
-        Idle::HasText => return UipDone::refused(TEXT_LEFT),
+        Ok(opened) => opened,
+        Err(status) => return UipDone::refused(status),
     };
     let heard = opened.hear(bytes, out);
     let left = is_left(opened.left);
@@ -68,8 +65,7 @@ pub extern "C" fn uip_call(
 ) -> UipDone
     ensures known { IsTextStatus result.status }
     ensures fine { result.status ≡ FINE
-        → GoesOn (λ d d'. Answers (Calls slot) d d' (take result.wrote out.new))
-        device.old.held.device device.new.held.device }
+        → HandleAnswers (Calls slot) device.old.held.device device.new.held.device (take result.wrote out.new) }
     ensures within { (result.taken ≡ 0) × (result.wrote ≤ length out.new) }
     ensures left { result.status ≡ FINE → IsOf (λ d. result.left ≡ left_flag d.left) device.new.held.device }
     ensures all { result.status ≡ FINE → LARGEST_TEXT ≤ length out.old → result.left ≡ 0 }
@@ -77,15 +73,14 @@ pub extern "C" fn uip_call(
     ensures bad_call { (result.status == BAD_CALL) ≡ (nat_le 10 slot || nat_lt (length out.old) LEAST_ROOM) }
     ensures text_left { result.status ≡ TEXT_LEFT → HasText device.old.held.device }
     ensures refused { (result.status ≡ FINE → ⊥)
-        → DoesNothing result out.old out.new device.old.held.device device.new.held.device }
+        → Refused result out.old out.new device.old.held.device device.new.held.device }
 {
     if slot >= 10 || out.len() < LEAST_ROOM {
         return UipDone::refused(BAD_CALL);
     }
     let mut opened = match take_idle(alloc, device) {
-        Idle::Taken(opened) => opened,
-        Idle::Missing => return UipDone::refused(NO_DEVICE),
-        Idle::HasText => return UipDone::refused(TEXT_LEFT),
+        Ok(opened) => opened,
+        Err(status) => return UipDone::refused(status),
     };
     let wrote = opened.call(slot, out);
     let left = is_left(opened.left);
@@ -103,15 +98,14 @@ pub extern "C" fn uip_call(
 pub extern "C" fn uip_more(alloc: Global, device: &mut UipDevice, out: &mut [u8]) -> UipDone
     ensures known { (result.status ≡ FINE) ⊎ (result.status ≡ NO_DEVICE) ⊎ (result.status ≡ BAD_CALL) }
     ensures fine { result.status ≡ FINE
-        → GoesOn (λ d d'. Answers HandsOn d d' (take result.wrote out.new))
-        device.old.held.device device.new.held.device }
+        → HandleAnswers HandsOn device.old.held.device device.new.held.device (take result.wrote out.new) }
     ensures some { result.status ≡ FINE → IsOf (λ d. is_some d.left ≡ true → 0 < result.wrote) device.old.held.device }
     ensures within { (result.taken ≡ 0) × (result.wrote ≤ length out.new) }
     ensures left { result.status ≡ FINE → IsOf (λ d. result.left ≡ left_flag d.left) device.new.held.device }
     ensures no_device { result.status ≡ NO_DEVICE → device.old.held.device ≡ None }
     ensures bad_call { (result.status == BAD_CALL) ≡ nat_lt (length out.old) LEAST_ROOM }
     ensures refused { (result.status ≡ FINE → ⊥)
-        → DoesNothing result out.old out.new device.old.held.device device.new.held.device }
+        → Refused result out.old out.new device.old.held.device device.new.held.device }
 {
     if out.len() < LEAST_ROOM {
         return UipDone::refused(BAD_CALL);

@@ -2,11 +2,10 @@
 
 ghost use Rattle.std.specs.Prelude.{◌≡◌, ◌==◌, ◌||◌, ◌≤◌, length, nat_le, nat_lt, take};
 ghost use Rattle.std.specs.declared.option.Option.TheVariants.{None};
-ghost use Rattle.slip_node.specs.DatagramCalls.{CallsSlot, HearsDatagram};
-ghost use Rattle.uip_device.specs.Devices.{AnswersDatagram};
-ghost use Rattle.uip_c.specs.Handles.{DoesNothing, GoesOn, HasText, IsTextStatus};
+ghost use Rattle.uip_device.specs.Calls.{CallsByDatagram, HearsDatagram};
+ghost use Rattle.uip_c.specs.Handles.{HandleAnswers, HasText, IsTextStatus, Refused};
 
-use crate::handle::{Idle, UipDevice, put_in, take_idle};
+use crate::handle::{UipDevice, put_in, take_idle};
 use crate::status::{BAD_CALL, FINE, NO_DEVICE, TEXT_LEFT, UipDone};
 use std::alloc::Global;
 use uip_wire::LARGEST_DATAGRAM;
@@ -21,8 +20,7 @@ pub extern "C" fn uip_hear_datagram(
 ) -> UipDone
     ensures known { IsTextStatus result.status }
     ensures fine { result.status ≡ FINE
-        → GoesOn (λ d d'. AnswersDatagram (HearsDatagram datagram.now) d d' (take result.wrote out.new))
-        device.old.held.device device.new.held.device }
+        → HandleAnswers (HearsDatagram datagram.now) device.old.held.device device.new.held.device (take result.wrote out.new) }
     ensures whole { result.status ≡ FINE → result.taken ≡ length datagram.now }
     ensures within { result.wrote ≤ length out.new }
     ensures no_device { result.status ≡ NO_DEVICE → device.old.held.device ≡ None }
@@ -30,15 +28,14 @@ pub extern "C" fn uip_hear_datagram(
         ≡ ((length datagram.now == 0) || nat_lt LARGEST_DATAGRAM (length datagram.now) || nat_lt (length out.old) LARGEST_DATAGRAM) }
     ensures text_left { result.status ≡ TEXT_LEFT → HasText device.old.held.device }
     ensures refused { (result.status ≡ FINE → ⊥)
-        → DoesNothing result out.old out.new device.old.held.device device.new.held.device }
+        → Refused result out.old out.new device.old.held.device device.new.held.device }
 {
     if datagram.is_empty() || datagram.len() > LARGEST_DATAGRAM || out.len() < LARGEST_DATAGRAM {
         return UipDone::refused(BAD_CALL);
     }
     let mut opened = match take_idle(alloc, device) {
-        Idle::Taken(opened) => opened,
-        Idle::Missing => return UipDone::refused(NO_DEVICE),
-        Idle::HasText => return UipDone::refused(TEXT_LEFT),
+        Ok(opened) => opened,
+        Err(status) => return UipDone::refused(status),
     };
     let wrote = opened.hear_datagram(datagram, out);
     put_in(device, opened);
@@ -60,22 +57,20 @@ pub extern "C" fn uip_call_datagram(
 ) -> UipDone
     ensures known { IsTextStatus result.status }
     ensures fine { result.status ≡ FINE
-        → GoesOn (λ d d'. AnswersDatagram (CallsSlot slot) d d' (take result.wrote out.new))
-        device.old.held.device device.new.held.device }
+        → HandleAnswers (CallsByDatagram slot) device.old.held.device device.new.held.device (take result.wrote out.new) }
     ensures within { (result.taken ≡ 0) × (result.wrote ≤ length out.new) }
     ensures no_device { result.status ≡ NO_DEVICE → device.old.held.device ≡ None }
     ensures bad_call { (result.status == BAD_CALL) ≡ (nat_le 10 slot || nat_lt (length out.old) LARGEST_DATAGRAM) }
     ensures text_left { result.status ≡ TEXT_LEFT → HasText device.old.held.device }
     ensures refused { (result.status ≡ FINE → ⊥)
-        → DoesNothing result out.old out.new device.old.held.device device.new.held.device }
+        → Refused result out.old out.new device.old.held.device device.new.held.device }
 {
     if slot >= 10 || out.len() < LARGEST_DATAGRAM {
         return UipDone::refused(BAD_CALL);
     }
     let mut opened = match take_idle(alloc, device) {
-        Idle::Taken(opened) => opened,
-        Idle::Missing => return UipDone::refused(NO_DEVICE),
-        Idle::HasText => return UipDone::refused(TEXT_LEFT),
+        Ok(opened) => opened,
+        Err(status) => return UipDone::refused(status),
     };
     let wrote = opened.call_datagram(slot, out);
     put_in(device, opened);

@@ -1,18 +1,18 @@
-ghost use Rattle.std.specs.Prelude.{◌≡◌, ◌==◌, option_map, IfSome};
+ghost use Rattle.std.specs.Prelude.{◌≡◌, ◌==◌, option_map, IfErr, IfOk, IfSome};
 ghost use Rattle.std.specs.Option.{is_some};
 ghost use Rattle.std.specs.declared.option.Option.TheVariants.{None, Some};
-ghost use Rattle.uip_device.specs.Devices.{IsSoundDevice};
-ghost use Rattle.uip_c.specs.Taking.{TakesIdle};
+ghost use Rattle.uip_device.specs.WebDevices.{IsSoundWebDevice};
+ghost use Rattle.uip_c.specs.Taking.{TakesNone, TakesIdle};
 
 use crate::held::Held;
+use crate::status::{NO_DEVICE, TEXT_LEFT};
 use loose_box::BoxParts;
 use std::alloc::Global;
 use std::mem::replace;
-use uip_device::Device;
+use uip_device::WebDevice;
 
 /// A device, as C keeps it. All bytes 0 are a handle without a device.
 #[repr(C)]
-#[derive(Drop)]
 pub struct UipDevice {
     pub is_open: u32,
     pub held: Held,
@@ -20,9 +20,9 @@ pub struct UipDevice {
 }
 
 /// The handle's device, if it has one. It has none after.
-pub(crate) fn take_out(alloc: Global, device: &mut UipDevice) -> Option<Box<Device>>
+pub(crate) fn take_out(alloc: Global, device: &mut UipDevice) -> Option<Box<WebDevice>>
     ensures taken { option_map (λ b. b.value) result ≡ device.old.held.device }
-    ensures sound { IfSome result (λ b. IsSoundDevice b.value) }
+    ensures sound { IfSome result (λ b. IsSoundWebDevice b.value) }
     ensures none { device.new.held.device ≡ None }
 {
     let old = replace(
@@ -35,44 +35,39 @@ pub(crate) fn take_out(alloc: Global, device: &mut UipDevice) -> Option<Box<Devi
     if old.is_open == 1 {
         Some(old.held.into_parts().into_box())
     } else {
+        let _alloc = old.held.into_alloc();
         None
     }
 }
 
-/// What a handle has for a call that hands out a text of its own.
-#[derive(Drop)]
-pub(crate) enum Idle {
-    /// A device of which no text is left.
-    Taken(Box<Device>),
-    /// No device.
-    Missing,
-    /// A device of which a text is left.
-    HasText,
-}
-
-/// The handle's device, if it has one of which no text is left; it has none after. Else the handle stays as it is.
-pub(crate) fn take_idle(alloc: Global, device: &mut UipDevice) -> Idle
-    ensures { TakesIdle result device.old.held.device device.new.held.device }
+/// The handle's device, for a call that hands out a text or a datagram of its own; it has none after. Where it has none, or where a
+/// text is left, the call is refused, and the handle stays as it is.
+pub(crate) fn take_idle(alloc: Global, device: &mut UipDevice) -> Result<Box<WebDevice>, u32>
+    ensures taken { IfOk result (λ b. TakesIdle b.value device.old.held.device device.new.held.device) }
+    ensures refused { IfErr result (λ status. TakesNone status device.old.held.device device.new.held.device) }
 {
     match take_out(alloc, device) {
-        None => Idle::Missing,
-        Some(opened) => {
-            if opened.left.is_some() {
-                put_in(device, opened);
-                return Idle::HasText;
-            }
-            Idle::Taken(opened)
+        None => Err(NO_DEVICE),
+        Some(opened) if opened.left.is_some() => {
+            put_in(device, opened);
+            Err(TEXT_LEFT)
         }
+        Some(opened) => Ok(opened),
     }
 }
 
-/// The handle has this device from now on. It had none.
-pub(crate) fn put_in(device: &mut UipDevice, opened: Box<Device>)
-    requires { IsSoundDevice opened.value }
+/// A handle without a device has this one from now on.
+pub(crate) fn put_in(device: &mut UipDevice, opened: Box<WebDevice>)
+    requires none { device.old.held.device ≡ None }
+    requires sound { IsSoundWebDevice opened.value }
     ensures { device.new.held.device ≡ Some opened.value }
 {
-    *device = UipDevice {
-        is_open: 1,
-        held: Held::of(BoxParts::from_box(opened)),
-    };
+    let old = replace(
+        device,
+        UipDevice {
+            is_open: 1,
+            held: Held::of(BoxParts::from_box(opened)),
+        },
+    );
+    let _alloc = old.held.into_alloc();
 }

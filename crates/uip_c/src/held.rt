@@ -1,17 +1,17 @@
 ghost use Rattle.std.specs.Prelude.{◌≡◌, Option, true};
 ghost use Rattle.std.specs.Option.{is_some};
 ghost use Rattle.std.specs.declared.option.Option.TheVariants.{None, Some};
-ghost use Rattle.uip_device.specs.declared.device.Device.{Device as AnyDevice};
+ghost use Rattle.uip_device.specs.WebDevices.{WebDevice as AnyDevice};
 
 use loose_box::BoxParts;
 use std::alloc::Global;
 use std::marker::Model;
 use std::ptr::null_mut;
-use uip_device::Device;
+use uip_device::WebDevice;
 
-/// A device that is kept by its address alone, so that it can stand in a struct of C, or none.
+/// A device that is kept by its address alone, so that it can stand in a struct of C, or none. It is no `Drop`: what has a device is
+/// never let go.
 #[repr(C)]
-#[derive(Drop)]
 pub struct Held {
     at: *mut u8,
     alloc: Global,
@@ -25,7 +25,7 @@ impl Model for Held {
 }
 
 impl Held {
-    ghost use Rattle.uip_device.specs.Devices.{IsSoundDevice};
+    ghost use Rattle.uip_device.specs.WebDevices.{IsSoundWebDevice};
 
     /// No device.
     pub fn none(alloc: Global) -> Held
@@ -38,8 +38,8 @@ impl Held {
     }
 
     /// The device of a box that was taken apart.
-    pub fn of(parts: BoxParts<Device, Global>) -> Held
-        requires { IsSoundDevice parts.value }
+    pub fn of(parts: BoxParts<WebDevice, Global>) -> Held
+        requires { IsSoundWebDevice parts.value }
         ensures { result.device ≡ Some parts.value }
     {
         let BoxParts { at, alloc } = parts;
@@ -50,14 +50,22 @@ impl Held {
     }
 
     /// The parts of the box of the device that is there.
-    pub fn into_parts(self) -> BoxParts<Device, Global>
+    pub fn into_parts(self) -> BoxParts<WebDevice, Global>
         requires { is_some self.device ≡ true }
-        ensures { (self.device ≡ Some result.value) × IsSoundDevice result.value }
+        ensures { (self.device ≡ Some result.value) × IsSoundWebDevice result.value }
     {
         let Held { at, alloc } = self;
         BoxParts {
-            at: at as *mut Device,
+            at: at as *mut WebDevice,
             alloc,
         }
+    }
+
+    /// What is left of one that has no device: its allocator.
+    pub fn into_alloc(self) -> Global
+        requires { self.device ≡ None }
+    {
+        let Held { at: _at, alloc } = self;
+        alloc
     }
 }

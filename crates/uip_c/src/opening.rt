@@ -10,7 +10,7 @@ use crate::status::{BAD_SITE, FINE, HAS_DEVICE, NO_DEVICE, NO_MEMORY};
 use site_commands::why_word;
 use site_image::{SiteError, SiteWhy};
 use std::alloc::Global;
-use uip_device::{Device, OpenFault};
+use uip_device::{OpenFault, open_web};
 use uip_wire::Addr;
 
 /// What opening came to. Of a bad image it tells the first fault: its word, with a 0 behind it, and the number of the entry
@@ -72,7 +72,7 @@ pub extern "C" fn uip_open(
     if device.is_open == 1 {
         return plain(HAS_DEVICE);
     }
-    let opened = match Device::open(alloc, image, Addr(*own)) {
+    let opened = match open_web(alloc, image, Addr(*own)) {
         Ok(opened) => opened,
         Err(OpenFault::BadSite(error)) => return bad_site(error),
         Err(OpenFault::NoMemory) => return plain(NO_MEMORY),

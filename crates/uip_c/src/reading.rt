@@ -6,7 +6,7 @@ ghost use Rattle.site_image.specs.Files.{File};
 ghost use Rattle.uip_wire.specs.declared.addr.Addr.{Addr as Address};
 ghost use Rattle.uip_node.specs.Counters.{counters, ticks_of};
 ghost use Rattle.uip_node.specs.Node.{AbstractNode};
-ghost use Rattle.uip_device.specs.Devices.{StandsFor};
+ghost use Rattle.uip_device.specs.WebDevices.{StandsFor};
 ghost use Rattle.uip_c.specs.Handles.{IsOf};
 
 use crate::handle::{UipDevice, put_in, take_out};

@@ -1,3 +1,6 @@
+ghost use Rattle.std.specs.Prelude.{◌≡◌};
+ghost use Rattle.std.specs.declared.option.Option.TheVariants.{None};
+
 use crate::calls::{uip_call, uip_hear, uip_more};
 use crate::datagram_calls::{uip_call_datagram, uip_hear_datagram};
 use crate::handle::UipDevice;
@@ -61,6 +64,13 @@ fn opened(rt: &impl Abort, alloc: Global) -> UipDevice {
     device
 }
 
+/// A handle without a device is let go.
+fn let_go(device: UipDevice)
+    requires { device.held.device ≡ None }
+{
+    let _alloc = device.held.into_alloc();
+}
+
 /// A status alone.
 fn answer(status: u32) -> UipDone {
     UipDone {
@@ -118,6 +128,7 @@ fn each_call_is_made_once(rt: HostRuntime) {
     assert_eq!(rt; uip_ticks(alloc, &mut device).number, 1);
     assert_eq!(rt; uip_close(alloc, &mut device), FINE);
     assert_eq!(rt; uip_close(alloc, &mut device), NO_DEVICE);
+    let_go(device);
 }
 
 #[test]
@@ -132,6 +143,8 @@ fn a_call_without_a_device_says_so(rt: HostRuntime) {
     let called = uip_call(alloc, &mut device, 10, &mut out);
     assert_eq!(rt; called, answer(BAD_CALL));
     assert_eq!(rt; uip_counter(alloc, &mut device, 0).status, BAD_CALL);
+    assert_eq!(rt; uip_close(alloc, &mut device), NO_DEVICE);
+    let_go(device);
 }
 
 /// The first fault of an image, by its word and its entry.
@@ -152,6 +165,7 @@ fn a_bad_image_is_told(rt: HostRuntime) {
         assert_eq!(rt; uip_open(alloc, &mut device, image, OWN), bad);
     }
     assert_eq!(rt; uip_close(alloc, &mut device), NO_DEVICE);
+    let_go(device);
 }
 
 /// A text is handed out in pieces, and nothing else is done meanwhile. The piece behind 31 bytes is an END of the datagram.
@@ -184,4 +198,5 @@ fn a_text_is_handed_on(rt: HostRuntime) {
     assert!(rt; out.starts_with(LAST_PIECE));
     assert_eq!(rt; uip_more(alloc, &mut device, &mut out), answer(FINE));
     assert_eq!(rt; uip_close(alloc, &mut device), FINE);
+    let_go(device);
 }

@@ -1,90 +1,96 @@
 -- What calls in turn hand out.
-use Rattle.std.proofs.Common.{◌≡◌, ℕ, List, [], ◌∷◌, ◌++◌, None, map, refl, sym, ap, ◌∙◌, append-nil, append_assoc, subst}
-use Rattle.std.specs.List.{concat}
-use Rattle.site_image.specs.Files.{File}
-use Rattle.web_pages.specs.Serving.{is_served, no_hits}
-use Rattle.web_pages.specs.WebMeaning.{web_meaning}
-use Rattle.httpd.specs.contracts.httpd.HttpdApp.TheImpl.{ghosts}
-use Rattle.uip_edge.specs.declared.item.Item.{Item}
-use Rattle.uip_node.specs.Node.{AbstractNode, opening, run, step}
-use Rattle.uip_wire.specs.declared.addr.Addr.{Addr}
-use Rattle.serve_loop.specs.Running.{text_of}
-use Rattle.slip_node.specs.Calls.{Bring, Call, bytes_of_call, events_by, events_of_calls}
-use Rattle.slip_node.specs.DatagramCalls.{DatagramCall, event_by_call}
-use Rattle.slip_node.specs.Telling.{Tells, datagram_for, datagrams_at}
+use Rattle.std.proofs.Common.{◌≡◌, ℕ, Bool, true, false, List, [], ◌∷◌, ◌++◌, Option, None, if◌then◌else◌, map, refl, sym, ap, ◌∙◌, append-nil, append_assoc, subst}
+use Rattle.app_events.specs.Part.{Meaning}
+use Rattle.app_events.specs.declared.app.App.{Ghosts}
 use Rattle.packet_buffer.specs.Buffer.{datagram_in}
-use Rattle.slip_node.specs.Handing.{text_to_come}
-use Rattle.slip_node.proofs.CallLaws.{line_brought}
-use Rattle.slip_node.proofs.TellLaws.{tells_none, tells_then}
+use Rattle.uip_edge.specs.declared.item.Item.{Item}
+use Rattle.uip_slip.specs.Decoding.{WasFed}
+use Rattle.uip_node.specs.Events.{Reply}
+use Rattle.uip_node.specs.Node.{AbstractNode, opening, run}
+use Rattle.uip_wire.specs.declared.addr.Addr.{Addr}
+use Rattle.serve_loop.specs.LineOutput.{opening_at, output_by}
+use Rattle.serve_loop.specs.SlipWay.{slip_way}
+use Rattle.serve_loop.specs.Texts.{text_of}
+use Rattle.serve_loop.specs.Turns.{IsNode}
+use Rattle.serve_loop.proofs.SlipServeLaws.{said_on_line}
+use Rattle.uip_device.specs.Calls.{Bring, Call, DoesNothing, HandsOn, bytes_of_call, events_by, is_by_datagram}
+use Rattle.uip_device.specs.Devices.{Answered, Answers, AnswersAll, HasHeard, IsFreshDevice, calls_of, datagrams_handed, left_text_of, line_handed}
+use Rattle.uip_device.specs.Handing.{text_to_come}
+use Rattle.uip_device.specs.Output.{datagrams_sent, line_sent}
+use Rattle.uip_device.specs.Sending.{HandsOut, datagram_sent}
 use Rattle.uip_device.specs.declared.device.Device.{Device}
-use Rattle.uip_device.specs.Devices.{Answers, AnswersAll, AnswersAllDatagrams, AnswersDatagram, HasHeard, IsFreshDevice, StandsFor, left_text_of}
-use Rattle.uip_device.specs.Output.{call_output, datagram_output, web_output}
+use Rattle.uip_device.proofs.CallLaws.{line_text}
+use Rattle.uip_device.proofs.SendLaws.{sends_none}
 
--- a call before which nothing was left
-pub answers_by : (call : Call) (old new : Device) (text : List ℕ) → old.left ≡ None
-    → ((before : List ℕ) → HasHeard before old → HasHeard (before ++ bytes_of_call call) new)
-    → ((before : List ℕ) → HasHeard before old → Tells ghosts (events_by before call) old.node new.node (text ++ left_text_of new))
-    → Answers call old new text
-answers_by call old new text none heard tells = record {
-  heard = heard;
-  tells = λ before fed. (text ++ left_text_of new, tells before fed, ap (λ l. text_to_come (datagram_in old.node.packet) l ++ (text ++ left_text_of new)) none);
-}
+-- what one call hands out over the line, and then the others
+line_step : (v : Bool) (own : Addr) (replies : List Reply) (before handed left rest more last : List ℕ) → HandsOut v own before handed left replies → left ++ rest ≡ more ++ last
+    → before ++ ((if v then [] else text_of own replies) ++ rest) ≡ ((if v then [] else handed) ++ more) ++ last
+line_step true own replies before handed left rest more last h e = ap (λ l. l ++ rest) (sym h.1) ∙ e
+line_step false own replies before handed left rest more last h e =
+    sym (append_assoc before (text_of own replies) rest) ∙ ap (λ l. l ++ rest) h ∙ append_assoc handed left rest ∙ ap (λ l. handed ++ l) e ∙ sym (append_assoc handed more last)
 
--- what is handed out in turn, and what is left at last, is what is sent for all that the calls bring
-abbrev TellsAll : List ℕ → List Call → Device → Device → List ℕ → Type 0
-TellsAll before calls a c text = (sent : List ℕ) × Tells ghosts (events_of_calls before calls) a.node c.node sent × (left_text_of a ++ sent ≡ text ++ left_text_of c)
+-- and over the other link
+datagram_step : (v : Bool) (own : Addr) (replies : List Reply) (before handed left : List ℕ) (more others : List (List ℕ)) → HandsOut v own before handed left replies → more ≡ others
+    → (if v then handed ∷ [] else []) ++ more ≡ (if v then datagram_sent own replies ∷ [] else []) ++ others
+datagram_step true own replies before handed left more others h e = ap (λ d. d ∷ more) h.0 ∙ ap (λ l. datagram_sent own replies ∷ l) e
+datagram_step false own replies before handed left more others h e = e
 
-tells_all : (before : List ℕ) (calls : List Call) (a c : Device) (texts : List (List ℕ)) → HasHeard before a → AnswersAll calls a c texts → TellsAll before calls a c (concat texts)
-tells_all before [] a c [] heard same = (
-  [],
-  subst (λ (d : Device). Tells ghosts (events_of_calls before []) a.node d.node []) same (tells_none ghosts (events_of_calls before []) a.node (λ own. refl)),
-  append-nil (left_text_of a) ∙ ap (λ (d : Device). left_text_of d) same,
-)
-tells_all before [] a c (text ∷ texts) heard none = absurd none
-tells_all before (call ∷ calls) a c [] heard none = absurd none
-tells_all before (call ∷ calls) a c (text ∷ texts) heard more =
-    let b = more.0 in
-    let answered : Answers call a b text = more.1 in
-    let first = answered.tells before heard in
-    let rest = tells_all (before ++ bytes_of_call call) calls b c texts (answered.heard before heard) more.2 in (
-      first.0 ++ rest.0,
-      tells_then ghosts (events_by before call) (events_of_calls (before ++ bytes_of_call call) calls) a.node b.node c.node first.0 rest.0 first.1 rest.1,
-      sym (append_assoc (left_text_of a) first.0 rest.0)
-          ∙ ap (λ l. l ++ rest.0) first.2
-          ∙ append_assoc text (left_text_of b) rest.0
-          ∙ ap (λ l. text ++ l) rest.2
-          ∙ sym (append_assoc text (concat texts) (left_text_of c)),
-    )
+-- nothing is left of a text
+pub none_left : {A S : Type 0} (d : Device A S) → d.left ≡ None → left_text_of d ≡ []
+none_left d none = ap (λ l. text_to_come (datagram_in d.node.packet) l) none
 
-pub all_told : (files : List File) (own : Addr) (calls : List Call) (old new : Device) (texts : List (List ℕ)) → IsFreshDevice files own old → AnswersAll calls old new texts
-    → concat texts ++ left_text_of new ≡ call_output files own calls
-all_told files own calls old new texts fresh all =
-    let it = tells_all [] calls old new texts fresh.heard all in
-    let left : left_text_of old ≡ [] = ap (λ l. text_to_come (datagram_in old.node.packet) l) fresh.none in
-    sym it.2 ∙ ap (λ l. l ++ it.0) left ∙ (it.1.each (web_meaning files) own (opening own (no_hits files)) fresh.stands).1
+module _ {A S : Type 0} (g : Ghosts A S) where
+  -- a call that does nothing
+  pub answers_nothing : (d : Device A S) → Answers g DoesNothing d d []
+  answers_nothing d = record {
+    heard = λ before h. subst (λ (l : List ℕ). HasHeard l d) (sym (append-nil before)) h;
+    sends = λ before h. sends_none g (λ own. []) d.node (λ own replies. HandsOut false own (left_text_of d) [] (left_text_of d) replies) (λ own. refl) (λ own. append-nil (left_text_of d));
+  }
 
-pub line_served : (files : List File) (own : Addr) (pace : ℕ) (items : List Item) (calls : List Call) (old new : Device) (texts : List (List ℕ)) → IsFreshDevice files own old → Bring pace items calls
-    → AnswersAll calls old new texts → new.left ≡ None → concat texts ≡ web_output files own pace items
-line_served files own pace items calls old new texts fresh bring all none =
-    let left : left_text_of new ≡ [] = ap (λ l. text_to_come (datagram_in new.node.packet) l) none in
-    sym (append-nil (concat texts)) ∙ ap (λ l. concat texts ++ l) (sym left)
-    ∙ all_told files own calls old new texts fresh all
-    ∙ ap (λ l. text_of own (run (web_meaning files) is_served l (opening own (no_hits files))).sent) (line_brought own pace items calls bring)
+  -- what was left of a text is handed on
+  pub answers_on : (d : Device A S) (left : Option ℕ) (handed : List ℕ) → left_text_of d ≡ handed ++ text_to_come (datagram_in d.node.packet) left
+      → Answers g HandsOn d (record d { left = left }) handed
+  answers_on d left handed e = record {
+    heard = λ before h. subst (λ (l : List ℕ). WasFed l d.decoder) (sym (append-nil before)) h;
+    sends = λ before h.
+        sends_none g (λ own. []) d.node (λ own replies. HandsOut false own (left_text_of d) handed (text_to_come (datagram_in d.node.packet) left) replies)
+        (λ own. refl) (λ own. append-nil (left_text_of d) ∙ e);
+  }
 
-datagrams_from : (files : List File) (own : Addr) (calls : List DatagramCall) (a c : Device) (datagrams : List (List ℕ)) (n : AbstractNode) → StandsFor files own a n
-    → AnswersAllDatagrams calls a c datagrams → datagrams ≡ datagrams_at (web_meaning files) is_served own (map (λ call. event_by_call call own) calls) n
-datagrams_from files own [] a c [] n stands same = refl
-datagrams_from files own [] a c (datagram ∷ datagrams) n stands none = absurd none
-datagrams_from files own (call ∷ calls) a c [] n stands none = absurd none
-datagrams_from files own (call ∷ calls) a c (datagram ∷ datagrams) n stands more =
-    let m = web_meaning files in
-    let first : AnswersDatagram call a more.0 datagram = more.1 in
-    let at = first.each m own n stands in
-    let later = map (λ call. event_by_call call own) calls in
-    ap (λ d. d ∷ datagrams) at.1
-    ∙ ap (λ l. datagram_for own (step m is_served n (event_by_call call own)).sent ∷ l)
-    (datagrams_from files own calls more.0 c datagrams (step m is_served n (event_by_call call own)).node at.0 more.2)
+  module _ (m : Meaning) (own : Addr) where
+    record Goes (before : List ℕ) (all : List Answered) (a c : Device A S) (n : AbstractNode) : Type 0 where
+      line : left_text_of a ++ line_sent m g.served own before (calls_of all) n ≡ line_handed all ++ left_text_of c
+      datagrams : datagrams_handed all ≡ datagrams_sent m g.served own before (calls_of all) n
 
-pub datagrams_told : (files : List File) (own : Addr) (calls : List DatagramCall) (old new : Device) (datagrams : List (List ℕ)) → IsFreshDevice files own old → AnswersAllDatagrams calls old new datagrams
-    → datagrams ≡ datagram_output files own calls
-datagrams_told files own calls old new datagrams fresh all = datagrams_from files own calls old new datagrams (opening own (no_hits files)) fresh.stands all
+    goes : (before : List ℕ) (all : List Answered) (a c : Device A S) (n : AbstractNode) → IsNode g m own a.node n → HasHeard before a → AnswersAll g all a c → Goes before all a c n
+    goes before [] a c n stands heard same =
+        record { line = append-nil (left_text_of a) ∙ ap (λ (d : Device A S). left_text_of d) same; datagrams = refl }
+    goes before (it ∷ all) a c n stands heard more =
+        let b = more.0 in
+        let answered : Answers g it.call a b it.handed = more.1 in
+        let v = is_by_datagram it.call in
+        let first = (answered.sends before heard).each m own n stands in
+        let behind = before ++ bytes_of_call it.call in
+        let here : AbstractNode = (run m g.served (events_by before it.call own) n).node in
+        let replies = (run m g.served (events_by before it.call own) n).sent in
+        let rest = goes behind all b c here first.0 (answered.heard before heard) more.2 in
+        record {
+          line = line_step v own replies (left_text_of a) it.handed (left_text_of b) (line_sent m g.served own behind (calls_of all) here) (line_handed all) (left_text_of c) first.1 rest.line;
+          datagrams = datagram_step v own replies (left_text_of a) it.handed (left_text_of b) (datagrams_handed all) (datagrams_sent m g.served own behind (calls_of all) here) first.1 rest.datagrams;
+        }
+
+  module _ (m : Meaning) (numbers : List ℕ) (own : Addr) (all : List Answered) (old new : Device A S) (fresh : IsFreshDevice g m numbers own old) (answered : AnswersAll g all old new) where
+    pub line_told : line_handed all ++ left_text_of new ≡ line_sent m g.served own [] (calls_of all) (opening own numbers)
+    line_told =
+        sym (goes m own [] all old new (opening own numbers) fresh.stands fresh.heard answered).line
+        ∙ ap (λ l. l ++ line_sent m g.served own [] (calls_of all) (opening own numbers)) (none_left old fresh.none)
+
+    pub datagrams_told : datagrams_handed all ≡ datagrams_sent m g.served own [] (calls_of all) (opening own numbers)
+    datagrams_told = (goes m own [] all old new (opening own numbers) fresh.stands fresh.heard answered).datagrams
+
+    pub line_served : (pace : ℕ) (items : List Item) → Bring pace items (calls_of all) → new.left ≡ None → line_handed all ≡ output_by slip_way m g.served numbers own pace items
+    line_served pace items bring none =
+        sym (append-nil (line_handed all)) ∙ ap (λ l. line_handed all ++ l) (sym (none_left new none))
+        ∙ line_told
+        ∙ line_text m g.served own pace items (calls_of all) (opening own numbers) bring
+        ∙ sym (said_on_line m g.served own pace items (opening_at own numbers))

@@ -1,1 +1,5 @@
 pub mod AnswerLaws
+pub mod CallLaws
+pub mod FrameLaws
+pub mod HandLaws
+pub mod SendLaws

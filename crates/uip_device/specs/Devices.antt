@@ -1,85 +1,64 @@
 -- A device, and what it hands out at each call.
-use Rattle.std.specs.Prelude.{◌≡◌, ◌≤◌, ℕ, List, [], ◌∷◌, ◌++◌, None, IfSome, Result, Ok, Err, length, ⊤}
+use Rattle.std.specs.Prelude.{◌≡◌, ◌≤◌, ℕ, List, [], ◌∷◌, ◌++◌, None, IfSome, if◌then◌else◌, length, map}
+use Rattle.std.specs.List.{flat_map}
+use Rattle.app_events.specs.Part.{Meaning}
+use Rattle.app_events.specs.declared.app.App.{Ghosts}
 use Rattle.packet_buffer.specs.Buffer.{datagram_in}
-use Rattle.site_image.specs.Faults.{read_image}
-use Rattle.site_image.specs.Files.{File}
-use Rattle.site_image.specs.Grammar.{IsImage}
-use Rattle.file_tree.specs.Site.{files_of}
-use Rattle.web_pages.specs.Serving.{no_hits}
-use Rattle.web_pages.specs.WebMeaning.{web_meaning}
-use Rattle.httpd.specs.contracts.httpd.HttpdApp.TheImpl.{ghosts}
-use Rattle.uip_node.specs.Node.{AbstractNode, opening}
+use Rattle.uip_node.specs.Node.{opening}
 use Rattle.uip_node.specs.StandsFor.{IsWhole}
 use Rattle.uip_wire.specs.declared.addr.Addr.{Addr}
 use Rattle.uip_slip.specs.Decoding.{WasFed}
 use Rattle.serve_loop.specs.Turns.{IsNode}
-use Rattle.slip_node.specs.Calls.{Call, bytes_of_call, events_by}
-use Rattle.slip_node.specs.DatagramCalls.{DatagramCall, event_by_call}
-use Rattle.slip_node.specs.Handing.{text_to_come}
-use Rattle.slip_node.specs.Telling.{Replies, Tells}
+use Rattle.uip_device.specs.Calls.{Call, bytes_of_call, events_by, is_by_datagram}
+use Rattle.uip_device.specs.Handing.{text_to_come}
+use Rattle.uip_device.specs.Sending.{HandsOut, SendsOver}
 use Rattle.uip_device.specs.declared.device.Device.{Device}
-use Rattle.uip_device.specs.declared.open_fault.OpenFault.{OpenFault}
-use Rattle.uip_device.specs.declared.open_fault.OpenFault.TheVariants.{BadSite, NoMemory}
 
 -- every connection of the device's node is sound, and what is left of a text is of the datagram in its packet
-pub record IsSoundDevice (d : Device) : Type 0 where
-  pub whole : IsWhole ghosts d.node
+pub record IsSoundDevice {A S : Type 0} (g : Ghosts A S) (d : Device A S) : Type 0 where
+  pub whole : IsWhole g d.node
   pub left : IfSome d.left (λ at. at ≤ length (datagram_in d.node.packet))
 
 -- the text that is left to be handed out
-abbrev pub left_text_of : Device → List ℕ
+abbrev pub left_text_of : {A S : Type 0} → Device A S → List ℕ
 left_text_of d = text_to_come (datagram_in d.node.packet) d.left
 
 -- the device was fed these bytes
-abbrev pub HasHeard : List ℕ → Device → Type 0
+abbrev pub HasHeard : {A S : Type 0} → List ℕ → Device A S → Type 0
 HasHeard bytes d = WasFed bytes d.decoder
 
--- the device serves these files at the address `own`, and stands for this abstract node
-abbrev pub StandsFor : List File → Addr → Device → AbstractNode → Type 0
-StandsFor files own d n = IsNode ghosts (web_meaning files) own d.node n
-
--- a device with these files at this address that heard nothing and of which nothing was asked
-pub record IsFreshDevice (files : List File) (own : Addr) (d : Device) : Type 0 where
-  pub sound : IsSoundDevice d
+-- A device at the address `own` that heard nothing and of which nothing was asked: its node stands for the opening one, with an
+-- application of this meaning.
+pub record IsFreshDevice {A S : Type 0} (g : Ghosts A S) (m : Meaning) (numbers : List ℕ) (own : Addr) (d : Device A S) : Type 0 where
+  pub sound : IsSoundDevice g d
   pub heard : HasHeard [] d
   pub none : d.left ≡ None
-  pub stands : StandsFor files own d (opening own (no_hits files))
+  pub stands : IsNode g m own d.node (opening own numbers)
 
--- a fresh device at this address with the files for which the image stands by the grammar
-pub record IsOpened (image : List ℕ) (own : Addr) (d : Device) : Type 0 where
-  pub read : read_image image ≡ Ok (files_of d.node.shared.site)
-  pub spelled : IsImage image (files_of d.node.shared.site)
-  pub fresh : IsFreshDevice (files_of d.node.shared.site) own d
-
--- a device was opened, or the image has this first fault; want of memory is free
-abbrev pub OpensDevice : List ℕ → Addr → Result Device OpenFault → Type 0
-OpensDevice image own (Ok d) = IsOpened image own d
-OpensDevice image own (Err (BadSite error)) = read_image image ≡ Err error
-OpensDevice image own (Err NoMemory) = ⊤
-
--- A call over a serial line was answered by this text: whatever bytes the device had heard, it has heard these and those of
--- the call; and its node sends, over what the call brings, a text that goes behind what was left before, and of the two together
--- this one is handed out and the rest is left.
-pub record Answers (call : Call) (old new : Device) (text : List ℕ) : Type 0 where
+-- A call was answered by these bytes: whatever bytes the device had heard, it has heard these and those of the call; and its
+-- node goes on over what the call brings, of which this is handed out.
+pub record Answers {A S : Type 0} (g : Ghosts A S) (call : Call) (old new : Device A S) (handed : List ℕ) : Type 0 where
   pub heard : (before : List ℕ) → HasHeard before old → HasHeard (before ++ bytes_of_call call) new
-  pub tells : (before : List ℕ) → HasHeard before old
-      → (sent : List ℕ) × Tells ghosts (events_by before call) old.node new.node sent
-      × (left_text_of old ++ sent ≡ text ++ left_text_of new)
+  pub sends : (before : List ℕ) → HasHeard before old → SendsOver g (events_by before call) old.node new.node
+      (λ own replies. HandsOut (is_by_datagram call) own (left_text_of old) handed (left_text_of new) replies)
 
--- calls in turn were answered by these texts
-abbrev pub AnswersAll : List Call → Device → Device → List (List ℕ) → Type 0
-AnswersAll [] a c [] = a ≡ c
-AnswersAll [] a c (text ∷ texts) = ⊥
-AnswersAll (call ∷ calls) a c [] = ⊥
-AnswersAll (call ∷ calls) a c (text ∷ texts) = (b : Device) × Answers call a b text × AnswersAll calls b c texts
+-- a call, and the bytes by which it was answered
+pub record Answered : Type 0 where
+  pub call : Call
+  pub handed : List ℕ
 
--- A call over a link that carries datagrams was answered by this datagram, or by none.
-abbrev pub AnswersDatagram : DatagramCall → Device → Device → List ℕ → Type 0
-AnswersDatagram call old new datagram = Replies ghosts (event_by_call call) old.node new.node datagram
+abbrev pub calls_of : List Answered → List Call
+calls_of all = map (λ it. it.call) all
 
-abbrev pub AnswersAllDatagrams : List DatagramCall → Device → Device → List (List ℕ) → Type 0
-AnswersAllDatagrams [] a c [] = a ≡ c
-AnswersAllDatagrams [] a c (datagram ∷ datagrams) = ⊥
-AnswersAllDatagrams (call ∷ calls) a c [] = ⊥
-AnswersAllDatagrams (call ∷ calls) a c (datagram ∷ datagrams) =
-    (b : Device) × AnswersDatagram call a b datagram × AnswersAllDatagrams calls b c datagrams
+-- calls in turn were answered so
+abbrev pub AnswersAll : {A S : Type 0} → Ghosts A S → List Answered → Device A S → Device A S → Type 0
+AnswersAll g [] a c = a ≡ c
+AnswersAll {A = A} {S = S} g (it ∷ all) a c = (b : Device A S) × Answers g it.call a b it.handed × AnswersAll g all b c
+
+-- what was handed out over the serial line, one behind another, and the datagrams that were handed out over the other link, or no
+-- bytes where a call there sent none
+abbrev pub line_handed : List Answered → List ℕ
+line_handed all = flat_map (λ it. if is_by_datagram it.call then [] else it.handed) all
+
+abbrev pub datagrams_handed : List Answered → List (List ℕ)
+datagrams_handed all = flat_map (λ it. if is_by_datagram it.call then it.handed ∷ [] else []) all

@@ -1,2 +1,6 @@
+pub mod Calls
 pub mod Devices
+pub mod Handing
 pub mod Output
+pub mod Sending
+pub mod WebDevices

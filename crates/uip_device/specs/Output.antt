@@ -1,25 +1,22 @@
--- What the web server writes for the items of a serial line, and what it sends over the calls of a device.
-use Rattle.std.specs.Prelude.{ℕ, List, [], map}
-use Rattle.site_image.specs.Files.{File}
-use Rattle.web_pages.specs.Serving.{is_served, no_hits}
-use Rattle.web_pages.specs.WebMeaning.{web_meaning}
-use Rattle.uip_edge.specs.declared.item.Item.{Item}
-use Rattle.uip_node.specs.Node.{opening, run}
+-- What a node sends over the calls of its device.
+use Rattle.std.specs.Prelude.{ℕ, Bool, List, [], ◌∷◌, ◌++◌, if◌then◌else◌}
+use Rattle.app_events.specs.Part.{Meaning}
+use Rattle.uip_node.specs.Node.{AbstractNode, run}
 use Rattle.uip_wire.specs.declared.addr.Addr.{Addr}
-use Rattle.serve_loop.specs.LineOutput.{serial_output}
-use Rattle.serve_loop.specs.Running.{text_of}
-use Rattle.slip_node.specs.Calls.{Call, events_of_calls}
-use Rattle.slip_node.specs.DatagramCalls.{DatagramCall, event_by_call}
-use Rattle.slip_node.specs.Telling.{datagrams_at}
+use Rattle.serve_loop.specs.Texts.{text_of}
+use Rattle.uip_device.specs.Calls.{Call, bytes_of_call, events_by, is_by_datagram}
+use Rattle.uip_device.specs.Sending.{datagram_sent}
 
--- with the files of a site, of which none was asked for yet
-abbrev pub web_output : List File → Addr → ℕ → List Item → List ℕ
-web_output files own pace items = serial_output (web_meaning files) is_served (no_hits files) own pace items
+-- the texts of what is sent at the calls over the serial line, behind the bytes that were heard before
+abbrev pub line_sent : Meaning → (ℕ → Bool) → Addr → List ℕ → List Call → AbstractNode → List ℕ
+line_sent m served own before [] n = []
+line_sent m served own before (call ∷ calls) n =
+    (if is_by_datagram call then [] else text_of own (run m served (events_by before call own) n).sent)
+    ++ line_sent m served own (before ++ bytes_of_call call) calls (run m served (events_by before call own) n).node
 
--- the text of what the opening node sends over what these calls bring
-abbrev pub call_output : List File → Addr → List Call → List ℕ
-call_output files own calls = text_of own (run (web_meaning files) is_served (events_of_calls [] calls own) (opening own (no_hits files))).sent
-
--- the datagram that the opening node sends at the event of each call, or none
-abbrev pub datagram_output : List File → Addr → List DatagramCall → List (List ℕ)
-datagram_output files own calls = datagrams_at (web_meaning files) is_served own (map (λ call. event_by_call call own) calls) (opening own (no_hits files))
+-- the datagram that is sent at each call over a link that carries datagrams, or no bytes where none is
+abbrev pub datagrams_sent : Meaning → (ℕ → Bool) → Addr → List ℕ → List Call → AbstractNode → List (List ℕ)
+datagrams_sent m served own before [] n = []
+datagrams_sent m served own before (call ∷ calls) n =
+    (if is_by_datagram call then datagram_sent own (run m served (events_by before call own) n).sent ∷ [] else [])
+    ++ datagrams_sent m served own (before ++ bytes_of_call call) calls (run m served (events_by before call own) n).node

@@ -1,51 +1,120 @@
-use crate::open_fault::OpenFault;
-use file_tree::{LoadFault, Site};
-use httpd::{Httpd, Web};
-use slip_node::{Heard, LARGEST_TEXT, call, call_datagram, hand_on, hear, hear_datagram};
+//! A device, and the calls of it.
+
+ghost use Rattle.std.specs.Prelude.{◌≡◌, ◌<◌, ◌≤◌, ◌++◌, ◌∷◌, [], List, ℕ, IfSome, None, length, map, take};
+ghost use Rattle.packet_buffer.specs.Buffer.{datagram_in};
+ghost use Rattle.uip_edge.specs.declared.item.Item.TheVariants.{Byte};
+ghost use Rattle.uip_slip.specs.Decoding.{WasFed};
+ghost use Rattle.uip_node.specs.Edge.{event_of};
+ghost use Rattle.uip_node.specs.StandsFor.{IsWhole};
+ghost use Rattle.serve_loop.specs.LineEvents.{events_behind};
+ghost use Rattle.serve_loop.specs.Texts.{text_of};
+ghost use Rattle.uip_device.specs.Handing.{text_to_come};
+ghost use Rattle.uip_device.specs.Sending.{SendsOver};
+
+use crate::datagrams::copy_sent;
+use crate::handing::{LARGEST_TEXT, Written, hand_on, write_text};
+use app_events::App;
 use std::alloc::Global;
+use uip_edge::NoMemory;
 use uip_node::Node;
-use uip_slip::Decoder;
+use uip_slip::{Decoder, Fed};
 use uip_wire::{Addr, LARGEST_DATAGRAM};
 
-/// A device: a node with the web server of a site, behind a serial line or a link that carries datagrams.
+/// How many bytes of a line were taken, and how many were written to the front of the area.
+#[derive(Clone, Copy, Debug, PartialEq, Eq)]
+pub struct Heard {
+    pub taken: usize,
+    pub wrote: usize,
+}
+
+/// A device: a node with an application, behind a serial line or a link that carries datagrams.
 #[derive(Drop)]
-pub struct Device {
+pub struct Device<A: App> {
     pub decoder: Decoder,
-    pub node: Node<Httpd>,
+    pub node: Node<A>,
     /// Behind how many bytes of the datagram in the packet its text is left to be handed out; nowhere where none is left.
     pub left: Option<usize>,
 }
 
-impl Device {
-    ghost use Rattle.std.specs.Prelude.{◌≡◌, ◌<◌, ◌≤◌, List, None, Some, length, slice_get, take};
-    ghost use Rattle.site_image.specs.Files.{File};
-    ghost use Rattle.uip_wire.specs.declared.addr.Addr.{Addr as Address};
+/// A datagram comes to the node, and the text of its answer is written.
+fn answer<A: App>(node: &mut Node<A>, datagram: &[u8], out: &mut [u8]) -> Written
+    requires whole { IsWhole A.App node.old }
+    requires most { length datagram.now ≤ LARGEST_DATAGRAM }
+    requires room { 0 < length out.old }
+    ensures whole { IsWhole A.App node.new }
+    ensures long { length out.new ≡ length out.old }
+    ensures fits { result.wrote ≤ length out.new }
+    ensures left { IfSome result.left (λ k. k ≤ length (datagram_in node.new.packet)) }
+    ensures all { LARGEST_TEXT ≤ length out.old → result.left ≡ None }
+    ensures sends { SendsOver A.App (λ own. event_of own datagram.now ∷ []) node.old node.new (λ own replies. text_of own replies
+        ≡ take result.wrote out.new ++ text_to_come (datagram_in node.new.packet) result.left) }
+{
+    let sent = node.input(datagram);
+    write_text(node, sent, out)
+}
+
+/// So many bytes were taken, and this was written.
+#[derive(Clone, Copy, Debug)]
+struct Taken {
+    count: usize,
+    written: Written,
+}
+
+/// Takes a front of the bytes, of which the last alone may complete a frame, and writes the text of the answer.
+fn take<A: App>(
+    decoder: &mut Decoder,
+    node: &mut Node<A>,
+    bytes: &[u8],
+    out: &mut [u8],
+) -> Taken
+    requires some { 0 < length bytes.now }
+    requires whole { IsWhole A.App node.old }
+    requires room { 0 < length out.old }
+    ensures whole { IsWhole A.App node.new }
+    ensures taken { (0 < result.count) × (result.count ≤ length bytes.now) }
+    ensures long { length out.new ≡ length out.old }
+    ensures fits { result.written.wrote ≤ length out.new }
+    ensures left { IfSome result.written.left (λ k. k ≤ length (datagram_in node.new.packet)) }
+    ensures all { LARGEST_TEXT ≤ length out.old → result.written.left ≡ None }
+    ensures fed { (before : List ℕ) → WasFed before decoder.old → WasFed (before ++ take result.count bytes.now) decoder.new }
+    ensures sends { (before : List ℕ) → WasFed before decoder.old
+        → SendsOver A.App (λ own. events_behind own 0 before (map Byte (take result.count bytes.now))) node.old node.new
+        (λ own replies. text_of own replies
+        ≡ take result.written.wrote out.new ++ text_to_come (datagram_in node.new.packet) result.written.left) }
+{
+    let run = decoder.feed_run(bytes);
+    let written = match run.fed {
+        Fed::More => Written::nothing(),
+        Fed::Overlong => {
+            node.count_overlong();
+            Written::nothing()
+        }
+        Fed::Datagram(count) => answer(node, decoder.bytes(count), out),
+    };
+    Taken {
+        count: run.count,
+        written,
+    }
+}
+
+impl<A: App> Device<A> {
+    ghost use Rattle.std.specs.Prelude.{◌≡◌, ◌<◌, ◌≤◌, IfOk, None, Some, length, slice_get, take};
     ghost use Rattle.uip_node.specs.Counters.{counters, ticks_of};
     ghost use Rattle.uip_node.specs.Node.{AbstractNode};
-    ghost use Rattle.slip_node.specs.Calls.{Calls, HandsOn, Hears};
-    ghost use Rattle.slip_node.specs.DatagramCalls.{CallsSlot, HearsDatagram};
-    ghost use Rattle.uip_device.specs.Devices.{Answers, AnswersDatagram, IsSoundDevice, OpensDevice, StandsFor};
+    ghost use Rattle.uip_node.specs.StandsFor.{Stands};
+    ghost use Rattle.uip_device.specs.Calls.{Calls, CallsByDatagram, HandsOn, Hears, HearsDatagram};
+    ghost use Rattle.uip_device.specs.Devices.{Answers, IsFreshDevice, IsSoundDevice};
 
-    /// A device at an address with the site of an image, which is copied. After this no call of it takes memory.
-    pub fn open(alloc: Global, image: &[u8], own: Addr) -> Result<Device, OpenFault>
-        ensures { OpensDevice image.now own result }
+    /// A device at an address whose application's connections share a value. After this no call of it takes memory.
+    pub fn new(alloc: Global, own: Addr, shared: A::Shared) -> Result<Device<A>, NoMemory>
+        ensures fresh { IfOk result (λ d. IsFreshDevice A.App (A.meaning (A.kept shared)) (A.numbers shared) own d) }
+        ensures shared { IfOk result (λ d. d.node.shared ≡ shared) }
     {
-        let site = match Site::read(alloc, image) {
-            Ok(site) => site,
-            Err(LoadFault::Bad(error)) => return Err(OpenFault::BadSite(error)),
-            Err(_) => return Err(OpenFault::NoMemory),
-        };
-        let Ok(web) = Web::new(alloc, site) else {
-            return Err(OpenFault::NoMemory);
-        };
-        match Node::<Httpd>::new(alloc, own, web) {
-            Ok(node) => Ok(Device {
-                decoder: Decoder::new(),
-                node,
-                left: None,
-            }),
-            Err(_) => Err(OpenFault::NoMemory),
-        }
+        Ok(Device {
+            decoder: Decoder::new(),
+            node: Node::new(alloc, own, shared)?,
+            left: None,
+        })
     }
 
     /// Takes a front of the bytes that came over the line, of which the last alone may complete a frame, and hands out the text
@@ -54,17 +123,20 @@ impl Device {
         requires some { 0 < length bytes.now }
         requires room { 0 < length out.old }
         requires none { self.old.left ≡ None }
-        requires sound { IsSoundDevice self.old }
-        ensures sound { IsSoundDevice self.new }
+        requires sound { IsSoundDevice A.App self.old }
+        ensures sound { IsSoundDevice A.App self.new }
         ensures long { length out.new ≡ length out.old }
         ensures wrote { result.wrote ≤ length out.new }
         ensures taken { (0 < result.taken) × (result.taken ≤ length bytes.now) }
         ensures all { LARGEST_TEXT ≤ length out.old → self.new.left ≡ None }
-        ensures answers { Answers (Hears (take result.taken bytes.now)) self.old self.new (take result.wrote out.new) }
+        ensures answers { Answers A.App (Hears (take result.taken bytes.now)) self.old self.new (take result.wrote out.new) }
     {
-        let heard = hear(&mut self.decoder, &mut self.node, bytes, out);
-        self.left = heard.left;
-        heard
+        let taken = take(&mut self.decoder, &mut self.node, bytes, out);
+        self.left = taken.written.left;
+        Heard {
+            taken: taken.count,
+            wrote: taken.written.wrote,
+        }
     }
 
     /// The periodic call of a slot, which is due for each of the ten in turn twice a second. Hands out the text of what is
@@ -73,26 +145,27 @@ impl Device {
         requires slot { slot < 10 }
         requires room { 0 < length out.old }
         requires none { self.old.left ≡ None }
-        requires sound { IsSoundDevice self.old }
-        ensures sound { IsSoundDevice self.new }
+        requires sound { IsSoundDevice A.App self.old }
+        ensures sound { IsSoundDevice A.App self.new }
         ensures long { length out.new ≡ length out.old }
         ensures wrote { result ≤ length out.new }
         ensures all { LARGEST_TEXT ≤ length out.old → self.new.left ≡ None }
-        ensures answers { Answers (Calls slot) self.old self.new (take result out.new) }
+        ensures answers { Answers A.App (Calls slot) self.old self.new (take result out.new) }
     {
-        let written = call(&mut self.node, slot, out);
+        let sent = self.node.periodic(slot);
+        let written = write_text(&self.node, sent, out);
         self.left = written.left;
         written.wrote
     }
 
     /// Hands on what is left of a text, as far as there is room, and says how many bytes these are.
     pub fn hand_on(&mut self, out: &mut [u8]) -> usize
-        requires sound { IsSoundDevice self.old }
-        ensures sound { IsSoundDevice self.new }
+        requires sound { IsSoundDevice A.App self.old }
+        ensures sound { IsSoundDevice A.App self.new }
         ensures long { length out.new ≡ length out.old }
         ensures wrote { result ≤ length out.new }
         ensures some { (self.old.left ≡ None → ⊥) → 2 ≤ length out.old → 0 < result }
-        ensures answers { Answers HandsOn self.old self.new (take result out.new) }
+        ensures answers { Answers A.App HandsOn self.old self.new (take result out.new) }
     {
         match self.left {
             None => 0,
@@ -110,14 +183,15 @@ impl Device {
         requires most { length datagram.now ≤ LARGEST_DATAGRAM }
         requires room { LARGEST_DATAGRAM ≤ length out.old }
         requires none { self.old.left ≡ None }
-        requires sound { IsSoundDevice self.old }
-        ensures sound { IsSoundDevice self.new }
+        requires sound { IsSoundDevice A.App self.old }
+        ensures sound { IsSoundDevice A.App self.new }
         ensures long { length out.new ≡ length out.old }
         ensures wrote { result ≤ length out.new }
         ensures none { self.new.left ≡ None }
-        ensures answers { AnswersDatagram (HearsDatagram datagram.now) self.old self.new (take result out.new) }
+        ensures answers { Answers A.App (HearsDatagram datagram.now) self.old self.new (take result out.new) }
     {
-        hear_datagram(&mut self.node, datagram, out)
+        let sent = self.node.input(datagram);
+        copy_sent(&self.node, sent, out)
     }
 
     /// The periodic call of a slot, as `call`, over such a link.
@@ -125,19 +199,20 @@ impl Device {
         requires slot { slot < 10 }
         requires room { LARGEST_DATAGRAM ≤ length out.old }
         requires none { self.old.left ≡ None }
-        requires sound { IsSoundDevice self.old }
-        ensures sound { IsSoundDevice self.new }
+        requires sound { IsSoundDevice A.App self.old }
+        ensures sound { IsSoundDevice A.App self.new }
         ensures long { length out.new ≡ length out.old }
         ensures wrote { result ≤ length out.new }
         ensures none { self.new.left ≡ None }
-        ensures answers { AnswersDatagram (CallsSlot slot) self.old self.new (take result out.new) }
+        ensures answers { Answers A.App (CallsByDatagram slot) self.old self.new (take result out.new) }
     {
-        call_datagram(&mut self.node, slot, out)
+        let sent = self.node.periodic(slot);
+        copy_sent(&self.node, sent, out)
     }
 
     /// How many ticks there were, modulo 2^32.
     pub fn ticks(&self) -> u32
-        ensures { (files : List File) (own : Address) (n : AbstractNode) → StandsFor files own self.now n → result ≡ ticks_of n.past }
+        ensures { (n : AbstractNode) → Stands A.App self.now.node n n.past → result ≡ ticks_of n.past }
     {
         self.node.counts.ticks
     }
@@ -145,8 +220,7 @@ impl Device {
     /// The counter in a place below 20, modulo 2^32.
     pub fn counter(&self, place: usize) -> u32
         requires { place < 20 }
-        ensures { (files : List File) (own : Address) (n : AbstractNode) → StandsFor files own self.now n
-            → slice_get (counters n.past) place ≡ Some result }
+        ensures { (n : AbstractNode) → Stands A.App self.now.node n n.past → slice_get (counters n.past) place ≡ Some result }
     {
         self.node.counts.net[place]
     }

@@ -1,12 +1,14 @@
-//! A device: the node of a site's web server, whose caller brings what came over the line and takes what is sent. Memory is
-//! taken when it is opened, and by no call after.
+//! A device: a node with an application, whose caller brings what came over the line and takes what is sent. Memory is taken
+//! when it is made, and by no call after.
 #![tactic(auto)]
 
+mod datagrams;
 mod device;
+mod handing;
 mod laws;
-mod open_fault;
+mod opening;
 
-pub use device::Device;
-pub use laws::{calls_are_told, datagram_calls_are_told, line_is_served};
-pub use open_fault::OpenFault;
-pub use slip_node::{Heard, LARGEST_TEXT};
+pub use device::{Device, Heard};
+pub use handing::LARGEST_TEXT;
+pub use laws::{calls_are_told, line_is_served};
+pub use opening::{OpenFault, WebDevice, open_web};

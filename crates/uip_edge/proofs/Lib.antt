@@ -1,3 +1,5 @@
+pub mod Breaking
 pub mod Runs
 pub mod Told
+pub mod Turns
 pub mod Writes

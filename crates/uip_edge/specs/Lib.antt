@@ -5,4 +5,5 @@ pub mod Memory
 pub mod Shelving
 pub mod Telling
 pub mod Told
+pub mod Turns
 pub mod Writing

@@ -17,6 +17,7 @@ mod serve_end;
 mod shelf;
 mod sink;
 mod sure_link;
+mod turn;
 
 pub use failed::Failed;
 pub use got::Got;
@@ -32,3 +33,4 @@ pub use serve_end::ServeEnd;
 pub use shelf::Shelf;
 pub use sink::Sink;
 pub use sure_link::SureLink;
+pub use turn::Turn;

@@ -5,5 +5,6 @@ pub mod PlainLaws
 mod Rows
 pub mod TextFrames
 pub mod TextLaws
+pub mod FrameLaws
 pub mod Lanes
 pub mod TextTable

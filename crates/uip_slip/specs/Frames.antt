@@ -58,3 +58,7 @@ frames bytes = flat_map (λ part. frame_of (unescaped part)) (all_but_last (part
 -- what stands behind the last END, and waits for the next one
 abbrev pub open_part : List ℕ → List ℕ
 open_part bytes = last_of (parts bytes)
+
+-- the frame that a byte completes behind the bytes before it: an END closes the part since the last END
+abbrev pub completed : List ℕ → ℕ → List Frame
+completed before b = if b == 192 then frame_of (unescaped (open_part before)) else []

@@ -1,18 +1,17 @@
 -- What is written for the items of a line.
-use Rattle.std.specs.Prelude.{ℕ, Bool, List, []}
+use Rattle.std.specs.Prelude.{ℕ, Bool, List}
 use Rattle.app_events.specs.Part.{Meaning}
 use Rattle.site_image.specs.Files.{File}
 use Rattle.web_pages.specs.Serving.{is_served, no_hits}
 use Rattle.web_pages.specs.WebMeaning.{web_meaning}
 use Rattle.telnet_shell.specs.DeskMeaning.{desk_meaning, is_served_at}
 use Rattle.uip_edge.specs.declared.item.Item.{Item}
-use Rattle.uip_node.specs.Node.{opening}
 use Rattle.uip_wire.specs.declared.addr.Addr.{Addr}
-use Rattle.serve_loop.specs.DeedRuns.{said}
-use Rattle.serve_loop.specs.LineDeeds.{line_deeds}
-use Rattle.line_medium.specs.Ways.{Way}
+use Rattle.serve_loop.specs.LineOutput.{output_by}
 use Rattle.serve_loop.specs.SlipWay.{slip_way}
 use Rattle.ethernet_arp.specs.EtherWay.{ether_way}
+use Rattle.ethernet_arp.specs.Frames.{Host}
+use Rattle.ethernet_arp.specs.declared.mac.Mac.{Mac}
 use Rattle.uipd.specs.declared.words.Application.{Application}
 use Rattle.uipd.specs.declared.words.Application.TheVariants.{Web, Desk}
 use Rattle.uipd.specs.declared.words.LineKind.{LineKind}
@@ -29,17 +28,15 @@ abbrev pub ports_of : Application → ℕ → Bool
 ports_of Web = is_served
 ports_of Desk = is_served_at
 
--- what is written for the items of a line by the way in which it carries datagrams: all that the node and the medium say, from
--- the node's opening on and with nothing done by the medium, over the deeds of the line
-abbrev pub output_by : {A : Type 0} → Way A → Meaning → (ℕ → Bool) → List ℕ → Addr → ℕ → List Item → List ℕ
-output_by way m ports numbers own pace items =
-    said m ports way own (line_deeds way own pace items) (record { acts = []; node = opening own numbers })
+-- the host of a node at a hardware address
+abbrev pub host_at : Addr → Mac → Host
+host_at own mac = record { addr = own.0; mac = mac.0 }
 
--- over a serial line, or over Ethernet frames at a hardware address
+-- what is written for the items of a serial line, or over Ethernet frames at a hardware address
 abbrev pub output_over : LineKind → Meaning → (ℕ → Bool) → List ℕ → Addr → ℕ → List Item → List ℕ
 output_over Serial m ports numbers own pace items = output_by slip_way m ports numbers own pace items
 output_over (Ethernet mac) m ports numbers own pace items =
-    output_by (ether_way (record { addr = own.0; mac = mac.0 })) m ports numbers own pace items
+    output_by (ether_way (host_at own mac)) m ports numbers own pace items
 
 -- with the files of a site, of which none was asked for yet
 abbrev pub output_of : List File → ServedLine → List Item → List ℕ

@@ -1,6 +1,6 @@
 use Rattle.std.proofs.Common.{◌≡◌, take, length, map, arith}
 use Rattle.uip_edge.specs.declared.item.Item.TheVariants.{Byte}
-use Rattle.serve_loop.proofs.EventLaws.{counted}
+use Rattle.uip_edge.proofs.Turns.{counted}
 use Rattle.uip_edge.proofs.Told.{bytes_among-map}
 use Rattle.serve_loop.proofs.line.take_turn.Goals as goal
 
@@ -15,7 +15,7 @@ returns-in-Ok-take_bytes-clause-turns g c = λ k pace before h.
       items = map Byte (take n buf);
       consumed = told.items;
       within = omega (arith, count, told.count.1, c.next.auto.buf);
-      cause = (count, told.cause.same, done.cause.same);
+      cause = (count, record { link = told.cause.same; sink = done.cause.same });
       on = rw bytes_among-map (done.taken k pace before h);
       wrote = done.ok k pace before h;
     }

@@ -1,5 +1,6 @@
 use Rattle.std.proofs.Common.{◌++◌, [], refl, arith, ◌∙◌, length-take, length-append}
 use Rattle.uip_edge.proofs.Told.{Consumes-none, Consumes-then, bytes_among-append}
+use Rattle.uip_edge.proofs.Turns.{calm_then}
 use Rattle.serve_loop.proofs.RunLaws.{wrote_none}
 use Rattle.serve_loop.proofs.ServeLaws.{on_wrote, spent, stopped}
 use Rattle.uip_edge.specs.Coming.{bytes_among}
@@ -16,41 +17,39 @@ loop-left-init g c = record {
     number = omega arith;
     at = h;
     wrote = λ m own. wrote_none m g.A.App.served (g.M.Medium.way k) own _ _ _ (λ n p. p);
-    link_same = refl;
-    sink_same = refl;
+    calm = record { link = refl; sink = refl };
   };
 }
 
 pub loop-left-preserved : goal.loop-left-preserved
 loop-left-preserved g c = record {
-  whole = c.in-Went.ensures.whole;
-  same = c.in-Went.ensures.same ∙ c.loop-left.invariant.same;
+  whole = c.in-Took.ensures.whole;
+  same = c.in-Took.ensures.same ∙ c.loop-left.invariant.same;
   served = λ k pace h.
       let inv = c.loop-left.invariant.served k pace h in
-      let turn = c.in-Went.ensures.turns k pace (bytes_among inv.taken) inv.at in
+      let turn = c.in-Took.ensures.turns k pace (bytes_among inv.taken) inv.at in
       let room = length-take c.min-room.result c.loop-left.buf in
       record {
         taken = inv.taken ++ turn.items;
         consumed = Consumes-then (g.L.Link.coming c.args.link.now) (g.L.Link.coming c.loop-left.link) (g.L.Link.coming c.take_turn.new.link) inv.taken turn.items inv.consumed turn.consumed;
-        number = omega (arith, length-append inv.taken turn.items, turn.cause.0, inv.number, c.in-Went.ensures.fits.1, room);
+        number = omega (arith, length-append inv.taken turn.items, turn.cause.0, inv.number, c.in-Took.ensures.fits.1, room);
         at = rw bytes_among-append turn.on;
         wrote = on_wrote g.A.App (g.M.Medium.way k) (g.M.Medium.did c.args.medium.now k) (g.M.Medium.did c.loop-left.medium k) (g.M.Medium.did c.take_turn.new.medium k) pace inv.taken turn.items c.args.node.now c.loop-left.node c.take_turn.new.node
             (g.K.Sink.written c.args.sink.now) (g.K.Sink.written c.loop-left.sink) (g.K.Sink.written c.take_turn.new.sink) inv.wrote turn.wrote;
-        link_same = turn.cause.1 ∙ inv.link_same;
-        sink_same = turn.cause.2 ∙ inv.sink_same;
+        calm = calm_then _ _ _ inv.calm turn.cause.1;
       };
 }
 
-pub returns-in-Stopped-clause-serves : goal.returns-in-Stopped-clause-serves
-returns-in-Stopped-clause-serves g c = λ k pace h.
+pub returns-in-Ended-clause-serves : goal.returns-in-Ended-clause-serves
+returns-in-Ended-clause-serves g c = λ k pace h.
     let inv = c.loop-left.invariant.served k pace h in
     let room = length-take c.min-room.result c.loop-left.buf in
     stopped g.A.App g.M.Medium k c.args.medium.now c.loop-left.medium c.take_turn.new.medium pace c.args.items inv.taken c.args.node.now c.loop-left.node c.take_turn.new.node
     (line_told g.L.Link g.K.Sink c.args.link.now c.args.sink.now)
     (line_told g.L.Link g.K.Sink c.loop-left.link c.loop-left.sink)
     (line_told g.L.Link g.K.Sink c.take_turn.new.link c.take_turn.new.sink)
-    _ _ c.in-Stopped.end inv.consumed (omega arith) (omega (arith, inv.number, room)) inv.link_same inv.sink_same inv.wrote
-    (c.in-Stopped.ensures.turns k pace (bytes_among inv.taken) inv.at)
+    _ _ c.in-Ended.end inv.consumed (omega arith) (omega (arith, inv.number, room)) inv.calm inv.wrote
+    (c.in-Ended.ensures.turns k pace (bytes_among inv.taken) inv.at)
 
 pub returns-clause-serves : goal.returns-clause-serves
 returns-clause-serves g c = λ k pace h.
@@ -58,4 +57,4 @@ returns-clause-serves g c = λ k pace h.
     spent g.A.App (g.M.Medium.way k) (g.M.Medium.did c.args.medium.now k) (g.M.Medium.did c.loop-left.medium k) pace c.args.items inv.taken c.args.node.now c.loop-left.node
     (line_told g.L.Link g.K.Sink c.args.link.now c.args.sink.now)
     (line_told g.L.Link g.K.Sink c.loop-left.link c.loop-left.sink)
-    inv.consumed (omega (arith, inv.number, c.loop-left-test.false)) inv.link_same inv.sink_same inv.wrote
+    inv.consumed (omega (arith, inv.number, c.loop-left-test.false)) inv.calm inv.wrote

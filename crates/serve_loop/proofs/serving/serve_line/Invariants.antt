@@ -2,6 +2,8 @@ use Rattle.std.proofs.Common.{◌≡◌, ◌+◌, [], List, ℕ, length}
 use Rattle.app_events.specs.Part.{Meaning}
 use Rattle.uip_edge.specs.declared.item.Item.{Item}
 use Rattle.uip_edge.specs.Coming.{Consumes, bytes_among}
+use Rattle.uip_edge.specs.Telling.{line_told}
+use Rattle.uip_edge.specs.Told.{IsCalm}
 use Rattle.uip_wire.specs.declared.addr.Addr.{Addr}
 use Rattle.uip_node.specs.StandsFor.{IsWhole}
 use Rattle.serve_loop.specs.LineDeeds.{line_deeds}
@@ -21,8 +23,7 @@ invariant-loop-left g l = record {
     wrote : (m : Meaning) (own : Addr) → AllSaid m g.A.App.served (g.M.Medium.way k) own (line_deeds (g.M.Medium.way k) own pace taken)
         (IsHere g.A.App (g.M.Medium.did l.fn.medium k) m own l.fn.node)
         (IsHere g.A.App (g.M.Medium.did l.medium k) m own l.node) (g.K.Sink.written l.fn.sink) (g.K.Sink.written l.sink);
-    link_same : g.L.Link.faults l.link ≡ g.L.Link.faults l.fn.link;
-    sink_same : g.K.Sink.faults l.sink ≡ g.K.Sink.faults l.fn.sink;
+    calm : IsCalm (line_told g.L.Link g.K.Sink l.fn.link l.fn.sink) (line_told g.L.Link g.K.Sink l.link l.sink);
   };
 }
 

@@ -1,6 +1,8 @@
 use Rattle.std.proofs.Common.{◌≡◌, ◌≤◌, ◌+◌, List, length}
 use Rattle.uip_edge.specs.Coming.{Consumes, bytes_among}
 use Rattle.uip_edge.specs.declared.item.Item.{Item}
+use Rattle.uip_edge.specs.Telling.{line_told}
+use Rattle.uip_edge.specs.Told.{IsCalm}
 use Rattle.trace.specs.Gathering.{IsReadTo, IsOpen}
 use Rattle.trace.proofs.converting.slip.Given as goal
 
@@ -12,8 +14,7 @@ invariant-loop-left g l = record {
   number : l.reader.number + l.left ≤ l.items;
   «open» : IsOpen l.reader.stage l.reader.part l.reader.want;
   at : IsReadTo (g.K.Sink.written l.fn.sink) (g.K.Sink.written l.sink) (bytes_among taken) l.reader.stage l.reader.number l.reader.part;
-  link_same : g.L.Link.faults l.link ≡ g.L.Link.faults l.fn.link;
-  sink_same : g.K.Sink.faults l.sink ≡ g.K.Sink.faults l.fn.sink;
+  calm : IsCalm (line_told g.L.Link g.K.Sink l.fn.link l.fn.sink) (line_told g.L.Link g.K.Sink l.link l.sink);
 }
 
 abbrev pub decreases-loop-left : goal.decreases-loop-left

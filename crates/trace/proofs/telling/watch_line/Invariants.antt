@@ -2,6 +2,8 @@ use Rattle.std.proofs.Common.{◌≡◌, ◌≤◌, ◌+◌, [], List, length}
 use Rattle.std.specs.Io.KnownBytes.{Appends}
 use Rattle.uip_edge.specs.Coming.{Consumes}
 use Rattle.uip_edge.specs.declared.item.Item.{Item}
+use Rattle.uip_edge.specs.Telling.{line_told}
+use Rattle.uip_edge.specs.Told.{IsCalm}
 use Rattle.trace.specs.Watching.{HasSeen, text_after}
 use Rattle.trace.proofs.telling.watch_line.Given as goal
 
@@ -15,8 +17,7 @@ invariant-loop-left g l = record {
   silences : l.watch.silences + l.left ≤ l.items;
   seen : HasSeen taken l.watch.decoder l.watch.frames l.watch.silences;
   wrote : Appends (g.K.Sink.written l.fn.sink) (g.K.Sink.written l.sink) (text_after l.fn.form [] taken);
-  link_same : g.L.Link.faults l.link ≡ g.L.Link.faults l.fn.link;
-  sink_same : g.K.Sink.faults l.sink ≡ g.K.Sink.faults l.fn.sink;
+  calm : IsCalm (line_told g.L.Link g.K.Sink l.fn.link l.fn.sink) (line_told g.L.Link g.K.Sink l.link l.sink);
 }
 
 abbrev pub decreases-loop-left : goal.decreases-loop-left

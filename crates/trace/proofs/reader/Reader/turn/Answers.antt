@@ -1,6 +1,6 @@
 use Rattle.std.proofs.Common.{[], ◌∷◌, List, ℕ, take, refl, subst, arith}
 use Rattle.uip_edge.specs.declared.item.Item.TheVariants.{Quiet}
-use Rattle.serve_loop.proofs.EventLaws.{counted}
+use Rattle.uip_edge.proofs.Turns.{counted}
 use Rattle.trace.specs.Gathering.{IsReadTo}
 use Rattle.trace.proofs.TurnLaws.{bytes_on, file_fault, is_dry, link_ended, link_failed, silence_read, sound_at, took_bytes, write_failed}
 use Rattle.uip_edge.specs.Coming.{bytes_among}

@@ -11,7 +11,7 @@ returns-in-Ok-Quiet-clause-turns g c = λ before h.
       items = Quiet ∷ [];
       consumed = told.items;
       within = omega (arith, c.requires.room);
-      cause = (refl, told.cause.same, refl);
+      cause = (refl, record { link = told.cause.same; sink = refl });
       on = silence_seen before _ _ _ h;
       wrote = Appends-none _;
     }

@@ -1,12 +1,13 @@
 use Rattle.std.proofs.Common.{◌≡◌, ◌∷◌, [], refl, arith, map, take, length, inl, inr}
 use Rattle.uip_edge.specs.declared.item.Item.TheVariants.{Byte, Quiet}
 use Rattle.uip_edge.proofs.Told.{Appends-none}
+use Rattle.uip_edge.proofs.Turns.{counted}
 use Rattle.udp_resolver.specs.Asked.{query_texts}
 use Rattle.udp_resolver.specs.Fates.{questions}
 use Rattle.udp_resolver.specs.LineEvents.{events}
 use Rattle.udp_resolver.specs.Steps.{asked_next}
 use Rattle.udp_resolver.proofs.FateLaws.{not_given_up}
-use Rattle.udp_resolver.proofs.RunLaws.{adds_bytes, adds_quiet, counted}
+use Rattle.udp_resolver.proofs.RunLaws.{adds_bytes, adds_quiet}
 use Rattle.udp_resolver.proofs.run.Run.turn.Goals as goal
 
 pub returns-in-Ok-clause-turns : goal.returns-in-Ok-clause-turns
@@ -19,17 +20,14 @@ returns-in-Ok-clause-turns g c = λ items is_open k.
       more = Quiet ∷ [];
       consumed = told.items;
       within = omega (arith, c.requires.room);
-      by = (
-        refl,
-        record {
-          calm = record { link = told.cause.same; sink = done.cause.same };
-          knows = done.knows items e k;
-          once = inl refl;
-          text = query_texts c.args.self.now.sender.ident (asked_next asked (events items));
-          adds = adds_quiet asked items c.args.self.now k;
-          out = (done.writes items e k).writes.whole;
-        },
-      );
+      cause = (refl, record { link = told.cause.same; sink = done.cause.same });
+      by = record {
+        knows = done.knows items e k;
+        once = inl refl;
+        text = query_texts c.args.self.now.sender.ident (asked_next asked (events items));
+        adds = adds_quiet asked items c.args.self.now k;
+        out = (done.writes items e k).writes.whole;
+      };
     }
 
 pub returns-in-Err-tick-clause-turns : goal.returns-in-Err-tick-clause-turns
@@ -38,18 +36,18 @@ returns-in-Err-tick-clause-turns g c = λ items is_open k.
     let told = rw c.in-Ok-Quiet.field-0-is at c.in-Ok-Quiet.ensures in
     let failed = c.in-Err-tick.ensures in
     let e = not_given_up (events items) asked is_open in
+    let written = failed.writes items e k in
+    let front = written.writes.front in
     record {
       more = Quiet ∷ [];
       consumed = told.items;
       within = omega (arith, c.requires.room);
+      cause = (told.cause.same, failed.cause.failed);
       by = record {
-        same = told.cause.same;
-        rose = failed.cause.failed;
         once = inl refl;
         text = query_texts c.args.self.now.sender.ident (asked_next asked (events items));
         adds = adds_quiet asked items c.args.self.now k;
-        some = (failed.writes items e k).some;
-        out = (failed.writes items e k).writes.front;
+        broke = record { some = written.some; front = front.0; rest = front.1; cut = front.2; written = front.3 };
       };
     }
 
@@ -65,15 +63,12 @@ returns-in-Ok-Bytes-clause-turns g c = λ items is_open k.
       more = map Byte bytes;
       consumed = told.items;
       within = omega (arith, count, told.count.1, c.next.auto.buf);
-      by = (
-        count,
-        record {
-          calm = record { link = told.cause.same; sink = refl };
-          knows = c.take.ensures.knows items e k;
-          once = inr (bytes, refl);
-          text = [];
-          adds = adds_bytes asked items bytes;
-          out = Appends-none (g.K.Sink.written c.args.out.now);
-        },
-      );
+      cause = (count, record { link = told.cause.same; sink = refl });
+      by = record {
+        knows = c.take.ensures.knows items e k;
+        once = inr (bytes, refl);
+        text = [];
+        adds = adds_bytes asked items bytes;
+        out = Appends-none (g.K.Sink.written c.args.out.now);
+      };
     }

@@ -28,8 +28,8 @@ use Rattle.std.specs.Box.Ownership.{box_owns}
 use Rattle.std.proofs.alloc.Global.TheLaws as heap_laws
 use Rattle.std.specs.contracts.impls.GlobalAllocator.TheImpl.{ghosts}
 use Rattle.loose_box.proofs.Words.{two_words, words_typed, parts_in}
-use Rattle.uip_device.specs.declared.device.Device.{Device}
-use Rattle.uip_device.specs.Devices.{IsSoundDevice}
+use Rattle.uip_device.specs.WebDevices.{WebDevice}
+use Rattle.uip_device.specs.WebDevices.{IsSoundWebDevice}
 use Rattle.uip_c.specs.Holding.{holds}
 use Rattle.uip_c.proofs.Taking.{some_of}
 use Rattle.uip_c.proofs.Words.{DeviceRow, HeapRow, HeldRow, held_out}
@@ -53,11 +53,11 @@ into_parts_spec 𝓤 𝓛 𝓜 𝓡 wired =
     let Run : List Val → SProp 𝓤 = λ words. WpFn 𝓤 H 𝓣.C 𝓣.Λ fn words Post in
     qed 𝓛 ((‵ ftrue ⊛ ‵ (owns (HeldRow ∷ []) z.0.3 z.0.4)) ∷ raw (fact 𝓤 (is_some v.device ≡ true)) ∷ []) ∵
     move ! (1 ∷ []) $ heard ! (is_some v.device ≡ true) (λ there.
-    let x : Device = (some_of v.device there).0 in
+    let x : WebDevice = (some_of v.device there).0 in
     let same = (some_of v.device there).1 in
     let null_owns = fst∗ 𝓤 (never 𝓤) (sem 𝓛 (ghosts.dealloc_token a (bare (lone DeviceRow.mir)) null_ptr)) in
     split ! $ move ! (1 ∷ []) $ fsplit ! $
-    held_out ! v z.0.4.0 (λ h words good. rewrite ! 0 (λ (d : Option Device). ‵ (holds a v.at d)) same refl $ fpick ! (λ sound.
+    held_out ! v z.0.4.0 (λ h words good. rewrite ! 0 (λ (d : Option WebDevice). ‵ (holds a v.at d)) same refl $ fpick ! (λ sound.
     in_a_block ! v.at (λ p. box_owns (ghosts.dealloc_token a) DeviceRow p x) null_owns (λ b o at.
     let w : Val = two_words (vptr b o) h in
     let typed = words_typed DeviceRow HeapRow heap_laws.the_row_laws ghosts b o h good in
@@ -69,6 +69,6 @@ into_parts_spec 𝓤 𝓛 𝓜 𝓡 wired =
     sets ! (of_opd ! (get ! refl)) refl (tt, tt) $
     sets ! (agg ! (and_then ! (get ! refl) (and_then ! (get ! refl) (no_more !)))) refl typed $
     parts_in DeviceRow HeapRow heap_laws.the_row_laws ghosts ! b o h a x $
-    use0 𝓛 (raw (fact 𝓤 ((v.device ≡ Some x) × IsSoundDevice x))) (fact_i 𝓤 ((v.device ≡ Some x) × IsSoundDevice x) (emp 𝓤) (same, sound)) $ nothing ! $ nothing ! $ fjoin ! $
+    use0 𝓛 (raw (fact 𝓤 ((v.device ≡ Some x) × IsSoundWebDevice x))) (fact_i 𝓤 ((v.device ≡ Some x) × IsSoundWebDevice x) (emp 𝓤) (same, sound)) $ nothing ! $ nothing ! $ fjoin ! $
     returns ! (look_at ! 0 refl) $ free_all ! refl $ keep ! (4 ∷ 0 ∷ 2 ∷ 1 ∷ []) $
     by ! (leaves 𝓛 ended stays c z w (record { at = block_ptr b o; alloc = a; value = x }) _ (tt, tt))))))))

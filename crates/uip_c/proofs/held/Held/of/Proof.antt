@@ -23,7 +23,7 @@ use Rattle.std.specs.Box.Ownership.{box_owns}
 use Rattle.std.proofs.alloc.Global.TheLaws as heap_laws
 use Rattle.std.specs.contracts.impls.GlobalAllocator.TheImpl.{ghosts}
 use Rattle.loose_box.proofs.Words.{two_words, Parts, words_typed, parts_out}
-use Rattle.uip_device.specs.Devices.{IsSoundDevice}
+use Rattle.uip_device.specs.WebDevices.{IsSoundWebDevice}
 use Rattle.uip_c.proofs.Words.{DeviceRow, HeapRow, held_in}
 use Rattle.uip_c.specs.contracts.held.Held.of.{ended, clauses}
 use Rattle.uip_c.specs.contracts.held.Held.of.Key.{name as #self}
@@ -46,8 +46,8 @@ of_spec 𝓤 𝓛 𝓜 𝓡 wired =
     let a = v.alloc in
     let Post : Val → SProp 𝓤 = (walk_of 𝓛 ended stays c).post z in
     let Run : List Val → SProp 𝓤 = λ words. WpFn 𝓤 H 𝓣.C 𝓣.Λ fn words Post in
-    qed 𝓛 ((‵ ftrue ⊛ ‵ (owns (Taken ∷ []) z.0.3 z.0.4)) ∷ raw (fact 𝓤 (IsSoundDevice v.value)) ∷ []) ∵
-    move ! (1 ∷ []) $ heard ! (IsSoundDevice v.value) (λ sound. split ! $ move ! (1 ∷ []) $ fsplit ! $
+    qed 𝓛 ((‵ ftrue ⊛ ‵ (owns (Taken ∷ []) z.0.3 z.0.4)) ∷ raw (fact 𝓤 (IsSoundWebDevice v.value)) ∷ []) ∵
+    move ! (1 ∷ []) $ heard ! (IsSoundWebDevice v.value) (λ sound. split ! $ move ! (1 ∷ []) $ fsplit ! $
     parts_out DeviceRow HeapRow heap_laws.the_row_laws ghosts ! v z.0.4.0 (λ b o h at words good.
     let w : Val = two_words (vptr b o) h in
     let typed = words_typed DeviceRow HeapRow heap_laws.the_row_laws ghosts b o h good in
@@ -57,7 +57,7 @@ of_spec 𝓤 𝓛 𝓜 𝓡 wired =
     sets ! (of_opd ! (get_in ! (fld ! refl (stop !)) (sub ! 1 refl (whole !)))) refl good $
     sets ! (of_opd ! (get ! refl)) refl (tt, tt) $
     sets ! (agg ! (and_then ! (get ! refl) (and_then ! (get ! refl) (no_more !)))) refl typed $
-    fpack ! (IsSoundDevice v.value) (λ _. box_owns (ghosts.dealloc_token a) DeviceRow (block_ptr b o) v.value) sound $
+    fpack ! (IsSoundWebDevice v.value) (λ _. box_owns (ghosts.dealloc_token a) DeviceRow (block_ptr b o) v.value) sound $
     held_in ! (block_ptr b o) h a (Some v.value) $
     use0 𝓛 (raw (fact 𝓤 (Some v.value ≡ Some v.value))) (fact_i 𝓤 (Some v.value ≡ Some v.value) (emp 𝓤) refl) $ nothing ! $ nothing ! $ fjoin ! $
     returns ! (look_at ! 0 refl) $ free_all ! refl $ keep ! (4 ∷ 0 ∷ 2 ∷ 1 ∷ []) $

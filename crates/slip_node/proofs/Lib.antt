@@ -1,4 +1,0 @@
-pub mod CallLaws
-pub mod FrameLaws
-pub mod HandLaws
-pub mod TellLaws

@@ -1,4 +1,0 @@
-pub mod Calls
-pub mod DatagramCalls
-pub mod Handing
-pub mod Telling

@@ -1,0 +1,33 @@
+-- A datagram's text in pieces.
+use Rattle.std.proofs.Common.{◌≡◌, ℕ, ◌≤◌, List, [], ◌∷◌, ◌++◌, length, take, sym, ap, ◌∙◌, append_assoc, arith, length-append, true, false, Option, None, Some}
+use Rattle.std.proofs.lemmas.List.{length-take-le}
+use Rattle.std.proofs.lemmas.List.Concat.{flat_map-append}
+use Rattle.std.proofs.lemmas.Bool.{false≢true}
+use Rattle.std.specs.Option.{is_some}
+use Rattle.uip_wire.specs.declared.addr.Addr.{Addr}
+use Rattle.packet_buffer.specs.Buffer.{Buffer, datagram_in}
+use Rattle.uip_slip.specs.Text.{escaped, escaped_byte, slip_text}
+use Rattle.uip_node.specs.Events.{Reply}
+use Rattle.uip_node.specs.Spoken.{IsSent}
+use Rattle.serve_loop.specs.Texts.{text_for}
+use Rattle.uip_device.specs.Handing.{rest_text}
+
+-- a front is put, and its text is no longer behind
+pub front_put : (before made rest front after : List ℕ) → made ≡ before ++ escaped front → rest ≡ front ++ after → made ++ rest_text after ≡ before ++ rest_text rest
+front_put before made rest front after put parts =
+    let marks = 192 ∷ [] in
+    ap (λ l. l ++ rest_text after) put
+    ∙ append_assoc before (escaped front) (rest_text after)
+    ∙ ap (λ l. before ++ l) (sym (append_assoc (escaped front) (escaped after) marks) ∙ ap (λ l. l ++ marks) (sym (flat_map-append escaped_byte front after)))
+    ∙ ap (λ l. before ++ rest_text l) (sym parts)
+
+-- a front that is another one and more is no shorter
+pub longer : (xs ys more : List ℕ) (n k : ℕ) → n ≤ length xs → k ≤ length ys → take k ys ≡ take n xs ++ more → n ≤ k
+longer xs ys more n k here there e =
+    omega (arith, length-take-le n xs here, length-take-le k ys there, ap (λ l. length l) e, length-append (take n xs) more)
+
+-- the text of what was sent
+pub sent_text : (own : Addr) (reply : Option Reply) (sent : Option ℕ) (packet : Buffer) (text : List ℕ) → is_some sent ≡ true → text ≡ 192 ∷ rest_text (datagram_in packet)
+    → IsSent own reply sent packet → text ≡ text_for own reply
+sent_text own None sent packet text some e none = absurd (false≢true (sym (ap (λ o. is_some o) none) ∙ some))
+sent_text own (Some reply) sent packet text some e is = e ∙ ap (λ d. slip_text d) is.datagram

@@ -1,0 +1,95 @@
+-- What a node sends at its steps.
+use Rattle.std.proofs.Common.{◌≡◌, ℕ, List, [], ◌∷◌, ◌++◌, Option, true, false, sym, ap, ◌∙◌, append-nil, subst}
+use Rattle.app_events.specs.Part.{Meaning}
+use Rattle.app_events.specs.declared.app.App.{Ghosts}
+use Rattle.uip_wire.specs.declared.addr.Addr.{Addr}
+use Rattle.uip_node.specs.declared.node.Node.{Node}
+use Rattle.uip_node.specs.Counted.{seen}
+use Rattle.uip_node.specs.Edge.{event_of}
+use Rattle.uip_node.specs.Events.{Event, Reply}
+use Rattle.uip_node.specs.Events.Event.{Overlong}
+use Rattle.uip_node.specs.Node.{AbstractNode, joined, run, step}
+use Rattle.uip_node.specs.Spoken.{IsSent}
+use Rattle.uip_node.specs.StandsFor.{Stands, Steps}
+use Rattle.serve_loop.specs.Texts.{text_for, text_of}
+use Rattle.serve_loop.specs.Turns.{IsNode}
+use Rattle.serve_loop.proofs.NodeLaws.{node_on, node_step}
+use Rattle.serve_loop.proofs.RunLaws.{text_of-joined}
+use Rattle.uip_device.specs.Sending.{HandsOut, SendsOver, datagram_sent}
+
+module _ {A S : Type 0} (g : Ghosts A S) where
+  -- nothing happened
+  pub sends_none : (events : Addr → List Event) (a : Node A S) (P : Addr → List Reply → Type 0) → ((own : Addr) → events own ≡ []) → ((own : Addr) → P own [])
+      → SendsOver g events a a P
+  sends_none events a P none q = record {
+    each = λ m own n p. (
+      subst (λ (l : List Event). IsNode g m own a (run m g.served l n).node) (sym (none own)) p,
+      subst (λ (l : List Event). P own (run m g.served l n).sent) (sym (none own)) (q own),
+    );
+  }
+
+  pub sends_by : (events others : Addr → List Event) (a b : Node A S) (P : Addr → List Reply → Type 0) → ((own : Addr) → others own ≡ events own)
+      → SendsOver g events a b P → SendsOver g others a b P
+  sends_by events others a b P same v = record {
+    each = λ m own n p. (
+      subst (λ (l : List Event). IsNode g m own b (run m g.served l n).node) (sym (same own)) (v.each m own n p).0,
+      subst (λ (l : List Event). P own (run m g.served l n).sent) (sym (same own)) (v.each m own n p).1,
+    );
+  }
+
+  pub sends_so : (events : Addr → List Event) (a b : Node A S) (P Q : Addr → List Reply → Type 0) → ((own : Addr) (replies : List Reply) → P own replies → Q own replies)
+      → SendsOver g events a b P → SendsOver g events a b Q
+  sends_so events a b P Q on v = record {
+    each = λ m own n p. ((v.each m own n p).0, on own (run m g.served (events own) n).sent (v.each m own n p).1);
+  }
+
+  -- a frame that was too long
+  pub sends_overlong : (a b : Node A S) (P : Addr → List Reply → Type 0) → g.kept b.shared ≡ g.kept a.shared
+      → ((n : AbstractNode) → Stands g a n n.past → Stands g b (step (g.meaning (g.kept a.shared)) g.served n Overlong).node (seen Overlong n.past))
+      → ((own : Addr) → P own []) → SendsOver g (λ own. Overlong ∷ []) a b P
+  sends_overlong a b P same steps q = record { each = λ m own n p. (node_on g m own a b Overlong n same (steps n p.stands) p, q own) }
+
+  -- one event
+  sends_one : (event : Addr → Event) (a b : Node A S) (result : Option ℕ) (P : Addr → List Reply → Type 0) → g.kept b.shared ≡ g.kept a.shared
+      → ((own : Addr) (n : AbstractNode) → n.addr ≡ own → Stands g a n n.past → Steps g b result (step (g.meaning (g.kept a.shared)) g.served n (event own)))
+      → ((own : Addr) (reply : Option Reply) → IsSent own reply result b.packet → P own (joined reply []))
+      → SendsOver g (λ own. event own ∷ []) a b P
+  sends_one event a b result P same steps sent = record {
+    each = λ m own n p.
+        let both = node_step g m own a b result (event own) n same (steps own n p.address p.stands) p in
+        (both.0, sent own (step m g.served n (event own)).sent both.1);
+  }
+
+  -- a periodic call, or another event that the address does not tell
+  pub sends_at : (event : Event) (a b : Node A S) (result : Option ℕ) (P : Addr → List Reply → Type 0) → g.kept b.shared ≡ g.kept a.shared
+      → ((n : AbstractNode) → Stands g a n n.past → Steps g b result (step (g.meaning (g.kept a.shared)) g.served n event))
+      → ((own : Addr) (reply : Option Reply) → IsSent own reply result b.packet → P own (joined reply []))
+      → SendsOver g (λ own. event ∷ []) a b P
+  sends_at event a b result P same steps sent = sends_one (λ own. event) a b result P same (λ own n at stands. steps n stands) sent
+
+  -- a datagram
+  pub sends_input : (datagram : List ℕ) (a b : Node A S) (result : Option ℕ) (P : Addr → List Reply → Type 0) → g.kept b.shared ≡ g.kept a.shared
+      → ((n : AbstractNode) → Stands g a n n.past → Steps g b result (step (g.meaning (g.kept a.shared)) g.served n (event_of n.addr datagram)))
+      → ((own : Addr) (reply : Option Reply) → IsSent own reply result b.packet → P own (joined reply []))
+      → SendsOver g (λ own. event_of own datagram ∷ []) a b P
+  sends_input datagram a b result P same steps sent =
+      sends_one (λ own. event_of own datagram) a b result P same
+      (λ own n at stands. subst (λ (x : Addr). Steps g b result (step (g.meaning (g.kept a.shared)) g.served n (event_of x datagram))) at (steps n stands)) sent
+
+  -- the text of one reply
+  pub as_text : (own : Addr) (reply : Option Reply) (text : List ℕ) → text ≡ text_for own reply → text_of own (joined reply []) ≡ text
+  as_text own reply text e = text_of-joined own reply [] ∙ append-nil (text_for own reply) ∙ sym e
+
+  -- where nothing was left, the text of what is sent is handed out, and the rest is left
+  pub on_line : (events : Addr → List Event) (a b : Node A S) (before handed left : List ℕ) → before ≡ []
+      → SendsOver g events a b (λ own replies. text_of own replies ≡ handed ++ left)
+      → SendsOver g events a b (λ own replies. HandsOut false own before handed left replies)
+  on_line events a b before handed left none v =
+      sends_so events a b _ (λ own replies. HandsOut false own before handed left replies) (λ own replies e. ap (λ l. l ++ text_of own replies) none ∙ e) v
+
+  -- and a datagram is handed out whole
+  pub by_datagram : (events : Addr → List Event) (a b : Node A S) (before handed left : List ℕ) → left ≡ before
+      → SendsOver g events a b (λ own replies. handed ≡ datagram_sent own replies)
+      → SendsOver g events a b (λ own replies. HandsOut true own before handed left replies)
+  by_datagram events a b before handed left same v =
+      sends_so events a b _ (λ own replies. HandsOut true own before handed left replies) (λ own replies e. (e, same)) v

@@ -1,0 +1,31 @@
+//! What is sent over a link that carries datagrams.
+
+ghost use Rattle.std.specs.Prelude.{◌≡◌, ◌≤◌, ◌∷◌, [], length, map, take, Option};
+ghost use Rattle.std.specs.Option.{option_map_or};
+ghost use Rattle.uip_wire.specs.declared.addr.Addr.{Addr as Address};
+ghost use Rattle.uip_node.specs.Events.{Reply};
+ghost use Rattle.uip_node.specs.Node.{joined};
+ghost use Rattle.uip_node.specs.Spoken.{IsSent};
+ghost use Rattle.uip_node.specs.StandsFor.{IsWhole};
+ghost use Rattle.uip_device.specs.Sending.{datagram_sent};
+
+use app_events::App;
+use uip_node::Node;
+use uip_wire::LARGEST_DATAGRAM;
+
+/// Copies what a call of the node has sent, if it sent a datagram. Says how long it is.
+pub(crate) fn copy_sent<A: App>(node: &Node<A>, sent: Option<usize>, out: &mut [u8]) -> usize
+    requires whole { IsWhole A.App node.now }
+    requires room { LARGEST_DATAGRAM ≤ length out.old }
+    ensures long { length out.new ≡ length out.old }
+    ensures within { result ≤ length out.new }
+    ensures bytes { (own : Address) (reply : Option Reply) → IsSent own reply sent node.now.packet
+        → take result out.new ≡ datagram_sent own (joined reply []) }
+{
+    if sent.is_none() {
+        return 0;
+    }
+    let datagram = node.packet();
+    out[..datagram.len()].copy_from_slice(datagram);
+    datagram.len()
+}

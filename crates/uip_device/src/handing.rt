@@ -1,0 +1,138 @@
+//! The text of a datagram, handed out in pieces.
+
+ghost use Rattle.std.specs.Prelude.{◌≡◌, ◌<◌, ◌≤◌, ◌+◌, ◌*◌, ◌-◌, ◌++◌, [], ◌∷◌, Option, Some, None, IfSome, length, take};
+ghost use Rattle.packet_buffer.specs.Buffer.{datagram_in};
+ghost use Rattle.uip_slip.specs.Text.{escaped};
+ghost use Rattle.uip_wire.specs.declared.addr.Addr.{Addr as Address};
+ghost use Rattle.uip_node.specs.Events.{Reply};
+ghost use Rattle.uip_node.specs.Spoken.{IsSent};
+ghost use Rattle.uip_node.specs.StandsFor.{IsWhole};
+ghost use Rattle.serve_loop.specs.Texts.{text_for};
+ghost use Rattle.uip_device.specs.Handing.{text_to_come};
+
+use app_events::App;
+use uip_node::Node;
+use uip_slip::{END, put_escaped};
+use uip_wire::LARGEST_DATAGRAM;
+
+/// The longest text of a datagram, in bytes: each byte escaped, and an END on both sides.
+pub const LARGEST_TEXT: usize = 2 * LARGEST_DATAGRAM + 2;
+
+/// How many bytes were written to the front of the area, and behind how many bytes of the datagram in the packet the text
+/// goes on; nowhere where all was written.
+#[derive(Clone, Copy, Debug, PartialEq, Eq)]
+pub(crate) struct Written {
+    pub wrote: usize,
+    pub left: Option<usize>,
+}
+
+impl Written {
+    /// Nothing was written, and nothing is left.
+    pub(crate) fn nothing() -> Written
+        ensures { result ≡ record { wrote = 0; left = None } }
+    {
+        Written {
+            wrote: 0,
+            left: None,
+        }
+    }
+}
+
+/// So many bytes of a piece were put, and so long is the text.
+#[derive(Clone, Copy, Debug)]
+struct Run {
+    count: usize,
+    len: usize,
+}
+
+/// Puts as many bytes of a piece as fit whatever they are, escaped, behind a text of so many bytes.
+fn put_some(out: &mut [u8], len: usize, piece: &[u8]) -> Run
+    requires some { 0 < length piece.now }
+    requires room { len + 2 ≤ length out.old }
+    ensures long { length out.new ≡ length out.old }
+    ensures some { 0 < result.count }
+    ensures within { result.count ≤ length piece.now }
+    ensures fits { result.len ≤ length out.new }
+    ensures bound { result.len ≤ len + 2 * result.count }
+    ensures grows { len ≤ result.len }
+    ensures text { take result.len out.new ≡ take len out.old ++ escaped (take result.count piece.now) }
+{
+    let room = (out.len() - len) / 2;
+    let count = piece.len().min(room);
+    let end = put_escaped(out, len, &piece[..count]);
+    Run { count, len: end }
+}
+
+/// Writes on the text of a datagram behind so many of its bytes, as far as there is room.
+pub(crate) fn write_on(out: &mut [u8], len: usize, datagram: &[u8], at: usize) -> Written
+    requires within { at ≤ length datagram.now }
+    requires room { len ≤ length out.old }
+    ensures long { length out.new ≡ length out.old }
+    ensures fits { result.wrote ≤ length out.new }
+    ensures left { IfSome result.left (λ k. k ≤ length datagram.now) }
+    ensures more { len + 2 ≤ length out.old → len < result.wrote }
+    ensures whole { len + 2 * (length datagram.now - at) < length out.old → result.left ≡ None }
+    ensures text { take result.wrote out.new ++ text_to_come datagram.now result.left
+        ≡ take len out.old ++ text_to_come datagram.now (Some at) }
+{
+    let mut rest = &datagram[at..];
+    let mut end = len;
+    while !rest.is_empty() && out.len() - end >= 2 {
+        let run = put_some(out, end, rest);
+        end = run.len;
+        rest = &rest[run.count..];
+    }
+    if !rest.is_empty() || end == out.len() {
+        return Written {
+            wrote: end,
+            left: Some(datagram.len() - rest.len()),
+        };
+    }
+    out[end] = END;
+    Written {
+        wrote: end + 1,
+        left: None,
+    }
+}
+
+/// Writes on what is left of the text of the datagram that a node has sent, behind so many of its bytes.
+pub(crate) fn hand_on<A: App>(node: &Node<A>, at: usize, out: &mut [u8]) -> Written
+    requires within { at ≤ length (datagram_in node.now.packet) }
+    ensures long { length out.new ≡ length out.old }
+    ensures fits { result.wrote ≤ length out.new }
+    ensures left { IfSome result.left (λ k. k ≤ length (datagram_in node.now.packet)) }
+    ensures more { 2 ≤ length out.old → 0 < result.wrote }
+    ensures text { take result.wrote out.new ++ text_to_come (datagram_in node.now.packet) result.left
+        ≡ text_to_come (datagram_in node.now.packet) (Some at) }
+{
+    write_on(out, 0, node.packet(), at)
+}
+
+/// Puts an END at the front.
+fn put_end(out: &mut [u8])
+    requires { 0 < length out.old }
+    ensures long { length out.new ≡ length out.old }
+    ensures text { take 1 out.new ≡ 192 ∷ [] }
+{
+    out[..1].copy_from_slice(&[END]);
+}
+
+/// Writes the text of what a call of the node has sent, if it sent a datagram, as far as there is room.
+pub(crate) fn write_text<A: App>(node: &Node<A>, sent: Option<usize>, out: &mut [u8]) -> Written
+    requires whole { IsWhole A.App node.now }
+    requires room { 0 < length out.old }
+    ensures long { length out.new ≡ length out.old }
+    ensures fits { result.wrote ≤ length out.new }
+    ensures left { IfSome result.left (λ k. k ≤ length (datagram_in node.now.packet)) }
+    ensures whole { LARGEST_TEXT ≤ length out.old → result.left ≡ None }
+    ensures text { (own : Address) (reply : Option Reply) → IsSent own reply sent node.now.packet
+        → take result.wrote out.new ++ text_to_come (datagram_in node.now.packet) result.left ≡ text_for own reply }
+{
+    match sent {
+        None => Written::nothing(),
+        Some(_) => {
+            put_end(out);
+            write_on(out, 1, node.packet(), 0)
+        }
+    }
+}
