@@ -1,7 +1,7 @@
 ghost use Rattle.std.specs.Borrow.{sem};
-ghost use Rattle.std.specs.Prelude.{◌≡◌, ◌≤◌, ◌++◌, length, take, drop, replicate, IfOk};
+ghost use Rattle.std.specs.Prelude.{◌≡◌, ◌≤◌, ◌+◌, ◌++◌, length, take, drop, replicate, slice_range, IfOk};
 ghost use Rattle.packet_buffer.specs.Buffer.{HasSize, datagram_in};
-ghost use Rattle.packet_buffer.specs.Lending.{LendsArea};
+ghost use Rattle.packet_buffer.specs.Lending.{LendsArea, LendsPart};
 ghost use Rattle.uip_edge.specs.declared.no_memory.NoMemory.{NoMemory};
 
 use std::alloc::Global;
@@ -75,6 +75,15 @@ impl Packet {
         ensures { self.new ≡ record self.old { len = len } }
     {
         self.len = len;
+    }
+
+    /// A part of the area, `len` bytes from place `at` on, for writing; all else stays.
+    pub fn part_mut(&mut self, at: usize, len: usize) -> &mut [u8]
+        requires { at + len ≤ length self.old.area }
+        ensures* writes_back { sem 𝓛 (LendsPart self.entry at result) }
+        ensures value { result.now ≡ slice_range self.old.area at (at + len) }
+    {
+        self.area.slice_mut(at..at + len)
     }
 
     /// The whole area, for writing; the length of the datagram stays.
