@@ -3,3 +3,4 @@ pub mod Names
 pub mod ReadBack
 pub mod Records
 pub mod Replies
+pub mod ConstantValues

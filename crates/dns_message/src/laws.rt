@@ -1,6 +1,7 @@
 //! What holds of the messages.
 
 ghost use Rattle.dns_message.specs.ReadBack.{QueriesAreReadBack, RecordsAreSpelled};
+ghost use Rattle.dns_message.specs.ConstantValues.{ConstantValues};
 
 /// A query is read back as the question that was asked.
 pub fn queries_are_read_back()
@@ -10,4 +11,9 @@ pub fn queries_are_read_back()
 /// The records that an answer is told by are those that the bytes spell.
 pub fn records_are_spelled()
     ensures { RecordsAreSpelled }
+{}
+
+/// The numbers that the definitions name by the code's constants.
+pub fn constant_values()
+    ensures { ConstantValues }
 {}

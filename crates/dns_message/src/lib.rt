@@ -11,5 +11,5 @@ mod record;
 
 pub use answer::Answer;
 pub use asking::{ASKING_PORT, Asking, SERVER_PORT};
-pub use laws::{queries_are_read_back, records_are_spelled};
+pub use laws::{constant_values, queries_are_read_back, records_are_spelled};
 pub use name::{LONGEST_NAME, Name};

@@ -9,3 +9,4 @@ pub mod Taking
 pub mod Words
 pub mod Worked
 pub mod Wrapping
+pub mod ConstantValues

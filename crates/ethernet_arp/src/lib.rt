@@ -6,6 +6,7 @@ mod arp;
 mod ether_line;
 mod frame_part;
 mod framing;
+mod laws;
 mod mac;
 mod packets;
 mod serving;
@@ -14,6 +15,7 @@ mod taking;
 mod wrapping;
 
 pub use arp::Arp;
+pub use laws::constant_values;
 pub use mac::Mac;
 pub use serving::{datagrams_go_home, serve_ether};
 pub use sizes::{ARP_ENTRIES, ARP_FRAME, ARP_TICKS, LARGEST_FRAME, SMALLEST_FRAME};

@@ -2,6 +2,8 @@
 //! datagram that stands in it. Its room is taken once, when it is made, and stays.
 #![tactic(auto)]
 
+mod laws;
 mod packet;
 
+pub use laws::constant_values;
 pub use packet::{LEAST_AREA, Packet};

@@ -1,2 +1,3 @@
 pub mod Ages
 pub mod Beats
+pub mod ConstantValues

@@ -3,6 +3,8 @@
 //! fixed first value of three ticks), and gives up after a limit. Its beats are a list of ages.
 #![tactic(auto)]
 
+mod laws;
 mod timer;
 
+pub use laws::constant_values;
 pub use timer::{Beat, FIRST_COUNT, SYN_ACK_LIMIT, TEXT_LIMIT, Timer};

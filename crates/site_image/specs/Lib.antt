@@ -5,3 +5,4 @@ pub mod Grammar
 pub mod Parts
 pub mod Faults
 pub mod Places
+pub mod ConstantValues

@@ -16,7 +16,7 @@ mod writing;
 
 pub use head::read_head;
 pub use kinds::{content_kind, is_script};
-pub use laws::one_reading;
+pub use laws::{constant_values, one_reading};
 pub use names::{is_kind, is_name};
 pub use part::Part;
 pub use parts::{content_part, kind_part, name_part};

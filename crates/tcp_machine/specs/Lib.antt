@@ -8,3 +8,4 @@ pub mod Sound
 pub mod Fits
 pub mod Takes
 pub mod Kept
+pub mod ConstantValues

@@ -5,6 +5,7 @@
 
 mod alone;
 mod asking;
+mod laws;
 mod moves;
 mod opening;
 mod segment;
@@ -13,6 +14,7 @@ mod step;
 mod ticking;
 
 pub use asking::ask;
+pub use laws::constant_values;
 pub use opening::{DEFAULT_MSS, accept};
 pub use segment::on_segment;
 pub use step::Step;

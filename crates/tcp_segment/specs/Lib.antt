@@ -3,3 +3,4 @@ pub mod ReadBack
 pub mod Received
 pub mod Segments
 pub mod Sent
+pub mod ConstantValues

@@ -6,6 +6,7 @@
 mod fate;
 mod flags;
 mod headers;
+mod laws;
 mod options;
 mod out;
 mod received;
@@ -15,6 +16,7 @@ mod sums;
 
 pub use fate::TcpFate;
 pub use flags::{ACK, FIN, PSH, RST, SYN};
+pub use laws::constant_values;
 pub use out::Out;
 pub use received::check;
 pub use segment::Segment;

@@ -10,3 +10,4 @@ pub mod DeskStands
 pub mod DeskPorts
 pub mod Talks
 pub mod Lemmas
+pub mod ConstantValues

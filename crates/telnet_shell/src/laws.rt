@@ -3,6 +3,7 @@
 ghost use Rattle.telnet_shell.specs.WorkedTalks.{AreWorkedTalks, KeepsLaws};
 ghost use Rattle.telnet_shell.specs.DeskPorts.{IsTwoApplications};
 ghost use Rattle.telnet_shell.specs.Talks.{KeepsTalk};
+ghost use Rattle.telnet_shell.specs.ConstantValues.{ConstantValues};
 
 /// Talks that were worked by hand go as the definitions say.
 #[tactic(auto, using(crate::proofs::WorkedTalks::worked))]
@@ -25,4 +26,9 @@ pub fn desk_is_two_applications()
 #[tactic(auto, using(crate::proofs::TalkLaws::keeps_talk))]
 pub fn shell_keeps_its_talk()
     ensures { KeepsTalk }
+{}
+
+/// The numbers that the definitions name by the code's constants.
+pub fn constant_values()
+    ensures { ConstantValues }
 {}

@@ -6,3 +6,4 @@ pub mod Gathering
 pub mod Seen
 pub mod Telling
 pub mod Watching
+pub mod ConstantValues

@@ -12,6 +12,7 @@ ghost use Rattle.trace.specs.Converting.{Converts, IsSurely, SlipEndsBy};
 ghost use Rattle.trace.specs.declared.slip_end.SlipEnd.{SlipEnd as AnyEnd};
 ghost use Rattle.trace.specs.declared.slip_end.SlipEnd.TheVariants.{End};
 ghost use Rattle.uip_edge.specs.Told.{LineTold, LineUnfailed};
+ghost use Rattle.trace.specs.ConstantValues.{ConstantValues};
 
 /// The bytes of a capture file are read in one way alone.
 pub fn read_in_one_way()
@@ -37,4 +38,9 @@ pub fn slip_end_is_told()
     ensures { (n : ℕ) (old new : LineTold) (taken : List Item) (reading : Reading) (end : AnyEnd)
         → SlipEndsBy n old new taken reading end
         → LineUnfailed old new → IsSurely n old new taken reading end }
+{}
+
+/// The numbers that the definitions name by the code's constants.
+pub fn constant_values()
+    ensures { ConstantValues }
 {}

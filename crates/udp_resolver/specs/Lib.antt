@@ -7,3 +7,4 @@ pub mod Standing
 pub mod Steps
 pub mod Streams
 pub mod Told
+pub mod ConstantValues

@@ -9,6 +9,7 @@ ghost use Rattle.udp_resolver.specs.Fates.{Question};
 ghost use Rattle.udp_resolver.specs.Resolving.{ResolvesBy, IsOpen, IsSettled};
 ghost use Rattle.udp_resolver.specs.Streams.{Streams, StreamsUnfailed};
 ghost use Rattle.udp_resolver.specs.Told.{AddressesAreFromReplies};
+ghost use Rattle.udp_resolver.specs.ConstantValues.{ConstantValues};
 
 /// An address is told of a name only where a datagram came that is the reply to the question for this name, and an answer
 /// record of it gives this address.
@@ -32,4 +33,9 @@ pub fn budget_is_told()
     ensures { (asked : List Question) (n : ℕ) (old new : Streams) (taken : List Item) (end : AnyEnd)
         → ResolvesBy asked n old new taken end
         → StreamsUnfailed old new → IsOpen asked taken → length taken ≡ n → end ≡ Budget }
+{}
+
+/// The numbers that the definitions name by the code's constants.
+pub fn constant_values()
+    ensures { ConstantValues }
 {}

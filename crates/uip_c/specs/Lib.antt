@@ -2,3 +2,4 @@ pub mod Handles
 pub mod Holding
 pub mod Opening
 pub mod Taking
+pub mod ConstantValues

@@ -9,6 +9,7 @@ ghost use Rattle.uip_device.specs.Calls.{Bring};
 ghost use Rattle.uip_device.specs.Devices.{Answered, calls_of, datagrams_handed, left_text_of, line_handed};
 ghost use Rattle.uip_device.specs.WebDevices.{WebDevice, web_datagrams_sent, web_line_sent, web_output};
 ghost use Rattle.uip_c.specs.Handles.{DidAll, IsOf, OpensAs};
+ghost use Rattle.uip_c.specs.ConstantValues.{ConstantValues};
 
 /// Whatever C calls in turn on a handle that was just opened, over either kind of link, fine or refused: what is handed out over the
 /// serial line, with what is left, is the text of what the opening node sends over what the calls there bring; and each call over a link
@@ -28,4 +29,9 @@ pub fn line_from_c_is_served()
     ensures { (files : List File) (own : Addr) (pace : ℕ) (items : List Item) (all : List Answered) (closed old new : Option WebDevice)
         → OpensAs files own closed old → Bring pace items (calls_of all) → DidAll all old new
         → IsOf (λ d. d.left ≡ NothingLeft) new → line_handed all ≡ web_output files own pace items }
+{}
+
+/// The numbers that the definitions name by the code's constants.
+pub fn constant_values()
+    ensures { ConstantValues }
 {}

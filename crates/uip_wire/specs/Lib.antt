@@ -4,3 +4,4 @@ pub mod Fields
 pub mod Numbers
 pub mod Numerals
 pub mod Sums
+pub mod ConstantValues

@@ -4,6 +4,7 @@
 
 mod addr;
 mod fields;
+mod laws;
 mod numerals;
 mod port;
 mod seq;
@@ -13,6 +14,7 @@ mod sums;
 
 pub use addr::Addr;
 pub use fields::{get16, get32, put16, put32};
+pub use laws::constant_values;
 pub use numerals::{is_numeral, numeral, numerals_print};
 pub use port::{Port, WEB_PORT};
 pub use seq::Seq;

@@ -9,3 +9,4 @@ pub mod WorkedRequests
 pub mod WorkedPages
 pub mod Serving
 pub mod Lemmas
+pub mod ConstantValues

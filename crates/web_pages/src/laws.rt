@@ -5,6 +5,7 @@ ghost use Rattle.generators.specs.Giving.{gives};
 ghost use Rattle.web_pages.specs.Words.{ToldInPieces, LongNames};
 ghost use Rattle.web_pages.specs.WorkedRequests.{AreWorkedRequests};
 ghost use Rattle.web_pages.specs.WorkedPages.{AreWorkedPages};
+ghost use Rattle.web_pages.specs.ConstantValues.{ConstantValues};
 
 use generators::Record;
 
@@ -63,4 +64,9 @@ pub fn pages_are_bytes()
 /// An upgrade in which no word names a file keeps every page.
 pub fn upgrade_keeps_pages()
     ensures { UpgradeKeepsPages }
+{}
+
+/// The numbers that the definitions name by the code's constants.
+pub fn constant_values()
+    ensures { ConstantValues }
 {}

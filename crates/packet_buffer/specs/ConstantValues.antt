@@ -1,0 +1,6 @@
+-- The constants of the code that definitions cite, with their values: a definition that names one says this number.
+use Rattle.std.specs.Prelude.{◌≡◌, ℕ}
+use Rattle.packet_buffer.specs.declared.packet.TheConstants.{LEAST_AREA}
+
+pub record ConstantValues : Type 0 where
+  pub least_area : LEAST_AREA ≡ 44

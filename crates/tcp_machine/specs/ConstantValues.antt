@@ -1,0 +1,8 @@
+-- The constants of the code that definitions cite, with their values: a definition that names one says this number.
+use Rattle.std.specs.Prelude.{◌≡◌, ℕ}
+use Rattle.tcp_machine.specs.declared.opening.TheConstants.{DEFAULT_MSS}
+use Rattle.tcp_machine.specs.declared.ticking.TheConstants.{REST_TIME}
+
+pub record ConstantValues : Type 0 where
+  pub default_mss : DEFAULT_MSS ≡ 536
+  pub rest_time : REST_TIME ≡ 120

@@ -1,0 +1,8 @@
+//! What holds of the definitions.
+
+ghost use Rattle.tcp_machine.specs.ConstantValues.{ConstantValues};
+
+/// The numbers that the definitions name by the code's constants.
+pub fn constant_values()
+    ensures { ConstantValues }
+{}

@@ -1,0 +1,16 @@
+-- The constants of the code that definitions cite, with their values: a definition that names one says this number.
+use Rattle.std.specs.Prelude.{◌≡◌, ℕ}
+use Rattle.telnet_shell.specs.declared.TheConstants.{MOST_SILENT_POLLS, MOST_COMMANDS, LONGEST_LINE}
+use Rattle.telnet_shell.specs.declared.shell.TheConstants.{TELNET_PORT}
+use Rattle.telnet_shell.specs.declared.hearing.TheConstants.{IAC, DONT, DO, WONT, WILL}
+
+pub record ConstantValues : Type 0 where
+  pub most_silent_polls : MOST_SILENT_POLLS ≡ 1200
+  pub most_commands : MOST_COMMANDS ≡ 32
+  pub longest_line : LONGEST_LINE ≡ 16
+  pub telnet_port : TELNET_PORT ≡ 23
+  pub iac : IAC ≡ 255
+  pub dont : DONT ≡ 254
+  pub do : DO ≡ 253
+  pub wont : WONT ≡ 252
+  pub will : WILL ≡ 251
