@@ -15,6 +15,7 @@ mod fault_tests;
 mod file_shelf;
 #[cfg(test)]
 mod harness;
+mod help;
 #[cfg(test)]
 mod load_tests;
 mod parts;
