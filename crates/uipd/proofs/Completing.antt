@@ -31,7 +31,7 @@ use Rattle.uipd.specs.Running.{TaskRuns}
 use Rattle.uipd.specs.Serving.{ServeRuns, ServesBy}
 use Rattle.uipd.specs.SiteServing.{IsUndisturbed, SiteServes}
 use Rattle.uipd.specs.Statuses.{RunsAs, status_of_fault, status_of_replay, status_of_serving, status_of_site, status_of_slip}
-use Rattle.uipd.specs.Words.{Task, Serves, Checks, Pages, Packs, Upgrades, Replays, Loads, Dumps, Captures, PlaysBack, task_of}
+use Rattle.uipd.specs.Words.{Task, Serves, Checks, Pages, Packs, Upgrades, Replays, Loads, Dumps, Captures, PlaysBack, ShowsText, task_of}
 use Rattle.uipd.specs.declared.words.ServedLine.{ServedLine}
 use Rattle.uipd.specs.declared.status.Status.{Status}
 use Rattle.uipd.specs.declared.status.Status.TheVariants as status
@@ -120,6 +120,11 @@ by_task (Some (Loads site seed clients)) old new result run u there = replayed (
 by_task (Some (Dumps n)) old new result run u there = (let r = run.0 in line_done _ n (line_in old) (line_in new) result r.0 u.line r.1 r.2)
 by_task (Some (Captures n)) old new result run u there = (let r = run.0 in line_done _ n (line_in old) (line_in new) result r.0 u.line r.1 r.2)
 by_task (Some (PlaysBack n)) old new result run u there = (let r = run.0 in capture_by n old new result r.0 r.1 r.2 u.line)
+by_task (Some (ShowsText text)) old new result run u there =
+    elim run.0 [
+      | inl done ↦ (done.1.whole, done.0)
+      | inr failed ↦ absurd (stayed old.sink.faults new.sink.faults u.line.sink.same u.line.sink.below failed.1.rose)
+    ]
 
 pub run_is_complete : RunIsComplete
 run_is_complete words old new result run u there = by_task (task_of words) old new result run u there

@@ -21,7 +21,7 @@ use Rattle.uipd.specs.Output.{output_of}
 use Rattle.uipd.specs.Running.{Runs}
 use Rattle.uipd.specs.SiteServing.{IsUndisturbed}
 use Rattle.uipd.specs.Statuses.{status_of_replay, status_of_site, status_of_slip}
-use Rattle.uipd.specs.Words.{Task, Serves, Checks, Pages, Packs, Upgrades, Replays, Loads, Dumps, Captures, PlaysBack, task_of}
+use Rattle.uipd.specs.Words.{Task, Serves, Checks, Pages, Packs, Upgrades, Replays, Loads, Dumps, Captures, PlaysBack, ShowsText, task_of}
 use Rattle.uipd.specs.declared.status.Status.{Status}
 use Rattle.uipd.specs.declared.status.Status.TheVariants as status
 use Rattle.uipd.specs.declared.words.ServedLine.{ServedLine}
@@ -39,6 +39,7 @@ LacksFor (Some (Loads site seed clients)) held = LacksFile (site_read site) held
 LacksFor (Some (Dumps n)) held = ⊥
 LacksFor (Some (Captures n)) held = ⊥
 LacksFor (Some (PlaysBack n)) held = ⊥
+LacksFor (Some (ShowsText text)) held = ⊥
 
 -- The line ended before n items, or n were taken, and all that is due for the items was written.
 pub record LineDone (text : List Item → List ℕ) (n : ℕ) (old new : LineTold) (result : Status) : Type 0 where
@@ -94,6 +95,7 @@ Completes (Some (Loads site seed clients)) old new result =
 Completes (Some (Dumps n)) old new result = LineDone dump_text n (line_in old) (line_in new) result
 Completes (Some (Captures n)) old new result = LineDone capture_file n (line_in old) (line_in new) result
 Completes (Some (PlaysBack n)) old new result = CaptureDone n old new result
+Completes (Some (ShowsText text)) old new result = Appends old.sink.written new.sink.written text × (result ≡ status.Done)
 
 -- A run is complete: where no count rose and no file is missing, what is due for the words was done.
 abbrev pub RunIsComplete : Type 0

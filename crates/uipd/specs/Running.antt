@@ -9,10 +9,11 @@ use Rattle.trace.specs.DumpText.{dump_text}
 use Rattle.trace.specs.Telling.{TellsLine}
 use Rattle.uipd.specs.declared.status.Status.{Status}
 use Rattle.uipd.specs.declared.status.Status.TheVariants.{BadWords}
+use Rattle.uipd.specs.Help.{Shows}
 use Rattle.uipd.specs.SiteServing.{SiteServes}
 use Rattle.uipd.specs.Statuses.{RunsAs, status_of_replay, status_of_serving, status_of_site, status_of_slip}
 use Rattle.uip_edge.specs.Told.{LineTold, Outside, WorkTold, line_in, work_in}
-use Rattle.uipd.specs.Words.{Task, Serves, Checks, Pages, Packs, Upgrades, Replays, Loads, Dumps, Captures, PlaysBack, task_of}
+use Rattle.uipd.specs.Words.{Task, Serves, Checks, Pages, Packs, Upgrades, Replays, Loads, Dumps, Captures, PlaysBack, ShowsText, task_of}
 
 -- work on files, which leaves the line alone
 abbrev pub FileWorks : {E : Type 0} → (E → Status) → (WorkTold → WorkTold → E → Type 0) → Outside → Outside → Status → Type 0
@@ -35,6 +36,7 @@ TaskRuns (Some (Loads site seed clients)) old new result = FileWorks status_of_r
 TaskRuns (Some (Dumps n)) old new result = LineWorks status_of_serving (TellsLine dump_text n) old new result
 TaskRuns (Some (Captures n)) old new result = LineWorks status_of_serving (TellsLine capture_file n) old new result
 TaskRuns (Some (PlaysBack n)) old new result = LineWorks status_of_slip (Converts n) old new result
+TaskRuns (Some (ShowsText text)) old new result = Shows text old.sink new.sink result × (new.shelf ≡ old.shelf) × (new.link ≡ old.link)
 
 -- the headline of a run
 abbrev pub Runs : List (List ℕ) → Outside → Outside → Status → Type 0

@@ -9,8 +9,9 @@ use Rattle.ethernet_arp.specs.Words.{mac_of_text}
 use Rattle.site_image.specs.Names.{is_kind}
 use Rattle.file_tree.specs.Upgrading.{KindContent}
 use Rattle.site_commands.specs.Gathering.{NamedContent}
+use Rattle.uipd.specs.Help.{help_text, version_text}
 use Rattle.uipd.specs.declared.words.Command.{Command}
-use Rattle.uipd.specs.declared.words.Command.TheVariants.{Serve, Check, Page, Pack, Upgrade, Replay, Load, Dump, Pcap, Slip}
+use Rattle.uipd.specs.declared.words.Command.TheVariants.{Serve, Check, Page, Pack, Upgrade, Replay, Load, Dump, Pcap, Slip, Show}
 use Rattle.uipd.specs.declared.words.Application.{Application}
 use Rattle.uipd.specs.declared.words.Application.TheVariants.{Web, Desk}
 use Rattle.uipd.specs.declared.words.Limits.{Limits}
@@ -20,7 +21,7 @@ use Rattle.uipd.specs.declared.words.ServedLine.{ServedLine}
 
 -- what the words ask for: to serve a line with a site; to look at the image of a site, or at a page of it, to pack files into one, and to
 -- upgrade one; to play a schedule by a site, and to show its datagrams; to play the schedule that a seed makes for so many clients; to dump
--- a line, up to so many items, to capture it, and to make a capture a line again
+-- a line, up to so many items, to capture it, and to make a capture a line again; to show a text of the program's own
 pub data Task : Type 0 where
   Serves : (site : List ℕ) (line : ServedLine) → Task
   Checks : (site : List ℕ) → Task
@@ -32,6 +33,7 @@ pub data Task : Type 0 where
   Dumps : (items : ℕ) → Task
   Captures : (items : ℕ) → Task
   PlaysBack : (items : ℕ) → Task
+  ShowsText : (text : List ℕ) → Task
 
 -- a word of two parts, around its first `=`
 abbrev pub is_equals : ℕ → Bool
@@ -69,6 +71,7 @@ task_meant (Load site seed clients) = Loads site.now seed clients
 task_meant (Dump items) = Dumps items
 task_meant (Pcap items) = Captures items
 task_meant (Slip items) = PlaysBack items
+task_meant (Show text) = ShowsText text.now
 
 -- the greatest number of items, where the words name none
 abbrev pub all_items : ℕ
@@ -165,6 +168,11 @@ slip_words [] = Some (PlaysBack all_items)
 slip_words (word ∷ number ∷ []) = if bytes_eq word (codes "items") then option_map PlaysBack (numeral number) else None
 slip_words words = None
 
+-- no further words
+abbrev pub shown : List ℕ → List (List ℕ) → Option Task
+shown text [] = Some (ShowsText text)
+shown text words = None
+
 -- by the command in front
 abbrev pub task_of : List (List ℕ) → Option Task
 task_of [] = None
@@ -181,4 +189,6 @@ task_of (command ∷ words) =
     else if bytes_eq command (codes "dump") then option_map Dumps (items_named words)
     else if bytes_eq command (codes "pcap") then option_map Captures (items_named words)
     else if bytes_eq command (codes "slip") then slip_words words
+    else if bytes_eq command (codes "--help") then shown help_text words
+    else if bytes_eq command (codes "--version") then shown version_text words
     else None

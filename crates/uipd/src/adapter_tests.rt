@@ -1,9 +1,13 @@
-// The adapters over readers and writers in memory, and over a reader that fails.
-use crate::adapters::{ReaderLink, WriterSink};
+// The adapters over readers and writers in memory, and over a reader that fails; runs over them.
+use crate::adapters::{ReaderLink, WriterSink, run_over};
+use crate::harness::{bytes_of, words_of};
+use crate::resolve_tests::{QUERY, REPLY, WORDS};
+use crate::status::Status;
+use crate::tests::{PING, PONG};
 use std::io;
 use std::io::Read;
 use std::test::Fail;
-use uip_edge::{Got, Link, Sink};
+use uip_edge::{Got, Link, MemShelf, Sink};
 
 /// A reader that gives one byte and then fails at every call.
 #[derive(Drop)]
@@ -57,5 +61,43 @@ fn a_write_of_nothing_is_a_fault(rt: HostRuntime) -> Result<(), Fail> {
     let mut sink = WriterSink::new(&mut room[..]);
     assert!(rt; sink.write_whole(b"ab").is_ok());
     assert!(rt; sink.write_whole(b"c").is_err());
+    Ok(())
+}
+
+// Two reads of nothing are two silences of a terminal, and so the 31st and the 32nd item; a file ends at the first.
+#[test]
+fn the_last_word_makes_the_reader_a_terminal(rt: HostRuntime) -> Result<(), Fail> {
+    let alloc = rt.alloc();
+    let ping = bytes_of(alloc, &[PING])?;
+    let pong = bytes_of(alloc, &[PONG])?;
+    let rows: [(&[&str], Status); 2] = [
+        (&["serve", "-", "10.0.0.1", "items", "32", "tty"], Status::Budget),
+        (&["serve", "-", "10.0.0.1", "items", "32"], Status::Done),
+    ];
+    for (words, status) in rows {
+        let words = words_of(alloc, words)?;
+        let mut shelf = MemShelf::new(Vec::new(alloc), Vec::new(alloc));
+        let (mut room, mut errors) = ([0; 64], [0; 8]);
+        let ended = run_over(alloc, &words, &mut shelf, &ping[..], &mut room[..], &mut errors[..]);
+        assert_eq!(rt; ended, status);
+        assert!(rt; room.starts_with(&pong));
+        assert_eq!(rt; room[30], 0);
+        assert_eq!(rt; errors[0], 0);
+    }
+    Ok(())
+}
+
+#[test]
+fn names_are_told_beside_the_output(rt: HostRuntime) -> Result<(), Fail> {
+    let alloc = rt.alloc();
+    let query = bytes_of(alloc, &[QUERY])?;
+    let reply = bytes_of(alloc, &[REPLY])?;
+    let words = words_of(alloc, &WORDS)?;
+    let mut shelf = MemShelf::new(Vec::new(alloc), Vec::new(alloc));
+    let (mut room, mut errors) = ([0; 128], [0; 32]);
+    let ended = run_over(alloc, &words, &mut shelf, &reply[..], &mut room[..], &mut errors[..]);
+    assert_eq!(rt; ended, Status::Done);
+    assert!(rt; room.starts_with(&query));
+    assert!(rt; errors.starts_with(b"a.b 192.0.2.7\n\0"));
     Ok(())
 }

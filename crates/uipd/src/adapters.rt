@@ -1,4 +1,4 @@
-//! The program's line and its output, over any reader and any writer.
+//! The program's line and its output, over any reader and any writer, and a run over them.
 
 ghost use Rattle.std.specs.Prelude.{◌≡◌, ◌≢◌, ◌<◌, length, IfOk, true, false};
 ghost use Rattle.uip_edge.specs.Causes.{HasCause};
@@ -6,9 +6,13 @@ ghost use Rattle.uip_edge.specs.Coming.{items_of, CountFits, Consumes, IsAtEnd};
 ghost use Rattle.uip_edge.specs.declared.got.Got.TheVariants.{End, Quiet};
 ghost use Rattle.uipd.specs.Telling.{IsGot, items_left};
 
+use crate::run_told::run_told;
+use crate::status::Status;
+use crate::words::says_tty;
+use std::alloc::Global;
 use std::io;
 use std::io::{Read, Write};
-use uip_edge::{Failed, Got, Link, Sink};
+use uip_edge::{Failed, Got, Link, Shelf, Sink};
 
 /// A line that is read from any reader. A read of nothing is its end, or with `tty` a silence, as a terminal gives after a
 /// time without a byte.
@@ -78,7 +82,9 @@ pub struct WriterSink<W: Write> {
 }
 
 impl<W: Write> WriterSink<W> {
-    pub fn new(inner: W) -> WriterSink<W> {
+    pub fn new(inner: W) -> WriterSink<W>
+        ensures faults { result.faults ≡ 0 }
+    {
         WriterSink { inner, faults: 0 }
     }
 }
@@ -97,4 +103,20 @@ impl<W: Write> Sink for WriterSink<W> {
             }
         }
     }
+}
+
+/// Does what the words say over a line that is read and an output that is written; what is told beside the output is written to
+/// `errors`. The last word says whether the reader is a terminal.
+pub fn run_over<H: Shelf, R: Read, W: Write, E: Write>(
+    alloc: Global,
+    words: &[String],
+    shelf: &mut H,
+    input: R,
+    output: W,
+    errors: E,
+) -> Status {
+    let mut link = ReaderLink::new(input, says_tty(words));
+    let mut out = WriterSink::new(output);
+    let mut tell = WriterSink::new(errors);
+    run_told(alloc, words, shelf, &mut link, &mut out, &mut tell)
 }

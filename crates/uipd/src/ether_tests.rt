@@ -3,14 +3,14 @@ use crate::harness::{Talk, Trial, bytes_of, check_bad_words, check_talks, front}
 use crate::status::Status;
 use std::test::Fail;
 
-const ETHER: [&str; 4] = ["ether", "-", "10.0.0.1", "02:00:00:00:00:01"];
+pub const ETHER: [&str; 4] = ["ether", "-", "10.0.0.1", "02:00:00:00:00:01"];
 
 // A request of 10.0.0.2 at 02:00:00:00:00:02 for the address of the host, and its reply.
-const REQUEST: &str = "\
+pub const REQUEST: &str = "\
     002A FFFFFFFFFFFF 020000000002 0806 \
     0001 0800 0604 0001 020000000002 0A000002 000000000000 0A000001";
 
-const REPLY: &str = "\
+pub const REPLY: &str = "\
     002A 020000000002 020000000001 0806 \
     0001 0800 0604 0002 020000000001 0A000001 020000000002 0A000002";
 

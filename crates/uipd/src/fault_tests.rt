@@ -1,5 +1,6 @@
 // Each call of the shelf, of the link and of the sink fails in turn, from the first on until none fails, and what a datagram is
 // answered with is written before anything more is asked of the line.
+use crate::ether_tests::{ETHER, REPLY, REQUEST};
 use crate::harness::{IMAGE, Trial, bytes_of, words_of};
 use crate::run::run;
 use crate::status::Status;
@@ -37,6 +38,8 @@ fn each_call_fails_in_turn(rt: HostRuntime) -> Result<(), Fail> {
     let alloc = rt.alloc();
     let ping = bytes_of(alloc, &[ESCAPED_PING])?;
     let pong = bytes_of(alloc, &[ESCAPED_PONG])?;
+    let request = bytes_of(alloc, &[REQUEST])?;
+    let replied = bytes_of(alloc, &[REPLY])?;
     let replayed = Trial {
         i: PAGE,
         ..Trial::new(
@@ -55,6 +58,13 @@ fn each_call_fails_in_turn(rt: HostRuntime) -> Result<(), Fail> {
             35,
             1,
         ),
+        (
+            Trial::new(&["desk", "h", "10.0.0.1"], &ping, &pong),
+            2,
+            35,
+            1,
+        ),
+        (Trial::new(&ETHER, &request, &replied), 0, 45, 1),
         (replayed, 4, 0, 2),
         (Trial::new(&["check", "h"], &ping, checked), 2, 0, 1),
         (
@@ -65,7 +75,7 @@ fn each_call_fails_in_turn(rt: HostRuntime) -> Result<(), Fail> {
         ),
     ];
     for (trial, shelf, link, sink) in rows {
-        for call in 1..40 {
+        for call in 1..50 {
             let shelf = Trial {
                 shelf_fails: &[call],
                 status: due(call, shelf, Status::ShelfFault),

@@ -33,7 +33,9 @@ pub struct FileShelf<'a, R: Files> {
 }
 
 impl<'a, R: Files> FileShelf<'a, R> {
-    pub fn new(rt: &'a R) -> FileShelf<'a, R> {
+    pub fn new(rt: &'a R) -> FileShelf<'a, R>
+        ensures faults { result.faults ≡ 0 }
+    {
         FileShelf {
             rt,
             last: None,

@@ -15,6 +15,7 @@ mod fault_tests;
 mod file_shelf;
 #[cfg(test)]
 mod harness;
+mod help;
 #[cfg(test)]
 mod load_tests;
 mod parts;
@@ -35,32 +36,27 @@ mod status;
 mod tests;
 mod words;
 
-use adapters::{ReaderLink, WriterSink};
+use adapters::run_over;
 use file_shelf::FileShelf;
-use run_told::run_told;
 use status::Status;
 use std::process::ExitCode;
 use std::{env, io};
-use words::says_tty;
 
-/// Reads the words behind the program's name and does what they say. It looks at them only to learn whether the line is a
-/// terminal, which the last word says.
+/// Reads the words behind the program's name and does what they say, over the files of the system, standard input, standard output,
+/// and standard error for what is told beside the output.
 fn run_words(rt: HostRuntime) -> io::Result<Status> {
     let mut words = Vec::new(rt.alloc());
     for word in env::args(&rt)?.skip(1) {
         words.push(word)?;
     }
     let mut shelf = FileShelf::new(&rt);
-    let mut link = ReaderLink::new(rt.stdin(), says_tty(&words));
-    let mut out = WriterSink::new(rt.stdout());
-    let mut tell = WriterSink::new(rt.stderr());
-    Ok(run_told(
+    Ok(run_over(
         rt.alloc(),
         &words,
         &mut shelf,
-        &mut link,
-        &mut out,
-        &mut tell,
+        rt.stdin(),
+        rt.stdout(),
+        rt.stderr(),
     ))
 }
 

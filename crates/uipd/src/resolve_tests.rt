@@ -7,15 +7,15 @@ use std::test::Fail;
 use uip_edge::{MemLink, MemShelf, MemSink};
 
 // The frame of the query for a.b from 10.0.0.1 to 10.0.0.2 under the id 1, and that of a reply with the address 192.0.2.7.
-const QUERY: &str = "\
+pub const QUERY: &str = "\
     C0 45000031 00010000 401166B9 0A000001 0A000002 10000035 001DD5B7 \
     00010100 00010000 00000000 01610162 00000100 01 C0";
 
-const REPLY: &str = "\
+pub const REPLY: &str = "\
     C0 45000041 00010000 401166A9 0A000002 0A000001 00351000 002D0000 \
     00018180 00010001 00000000 01610162 00000100 01DBDC0C 00010001 0000003C 0004DBDC 000207 C0";
 
-const WORDS: [&str; 5] = ["resolve", "10.0.0.1", "10.0.0.2", "1", "a.b"];
+pub const WORDS: [&str; 5] = ["resolve", "10.0.0.1", "10.0.0.2", "1", "a.b"];
 
 #[test]
 fn tells_the_address_for_every_cut(rt: HostRuntime) -> Result<(), Fail> {

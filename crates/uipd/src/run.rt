@@ -4,6 +4,7 @@ ghost use Rattle.uipd.specs.Running.{Runs};
 ghost use Rattle.uip_edge.specs.Telling.{outside};
 ghost use Rattle.uipd.specs.declared.status.Status.TheVariants.{BadWords};
 
+use crate::help::show;
 use crate::replay_work::{load_site, replay_site};
 use crate::serve::serve;
 use crate::site_work::{check_site, pack_site, page_site, upgrade_site};
@@ -43,6 +44,7 @@ pub fn run<H: Shelf, L: Link, K: Sink>(
         Some(Command::Dump(items)) => Status::from(dump(link, out, items)),
         Some(Command::Pcap(items)) => Status::from(pcap(link, out, items)),
         Some(Command::Slip(items)) => Status::from(slip(link, out, items)),
+        Some(Command::Show(text)) => show(text, out),
     }
 }
 

@@ -1,5 +1,6 @@
 // The worked exchanges, over a line in memory, with the items cut in every way.
 use crate::harness::{Talk, Trial, bad, bytes_of, check_all, check_bad_words, check_talks, front};
+use crate::help::{HELP, VERSION};
 use crate::status::Status;
 use site_commands::SiteWhy;
 use std::alloc::Global;
@@ -181,7 +182,7 @@ fn serves_a_site(rt: HostRuntime) -> Result<(), Fail> {
 #[test]
 fn knows_its_words(rt: HostRuntime) -> Result<(), Fail> {
     let alloc = rt.alloc();
-    let bad: [&[&str]; 22] = [
+    let bad: [&[&str]; 26] = [
         &[],
         &["serve"],
         &["serve", "-"],
@@ -204,6 +205,10 @@ fn knows_its_words(rt: HostRuntime) -> Result<(), Fail> {
         &["pcap", "items", "01"],
         &["slip", "tty"],
         &["slip", "items", "2", "tty"],
+        &["help"],
+        &["-h"],
+        &["--help", "serve"],
+        &["--version", "tty"],
     ];
     check_bad_words(&rt, alloc, PING, &bad)?;
     let greatest = [
@@ -217,6 +222,21 @@ fn knows_its_words(rt: HostRuntime) -> Result<(), Fail> {
         "tty",
     ];
     check_talks(&rt, alloc, &greatest, &[(&[PING], &[PONG])])
+}
+
+#[test]
+fn shows_its_own_texts(rt: HostRuntime) -> Result<(), Fail> {
+    let alloc = rt.alloc();
+    for (word, text) in [("--help", HELP), ("--version", VERSION)] {
+        Trial::new(&[word], &[], text).check(&rt, alloc, 4096)?;
+        let full = Trial {
+            room: 4,
+            status: Status::WriteFault,
+            ..Trial::new(&[word], &[], front(text, 4))
+        };
+        full.check(&rt, alloc, 4096)?;
+    }
+    Ok(())
 }
 
 #[test]

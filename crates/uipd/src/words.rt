@@ -3,10 +3,12 @@ ghost use Rattle.uipd.specs.Words.{task_meant, task_of, check_words as words_of_
 ghost use Rattle.uipd.specs.Words.{upgrade_words as words_of_upgrade};
 ghost use Rattle.uipd.specs.Words.{load_words as words_of_load, page_words as words_of_page, replay_words as words_of_replay};
 ghost use Rattle.uipd.specs.Words.{Captures, Dumps, slip_words as words_of_slip, items_named as items_spelled};
+ghost use Rattle.uipd.specs.Words.{shown as text_asked};
 ghost use Rattle.uipd.specs.Words.{ends_here as no_more, limited as limits_meant, limits_at as limits_behind, limits_of as limits_spelled, says_tty as terminal_told};
 ghost use Rattle.uipd.specs.Allowed.{IsAllowed};
 ghost use Rattle.uip_wire.specs.Numerals.{numeral as number_meant};
 
+use crate::help::{HELP, VERSION};
 use crate::parts::{are_kind_words, have_parts};
 use ethernet_arp::Mac;
 use uip_wire::{Addr, numeral};
@@ -70,6 +72,8 @@ pub enum Command<'a> {
     Pcap(u64),
     /// `slip`, and optionally `items N`: a capture file that comes over the line is made a serial line, up to so many items.
     Slip(u64),
+    /// `--help` or `--version`: a text of the program's own is written.
+    Show(&'a [u8]),
 }
 
 /// The command that the words spell, if they have a form.
@@ -95,6 +99,8 @@ pub fn command_of(words: &[String]) -> Option<Command<'_>>
         [command, words @ ..] if command.as_str() == "dump" => dump_words(words),
         [command, words @ ..] if command.as_str() == "pcap" => pcap_words(words),
         [command, words @ ..] if command.as_str() == "slip" => slip_words(words),
+        [command, words @ ..] if command.as_str() == "--help" => shown(HELP, words),
+        [command, words @ ..] if command.as_str() == "--version" => shown(VERSION, words),
         _ => None,
     }
 }
@@ -291,6 +297,16 @@ fn slip_words(words: &[String]) -> Option<Command<'_>>
     match words {
         [] => Some(Command::Slip(u64::MAX)),
         [word, number] if word.as_str() == "items" => Some(Command::Slip(number_of(number)?)),
+        _ => None,
+    }
+}
+
+/// A text of the program's own, where no words stand behind the one that asks for it.
+fn shown<'a>(text: &'a [u8], words: &[String]) -> Option<Command<'a>>
+    ensures { option_map task_meant result ≡ text_asked text.now (map string_bytes words.now) }
+{
+    match words {
+        [] => Some(Command::Show(text)),
         _ => None,
     }
 }
