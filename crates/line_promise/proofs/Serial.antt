@@ -7,14 +7,16 @@ use Rattle.uip_wire.specs.declared.sizes.TheConstants.{LARGEST_DATAGRAM}
 use Rattle.app_events.specs.Pages.{IsByte}
 use Rattle.uip_edge.specs.declared.item.Item.{Item}
 use Rattle.uip_edge.specs.declared.item.Item.TheVariants.{Byte, Quiet}
-use Rattle.uip_slip.specs.Frames.{Frame, Datagram, Overlong, frame_of, meant, open_part, unescaped}
+use Rattle.uip_slip.specs.Frames.{Frame, Datagram, Overlong, completed, frame_of, meant, open_part, unescaped}
 use Rattle.uip_slip.proofs.PartLaws.{open_part-end, open_part-plain, parts-byte}
 use Rattle.app_events.specs.Part.{Meaning}
 use Rattle.uip_node.specs.Events.{Event, Reply, tick}
 use Rattle.uip_node.specs.Node.{AbstractNode, joined, opening, run, step}
-use Rattle.serve_loop.specs.Running.{text_of}
+use Rattle.serve_loop.specs.Texts.{text_of}
 use Rattle.uip_node.specs.Events.Event.{Periodic}
-use Rattle.serve_loop.specs.LineEvents.{beat, completed, event_by, events_behind, line_events}
+use Rattle.serve_loop.specs.LineEvents.{beat, event_by, events_behind, line_events}
+use Rattle.serve_loop.specs.LineOutput.{opening_at}
+use Rattle.serve_loop.proofs.SlipServeLaws.{said_on_line}
 use Rattle.serve_loop.specs.Pace.{is_beat}
 use Rattle.uip_node.proofs.Basics.{both_ways, choose}
 use Rattle.uip_node.proofs.Fits.{all_nil, all_cons}
@@ -101,7 +103,8 @@ every_serial_line m pages lawful page served numbers w own a pace items is =
     record {
       turns = turns_of m served (line_events own pace items) (opening own numbers);
       over = turn_events m served (line_events own pace items) (opening own numbers);
-      written = ap (λ l. text_of own l) (sends m served (line_events own pace items) (opening own numbers));
+      written = ap (λ l. text_of own l) (sends m served (line_events own pace items) (opening own numbers))
+          ∙ sym (said_on_line m served own pace items (opening_at own numbers));
       keeps = k.0;
       read = k.1;
     }

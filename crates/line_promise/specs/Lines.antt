@@ -12,8 +12,9 @@ use Rattle.node_laws.specs.Talks.{Turn}
 use Rattle.node_laws.specs.KeepsTurns.{KeepsTurns}
 use Rattle.node_laws.specs.Wire.{IsReadByPeer}
 use Rattle.serve_loop.specs.LineEvents.{line_events}
-use Rattle.serve_loop.specs.LineOutput.{serial_output}
-use Rattle.serve_loop.specs.Running.{text_of}
+use Rattle.serve_loop.specs.LineOutput.{output_by}
+use Rattle.serve_loop.specs.SlipWay.{slip_way}
+use Rattle.serve_loop.specs.Texts.{text_of}
 
 -- what is sent in these turns, the oldest first
 abbrev pub with_first : Option Reply → List Reply → List Reply
@@ -43,4 +44,4 @@ abbrev pub EverySerialLine : Type 0
 EverySerialLine =
     (m : Meaning) (pages : Pages) → IsPaged m pages → HasBytes pages → (served : ℕ → Bool) (numbers : List ℕ) → All IsWord numbers
     → (own : Addr) → IsAddr own → (pace : ℕ) (items : List Item) → All IsItem items
-    → KeepsLine pages served own pace items (serial_output m served numbers own pace items)
+    → KeepsLine pages served own pace items (output_by slip_way m served numbers own pace items)
