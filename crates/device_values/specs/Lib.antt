@@ -1,0 +1,4 @@
+pub mod Spellings
+pub mod Values
+pub mod Words
+pub mod Lemmas

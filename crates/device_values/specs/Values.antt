@@ -1,0 +1,19 @@
+-- The values of a device, as numbers: 33 for each of 16, its length first, and then its bytes in front.
+use Rattle.std.specs.Prelude.{ℕ, ◌+◌, ◌-◌, ◌*◌, ◌%◌, List, [], ◌∷◌, ◌++◌, drop, length, map, min, nat_lt, replicate, slice_range, take, if◌then◌else◌}
+use Rattle.std.specs.List.{slice_index_or}
+use Rattle.std.specs.Option.{option_map_or}
+use Rattle.uip_wire.specs.Numerals.{numeral}
+
+-- the bytes of the value of a number
+abbrev pub value_of : List ℕ → ℕ → List ℕ
+value_of own n =
+    map (λ b. b % 256) (take (min 32 (slice_index_or own (33 * n) 0)) (slice_range own (33 * n + 1) (33 * n + 33)))
+
+-- the bytes of the value whose number the argument is, 0 to 15 in decimal digits; none where it is no such number
+abbrev pub value_named : List ℕ → List ℕ → List ℕ
+value_named own argument = option_map_or (λ n. if nat_lt n 16 then value_of own n else []) (numeral argument) []
+
+-- the numbers after a text of at most 32 bytes was given for the value of a number
+abbrev pub value_given : ℕ → List ℕ → List ℕ → List ℕ
+value_given n text own =
+    take (33 * n) own ++ (length text ∷ text ++ replicate (32 - length text) 0) ++ drop (33 * n + 33) own

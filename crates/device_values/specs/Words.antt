@@ -1,0 +1,48 @@
+-- The words of a device's scripts: the functions of uIP, and the values.
+use Rattle.std.specs.Prelude.{ℕ, Bool, true, List, [], codes, take, if◌then◌else◌}
+use Rattle.std.specs.Str.{bytes_eq}
+use Rattle.script_lang.specs.Calling.{Calling}
+use Rattle.script_lang.specs.Functions.{function_named, length_at_most, takes_capture}
+use Rattle.generators.specs.Giving.{Giving, Said, gives, uip_said}
+use Rattle.generators.specs.Text.{capture_text}
+use Rattle.device_values.specs.declared.spelling.Spelling.TheVariants.{Plain, Json, Html}
+use Rattle.device_values.specs.declared.word.Word.{Word}
+use Rattle.device_values.specs.declared.word.Word.TheVariants as word
+use Rattle.device_values.specs.declared.record.ValueCapture.{ValueCapture}
+use Rattle.device_values.specs.declared.record.ValueCapture.TheVariants as record_of
+use Rattle.device_values.specs.Spellings.{spelled}
+use Rattle.device_values.specs.Values.{value_named}
+
+abbrev pub word_named : List ℕ → Word
+word_named name =
+    if bytes_eq name (codes "value") then word.Value Plain
+    else if bytes_eq name (codes "value-json") then word.Value Json
+    else if bytes_eq name (codes "value-html") then word.Value Html
+    else word.Uip (function_named name)
+
+-- each value takes a capture, one that was never given and one that there is not as well
+abbrev pub word_takes : Word → Bool
+word_takes (word.Uip function) = takes_capture function
+word_takes (word.Value spelling) = true
+
+abbrev pub word_at_most : Word → ℕ
+word_at_most (word.Uip function) = length_at_most function
+word_at_most (word.Value Plain) = 32
+word_at_most (word.Value Json) = 192
+word_at_most (word.Value Html) = 192
+
+abbrev pub word_calls : Calling Word
+word_calls = record { named = word_named; takes_capture = word_takes; length_at_most = word_at_most }
+
+-- a value is said as it is when the call comes next
+abbrev pub word_said : Said Word
+word_said (word.Uip function) argument hits own now = uip_said function argument hits [] now
+word_said (word.Value spelling) argument hits own now = spelled spelling (value_named own argument)
+
+-- what the scripts of a device give
+abbrev pub words : Giving Word
+words = gives word_calls word_said
+
+abbrev pub record_text : ValueCapture → List ℕ
+record_text (record_of.Uip capture) = capture_text capture
+record_text (record_of.Value spelling kept) = spelled spelling (take kept.len kept.bytes)

@@ -1,0 +1,72 @@
+use crate::kept::Kept;
+use crate::spelling::{Spelling, spell};
+use crate::values::{Values, kept_value};
+use crate::word::Word;
+use app_events::Now;
+use generators::{Capture, Record};
+
+/// The record of a call of a device's script.
+#[derive(Drop)]
+pub enum ValueCapture {
+    /// Of a function of uIP.
+    Uip(Capture),
+    /// The bytes of a value at the moment of the call, and how they are spelled.
+    Value { spelling: Spelling, kept: Kept },
+}
+
+impl Record for ValueCapture {
+    ghost use Rattle.device_values.specs.Words.{record_text, word_said};
+    ghost use Rattle.device_values.specs.Lemmas.Laws.{words_short, words_bytes};
+
+    type Function = Word;
+
+    type Own = Values;
+
+    ghost said = { word_said };
+
+    ghost text = { record_text };
+
+    ghost own_numbers = { λ values. values.bytes };
+
+    fn empty() -> ValueCapture {
+        ValueCapture::Uip(Capture::empty())
+    }
+
+    fn take(function: Word, argument: &[u8], hits: u32, own: &Values, now: &Now) -> ValueCapture {
+        match function {
+            Word::Uip(function) => ValueCapture::Uip(Capture::take(
+                function,
+                argument,
+                hits,
+                &(),
+                now,
+            )),
+            Word::Value(spelling) => ValueCapture::Value {
+                spelling,
+                kept: kept_value(own, argument),
+            },
+        }
+    }
+
+    fn text_len(&self) -> usize {
+        match self {
+            ValueCapture::Uip(capture) => capture.text_len(),
+            ValueCapture::Value { spelling, kept } => spell(*spelling, kept.text()).len(),
+        }
+    }
+
+    fn fill_at(&self, at: usize, out: &mut [u8]) {
+        match self {
+            ValueCapture::Uip(capture) => capture.fill_at(at, out),
+            ValueCapture::Value { spelling, kept } => {
+                let text = spell(*spelling, kept.text());
+                let end = at + out.len();
+                out.copy_from_slice(&text.as_slice()[at..end]);
+            }
+        }
+    }
+
+    ghost short = { words_short };
+
+    ghost bytes = { words_bytes };
+}

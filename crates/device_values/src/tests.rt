@@ -1,0 +1,67 @@
+use crate::{Spelling, ValueCapture, Values, Word};
+use app_events::{Now, RowList};
+use arrayvec::ArrayVec;
+use generators::Record;
+use script_lang::{Calls, Function};
+
+/// A moment at which nothing has happened.
+fn zero_now() -> Now {
+    Now {
+        ticks: 0,
+        net: [0; 20],
+        rows: RowList {
+            list: ArrayVec::new(),
+        },
+    }
+}
+
+#[test]
+fn words_by_their_names(rt: HostRuntime) {
+    assert_eq!(rt; Word::named(b"value"), Word::Value(Spelling::Plain));
+    assert_eq!(rt; Word::named(b"value-json"), Word::Value(Spelling::Json));
+    assert_eq!(rt; Word::named(b"value-html"), Word::Value(Spelling::Html));
+    assert_eq!(rt; Word::named(b"ticks"), Word::Uip(Function::Ticks));
+    assert_eq!(rt; Word::named(b"value-xml"), Word::Uip(Function::Unknown));
+}
+
+/// The text of a call of value 3, which is `5 > "4"`.
+fn said(word: Word, argument: &[u8]) -> ValueCapture {
+    let mut values = Values::new();
+    let text: [u8; 8] = [7, b'5', b' ', b'>', b' ', b'"', b'4', b'"'];
+    values.bytes[99..107].copy_from_slice(&text);
+    ValueCapture::take(word, argument, 0, &values, &zero_now())
+}
+
+#[test]
+fn a_value_as_it_is(rt: HostRuntime) {
+    let record = said(Word::Value(Spelling::Plain), b"3");
+    let mut out = [0; 7];
+    assert_eq!(rt; record.text_len(), 7);
+    record.fill_at(0, &mut out);
+    assert_eq!(rt; &out, b"5 > \"4\"");
+}
+
+#[test]
+fn a_value_in_json(rt: HostRuntime) {
+    let record = said(Word::Value(Spelling::Json), b"3");
+    let mut out = [0; 9];
+    assert_eq!(rt; record.text_len(), 9);
+    record.fill_at(0, &mut out);
+    assert_eq!(rt; &out, b"5 > \\\"4\\\"");
+}
+
+#[test]
+fn a_value_in_html(rt: HostRuntime) {
+    let record = said(Word::Value(Spelling::Html), b"3");
+    let mut out = [0; 20];
+    assert_eq!(rt; record.text_len(), 20);
+    record.fill_at(0, &mut out);
+    assert_eq!(rt; &out, b"5 &gt; &quot;4&quot;");
+}
+
+#[test]
+fn no_value_of_a_number_with_a_zero_in_front(rt: HostRuntime) {
+    assert_eq!(rt; said(Word::Value(Spelling::Plain), b"03").text_len(), 0);
+    assert_eq!(rt; said(Word::Value(Spelling::Plain), b"16").text_len(), 0);
+    assert_eq!(rt; said(Word::Value(Spelling::Plain), b"").text_len(), 0);
+}

@@ -1,0 +1,74 @@
+//! The values of a device.
+
+ghost use Rattle.std.specs.Prelude.{◌≡◌, ◌<◌, take};
+ghost use Rattle.std.specs.List.{All};
+ghost use Rattle.app_events.specs.Pages.{IsByte};
+ghost use Rattle.device_values.specs.Values.{value_named, value_of};
+
+use crate::kept::Kept;
+use uip_wire::numeral;
+
+/// How many values there are.
+pub const MOST_VALUES: usize = 16;
+
+/// The most bytes of a value.
+pub const LONGEST_VALUE: usize = 32;
+
+/// What a device has to tell: for each of sixteen values 33 bytes, the first of which is its length.
+#[derive(Drop)]
+pub struct Values {
+    pub bytes: [u8; 528],
+}
+
+impl Values {
+    /// No value is given.
+    pub const fn new() -> Values {
+        Values { bytes: [0; 528] }
+    }
+}
+
+/// The bytes of the value whose number the argument is. There are none where it is no number of a value.
+pub(crate) fn kept_value(values: &Values, argument: &[u8]) -> Kept
+    ensures { take result.len result.bytes ≡ value_named values.now.bytes argument.now }
+{
+    match numeral(argument) {
+        Some(number) => {
+            if number < MOST_VALUES as u64 {
+                value_at(values, number as usize)
+            } else {
+                no_value()
+            }
+        }
+        None => no_value(),
+    }
+}
+
+/// No bytes.
+fn no_value() -> Kept
+    ensures { result.len ≡ 0 }
+{
+    Kept {
+        len: 0,
+        bytes: [0; 32],
+    }
+}
+
+/// The bytes of the value of that number.
+fn value_at(values: &Values, number: usize) -> Kept
+    requires { number < 16 }
+    ensures { take result.len result.bytes ≡ value_of values.now.bytes number }
+{
+    is_bytes(&values.bytes);
+    let at = 33 * number;
+    let mut bytes = [0; 32];
+    bytes.copy_from_slice(&values.bytes[at + 1..at + 33]);
+    Kept {
+        len: values.bytes[at].min(32),
+        bytes,
+    }
+}
+
+/// A text is bytes.
+fn is_bytes(text: &[u8])
+    ensures { All IsByte text.now }
+{}

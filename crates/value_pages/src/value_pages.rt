@@ -1,0 +1,86 @@
+//! The web server of a device on one connection.
+
+use crate::device_web::{DeviceWeb, see_counted};
+use app_events::{App, Ending, Now, Want};
+use device_values::ValueCapture;
+use httpd::Pages;
+use uip_wire::{Port, WEB_PORT};
+
+/// The pages of a device on one connection.
+#[derive(Drop)]
+pub struct ValuePages {
+    pub pages: Pages<ValueCapture>,
+}
+
+impl App for ValuePages {
+    ghost use Rattle.std.specs.Prelude.{◌++◌};
+    ghost use Rattle.file_tree.specs.Site.{SiteContent, files_of};
+    ghost use Rattle.web_pages.specs.Serving.{is_served};
+    ghost use Rattle.web_pages.specs.WebMeaning.{web_meaning_by};
+    ghost use Rattle.web_pages.specs.Lemmas.WebLaws.{web_lawful, web_starts};
+    ghost use Rattle.httpd.specs.HttpdStands.{PagesStand};
+    ghost use Rattle.httpd.specs.Lemmas.SameLeft.{same_left_by};
+    ghost use Rattle.device_values.specs.Words.{record_text, words};
+
+    type Shared = DeviceWeb;
+
+    ghost Kept = { SiteContent };
+
+    ghost kept = { λ shared. shared.web.site };
+
+    // The values stand behind the hits.
+    ghost numbers = { λ shared. shared.web.hits ++ shared.values.bytes };
+
+    ghost meaning = { λ site. web_meaning_by words (files_of site) };
+
+    ghost stands_for = { λ a site part. PagesStand words record_text a.pages site part };
+
+    ghost served = { is_served };
+
+    fn serves(port: Port) -> bool {
+        port.0 == WEB_PORT
+    }
+
+    fn idle() -> ValuePages {
+        ValuePages {
+            pages: Pages::fresh(),
+        }
+    }
+
+    fn connected(&mut self, _shared: &mut DeviceWeb, _port: Port) {
+        self.pages = Pages::fresh();
+    }
+
+    fn newdata(&mut self, shared: &mut DeviceWeb, piece: &[u8]) {
+        see_counted(&shared.web);
+        self.pages.hear(&mut shared.web, piece);
+    }
+
+    fn prepare(&mut self, shared: &DeviceWeb, now: &Now) {
+        self.pages.prepare_at(&shared.web, &shared.values, now);
+    }
+
+    fn want(&self, shared: &DeviceWeb) -> Want {
+        self.pages.want_of(&shared.web)
+    }
+
+    fn fill(&self, shared: &DeviceWeb, out: &mut [u8]) {
+        self.pages.fill_from(&shared.web, out);
+    }
+
+    fn acked(&mut self, shared: &mut DeviceWeb, count: usize) {
+        self.pages.pass(&shared.web, count);
+    }
+
+    fn polled(&mut self, _shared: &mut DeviceWeb) {
+        self.pages.wait();
+    }
+
+    fn ended(&mut self, _shared: &mut DeviceWeb, _how: Ending) {}
+
+    ghost lawful = { λ a site. web_lawful words (files_of site) (λ part. PagesStand words record_text a.pages site part) };
+
+    ghost starts = { λ site. web_starts words (files_of site) };
+
+    ghost same_left = { λ a site p q s t. same_left_by words record_text a.pages site p q s t };
+}
