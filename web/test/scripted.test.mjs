@@ -134,6 +134,7 @@ test("while text is awaited the acknowledgement goes again, and a silent node is
   heard();
   assert.deepEqual(await text(), ["xy", null]);
   assert.equal(goOff(), 1000);
+  assert.deepEqual(told, [1000, 3000, 5000, 1000]);
   for (let n = 0; connection.state !== "CLOSED"; n++) { assert.ok(n < 70); goOff(); }
   assert.deepEqual(await text(), ["xy", "the node does not answer"]);
   assert.equal(told.at(-1) >= 100000, true);
