@@ -40,8 +40,11 @@ test("of what came again it is said whether it is the same", () => {
   // a FIN stands at a number too
   assert.deepEqual(told([0, "ab", ACK | FIN], [0, "ab", ACK | FIN], [0, "abc"], [0, "a", ACK | FIN]), ["new", "same", 2, 1]);
   // a hole, its filling, and what is ahead of all that is kept
-  assert.deepEqual(told([0, "a"], [3, "d"], [1, "bc"], [0, "abcd"], [200000, "x"], [200000, "y"], [0, "a"]),
-    ["new", "new", "new", "same", "new", 200000, "new"]);
+  assert.deepEqual(told([0, "a"], [3, "d"], [1, "bc"], [0, "abcd"], [200000, "x"], [200000, "y"], [0, "a"], [3 * 65536, "z"]),
+    ["new", "new", "new", "same", "new", 200000, "new", "new"]);
+  // what was kept before there was more to keep
+  assert.deepEqual(told([0, "abcd"], [4, "x".repeat(1400)], [1404, "x".repeat(1400)], [0, "abcd"], [1, "xc"]),
+    ["new", "new", "new", "same", 1]);
 });
 
 test("numbers may wrap, and a long flow is compared as far back as a window", () => {
@@ -63,6 +66,7 @@ test("each connection has its own numbers, and a SYN of ours with another begins
   const later = [row(true, 7, 101, ACK | PSH, "hi"), row(true, 7, 500, SYN), row(false, 7, 950, SYN | ACK), row(true, 7, 501, ACK, "ho")];
   assert.deepEqual(later,
     ["5 0.1 c1 AP 1 2 again, the same bytes", "6 0.1 c3 S 0 0", "7 0.1 n3 SA 0 0", "8 0.1 c3 A 1 2"]);
+  assert.deepEqual([row(false, 8, 70, SYN | ACK), row(false, 8, 90, SYN | ACK)], ["9 0.1 n2 SA 0 0", "10 0.1 n2 SA 0 0"]);
 });
 
 test("what it keeps does not grow with the connections", { timeout: 60000 }, async () => {

@@ -37,6 +37,12 @@ test("errors of a port that pass end no line and are told; one that stays ends i
   assert.equal(why.name, "NetworkError");
 });
 
+test("a stream that fails ends the line, once", async () => {
+  const failing = () => new ReadableStream({ start(out) { out.error(new Error("it failed")); } });
+  const why = await new Promise(ended => attach({ readable: failing(), writable: new WritableStream() }, { tell() {}, ended }));
+  assert.equal(why.message, "it failed");
+});
+
 test("each error of a port has its words", async () => {
   for (const [name, words] of Object.entries({ BreakError: "break", BufferOverrunError: "overrun", FramingError: "framing",
     ParityError: "parity", NetworkError: "pulled out", OtherError: "OtherError: why" }))

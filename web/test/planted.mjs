@@ -7,6 +7,8 @@ import { join } from "node:path";
 import { noChromium } from "./chromium.mjs";
 import { SITE, UIPD, here, noProgram, top } from "./node_process.mjs";
 
+const LONGEST = "40";   // seconds: a test that hangs has failed
+
 // By module: the text that stands there once, what stands in its place, the test's file, and words of its name.
 const FAULTS = {
   "wire.js": [
@@ -16,7 +18,7 @@ const FAULTS = {
     [`if (get16(datagram, 6) & 0x3fff) return "ip fragment";`, "", "wire", "words of uipd dump"],
     [`if (get16(datagram, 2) < IP_HEAD || get16(datagram, 2) > datagram.length) return "ip length";`, "", "wire", "words of uipd dump"],
     [`datagram.subarray(IP_HEAD, get16(datagram, 2))`, `datagram.subarray(IP_HEAD)`, "wire", "words of uipd dump"],
-    [`while (sum > 0xffff) sum`, `if (sum > 0xffff) sum`, "talk", "pings of all sizes"],
+    [`while (sum > 0xffff) sum`, `if (sum > 0xffff) sum`, "wire", "carries twice"],
     [`if (this.#length > LARGEST) overlong();`, `if (this.#length > LARGEST) tell(this.#frame);`, "wire", "more than 1500"],
     [`        this.#length = 0;\n        this.#isEscaped = false;`, `        this.#length = 0;`, "wire", "none outlives its frame"],
     [`if (byte === END) text.push(ESC, ESC_END);`, `if (byte === END) text.push(END);`, "wire", "however they are cut"],
@@ -54,7 +56,7 @@ const FAULTS = {
     [`this.host.sendSegment(this.port, this.toPort, RST, ack, 0);`, "", "scripted", "older connection"],
     [`      if (flags & RST) return;\n      this.host`, `      this.host`, "scripted", "reset for an older number"],
     [`return flags & ACK ? this.fail`, `return false ? this.fail`, "scripted", "reset for an older number"],
-    [`(this.#isSynOut ? 1 : 0)`, `0`, "scripted", "what is not acknowledged"],
+    [`(this.#isSynOut ? 1 : 0)`, `0`, "scripted", "written before"],
     [`if (this.state === "FIN-WAIT-1") this.state = "FIN-WAIT-2";`, `if (false);`, "scripted", "both ends close: ours first"],
     [`this.state = "CLOSING";`, `this.#rest();`, "scripted", "both ends close: both at once"],
     [`this.#timer = this.host.clock.later(TIME_WAIT, () => this.#leave());`, "", "scripted", "both ends close"],
@@ -80,7 +82,7 @@ const FAULTS = {
   ],
   "line.js": [
     [`if (PASSING.includes(error.name)) passing(error); else isClosed = true;`, `isClosed = true;`, "line", "errors of a port that pass"],
-    [`passing(error); else isClosed = true;`, `passing(error);`, "line", "errors of a port that pass"],
+    [`passing(error); else isClosed = true;`, `passing(error);`, "line", "a stream that fails"],
     [`    writer.releaseLock();`, "", "line", "a line that is closed"],
     [`    await reader?.cancel().catch(() => {});\n`, "", "line", "a line that is closed"],
     [`wire.fill(Math.min(due, most))`, `wire.fill(due)`, "line", "silence is filled"],
@@ -115,7 +117,7 @@ const FAULTS = {
     [`, ...flags & FIN ? [END] : []`, "", "ladder", "whether it is the same"],
     [`flags & SYN ? [START] : []`, `[]`, "ladder", "whether it is the same"],
     [`if (ahead < -this.#kept.length) return UNKNOWN;`, "", "ladder", "numbers may wrap"],
-    [`if (count >= this.#kept.length) this.#kept.fill(UNKNOWN);\n    else for`, `for`, "ladder", "whether it is the same"],
+    [`if (count >= this.#kept.length) this.#kept.fill(UNKNOWN);`, `if (count >= this.#kept.length);`, "ladder", "whether it is the same"],
     [`this.#kept[this.#place(number)] = old[number % old.length];`, "", "ladder", "numbers may wrap"],
     [`if (!talk || isAnew && isToNode)`, `if (!talk)`, "ladder", "its own numbers"],
     [`if (isAnew || !talk[side])`, `if (!talk[side])`, "ladder", "its own numbers"],
@@ -133,7 +135,7 @@ const FAULTS = {
     [`if (first === undefined || first === sum) this`, `if (true) this`, "ladder", "uIP's own rules"],
     [`.catch(error => { this.sums.broken++; throw error; })`, "", "talk", "asked for anew"],
     [`if (others < 10) this.notice`, `if (true) this.notice`, "talk", "eleven connections"],
-    [`    if (next) next();\n    else this.#running--;`, `    next?.();`, "talk", "a thousand"],
+    [`    if (next) next();\n    else this.#running--;`, `    next?.();`, "talk", "eight connections at once"],
     [`if (row.bad) this.#tellNoise(row.bad);`, "", "browser", "opening the port resets"],
   ],
   "worker.js": [
@@ -168,8 +170,9 @@ function isFound(folder, file, [old, other, suite, words]) {
   const path = join(folder, "web", file), text = readFileSync(path, "utf8");
   if (text.split(old).length !== 2) throw new Error(`${file} has not once: ${old}`);
   writeFileSync(path, text.replace(old, () => other));
-  const args = ["--test", `--test-name-pattern=${words}`, join(folder, `web/test/${suite}.test.mjs`)];
-  const { status } = spawnSync("timeout", ["-k", "1", "60", process.execPath, ...args], { env: { ...process.env, UIPD, SITE }, stdio: "ignore" });
+  const args = ["--test", "--test-force-exit", `--test-name-pattern=${words}`, join(folder, `web/test/${suite}.test.mjs`)];
+  const options = { env: { ...process.env, UIPD, SITE }, stdio: "ignore" };
+  const { status } = spawnSync("timeout", ["-k", "1", LONGEST, process.execPath, ...args], options);
   writeFileSync(path, text);
   return status !== 0;
 }

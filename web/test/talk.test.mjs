@@ -48,6 +48,7 @@ talk("eight connections at once, each with its page", { site: BIG }, async sessi
   got.forEach((reply, n) => isSame(reply, names[n], BIG));
   await until(() => session.host.connections.size === 0);
   assert.equal(most, 8);                                 // the others waited
+  isSame(await session.whole("/ends.bin"), "/ends.bin", BIG);
 });
 
 for (const mss of [100, 536])
