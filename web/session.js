@@ -92,7 +92,9 @@ export class Session {
       if (this.#isClosed) throw new Error("no line is open");
       const reply = await this.#ask(target);
       reply.over.then(() => this.#free());
-      return { ...reply, body: this.#counted(target, reply.body) };
+      const counted = { ...reply, isWrong: false };
+      counted.body = this.#counted(target, reply.body, counted);
+      return counted;
     } catch (error) {
       this.#free();
       this.sums.broken++;
@@ -120,14 +122,14 @@ export class Session {
   }
 
   // The same stream, which is counted at its end. Where its reader gives it up it counts for nothing.
-  #counted(target, body) {
+  #counted(target, body, reply) {
     const reader = body.getReader();
     let sum = SUM;
     return new ReadableStream({
       pull: async out => {
         const turn = await reader.read().catch(error => { this.sums.broken++; throw error; });
         if (turn.done) {
-          this.#judge(target, sum);
+          this.#judge(target, sum, reply);
           return out.close();
         }
         this.sums.bytes += turn.value.length;
@@ -139,7 +141,7 @@ export class Session {
   }
 
   // A page that came to its end is whole, or wrong where an earlier copy had other bytes. What a script says may change.
-  #judge(target, sum) {
+  #judge(target, sum, reply) {
     const first = this.#sumsOfPages.get(target);
     if (first === undefined && !isScript(target)) {
       this.#sumsOfPages.set(target, sum);
@@ -147,29 +149,31 @@ export class Session {
     }
     if (first === undefined || first === sum) this.sums.whole++;
     else {
+      reply.isWrong = true;
       this.sums.wrong++;
       this.notice(`${target} came with other bytes than its first copy`);
     }
   }
 
   async whole(target) {
-    const { status, headers, body } = await this.get(target);
-    return { status, headers, bytes: await all(body) };
+    const reply = await this.get(target), bytes = await all(reply.body);
+    return { status: reply.status, headers: reply.headers, isWrong: reply.isWrong, bytes };
   }
 
   // Many copies of a page; gives how many of them came whole, wrong and not at all, and how quickly.
   async fetchMany(target, count, told = () => {}) {
-    const before = { ...this.sums }, start = performance.now();
-    const since = () => Object.fromEntries(["whole", "wrong", "broken", "bytes"].map(name => [name, this.sums[name] - before[name]]));
+    const sums = { whole: 0, wrong: 0, broken: 0, bytes: 0 }, start = performance.now();
     let left = count;
     const next = async () => {
       while (left-- > 0) {
-        await this.whole(target).catch(() => {});
-        told(since());
+        const page = await this.whole(target).catch(() => null);
+        sums[!page ? "broken" : page.isWrong ? "wrong" : "whole"]++;
+        sums.bytes += page?.bytes.length ?? 0;
+        told(sums);
       }
     };
     await Promise.all(Array.from({ length: Math.min(count, this.atOnce) }, next));
-    return { ...since(), seconds: (performance.now() - start) / 1000 };
+    return { ...sums, seconds: (performance.now() - start) / 1000 };
   }
 
   async close() {

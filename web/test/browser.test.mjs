@@ -2,7 +2,7 @@
 // folder for pictures of it.
 import test from "node:test";
 import assert from "node:assert/strict";
-import { execFileSync } from "node:child_process";
+import { execFileSync, spawn } from "node:child_process";
 import { existsSync, mkdtempSync, readFileSync, rmSync, writeFileSync } from "node:fs";
 import { tmpdir } from "node:os";
 import { join } from "node:path";
@@ -63,8 +63,8 @@ async function seesSite(tab) {
 }
 
 // A tab with the page, whose node is at the stand-in for a port.
-async function withPort({ base = "/", node = () => startNode(), isOpened = true }, what) {
-  const server = await serve({ base, node }), tab = await browser.open(server.url, serialAt(server.origin));
+async function withPort({ base = "/", node = () => startNode(), isOpened = true, first = "" }, what) {
+  const server = await serve({ base, node }), tab = await browser.open(server.url, serialAt(server.origin) + first);
   try {
     await tab.until(READY);
     await tab.run(`document.getElementById("fill").click()`);
@@ -96,9 +96,14 @@ async function withBridge(serving, what) {
 
 const inBrowser = (name, what, reason = false) => test(name, { skip: skip || reason, timeout: 120000 }, what);
 
-for (const base of ["/", "/some/where/"])
-  inBrowser(`a serial port, the page at ${base}: every file, links, back, reload`, () => withPort({ base }, async tab => {
+// Other browsers have no Navigation API: there a link to "/x" is led back by the worker, where the page lies at the root.
+const WITHOUT_NAVIGATION = `;delete Window.prototype.navigation; Object.defineProperty(self, "navigation", { value: undefined });`;
+
+for (const [name, options] of [["at /", { base: "/" }], ["at /some/where/", { base: "/some/where/" }],
+  ["at / without the Navigation API", { base: "/", first: WITHOUT_NAVIGATION }]])
+  inBrowser(`a serial port, the page ${name}: every file, links, back, reload`, () => withPort(options, async tab => {
     await seesSite(tab);
+    assert.equal(await tab.run(`return !frames[0].navigation`), options.first !== undefined);
     assert.deepEqual(await tab.run(`return navigator.serial.ports[0].opened`), { baudRate: 115200, bufferSize: 65536 });
   }));
 
@@ -217,7 +222,8 @@ inBrowser("the bridge tells why a node ended, and is for its own page alone", ()
     await tab.until(ends("the line ended: the program ended with status 3"));
     await click(tab, "open-bridge");
     await tab.until(`document.getElementById("state").textContent.startsWith("open:")`);
-    const upgrade = { Connection: "Upgrade", Upgrade: "websocket", "Sec-WebSocket-Version": "13", "Sec-WebSocket-Key": "AAAAAAAAAAAAAAAAAAAAAA==" };
+    const key = "AAAAAAAAAAAAAAAAAAAAAA==";
+    const upgrade = { Connection: "Upgrade", Upgrade: "websocket", "Sec-WebSocket-Version": "13", "Sec-WebSocket-Key": key };
     const asked = headers => JSON.parse(execFileSync("python3", ["-c", `
 import http.client, json, sys
 from urllib.parse import urlsplit
@@ -313,8 +319,11 @@ inBrowser("the page as one file: every file, what a page names, links, and a scr
     await tab.run(`addEventListener("message", ({ data }) => { if (data.told) self.told = data.told }); node.visit("/own.html")`);
     await tab.until(`self.told`);
     assert.equal(await tab.run(`return self.told`), readFileSync(join(top, "examples/site/style.css")).toString());
+    await tab.run(`postMessage({ visit: "/404.html" }, "*")`);   // of another window than the frame: it means nothing
     const [x, y] = await tab.run(`const it = document.getElementById("frame").getBoundingClientRect(); return [it.x + 90, it.y + 90]`);
-    for (const type of ["mousePressed", "mouseReleased"]) await tab.call("Input.dispatchMouseEvent", { type, x, y, button: "left", clickCount: 1 });
+    assert.equal(await tab.run(`return document.getElementById("target").value`), "/own.html");
+    for (const type of ["mousePressed", "mouseReleased"])
+      await tab.call("Input.dispatchMouseEvent", { type, x, y, button: "left", clickCount: 1 });
     await tab.until(`document.getElementById("target").value === "/style.css"`, 10);
     assert.deepEqual(tab.said, []);
   } finally {
@@ -322,6 +331,33 @@ inBrowser("the page as one file: every file, what a page names, links, and a scr
     server.stop();
   }
 });
+
+inBrowser("a serial port behind the bridge: one page has it at a time, and it is told when it goes away", async () => {
+  const words = [join(here, "on_terminal.py"), "--port", UIPD, "serve", SITE, "10.0.0.1", "pace", "5760", "tty"];
+  const port = spawn("python3", words, { stdio: ["ignore", "pipe", "inherit"] });
+  const name = await new Promise(resolve => port.stdout.once("data", text => resolve(`${text}`.trim())));
+  await withBridge(startServe("--line", name, "115200"), async (tab, { url }) => {
+    await tab.until(shows("Lowunbisa"));
+    await seesFiles(tab);
+    const other = await browser.open(url);
+    await other.until(ends(`the line ended: serve.py: another page has the port ${name}`));
+    await other.call("Page.close");
+    port.kill();
+    await tab.until(ends("the line ended: the port went away"));
+  });
+});
+
+inBrowser("two pages at once have each a node of its own", () => withBridge(startServeOfSite(), async (tab, { url }) => {
+  await tab.until(shows("Lowunbisa"));
+  const other = await browser.open(url);
+  await other.until(shows("Lowunbisa"));
+  for (const [one, whole] of [[tab, 1], [other, 0]]) {
+    for (let n = 0; n < whole; n++) await fetched(one, "/stats.shtml");
+    assert.match((await fetched(one, "/stats.shtml")).bytes.toString(), new RegExp(`this page +${whole + 1} times`));
+  }
+  await other.call("Page.close");
+  await seesFiles(tab);
+}));
 
 // The site from a board under qemu and from a C program, where they are built.
 const BOARD = process.env.BOARD ?? join(top, "examples/board/out/board.bin");

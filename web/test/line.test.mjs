@@ -1,6 +1,7 @@
 // Lines and their errors, the silence that is filled, faults by a seed, and the capture's room.
 import test from "node:test";
 import assert from "node:assert/strict";
+import { Clock } from "../clock.js";
 import { slipText } from "../wire.js";
 import { attach, fillSilence } from "../line.js";
 import { openPort, portFault, segmentAt } from "../port.js";
@@ -29,17 +30,24 @@ function faultyPort(turns) {
 test("errors of a port that pass end no line and are told; one that stays ends it", async () => {
   const got = [], passed = [], names = ["FramingError", "ParityError", "BufferOverrunError", "BreakError", "NetworkError"];
   const port = faultyPort(names.map((name, n) => [slipText(Uint8Array.of(n)), name]));
-  const why = await new Promise(resolve => attach(port, { tell: it => got.push(it[0]), passing: it => passed.push(it.name), ended: resolve }));
+  const why = await new Promise(ended =>
+    attach(port, { tell: it => got.push(it[0]), passing: it => passed.push(it.name), ended }));
   assert.deepEqual(got, [0, 1, 2, 3, 4]);
   assert.deepEqual(passed, names.slice(0, 4));
   assert.equal(why.name, "NetworkError");
+});
+
+test("a stream that fails ends the line, once", async () => {
+  const failing = () => new ReadableStream({ start(out) { out.error(new Error("it failed")); } });
+  const why = await new Promise(ended => attach({ readable: failing(), writable: new WritableStream() }, { tell() {}, ended }));
+  assert.equal(why.message, "it failed");
 });
 
 test("each error of a port has its words", async () => {
   for (const [name, words] of Object.entries({ BreakError: "break", BufferOverrunError: "overrun", FramingError: "framing",
     ParityError: "parity", NetworkError: "pulled out", OtherError: "OtherError: why" }))
     assert.match(portFault(new DOMException("why", name)), new RegExp(words));
-  const failing = (requestPort, open) => openPort(9600, { requestPort: async () => { requestPort?.(); return { open: async () => open?.() }; } });
+  const failing = (choose, open) => openPort(9600, { requestPort: async () => { choose?.(); return { open: async () => open?.() }; } });
   const raise = name => () => { throw new DOMException("why", name); };
   await assert.rejects(openPort(9600, null), /no Web Serial/);
   await assert.rejects(failing(raise("NotFoundError")), /no port was chosen/);
@@ -79,19 +87,34 @@ test("silence is filled at the rate, at no time much at once, and not while the 
   stop();
 });
 
+test("a clock may change its pace while something is under way", () => {
+  const clock = new Clock(), start = clock.now(), wait = time => { for (const end = performance.now() + time; performance.now() < end;); };
+  wait(30);
+  clock.rate = 1000;
+  const then = clock.now();
+  assert.ok(then - start >= 30 && then - start < 10000, `${then - start}`);
+  wait(10);
+  clock.rate = 1;
+  assert.ok(clock.now() - then >= 10000);
+});
+
 test("faults come as often as they should, and as they are told", () => {
   const faults = Object.assign(new Faults(5), { lose: 0.1, repeat: 0.2, reorder: 0.3, damage: 0.4 }), counts = {};
   const datagram = Uint8Array.from({ length: 50 }, (_, n) => n);
-  let delivered = 0, damaged = 0, expected = 0;
+  const delivered = { good: 0, damaged: 0 }, expected = { good: 0, damaged: 0 };
   for (let n = 0; n < 20000; n++) {
-    const { words, go } = faults.pass(datagram, true, it => { delivered++; damaged += it.some((byte, at) => byte !== at); });
+    const deliver = it => { delivered[it.every((byte, at) => byte === at) ? "good" : "damaged"]++; };
+    const { words, go } = faults.pass(datagram, true, deliver);
     for (const word of words) counts[word] = (counts[word] ?? 0) + 1;
-    if (!words.includes("lost")) expected += words.includes("twice") ? 2 : 1;
+    if (!words.includes("lost")) expected[words.includes("damaged") ? "damaged" : "good"] += words.includes("twice") ? 2 : 1;
     go();
   }
-  faults.pass(datagram, true, () => {}).go();
-  assert.ok(Math.abs(counts.lost / 2000 - 1) < 0.1 && Math.abs(counts.twice / 3600 - 1) < 0.1 && Math.abs(counts.damaged / 7200 - 1) < 0.1);
-  assert.ok(counts.late > 2000 && delivered >= expected - 2 && damaged > 0.35 * delivered);
+  faults.reorder = faults.lose = 0;
+  faults.pass(datagram, true, () => {}).go();   // what was held back comes behind it
+  for (const [word, count] of [["lost", 2000], ["twice", 3600], ["damaged", 7200]])
+    assert.ok(Math.abs(counts[word] / count - 1) < 0.1, `${counts[word]} were ${word}`);
+  assert.ok(counts.late > 2000);
+  assert.deepEqual(delivered, expected);
 });
 
 test("a datagram that is late comes behind the next one, or in a while", async () => {

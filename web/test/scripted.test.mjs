@@ -74,6 +74,15 @@ test("text is taken in order and once, and acknowledged always", async () => {
   assert.deepEqual(await text(), ["abcdef", "end"]);
 });
 
+test("what is written before the connection is open goes behind its SYN", () => {
+  const { say, heard, connection } = played({ isOpened: false });
+  connection.write(Buffer.from("ab"));
+  connection.end();
+  assert.deepEqual(heard(), []);
+  say(SYN | ACK, 0, 1);
+  assert.deepEqual(heard().map(it => [it.flags, it.seq, it.ack, it.len]), [[ACK | FIN | 8, 1, 1, 2]]);
+});
+
 test("a request is cut to the node's segments and its window", () => {
   const { say, heard, connection } = played({ mss: 4 });
   connection.write(Buffer.from("abcdefgh"));
@@ -134,6 +143,7 @@ test("while text is awaited the acknowledgement goes again, and a silent node is
   heard();
   assert.deepEqual(await text(), ["xy", null]);
   assert.equal(goOff(), 1000);
+  assert.deepEqual(told, [1000, 3000, 5000, 1000]);
   for (let n = 0; connection.state !== "CLOSED"; n++) { assert.ok(n < 70); goOff(); }
   assert.deepEqual(await text(), ["xy", "the node does not answer"]);
   assert.equal(told.at(-1) >= 100000, true);
@@ -225,11 +235,20 @@ test("a datagram of another host, or to another, changes nothing", () => {
   assert.equal(connection.state, "CLOSED");
 });
 
+test("a segment of another port of the node is to no connection", () => {
+  const { host, connection, timers } = played(), sent = [];
+  host.send = it => sent.push(read(it).segment);
+  host.hear(tcpDatagram([10, 0, 0, 1], [10, 0, 0, 2], 1,
+    { fromPort: 81, toPort: connection.port, seq: 5001, ack: 7, flags: ACK | FIN, window: 1, mss: 0, text: [] }));
+  assert.deepEqual(sent.map(it => [it.flags, it.toPort, it.seq]), [[RST, 81, 7]]);
+  assert.deepEqual([connection.state, timers.size], ["ESTABLISHED", 1]);
+});
+
 test("a SYN that is reset for an older number is not given up", () => {
-  const { say, connection } = played({ isOpened: false });
+  const { say, heard, connection } = played({ isOpened: false });
   say(RST | ACK, 0, 2);
   say(RST, 0, 1);
-  assert.equal(connection.state, "SYN-SENT");
+  assert.deepEqual([connection.state, heard()], ["SYN-SENT", []]);
   say(RST | ACK, 0, 1);
   assert.equal(connection.state, "CLOSED");
 });
@@ -271,19 +290,23 @@ async function asked(...pieces) {
     else it.say(ACK, seq, 1, piece);
     seq += piece?.length ?? 1;
   }
-  return { reply: await it.connection.reply, connection };
+  it.connection.reply.catch(() => {});
+  await new Promise(resolve => setTimeout(resolve, 10));
+  return { reply: it.connection.reply, connection };
 }
 
 test("a reply's head is read, however it is cut", async () => {
-  const { reply } = await asked("HTTP/1.0 20", "0 OK\r\nServer: x\r\nContent-Type:  a/b \r", "\n\r", "\nab", "c", null);
-  assert.deepEqual([reply.status, reply.reason, reply.headers], [200, "OK", [["Server", "x"], ["Content-Type", "a/b"]]]);
+  const reply = await (await asked("HTTP/1.0 20", "0 OK\r\nServer: x\r\nContent-Length:  3 \r", "\n\r", "\nab", "c", null)).reply;
+  assert.deepEqual([reply.status, reply.reason, reply.headers], [200, "OK", [["Server", "x"], ["Content-Length", "3"]]]);
   assert.equal(Buffer.from(await all(reply.body)).toString(), "abc");
 });
 
 test("a reply that is shorter than it tells is cut, and one without a head is none", async () => {
-  const { reply } = await asked("HTTP/1.0 200 OK\r\nContent-Length: 4\r\n\r\nabc", null);
-  await assert.rejects(all(reply.body), /after 3 bytes of 4/);
-  await assert.rejects(asked("hello\r\n\r\n"), /no head/);
-  await assert.rejects(asked("x".repeat(9000)), /no head/);
-  await assert.rejects(asked("HTTP/1.0 200 OK\r\n", null), /before a head/);
+  const short = await asked("HTTP/1.0 200 OK\r\nContent-Length: 4\r\n\r\nabc", null);
+  await assert.rejects(all((await short.reply).body), /after 3 bytes of 4/);
+  for (const [why, ...pieces] of [[/no head/, "hello\r\n\r\n"], [/no head/, "x".repeat(9000)], [/before a head/, "HTTP/1.0 200 OK\r\n", null]]) {
+    const { reply, connection } = await asked(...pieces);
+    await assert.rejects(reply, why);
+    assert.ok(["CLOSED", "LAST-ACK"].includes(connection.state));
+  }
 });

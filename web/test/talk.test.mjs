@@ -5,7 +5,7 @@ import { execFileSync } from "node:child_process";
 import { mkdtempSync, rmSync, writeFileSync } from "node:fs";
 import { tmpdir } from "node:os";
 import { join } from "node:path";
-import { FIN, RST, SYN, read, slipText } from "../wire.js";
+import { ACK, FIN, RST, SYN, read, slipText, tcpDatagram } from "../wire.js";
 import { Connection } from "../connection.js";
 import { all, get, headerOf } from "../http.js";
 import { Ladder } from "../ladder.js";
@@ -22,7 +22,6 @@ test.before(() => {
 test.after(() => rmSync(folder, { recursive: true }));
 
 const talk = (name, options, what) => test(name, { skip: noProgram, timeout: 120000 }, () => withSession(options, what));
-const sent = [];
 const isSame = ({ bytes }, target, site) => assert.ok(bodyOf(page(target, site)).equals(Buffer.from(bytes)), target);
 
 talk("every file of the site, byte for byte", {}, async session => {
@@ -42,10 +41,14 @@ talk("pings of all sizes come back", {}, async ({ host }) => {
 });
 
 talk("eight connections at once, each with its page", { site: BIG }, async session => {
-  const names = Array.from({ length: 8 }, (_, n) => n % 2 ? "/ends.bin" : "/big.bin");
+  const names = Array.from({ length: 12 }, (_, n) => n % 2 ? "/ends.bin" : "/big.bin");
+  let most = 0;
+  session.show = () => { most = Math.max(most, [...session.host.connections.values()].filter(it => it.state === "ESTABLISHED").length); };
   const got = await Promise.all(names.map(name => session.whole(name)));
   got.forEach((reply, n) => isSame(reply, names[n], BIG));
   await until(() => session.host.connections.size === 0);
+  assert.equal(most, 8);                                 // the others waited
+  isSame(await session.whole("/ends.bin"), "/ends.bin", BIG);
 });
 
 for (const mss of [100, 536])
@@ -113,6 +116,27 @@ talk("eleven connections: the eleventh is told of, and comes when there is room"
   isSame(await page, "/style.css");
 });
 
+// Puts another datagram in the place of the first of the node for which `isIt`.
+function putInPlace(session, isIt, other) {
+  const { host } = session, hear = host.hear;
+  host.hear = datagram => {
+    const { segment } = read(datagram);
+    if (!segment || !isIt(segment)) return hear.call(host, datagram);
+    host.hear = hear;
+    host.hear(tcpDatagram(host.node, host.own, 1, { ...segment, mss: 0, text: [], ...other }));
+  };
+}
+
+talk("a page whose connection is reset is asked for anew, before its head is there alone", { site: BIG }, async session => {
+  putInPlace(session, ({ flags }) => flags & SYN, { flags: RST | ACK });
+  isSame(await session.whole("/ends.bin"), "/ends.bin", BIG);
+  assert.deepEqual([session.sums.anew, session.sums.whole, session.sums.broken], [1, 1, 0]);
+  const { body } = await session.get("/ends.bin");
+  putInPlace(session, ({ text }) => text.length, { flags: RST | ACK });
+  await assert.rejects(all(body), /reset the connection/);
+  assert.deepEqual([session.sums.anew, session.sums.whole, session.sums.broken], [1, 1, 1]);
+});
+
 talk("a node that is gone: it is told, and the page is broken off", { speed: 50 }, async session => {
   const said = [], lose = () => { session.faults.lose = 1; };
   session.notice = words => said.push(words);
@@ -146,15 +170,16 @@ talk("a capture is what uipd reads as one", {}, async session => {
 });
 
 talk("every datagram that the host sends passes uipd's own checks", {}, async session => {
-  const { host, faults } = session, pass = faults.pass.bind(faults);
-  faults.pass = (datagram, isToNode, deliver) => { if (isToNode) sent.push(datagram); return pass(datagram, isToNode, deliver); };
+  const sent = [], { host } = session, send = host.send;
+  host.send = datagram => { sent.push(datagram); send(datagram); };
   await session.whole("/");
   await host.ping(1472);
   const lines = dump(Buffer.concat(sent.map(slipText)));
   for (const line of lines.trim().split("\n"))
     assert.match(line, /^\d+ \d+ (tcp 10\.0\.0\.2:\d+ 10\.0\.0\.1:80 \S+ \d+ \d+ \d+|icmp 10\.0\.0\.2 10\.0\.0\.1 8 0)$/);
   const ladder = new Ladder(), rows = sent.map(it => ladder.tell(it, true)).filter(it => it.flags !== "echo");
-  assert.deepEqual(rows.map(it => `${it.flags} ${it.len}`), [...lines.matchAll(/:80 (\S+) \d+ \d+ (\d+)$/gm)].map(it => `${it[1]} ${it[2]}`));
+  const dumped = [...lines.matchAll(/:80 (\S+) \d+ \d+ (\d+)$/gm)];
+  assert.deepEqual(rows.map(it => `${it.flags} ${it.len}`), dumped.map(([, flags, len]) => `${flags} ${len}`));
   const flags = sent.map(read).filter(it => it.segment).map(it => it.segment.flags);
   assert.ok(flags[0] === SYN && flags.some(it => it & FIN) && !flags.some(it => it & RST));
 });

@@ -60,6 +60,13 @@ test("what is refused is refused in the words of uipd dump", { skip: noProgram }
   });
 });
 
+test("a sum that carries twice is the program's too", { skip: noProgram }, () => {
+  const payload = new Uint8Array(1000).fill(0xff), words = 0x0800 + 9 + 499 * 0xffff;   // of the message but its last word
+  const last = 0xffff - (words & 0xffff);
+  payload.set([last >> 8, last & 0xff], 998);
+  assert.match(dump(slipText(echoDatagram(OWN, NODE, 1, 9, payload))), /^1 1028 icmp 10\.0\.0\.2 10\.0\.0\.1 8 0\n$/);
+});
+
 test("the segment size is that of the option, else 536", () => {
   const withOptions = (...options) => {
     const front = tcpDatagram(OWN, NODE, 1, { ...SEGMENT, mss: 1, text: Uint8Array.from([...options, 0, 0, 0, 0].slice(4)) });

@@ -1,0 +1,196 @@
+// The table of planted faults: each is an edit of a module, and the test that has to fail with it. `node planted.mjs [WORD]`
+// tries them all, or those of a module or a test with that word, and fails where a fault is not found.
+import { spawnSync } from "node:child_process";
+import { cpSync, mkdtempSync, readFileSync, rmSync, symlinkSync, writeFileSync } from "node:fs";
+import { tmpdir } from "node:os";
+import { join } from "node:path";
+import { noChromium } from "./chromium.mjs";
+import { SITE, UIPD, here, noProgram, top } from "./node_process.mjs";
+
+const LONGEST = "40";   // seconds: a test that hangs has failed
+
+// By module: the text that stands there once, what stands in its place, the test's file, and words of its name.
+const FAULTS = {
+  "wire.js": [
+    [`if (checksum(datagram.subarray(0, IP_HEAD)) !== 0) return "ip checksum";`, "", "wire", "one byte was changed"],
+    [`if (tcpSum(from, to, message) !== 0) return { bad: "tcp checksum" };`, "", "wire", "one byte was changed"],
+    [`if (checksum(message) !== 0) return { bad: "icmp checksum" };`, "", "wire", "one byte was changed"],
+    [`if (get16(datagram, 6) & 0x3fff) return "ip fragment";`, "", "wire", "words of uipd dump"],
+    [`if (get16(datagram, 2) < IP_HEAD || get16(datagram, 2) > datagram.length) return "ip length";`, "", "wire", "words of uipd dump"],
+    [`datagram.subarray(IP_HEAD, get16(datagram, 2))`, `datagram.subarray(IP_HEAD)`, "wire", "words of uipd dump"],
+    [`while (sum > 0xffff) sum`, `if (sum > 0xffff) sum`, "wire", "carries twice"],
+    [`if (this.#length > LARGEST) overlong();`, `if (this.#length > LARGEST) tell(this.#frame);`, "wire", "more than 1500"],
+    [`        this.#length = 0;\n        this.#isEscaped = false;`, `        this.#length = 0;`, "wire", "none outlives its frame"],
+    [`if (byte === END) text.push(ESC, ESC_END);`, `if (byte === END) text.push(END);`, "wire", "however they are cut"],
+    [`if (options[at] === 1) { at++; continue; }`, "", "wire", "segment size"],
+    [`get16(options, at + 2) || USUAL_MSS`, `get16(options, at + 2)`, "wire", "segment size"],
+  ],
+  "connection.js": [
+    [`text.slice(skipped), plus(seq, length)`, `text, plus(seq, length)`, "scripted", "in order and once"],
+    [`if (skipped < length && this.#isOpen())`, `if (length && this.#isOpen())`, "scripted", "in order and once"],
+    [`if (skipped < length && this.#isOpen())`, `if (skipped < length)`, "scripted", "in order and once"],
+    [`if (!this.transmit() && length) this`, `if (!this.transmit() && length && skipped < length) this`, "scripted", "in order and once"],
+    [`if (flags & SYN || !(flags & ACK) || isAfter(ack, this.#most)) return this.#acknowledge();`, "", "scripted", "in order and once"],
+    [`|| isAfter(ack, this.#most)) return`, `) return`, "scripted", "in order and once"],
+    [`if ((seq - this.#received >>> 0) < WINDOW) this.fail`, `this.fail`, "scripted", "in order and once"],
+    [`      this.#isEnding = true;\n    } else if`, `    } else if`, "scripted", "in order and once"],
+    [`else if (this.state === "LAST-ACK") this.#leave();`, "", "scripted", "in order and once"],
+    [`if (isEnd) this.#hearEnd();`, "", "scripted", "in order and once"],
+    [`if (isAfter(ack, this.#next)) this.#next = ack;`, "", "scripted", "what is not acknowledged"],
+    [`    this.#next = this.#una;\n    this.transmit();`, `    this.transmit();`, "scripted", "what is not acknowledged"],
+    [`LONGEST_WAIT = 2000`, `LONGEST_WAIT = 64000`, "scripted", "what is not acknowledged"],
+    [`if (this.#waited >= PATIENCE) return`, `if (false) return`, "scripted", "what is not acknowledged"],
+    [`this.mss = Math.min(mss, LARGEST_TEXT);`, `this.mss = LARGEST_TEXT;`, "scripted", "segments and its window"],
+    [`Math.max(this.#window, 1)`, `1e9`, "scripted", "segments and its window"],
+    [`    this.#window = window;\n    if (this.state`, `    if (this.state`, "scripted", "segments and its window"],
+    [`if (this.#isOutstanding() || this.#isOpen()) this`, `if (this.#isOpen()) this`, "scripted", "our end goes again"],
+    [`if (this.#isOutstanding() || this.#isOpen()) this`, `if (this.#isOutstanding()) this`, "scripted", "while text is awaited"],
+    [`if (!this.#isOutstanding()) return this.#acknowledge();`, `if (!this.#isOutstanding()) return;`, "scripted", "while text is awaited"],
+    [`    this.#waited = 0;\n    this.#arm();`, `    this.#arm();`, "scripted", "while text is awaited"],
+    [`      this.#timed = null;\n      return;`, `      return;`, "scripted", "follows the round trips"],
+    [`this.#told = this.#room();`, `this.#told = WINDOW;`, "scripted", "reader that is slow"],
+    [`this.#room() >= LARGEST_TEXT) this.#acknowledge();`, `this.#room() >= LARGEST_TEXT) return;`, "scripted", "reader that is slow"],
+    [`&& this.#room() >= LARGEST_TEXT)`, `)`, "scripted", "reader that is slow"],
+    [`if (this.state !== "SYN-SENT") this.#send(RST | ACK, this.#next);`, "", "scripted", "gives a connection up"],
+    [`    clearTimeout(this.#timer);\n    this.host.leave(this);`, `    this.host.leave(this);`, "scripted", "gives a connection up"],
+    [`this.host.sendSegment(this.port, this.toPort, RST, ack, 0);`, "", "scripted", "older connection"],
+    [`      if (flags & RST) return;\n      this.host`, `      this.host`, "scripted", "reset for an older number"],
+    [`return flags & ACK ? this.fail`, `return false ? this.fail`, "scripted", "reset for an older number"],
+    [`(this.#isSynOut ? 1 : 0)`, `0`, "scripted", "written before"],
+    [`if (this.state === "FIN-WAIT-1") this.state = "FIN-WAIT-2";`, `if (false);`, "scripted", "both ends close: ours first"],
+    [`this.state = "CLOSING";`, `this.#rest();`, "scripted", "both ends close: both at once"],
+    [`this.#timer = this.host.clock.later(TIME_WAIT, () => this.#leave());`, "", "scripted", "both ends close"],
+  ],
+  "host.js": [
+    [`!isSame(from, this.node) || `, "", "scripted", "datagram of another host"],
+    [` || !isSame(to, this.own)`, "", "scripted", "datagram of another host"],
+    [`if (!isSame(reply, payload)) return;`, "", "scripted", "an echo reply"],
+    [`this.#pings.get(echo.number)?.hear`, `[...this.#pings.values()][0]?.hear`, "scripted", "an echo reply"],
+    [`    if (flags & RST) return;\n`, "", "scripted", "segment to no connection"],
+    [`plus(seq, length));`, `seq);`, "scripted", "segment to no connection"],
+    [`(Math.abs(time - trip.mean) - trip.spread) / 4`, `(Math.abs(time - trip.mean) - trip.spread) / 2`, "scripted", "follows the round trips"],
+    [`do this.#port = (this.#port + 1) % PORTS; while (this.connections.has(FIRST_PORT + this.#port));`, `this.#port = 7;`, "talk", "ports are taken"],
+    [`if (connection?.toPort === segment.fromPort) connection`, `if (connection) connection`, "scripted", "of another port"],
+  ],
+  "http.js": [
+    [`count < length`, `false`, "scripted", "shorter than it tells"],
+    [`count = rest.length`, `count = 0`, "scripted", "a reply's head is read"],
+    [`if (text.length > LONGEST_HEAD) throw`, `if (false) throw`, "scripted", "shorter than it tells"],
+    [`if (done) throw new Error("the node closed before a head");`, `if (done) return { text, end: text.length };`, "scripted", "shorter than it tells"],
+    [`        stream.close();`, `        return;`, "scripted", "a reply's head is read"],
+    [`    connection.abort();\n    throw error;`, `    throw error;`, "scripted", "shorter than it tells"],
+  ],
+  "line.js": [
+    [`if (PASSING.includes(error.name)) passing(error); else isClosed = true;`, `isClosed = true;`, "line", "errors of a port that pass"],
+    [`passing(error); else isClosed = true;`, `passing(error);`, "line", "a stream that fails"],
+    [`    writer.releaseLock();`, "", "line", "a line that is closed"],
+    [`    await reader?.cancel().catch(() => {});\n`, "", "line", "a line that is closed"],
+    [`wire.fill(Math.min(due, most))`, `wire.fill(due)`, "line", "silence is filled"],
+    [` && wire.counts.waiting < most`, "", "line", "silence is filled"],
+    [` - (wire.counts.written - sent);`, `;`, "line", "silence is filled"],
+    [`out.error(new Error(reason || "the bridge went away"));`, `out.close();`, "browser", "why a node ended"],
+  ],
+  "port.js": [
+    [`ParityError: `, `Parity: `, "line", "each error of a port"],
+    [`bufferSize: BUFFER`, `bufferSize: 255`, "browser", "the page at /:"],
+    [`.catch(error => { throw told(OPENING, error); })`, "", "line", "each error of a port"],
+  ],
+  "faults.js": [
+    [`isTwice ? 2 : 1`, `1`, "line", "faults come as often"],
+    [`1 + Math.floor(this.chance() * 255)`, `Math.floor(this.chance() * 255)`, "line", "faults come as often"],
+    [`const other = datagram.slice();`, `const other = datagram;`, "line", "faults come as often"],
+    [`else { give(); this.#release(isToNode); }`, `else give();`, "line", "late comes behind the next"],
+    [`if (!this.#isClosed) deliver`, `deliver`, "line", "late comes behind the next"],
+    [`&& !this.#held[isToNode]`, "", "line", "faults come as often"],
+  ],
+  "clock.js": [
+    [`this.#time = this.now();\n    this.#then`, `this.#then`, "line", "change its pace"],
+    [`wait / this.#rate`, `wait`, "talk", "a node that is gone"],
+  ],
+  "capture.js": [
+    [`if (this.#size > this.room) this.#dropHalf();`, "", "line", "keeps to its room"],
+    [`head.setUint32(8, datagram.length);`, "", "talk", "a capture is what uipd reads"],
+    [`this.#size -= record.length`, `record.length`, "line", "keeps to its room"],
+  ],
+  "ladder.js": [
+    [`if (old === UNKNOWN) this.#kept[at] = unit;`, `this.#kept[at] = unit;`, "ladder", "whether it is the same"],
+    [`, ...flags & FIN ? [END] : []`, "", "ladder", "whether it is the same"],
+    [`flags & SYN ? [START] : []`, `[]`, "ladder", "whether it is the same"],
+    [`if (ahead < -this.#kept.length) return UNKNOWN;`, "", "ladder", "numbers may wrap"],
+    [`if (count >= this.#kept.length) this.#kept.fill(UNKNOWN);`, `if (count >= this.#kept.length);`, "ladder", "whether it is the same"],
+    [`this.#kept[this.#place(number)] = old[number % old.length];`, "", "ladder", "numbers may wrap"],
+    [`if (!talk || isAnew && isToNode)`, `if (!talk)`, "ladder", "its own numbers"],
+    [`if (isAnew || !talk[side])`, `if (!talk[side])`, "ladder", "its own numbers"],
+    [`if (this.#talks.size > TALKS) this`, `if (false) this`, "ladder", "does not grow"],
+    [`otherAt ??= plus(seq, n - this.first);`, "", "ladder", "uIP's own rules"],
+  ],
+  "picture.js": [
+    [`row.time - then`, `0`, "ladder", "a report of uipd"],
+    [/* escapes */ `.replace(/[&<>"]/g`, `.replace(/["]/g`, "ladder", "a report of uipd"],
+    [`isLost && "lost"`, `false`, "ladder", "a ladder of the page"],
+  ],
+  "session.js": [
+    [`if (this.#running < this.atOnce) this.#running++;`, `if (true) this.#running++;`, "talk", "eight connections at once"],
+    [`if (!error.isReset || left === 0) throw error;`, `throw error;`, "talk", "asked for anew"],
+    [`if (first === undefined || first === sum) this`, `if (true) this`, "ladder", "uIP's own rules"],
+    [`.catch(error => { this.sums.broken++; throw error; })`, "", "talk", "asked for anew"],
+    [`if (others < 10) this.notice`, `if (true) this.notice`, "talk", "eleven connections"],
+    [`    if (next) next();\n    else this.#running--;`, `    next?.();`, "talk", "eight connections at once"],
+    [`if (row.bad) this.#tellNoise(row.bad);`, "", "browser", "opening the port resets"],
+  ],
+  "worker.js": [
+    [`if (isPage && !url.href.startsWith(BASE)) return Response.redirect(BASE + place.id + place.target);`, "", "browser", "without the Navigation API"],
+    [`return of && url.origin === location.origin ? `, `return false ? `, "browser", "the page at /:"],
+    [`if (data !== "not mine") resolve(data); else if`, `resolve(data); if`, "browser", "two pages at once"],
+  ],
+  "frame.js": [
+    [`if (data.id !== ID) return port.postMessage("not mine");`, "", "browser", "two pages at once"],
+    [`    this.visit(url.pathname + url.search + url.hash);`, "", "browser", "the page at /some/where/:"],
+    [`this.element.removeAttribute("sandbox");`, "", "browser", "scripts are kept apart"],
+    [`port.postMessage({ why: error.message });`, "", "browser", "a page that never comes"],
+  ],
+  "plain.js": [
+    [`"allow-scripts"`, `"allow-scripts allow-same-origin"`, "browser", "scripts are kept apart"],
+    [`source !== this.element.contentWindow || `, "", "browser", "the page as one file"],
+    [`    await Promise.all([...page.querySelectorAll(NAMED)].map(it => this.#putIn(it, base)));\n`, "", "browser", "the page as one file"],
+    [`window.fetch = what =>`, `window.fetched = what =>`, "browser", "the page as one file"],
+    [`    event.preventDefault();\n    ask`, `    ask`, "browser", "the page as one file"],
+  ],
+  "serve.py": [
+    [` or self.headers.get("Origin") != f"http://{self.headers['Host']}"`, "", "browser", "why a node ended"],
+    [`if not self.is_ours():`, `if False:`, "browser", "why a node ended"],
+    [`if kind is None or name not in os.listdir(HERE):`, `if kind is None:\n            kind = "text/plain"\n        if False:`, "browser", "why a node ended"],
+    [`if not self.is_taken.acquire(blocking=False):`, `if False:`, "browser", "serial port behind the bridge"],
+    [`    if not line.is_over:\n        socket.close(line.why())`, `    pass`, "browser", "why a node ended"],
+  ],
+};
+
+// Whether the test fails with the edit.
+function isFound(folder, file, [old, other, suite, words]) {
+  const path = join(folder, "web", file), text = readFileSync(path, "utf8");
+  if (text.split(old).length !== 2) throw new Error(`${file} has not once: ${old}`);
+  writeFileSync(path, text.replace(old, () => other));
+  const args = ["--test", "--test-force-exit", `--test-name-pattern=${words}`, join(folder, `web/test/${suite}.test.mjs`)];
+  const options = { env: { ...process.env, UIPD, SITE }, stdio: "ignore" };
+  const { status } = spawnSync("timeout", ["-k", "1", LONGEST, process.execPath, ...args], options);
+  writeFileSync(path, text);
+  return status !== 0;
+}
+
+function main(word = "") {
+  const skipped = suite => noProgram || suite === "browser" && noChromium;
+  const folder = mkdtempSync(join(tmpdir(), "planted-")), counts = { found: 0, skipped: 0, missed: 0 };
+  cpSync(join(here, ".."), join(folder, "web"), { recursive: true });
+  symlinkSync(join(top, "examples"), join(folder, "examples"));
+  for (const [file, edits] of Object.entries(FAULTS))
+    for (const edit of edits.filter(it => [file, it[2], it[3]].some(text => text.includes(word)))) {
+      const verdict = skipped(edit[2]) ? "skipped" : isFound(folder, file, edit) ? "found" : "missed";
+      counts[verdict]++;
+      if (verdict !== "found" || word) console.log(`${verdict}: ${file}: ${edit[0].split("\n")[0]} (${edit[2]}: ${edit[3]})`);
+    }
+  rmSync(folder, { recursive: true, force: true });
+  console.log(`planted faults: ${counts.found} found, ${counts.missed} not found, ${counts.skipped} not tried`);
+  process.exit(counts.missed ? 1 : 0);
+}
+
+main(process.argv[2]);
