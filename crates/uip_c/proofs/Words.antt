@@ -23,15 +23,11 @@ use Rattle.std.proofs.alloc.Global.TheLaws as heap_laws
 use Rattle.std.specs.contracts.impls.GlobalAllocator.TheImpl.{ghosts}
 use Rattle.loose_box.proofs.Words.{two_words, words_typed}
 use Rattle.uip_device.specs.WebDevices.{WebDevice}
-use Rattle.uip_device.specs.contracts.device.Device as device
 use Rattle.uip_c.specs.declared.held.Held.{Held}
 use Rattle.uip_c.specs.contracts.held.Held as held
-use Rattle.uip_c.specs.Holding.{holds}
+use Rattle.uip_c.specs.Holding.{DeviceRow, holds}
 
--- the rows of a device, of the allocator and of `Held`
-abbrev pub DeviceRow : RattleType
-DeviceRow = device.the_row
-
+-- the rows of the allocator and of `Held`
 abbrev pub HeapRow : RattleType
 HeapRow = heap.the_row
 
@@ -46,7 +42,7 @@ pub pointer_typed : (p : Ptr) → T (has_ty ty_ptr (ptr_val p)) × WT (ptr_val p
 pointer_typed (block_ptr b o) = (tt, tt)
 pointer_typed null_ptr = (tt, record { fits = lit< tt })
 
-pub held_typed : (p : Ptr) (h : Val) → Good (layout HeapRow) h → T (has_ty (layout HeapRow) h && true) × WT (two_words (ptr_val p) h)
+pub held_typed : (p : Ptr) (h : Val) → Good (layout HeapRow) h → T (has_ty ty_ptr (ptr_val p) && (has_ty (layout HeapRow) h && true)) × WT (two_words (ptr_val p) h)
 held_typed (block_ptr b o) h good = words_typed DeviceRow HeapRow heap_laws.the_row_laws ghosts b o h good
 held_typed null_ptr h good =
     ((words_typed DeviceRow HeapRow heap_laws.the_row_laws ghosts 0 0 h good).0, (record { fits = lit< tt }, (good.1, tt)))

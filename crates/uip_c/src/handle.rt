@@ -25,17 +25,17 @@ pub(crate) fn take_out(alloc: Global, device: &mut UipDevice) -> Option<Box<WebD
     ensures sound { IfSome result (λ b. IsSoundWebDevice b.value) }
     ensures none { device.new.held.device ≡ None }
 {
-    let old = replace(
+    let UipDevice { is_open, held } = replace(
         device,
         UipDevice {
             is_open: 0,
             held: Held::none(alloc),
         },
     );
-    if old.is_open == 1 {
-        Some(old.held.into_parts().into_box())
+    if is_open == 1 {
+        Some(held.into_parts().into_box())
     } else {
-        let _alloc = old.held.into_alloc();
+        let _alloc = held.into_alloc();
         None
     }
 }
@@ -62,12 +62,12 @@ pub(crate) fn put_in(device: &mut UipDevice, opened: Box<WebDevice>)
     requires sound { IsSoundWebDevice opened.value }
     ensures { device.new.held.device ≡ Some opened.value }
 {
-    let old = replace(
+    let UipDevice { is_open: _, held } = replace(
         device,
         UipDevice {
             is_open: 1,
             held: Held::of(BoxParts::from_box(opened)),
         },
     );
-    let _alloc = old.held.into_alloc();
+    let _alloc = held.into_alloc();
 }

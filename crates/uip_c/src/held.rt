@@ -64,6 +64,7 @@ impl Held {
     /// What is left of one that has no device: its allocator.
     pub fn into_alloc(self) -> Global
         requires { self.device ≡ None }
+        ensures { result ≡ self.alloc }
     {
         let Held { at: _at, alloc } = self;
         alloc

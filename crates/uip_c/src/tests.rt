@@ -68,7 +68,8 @@ fn opened(rt: &impl Abort, alloc: Global) -> UipDevice {
 fn let_go(device: UipDevice)
     requires { device.held.device ≡ None }
 {
-    let _alloc = device.held.into_alloc();
+    let UipDevice { is_open: _, held } = device;
+    let _alloc = held.into_alloc();
 }
 
 /// A status alone.

@@ -61,12 +61,7 @@ struct Taken {
 }
 
 /// Takes a front of the bytes, of which the last alone may complete a frame, and writes the text of the answer.
-fn take<A: App>(
-    decoder: &mut Decoder,
-    node: &mut Node<A>,
-    bytes: &[u8],
-    out: &mut [u8],
-) -> Taken
+fn take<A: App>(decoder: &mut Decoder, node: &mut Node<A>, bytes: &[u8], out: &mut [u8]) -> Taken
     requires some { 0 < length bytes.now }
     requires whole { IsWhole A.App node.old }
     requires room { 0 < length out.old }

@@ -16,8 +16,8 @@ returns-in-More-clause-sends g c = λ before fed.
     let told = rw c.in-More.is at c.feed_run-run.ensures.frames in
     let bytes = take c.feed_run-run.result.count c.args.bytes.now in
     rw c.nothing-written.ensures (
-        sends_none g.A.App (λ own. events_behind own 0 before (map Byte bytes)) c.args.node.now (λ own replies. text_of own replies ≡ [])
-        (λ own. told_events own before bytes [] (told before fed).1) (λ own. refl))
+    sends_none g.A.App (λ own. events_behind own 0 before (map Byte bytes)) c.args.node.now (λ own replies. text_of own replies ≡ [])
+    (λ own. told_events own before bytes [] (told before fed).1) (λ own. refl))
 
 pub returns-in-Overlong-clause-sends : goal.returns-in-Overlong-clause-sends
 returns-in-Overlong-clause-sends g c = λ before fed.
@@ -25,9 +25,9 @@ returns-in-Overlong-clause-sends g c = λ before fed.
     let bytes = take c.feed_run-run.result.count c.args.bytes.now in
     let new = c.count_overlong.new.self in
     rw c.nothing-written-in-Overlong.ensures (
-        sends_by g.A.App (λ own. OverlongFrame ∷ []) (λ own. events_behind own 0 before (map Byte bytes)) c.args.node.now new (λ own replies. text_of own replies ≡ [])
-        (λ own. told_events own before bytes (Overlong ∷ []) (told before fed).1)
-        (sends_overlong g.A.App c.args.node.now new (λ own replies. text_of own replies ≡ []) c.count_overlong.ensures.same c.count_overlong.ensures.step (λ own. refl)))
+    sends_by g.A.App (λ own. OverlongFrame ∷ []) (λ own. events_behind own 0 before (map Byte bytes)) c.args.node.now new (λ own replies. text_of own replies ≡ [])
+    (λ own. told_events own before bytes (Overlong ∷ []) (told before fed).1)
+    (sends_overlong g.A.App c.args.node.now new (λ own replies. text_of own replies ≡ []) c.count_overlong.ensures.same c.count_overlong.ensures.step (λ own. refl)))
 
 pub returns-in-Datagram-clause-sends : goal.returns-in-Datagram-clause-sends
 returns-in-Datagram-clause-sends g c = λ before fed.

@@ -4,11 +4,11 @@ use mir.Val.{Val}
 use base.Logic.{SProp, ent, emp, id⊢}
 use base.Fml.{ftrue}
 use prog.Wp.{WpFn}
-use types.Kit.{‵, raw, ◌⊛◌, ◌$◌, ◌∵◌, !, qed, by, move, keep, split, fsplit, fjoin, suffices, use0, rewrite}
+use types.Kit.{‵, raw, ◌⊛◌, ◌$◌, ◌∵◌, !, qed, by, drop, move, keep, split, fsplit, fjoin, suffices, use0, rewrite}
 use types.Run.{stop, fld, of_opd, returns, enter}
 use types.ByLocal.{alloc_all, pass_all, free_all, look_at, get, get_in, sets}
 use types.Part.{sub, whole}
-use contract.Monad.{fact}
+use contract.Monad.{fact, fact_i}
 use contract.Running.{tables}
 use denote.RattleType.{owns}
 use denote.Signature.{plain}
@@ -46,12 +46,13 @@ into_alloc_spec 𝓤 𝓛 𝓜 𝓡 wired =
     qed 𝓛 ((‵ ftrue ⊛ ‵ (owns (HeldRow ∷ []) z.0.3 z.0.4)) ∷ raw (fact 𝓤 (v.device ≡ None)) ∷ []) ∵
     move ! (1 ∷ []) $ heard ! (v.device ≡ None) (λ none.
     split ! $ move ! (1 ∷ []) $ fsplit ! $
-    held_out ! v z.0.4.0 (λ h words good. rewrite ! 0 (λ (d : Option WebDevice). ‵ (holds a v.at d)) none refl $ nothing ! $
+    held_out ! v z.0.4.0 (λ h words good. rewrite ! 0 (λ (d : Option WebDevice). ‵ (holds a v.at d)) none refl $ drop ! $
     let w : Val = two_words (ptr_val v.at) h in
     suffices ! (Run (w ∷ [])) (subst (λ (us : List Val). ent 𝓤 (Run (w ∷ [])) (Run us)) (sym (λ i. words i ++ [])) (id⊢ 𝓤 (Run (w ∷ [])))) $
     enter ! 𝓣.C 𝓣.Λ fn (w ∷ []) Post $ alloc_all ! (λ l. pass_all ! refl (held_typed v.at h good, tt) $
     sets ! (of_opd ! (get_in ! (fld ! refl (stop !)) (sub ! 0 refl (whole !)))) refl (pointer_typed v.at) $
     sets ! (of_opd ! (get_in ! (fld ! refl (stop !)) (sub ! 1 refl (whole !)))) refl good $
     sets ! (of_opd ! (get ! refl)) refl good $
+    use0 𝓛 (raw (fact 𝓤 (a ≡ a))) (fact_i 𝓤 (a ≡ a) (emp 𝓤) refl) $ nothing ! $ nothing ! $ fjoin ! $
     returns ! (look_at ! 0 refl) $ free_all ! refl $ keep ! (4 ∷ 0 ∷ 2 ∷ 1 ∷ []) $
     by ! (leaves 𝓛 ended stays c z h a _ (tt, tt))))))

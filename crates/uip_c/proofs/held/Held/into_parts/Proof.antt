@@ -30,9 +30,9 @@ use Rattle.std.specs.contracts.impls.GlobalAllocator.TheImpl.{ghosts}
 use Rattle.loose_box.proofs.Words.{two_words, words_typed, parts_in}
 use Rattle.uip_device.specs.WebDevices.{WebDevice}
 use Rattle.uip_device.specs.WebDevices.{IsSoundWebDevice}
-use Rattle.uip_c.specs.Holding.{holds}
+use Rattle.uip_c.specs.Holding.{DeviceRow, holds}
 use Rattle.uip_c.proofs.Taking.{some_of}
-use Rattle.uip_c.proofs.Words.{DeviceRow, HeapRow, HeldRow, held_out}
+use Rattle.uip_c.proofs.Words.{HeapRow, HeldRow, held_out}
 use Rattle.uip_c.specs.contracts.held.Held.into_parts.{ended, clauses}
 use Rattle.uip_c.specs.contracts.held.Held.into_parts.Key.{name as #self}
 use Rattle.uip_c.proofs.held.Held.into_parts.Statement.{statement}

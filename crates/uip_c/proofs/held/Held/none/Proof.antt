@@ -23,7 +23,8 @@ use Rattle.std.proofs.alloc.Global.TheLaws as heap_laws
 use Rattle.std.specs.contracts.impls.GlobalAllocator.TheImpl.{ghosts}
 use Rattle.loose_box.proofs.Words.{two_words, words_typed}
 use Rattle.uip_device.specs.WebDevices.{WebDevice}
-use Rattle.uip_c.proofs.Words.{DeviceRow, HeapRow, allocator, held_in}
+use Rattle.uip_c.specs.Holding.{DeviceRow}
+use Rattle.uip_c.proofs.Words.{HeapRow, allocator, held_in}
 use Rattle.uip_c.specs.contracts.held.Held.none.{ended, clauses}
 use Rattle.uip_c.specs.contracts.held.Held.none.Key.{name as #self}
 use Rattle.uip_c.proofs.held.Held.none.Statement.{statement}

@@ -24,7 +24,8 @@ use Rattle.std.proofs.alloc.Global.TheLaws as heap_laws
 use Rattle.std.specs.contracts.impls.GlobalAllocator.TheImpl.{ghosts}
 use Rattle.loose_box.proofs.Words.{two_words, Parts, words_typed, parts_out}
 use Rattle.uip_device.specs.WebDevices.{IsSoundWebDevice}
-use Rattle.uip_c.proofs.Words.{DeviceRow, HeapRow, held_in}
+use Rattle.uip_c.specs.Holding.{DeviceRow}
+use Rattle.uip_c.proofs.Words.{HeapRow, held_in}
 use Rattle.uip_c.specs.contracts.held.Held.of.{ended, clauses}
 use Rattle.uip_c.specs.contracts.held.Held.of.Key.{name as #self}
 use Rattle.uip_c.proofs.held.Held.of.Statement.{statement}
