@@ -1,4 +1,4 @@
-ghost use Rattle.uip_edge.specs.Told.{told};
+ghost use Rattle.uip_edge.specs.Telling.{sink_told};
 ghost use Rattle.uipd.specs.Help.{Shows};
 
 use crate::status::Status;
@@ -37,7 +37,7 @@ pub(crate) const VERSION: &[u8] = b"uipd 1.0\n";
 
 /// Writes a text of the program's own.
 pub(crate) fn show<K: Sink>(text: &[u8], out: &mut K) -> Status
-    ensures { Shows text.now (told (K.written out.old) (K.faults out.old)) (told (K.written out.new) (K.faults out.new)) result }
+    ensures { Shows text.now (sink_told K.Sink out.old) (sink_told K.Sink out.new) result }
 {
     match out.write_whole(text) {
         Ok(()) => Status::Done,
