@@ -9,7 +9,7 @@ use Rattle.tcp_machine.specs.Segments.{has_place}
 use Rattle.uip_node.specs.Laws.{Alike}
 use Rattle.uip_node.proofs.Basics.{append_nothing, prefix_refl}
 use Rattle.node_laws.specs.Talks.{Exchange, said_at}
-use Rattle.node_laws.specs.Promise.{Account, page_told, is_whole_told, Begins, IsTaken, SaysPart, Acknowledges, IsAcknowledged, GrowsInto}
+use Rattle.node_laws.specs.Promise.{Account, account_page, account_is_whole, Begins, IsTaken, SaysPart, Acknowledges, IsAcknowledged, GrowsInto}
 
 pub prefix_trans : (a b c : List ℕ) → IsPrefixOf a b → IsPrefixOf b c → IsPrefixOf a c
 prefix_trans a b c h g = record { rest = h.rest ++ g.rest; joined = sym (append_assoc a h.rest g.rest) ∙ ap (λ l. l ++ g.rest) h.joined ∙ g.joined }
@@ -20,7 +20,7 @@ pub record Kept (pages : Pages) (life : List Exchange) : Type 0 where
   pub taken : IsTaken account.peer_first life account.text account.ended
   pub moments : All IsMoment account.captures
   pub says : (k : ℕ) (x : Exchange) (s : PlainSegment) → slice_get life k ≡ Some x → x.said ≡ Some s
-      → SaysPart account.first (page_told pages account) (is_whole_told pages account) s
+      → SaysPart account.first (account_page pages account) (account_is_whole pages account) s
   pub short : (k : ℕ) (x : Exchange) (s : PlainSegment) → slice_get life k ≡ Some x → x.said ≡ Some s → length s.text ≤ first_mss account.peer_mss
   pub acknowledges : (k : ℕ) (x : Exchange) (s : PlainSegment) → slice_get life k ≡ Some x → x.said ≡ Some s → has_rst s.flags ≡ false
       → Acknowledges account.peer_first (drop k life) account.text s

@@ -8,7 +8,7 @@ use Rattle.app_events.specs.Laws.{IsPrefixOf}
 use Rattle.app_events.specs.Pages.{Pages, IsPaged}
 use Rattle.uip_node.proofs.Basics.{choose, eqb-eq, same_place, append_nothing, wrap_wrap, prefix_length}
 use Rattle.node_laws.specs.Talks.{Exchange, said_at}
-use Rattle.node_laws.specs.Promise.{KeepsAccount, IsAtPlace, page_told, is_whole_told}
+use Rattle.node_laws.specs.Promise.{KeepsAccount, IsAtPlace, account_page, account_is_whole}
 use Rattle.node_laws.specs.Receivers.{Carries, IsReceived, EndsBehind, receives, takes_next}
 use Rattle.node_laws.proofs.Walk.{nil_of}
 use Rattle.node_laws.proofs.Kept.{Kept, said_in}
@@ -87,7 +87,7 @@ receives_received first life (place ∷ places) got h =
 
 module _ (m : Meaning) (pages : Pages) (lawful : IsPaged m pages) (life : List Exchange) (k : Kept pages life) where
   abbrev page : List ℕ
-  page = page_told pages k.account
+  page = account_page pages k.account
 
   short_page : length page < 1073741824
   short_page = lawful.short k.account.text k.account.captures k.moments
@@ -113,7 +113,7 @@ module _ (m : Meaning) (pages : Pages) (lawful : IsPaged m pages) (life : List E
   is_prefix : (got : List ℕ) → IsReceived k.account.first life got → IsPrefixOf got page
   is_prefix got r = prefix_by got page (λ i b h. (let n = few got r in let q : i < length got = get_inside got b i h in (byte_is i b (omega (arith, n, q)) (r i b h)).1))
 
-  is_all : (got : List ℕ) → IsReceived k.account.first life got → EndsBehind k.account.first life (length got) → (got ≡ page) × (is_whole_told pages k.account ≡ true)
+  is_all : (got : List ℕ) → IsReceived k.account.first life got → EndsBehind k.account.first life (length got) → (got ≡ page) × (account_is_whole pages k.account ≡ true)
   is_all got r e =
       let w = said_in life e.place e.segment e.said in
       let x = (k.says e.place w.exchange e.segment w.there w.said).fin e.fin in

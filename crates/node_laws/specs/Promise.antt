@@ -24,11 +24,11 @@ pub record Account : Type 0 where
   pub captures : List Moment
 
 -- the page of what was taken and captured, and whether it is whole
-abbrev pub page_told : Pages → Account → List ℕ
-page_told pages a = pages.text a.text a.captures
+abbrev pub account_page : Pages → Account → List ℕ
+account_page pages a = pages.text a.text a.captures
 
-abbrev pub is_whole_told : Pages → Account → Bool
-is_whole_told pages a = pages.whole a.text a.captures
+abbrev pub account_is_whole : Pages → Account → Bool
+account_is_whole pages a = pages.whole a.text a.captures
 
 -- ---- how it begins
 
@@ -112,7 +112,7 @@ pub record KeepsAccount (pages : Pages) (life : List Exchange) (a : Account) : T
   pub taken : IsTaken a.peer_first life a.text a.ended
   pub moments : All IsMoment a.captures
   -- all that is sent is a part of one page, and no text is longer than the peer takes
-  pub says : (k : ℕ) (s : PlainSegment) → said_at life k ≡ Some s → SaysPart a.first (page_told pages a) (is_whole_told pages a) s
+  pub says : (k : ℕ) (s : PlainSegment) → said_at life k ≡ Some s → SaysPart a.first (account_page pages a) (account_is_whole pages a) s
   pub short : (k : ℕ) (s : PlainSegment) → said_at life k ≡ Some s → length s.text ≤ first_mss a.peer_mss
   -- what is acknowledged was taken
   pub acknowledges : (k : ℕ) (s : PlainSegment) → said_at life k ≡ Some s → has_rst s.flags ≡ false
@@ -124,11 +124,11 @@ pub record KeepsAccount (pages : Pages) (life : List Exchange) (a : Account) : T
   pub one : (i j : ℕ) (s t : PlainSegment) → i < j → said_at life i ≡ Some s → said_at life j ≡ Some t
       → has_place s ≡ true → has_place t ≡ true → (s.seq ≡ t.seq → ⊥) → IsAcknowledged life i j t
   -- what the plainest receiver has, and any other, is a prefix of that page
-  pub in_order : (places : List ℕ) → IsPrefixOf (receives a.first life places []) (page_told pages a)
-  pub prefix : (got : List ℕ) → IsReceived a.first life got → IsPrefixOf got (page_told pages a)
+  pub in_order : (places : List ℕ) → IsPrefixOf (receives a.first life places []) (account_page pages a)
+  pub prefix : (got : List ℕ) → IsReceived a.first life got → IsPrefixOf got (account_page pages a)
   -- and all of it, the page being whole, where the FIN stands behind it
   pub all : (got : List ℕ) → IsReceived a.first life got → EndsBehind a.first life (length got)
-      → (got ≡ page_told pages a) × (is_whole_told pages a ≡ true)
+      → (got ≡ account_page pages a) × (account_is_whole pages a ≡ true)
 
 -- a later account of the same life
 pub record GrowsInto (older newer : Account) : Type 0 where
