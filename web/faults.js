@@ -1,0 +1,76 @@
+// What can befall datagrams on their way, both ways, by chances that follow from a seed: they are lost, repeated, come out
+// of order, damaged or late. TCP has to make each of them good (RFC 793 section 1.5, "Reliability").
+import { Clock } from "./clock.js";
+
+const LATEST = 300;   // milliseconds that a datagram is held back where no other comes to go in front of it
+
+// Numbers below 2^32 that follow from a seed (mulberry32).
+export function numbers(seed) {
+  return () => {
+    seed = seed + 0x6D2B79F5 | 0;
+    let n = Math.imul(seed ^ seed >>> 15, 1 | seed);
+    n = n + Math.imul(n ^ n >>> 7, 61 | n) ^ n;
+    return (n ^ n >>> 14) >>> 0;
+  };
+}
+
+export class Faults {
+  // Chances from 0 to 1, and a delay in milliseconds.
+  lose = 0;
+  repeat = 0;
+  reorder = 0;
+  damage = 0;
+  delay = 0;
+  #held = { true: null, false: null };   // by direction
+  #isClosed = false;
+
+  constructor(seed = 1, clock = new Clock()) {
+    const next = numbers(seed);
+    this.chance = () => next() / 0x100000000;
+    this.clock = clock;
+  }
+
+  // What befalls a datagram: the words for it, and `go`, which delivers it as that wants.
+  pass(datagram, isToNode, deliver) {
+    if (this.chance() < this.lose) return { words: ["lost"], go() {} };
+    const isDamaged = this.chance() < this.damage, isTwice = this.chance() < this.repeat;
+    const isLate = this.chance() < this.reorder && !this.#held[isToNode];
+    const sent = isDamaged ? this.#damaged(datagram) : datagram;
+    const give = () => { for (let n = 0; n < (isTwice ? 2 : 1); n++) this.#give(sent, deliver); };
+    const go = () => {
+      if (isLate) this.#hold(isToNode, give);
+      else { give(); this.#release(isToNode); }
+    };
+    return { words: [isDamaged && "damaged", isTwice && "twice", isLate && "late"].filter(Boolean), go };
+  }
+
+  // One byte of a datagram changed. By the checksums of 16 bits each such change is found.
+  #damaged(datagram) {
+    const other = datagram.slice();
+    other[Math.floor(this.chance() * other.length)] ^= 1 + Math.floor(this.chance() * 255);
+    return other;
+  }
+
+  #give(datagram, deliver) {
+    const give = () => { if (!this.#isClosed) deliver(datagram); };
+    if (this.delay > 0) this.clock.later(this.delay, give); else give();
+  }
+
+  // It goes behind the next one of its direction, or in a while.
+  #hold(isToNode, give) {
+    this.#held[isToNode] = { give, timer: this.clock.later(LATEST, () => this.#release(isToNode)) };
+  }
+
+  #release(isToNode) {
+    const held = this.#held[isToNode];
+    this.#held[isToNode] = null;
+    clearTimeout(held?.timer);
+    held?.give();
+  }
+
+  // Nothing is delivered any more.
+  close() {
+    this.#isClosed = true;
+    for (const isToNode of [true, false]) this.#release(isToNode);
+  }
+}

@@ -1,0 +1,68 @@
+// The device's site in a frame, by the service worker: a page of the device is there as it is, with no byte changed, and so
+// is whatever it asks for. Its scripts have this page's origin; web/plain.js is for those that are not trusted.
+
+const ID = crypto.randomUUID().slice(0, 8);
+
+export class WorkerFrame {
+  // The first page is mount + "/". A link to "/x" stays below it, also where this page does not lie at the origin's root.
+  #mount = new URL(`at/${ID}`, document.baseURI).href;
+  #followed = null;
+
+  // `get` gives a page's reply, and `shown` hears which target is shown.
+  constructor(element, { get, shown }) {
+    Object.assign(this, { element, get, shown });
+    this.answer = event => this.#answer(event);
+  }
+
+  // Needs a page of https, of this machine, or none is there.
+  async start() {
+    if (!navigator.serviceWorker) throw new Error("no service worker here");
+    navigator.serviceWorker.addEventListener("message", this.answer);
+    await navigator.serviceWorker.register("worker.js");
+    await navigator.serviceWorker.ready;
+    setInterval(() => this.#follow(), 50);
+  }
+
+  visit(target) {
+    this.element.removeAttribute("sandbox");
+    this.element.src = this.#mount + target;
+    this.element.removeAttribute("srcdoc");
+  }
+
+  reload() {
+    this.element.contentWindow.location.reload();
+  }
+
+  back() {
+    this.element.contentWindow.history.back();
+  }
+
+  // What the worker asks for.
+  async #answer({ data, ports: [port] }) {
+    if (data.id !== ID) return port.postMessage("not mine");
+    try {
+      const { status, reason, headers, body } = await this.get(data.target);
+      port.postMessage({ status, reason, headers, body }, [body]);
+    } catch (error) {
+      port.postMessage({ why: error.message });
+    }
+  }
+
+  #follow() {
+    const inside = this.element.contentWindow;
+    let href;
+    try { href = inside.location.href; } catch { return; }   // a link led to another origin
+    if (href.startsWith(this.#mount)) this.shown(href.slice(this.#mount.length));
+    if (!inside.navigation || inside.navigation === this.#followed) return;
+    this.#followed = inside.navigation;
+    this.#followed.addEventListener("navigate", event => this.#turn(event));
+  }
+
+  // A link that leads out of the worker's places, as "/x" where this page lies below a path.
+  #turn(event) {
+    const url = new URL(event.destination.url);
+    if (url.origin !== location.origin || url.href.startsWith(this.#mount) || !event.cancelable) return;
+    event.preventDefault();
+    this.visit(url.pathname + url.search + url.hash);
+  }
+}

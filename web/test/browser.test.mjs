@@ -1,0 +1,341 @@
+// The page in Chromium: over a stand-in for a serial port, over the bridge of web/serve.py, and as one file. PICTURES names a
+// folder for pictures of it.
+import test from "node:test";
+import assert from "node:assert/strict";
+import { execFileSync } from "node:child_process";
+import { existsSync, mkdtempSync, readFileSync, rmSync, writeFileSync } from "node:fs";
+import { tmpdir } from "node:os";
+import { join } from "node:path";
+import { noChromium, startChromium } from "./chromium.mjs";
+import { serialAt, serve, startServe, startServeOfSite } from "./server.mjs";
+import { FILES, SITE, UIPD, bodyOf, dump, here, noProgram, page, startNode, startProgram, top } from "./node_process.mjs";
+
+const folder = mkdtempSync(join(tmpdir(), "browser-test-")), PICTURES = process.env.PICTURES ?? folder;
+const skip = noProgram || noChromium;
+let browser;
+test.before(async () => { if (!skip) browser = await startChromium(); });
+test.after(async () => { await browser?.stop(); rmSync(folder, { recursive: true, force: true }); });
+
+const READY = `document.documentElement.dataset.ready`;
+const shows = title => `frames[0].document.readyState === "complete" && frames[0].document.title === ${JSON.stringify(title)}`;
+const click = (tab, id) => tab.run(`document.getElementById(${JSON.stringify(id)}).click()`);
+const says = words => `document.getElementById("notices").innerText.includes(${JSON.stringify(words)})`;
+const ends = words => `document.getElementById("state").textContent === ${JSON.stringify(words)}`;
+const set = (tab, values) => tab.run(`
+  for (const [name, value] of Object.entries(${JSON.stringify(values)})) document.getElementById(name).value = value;
+  document.getElementById("faults").dispatchEvent(new Event("input"))`);
+
+// What a page in the frame gets for a name.
+async function fetched(tab, name) {
+  const { text, ...rest } = await tab.run(`
+    const reply = await frames[0].fetch(${JSON.stringify(name)}), bytes = new Uint8Array(await reply.arrayBuffer());
+    return { status: reply.status, type: reply.headers.get("Content-Type"), text: btoa(String.fromCharCode(...bytes)) }`);
+  return { ...rest, bytes: Buffer.from(text, "base64") };
+}
+
+// Every file in the frame, byte for byte.
+async function seesFiles(tab) {
+  for (const name of FILES) {
+    const { status, type, bytes } = await fetched(tab, name), wanted = page(name);
+    assert.equal(status, 200, name);
+    assert.ok(wanted.toString("latin1").includes(`Content-type: ${type}\r\n`), type);
+    assert.ok(bodyOf(wanted).equals(bytes), name);
+  }
+  assert.equal((await fetched(tab, "/no-such-file")).status, 404);
+}
+
+// The start page has its style and picture; a link leads to the script page, and back and reload lead as they should.
+async function seesSite(tab) {
+  await seesFiles(tab);
+  await tab.until(`frames[0].document.images[0].complete`);
+  assert.deepEqual(await tab.run(`
+    const { document } = frames[0], [image] = document.images, [sheet] = document.styleSheets;
+    return [image.naturalWidth > 0, sheet.cssRules.length, frames[0].getComputedStyle(document.body).color]`), [true, 5, "rgb(20, 44, 36)"]);
+  await tab.run(`frames[0].document.querySelector('a[href="/stats.shtml"]').click()`);
+  await tab.until(shows("What it counts"));
+  assert.match(await tab.run(`return frames[0].document.body.innerText`), /ESTABLISHED/);
+  await tab.until(`document.getElementById("target").value === "/stats.shtml"`);
+  await click(tab, "back");
+  await tab.until(shows("Lowunbisa"));
+  await tab.run(`frames[0].document.title = ""`);
+  await click(tab, "reload");
+  await tab.until(shows("Lowunbisa"));
+}
+
+// A tab with the page, whose node is at the stand-in for a port.
+async function withPort({ base = "/", node = () => startNode(), isOpened = true }, what) {
+  const server = await serve({ base, node }), tab = await browser.open(server.url, serialAt(server.origin));
+  try {
+    await tab.until(READY);
+    await tab.run(`document.getElementById("fill").click()`);
+    if (isOpened) {
+      await click(tab, "open-port");
+      await tab.until(shows("Lowunbisa"));
+    }
+    await what(tab, server);
+    assert.deepEqual(tab.said.filter(it => !/\/(no-such-file|gone-away|never)$/.test(it)), []);
+    assert.ok(!server.asked.some(it => FILES.some(name => it === `GET ${name}`)), "what the device has was asked of the server");
+  } finally {
+    await tab.call("Page.close").catch(() => {});
+    server.stop();
+  }
+}
+
+// A tab with the page, whose node is behind the bridge.
+async function withBridge(serving, what) {
+  const server = await serving, tab = await browser.open(server.url);
+  try {
+    await tab.until(READY);
+    await what(tab, server);
+  } finally {
+    await tab.call("Page.close").catch(() => {});
+    server.stop();
+    await server.ended;
+  }
+}
+
+const inBrowser = (name, what, reason = false) => test(name, { skip: skip || reason, timeout: 120000 }, what);
+
+for (const base of ["/", "/some/where/"])
+  inBrowser(`a serial port, the page at ${base}: every file, links, back, reload`, () => withPort({ base }, async tab => {
+    await seesSite(tab);
+    assert.deepEqual(await tab.run(`return navigator.serial.ports[0].opened`), { baudRate: 115200, bufferSize: 65536 });
+  }));
+
+inBrowser("a serial port is pinged, captured, closed and opened again", () => withPort({}, async tab => {
+  await click(tab, "ping");
+  await tab.until(`document.getElementById("result").textContent.startsWith("a reply after")`);
+  const capture = await tab.run(`
+    return btoa(String.fromCharCode(...new Uint8Array(await node.session.capture.file().arrayBuffer())))`);
+  const line = execFileSync(UIPD, ["slip"], { input: Buffer.from(capture, "base64") });
+  assert.match(dump(line), /icmp 10\.0\.0\.2 10\.0\.0\.1 8 0\n.* icmp 10\.0\.0\.1 10\.0\.0\.2 0 0\n/);
+  await click(tab, "close");
+  await tab.until(`navigator.serial.ports[0].readable === null`);
+  assert.deepEqual((await fetched(tab, "/gone-away")).bytes.toString(), "no line is open\n");
+  await tab.run(`frames[0].document.title = ""`);
+  await click(tab, "open-port");
+  await tab.until(shows("Lowunbisa"));
+}));
+
+inBrowser("each fault of a port has its message, and the page goes on", () => withPort({ isOpened: false }, async tab => {
+  await tab.run(`self.chooseNone = true`);
+  await click(tab, "open-port");
+  await tab.until(says("no port was chosen"));
+  await tab.run(`self.chooseNone = false; self.refuseOpen = true`);
+  await click(tab, "open-port");
+  await tab.until(says("another program has it"));
+  await tab.run(`self.refuseOpen = false`);
+  await click(tab, "open-port");
+  await tab.until(shows("Lowunbisa"));
+  for (const [name, words] of [["BufferOverrunError", "an overrun"], ["ParityError", "a parity error"],
+    ["FramingError", "a framing error"], ["BreakError", "a break"]]) {
+    await tab.run(`navigator.serial.ports.at(-1).fail(${JSON.stringify(name)})`);
+    await tab.until(says(words));
+    assert.equal((await fetched(tab, "/style.css")).status, 200);
+  }
+  await tab.run(`navigator.serial.ports.at(-1).fail("NetworkError")`);
+  await tab.until(ends("the line ended: the port was pulled out"));
+  assert.equal((await fetched(tab, "/gone-away")).status, 504);
+  await tab.run(`frames[0].document.title = ""`);
+  await click(tab, "open-port");
+  await tab.until(shows("Lowunbisa"));
+  assert.equal((await fetched(tab, "/style.css")).status, 200);
+}));
+
+// A board that starts anew when its port is opened: it says so, and hears nothing meanwhile.
+const STARTING = `printf 'boot: board 7\\r\\n'; timeout 4 cat >/dev/null; exec "$0" serve "$1" 10.0.0.1 pace 10000 tty`;
+
+inBrowser("a board that opening the port resets: it is told, and its page comes", () =>
+  withPort({ isOpened: false, node: () => startProgram(["sh", "-c", STARTING, UIPD, SITE]) }, async tab => {
+    await click(tab, "open-port");
+    await tab.until(says("a board that the opening has reset answers when it has started"));
+    await tab.until(says("is the node there, or still starting? asked again"));
+    await tab.until(shows("Lowunbisa"));
+    await tab.until(says("what came is no datagram (ip short): the text of a starting board"));
+  }));
+
+inBrowser("a page that never comes is told, and another comes", () => withPort({}, async tab => {
+  await set(tab, { speed: 20 });
+  await tab.run(`node.session.faults.lose = 1; node.visit("/never")`);
+  await tab.until(says("asked again"));
+  await tab.until(`frames[0].document.body?.innerText === "the node does not answer\\n"`);
+  await set(tab, { speed: 1 });
+  await tab.run(`node.visit("/stats.shtml")`);
+  await tab.until(shows("What it counts"));
+  assert.equal(await tab.run(`return node.session.sums.broken`), 1);
+}));
+
+inBrowser("an eleventh connection is told, and the page goes on", () => withPort({}, async tab => {
+  await tab.run(`self.held = Array.from({ length: 10 }, () => node.session.host.connect())`);
+  await tab.until(`self.held.every(it => it.state === "ESTABLISHED")`);
+  await tab.run(`node.visit("/stats.shtml")`);
+  await tab.until(says("the node may have none free, 10 are open; asked again"));
+  await tab.run(`self.held.forEach(it => it.abort())`);
+  await tab.until(shows("What it counts"));
+}));
+
+inBrowser("one command to the site: by the bridge, with a fifth lost and a tenth of the other faults", () =>
+  withBridge(startServeOfSite(), async tab => {
+    await tab.until(shows("Lowunbisa"));
+    await seesSite(tab);
+    await tab.run(`node.visit("/stats.shtml")`);
+    await tab.until(shows("What it counts"));
+    await click(tab, "ping");
+    await tab.until(`document.getElementById("result").textContent.startsWith("a reply after")`);
+    await set(tab, { lose: 20, repeat: 10, reorder: 10, damage: 10, speed: 20 });
+    await seesFiles(tab);
+    const sums = await tab.run(`return node.session.sums`);
+    assert.deepEqual([sums.wrong, sums.broken, sums.other], [0, 0, 0]);
+    assert.ok(sums.struck > 20 && sums.again > 0);
+    await tab.until(`document.querySelectorAll("#rows .again").length > 0`);
+    await tab.picture(join(PICTURES, "page.png"));
+    await click(tab, "draw");
+    await tab.until(`document.getElementById("picture").naturalWidth > 0`);
+    await tab.picture(join(PICTURES, "drawing.png"));
+  }));
+
+inBrowser("very many pages in Chromium: none wrong, none cut, and no memory that grows with them", () =>
+  withBridge(startServeOfSite(), async tab => {
+    const heap = async () => {
+      await tab.run(`node.rows.clear()`);
+      await tab.call("HeapProfiler.collectGarbage");
+      return (await tab.call("Runtime.getHeapUsage")).usedSize;
+    };
+    await tab.run(`node.session.capture.room = 1 << 16; document.getElementById("target").value = "/index.html"`);
+    await set(tab, { count: 300 });
+    const first = await tab.run(`return node.fetchMany()`), before = await heap();
+    const next = await tab.run(`return node.fetchMany()`), more = await heap() - before;
+    for (const { whole, wrong, broken } of [first, next]) assert.deepEqual([whole, wrong, broken], [300, 0, 0]);
+    assert.ok(more < 5e5, `${more} bytes more after 300 pages`);
+    await set(tab, { lose: 10, repeat: 10, reorder: 10, damage: 10, delay: 10, speed: 20, count: 60 });
+    const struck = await tab.run(`return node.fetchMany()`);
+    assert.deepEqual([struck.whole, struck.wrong, struck.broken], [60, 0, 0]);
+  }));
+
+inBrowser("the bridge tells why a node ended, and is for its own page alone", () =>
+  withBridge(startServe("--", "sh", "-c", "sleep 1; exit 3"), async (tab, { url }) => {
+    await tab.until(ends("the line ended: the program ended with status 3"));
+    await click(tab, "open-bridge");
+    await tab.until(`document.getElementById("state").textContent.startsWith("open:")`);
+    const upgrade = { Connection: "Upgrade", Upgrade: "websocket", "Sec-WebSocket-Version": "13", "Sec-WebSocket-Key": "AAAAAAAAAAAAAAAAAAAAAA==" };
+    const asked = headers => JSON.parse(execFileSync("python3", ["-c", `
+import http.client, json, sys
+from urllib.parse import urlsplit
+link = http.client.HTTPConnection(urlsplit(sys.argv[1]).netloc)
+link.putrequest("GET", sys.argv[2], skip_host=True)
+for name, value in json.loads(sys.argv[3]).items(): link.putheader(name, value)
+link.endheaders()
+print(link.getresponse().status)`, url, ...headers]).toString());
+    const host = new URL(url).host;
+    assert.equal(asked(["/line", JSON.stringify({ Host: host, Origin: "http://elsewhere.example", ...upgrade })]), 403);
+    assert.equal(asked(["/line", JSON.stringify({ Host: host, ...upgrade })]), 403);
+    assert.equal(asked(["/", JSON.stringify({ Host: "elsewhere.example" })]), 403);
+    assert.equal(asked(["/serve.py", JSON.stringify({ Host: host })]), 404);
+    assert.equal(asked(["/../README.md", JSON.stringify({ Host: host })]), 404);
+    assert.equal(asked(["/line", JSON.stringify({ Host: host, Origin: `http://${host}`, ...upgrade })]), 101);
+  }));
+
+inBrowser("a node by uIP's own rules is found in the page", () =>
+  withBridge(startServe("--", "python3", join(here, "by_uips_rules.py")), async tab => {
+    await tab.until(`frames[0].document.body?.innerText.startsWith("This text was made 1 times.")`);
+    await set(tab, { lose: 40, speed: 4 });
+    for (let n = 0; n < 40 && !await tab.run(`return ${says("other bytes at one number")}`); n++)
+      await tab.run(`await node.session.whole("/").catch(() => {})`);
+    await tab.until(`[...document.querySelectorAll("#rows .other")].some(it => it.innerText.includes("OTHER BYTES at"))`);
+    assert.ok(await tab.run(`return node.session.sums.other`) > 0);
+    await tab.picture(join(PICTURES, "other.png"));
+  }));
+
+inBrowser("a report of a replay is drawn", () => withBridge(startServe("--page"), async tab => {
+  const report = join(folder, "page.report"), { root } = await tab.call("DOM.getDocument");
+  writeFileSync(report, execFileSync(UIPD, ["replay", SITE, join(top, "examples/page.schedule"), "show"]));
+  const { nodeId } = await tab.call("DOM.querySelector", { nodeId: root.nodeId, selector: "#report" });
+  await tab.call("DOM.setFileInputFiles", { nodeId, files: [report] });
+  await tab.until(`document.getElementById("drawing").open && document.getElementById("picture").naturalWidth > 0`);
+  assert.equal(await tab.run(`return document.getElementById("picture").alt`), "page.report: 9 datagrams between a client and the node");
+  await tab.picture(join(PICTURES, "report.png"));
+}));
+
+inBrowser("the page is used by the keyboard, has labels, and is readable at 360 pixels", () => withBridge(startServeOfSite(), async tab => {
+  await tab.until(shows("Lowunbisa"));
+  const { nodes } = await tab.call("Accessibility.getFullAXTree");
+  const fields = nodes.filter(it => ["button", "textbox", "slider", "checkbox", "combobox", "spinbutton"].includes(it.role?.value));
+  assert.ok(fields.length > 20);
+  assert.deepEqual(fields.filter(it => !it.name?.value).map(it => it.role.value), []);
+  await tab.run(`document.getElementById("target").focus(); document.getElementById("target").select()`);
+  await tab.call("Input.insertText", { text: "/stats.shtml" });
+  await tab.key("Enter", "Enter", "\r");
+  await tab.until(shows("What it counts"));
+  const reached = new Set();
+  await tab.run(`document.getElementById("open-bridge").focus()`);
+  for (let n = 0; n < 40; n++) {
+    reached.add(await tab.run(`return document.activeElement.id || document.activeElement.className`));
+    await tab.key("Tab");
+  }
+  for (const id of ["open-port", "baud", "fill", "close", "target", "lose", "speed", "ping", "many", "count", "draw", "ladder", "report"])
+    assert.ok(reached.has(id), `${id} is not reached: ${[...reached]}`);
+  await tab.size(360, 740);
+  await tab.until(`innerWidth === 360`);
+  assert.ok(await tab.run(`return document.documentElement.scrollWidth <= innerWidth`));
+  await tab.picture(join(PICTURES, "narrow.png"));
+}));
+
+inBrowser("scripts are kept apart where that is wanted", () => withPort({}, async tab => {
+  await tab.run(`document.getElementById("apart").click()`);
+  await tab.until(`document.getElementById("frame").srcdoc.includes("data:image/png")`);
+  assert.equal(await tab.run(`return document.getElementById("frame").getAttribute("sandbox")`), "allow-scripts");
+  assert.equal(await tab.run(`try { return frames[0].document.title } catch (error) { return error.name }`), "SecurityError");
+  await tab.run(`document.getElementById("apart").click()`);
+  await tab.until(shows("Lowunbisa"));
+}));
+
+// DOMs of no origin are seen by a debugger alone, so what is in the frame is told by its text, a click and a script of its own.
+inBrowser("the page as one file: every file, what a page names, links, and a script's own requests", async () => {
+  const file = join(folder, "node.html"), script = join(folder, "own.html"), site = join(folder, "own.img");
+  execFileSync("python3", [join(here, "../one_file.py"), file]);
+  writeFileSync(script, `<title>own</title><a id="link" style="position:fixed;inset:0" href="/style.css">x</a>
+<script>fetch("/style.css").then(it => it.text()).then(text => parent.postMessage({ told: text }, "*"))</script>`);
+  const names = [`/own.html=${script}`, ...FILES.map(name => `${name}=${join(top, "examples/site", name)}`)];
+  writeFileSync(site, execFileSync(UIPD, ["pack", ...names]));
+  const server = await serve({ node: () => startNode({ site }) }), tab = await browser.open(`file://${file}`, serialAt(server.origin));
+  try {
+    await tab.until(`${READY} === "plain"`);
+    await click(tab, "open-port");
+    await tab.until(`document.getElementById("frame").srcdoc.includes("data:image/png")`);
+    const shown = await tab.run(`return document.getElementById("frame").srcdoc`);
+    for (const [name, type] of [["logo.png", "image/png"], ["style.css", "text/css"]])
+      assert.ok(shown.includes(`data:${type};base64,${readFileSync(join(top, "examples/site", name)).toString("base64")}`), name);
+    for (const name of FILES) {
+      const text = await tab.run(`return btoa(String.fromCharCode(...(await node.session.whole(${JSON.stringify(name)})).bytes))`);
+      assert.ok(bodyOf(page(name)).equals(Buffer.from(text, "base64")), name);
+    }
+    await tab.picture(join(PICTURES, "one-file.png"));
+    await tab.run(`addEventListener("message", ({ data }) => { if (data.told) self.told = data.told }); node.visit("/own.html")`);
+    await tab.until(`self.told`);
+    assert.equal(await tab.run(`return self.told`), readFileSync(join(top, "examples/site/style.css")).toString());
+    const [x, y] = await tab.run(`const it = document.getElementById("frame").getBoundingClientRect(); return [it.x + 90, it.y + 90]`);
+    for (const type of ["mousePressed", "mouseReleased"]) await tab.call("Input.dispatchMouseEvent", { type, x, y, button: "left", clickCount: 1 });
+    await tab.until(`document.getElementById("target").value === "/style.css"`, 10);
+    assert.deepEqual(tab.said, []);
+  } finally {
+    await tab.call("Page.close").catch(() => {});
+    server.stop();
+  }
+});
+
+// The site from a board under qemu and from a C program, where they are built.
+const BOARD = process.env.BOARD ?? join(top, "examples/board/out/board.bin");
+const SERVE_C = process.env.SERVE_C ?? join(top, "examples/linux-c/out/uip_serve");
+const noBoard = (() => {
+  if (!existsSync(BOARD)) return `no firmware at ${BOARD}: \`sh examples/board/run.sh build\` builds it`;
+  try { execFileSync("qemu-system-aarch64", ["--version"], { stdio: "ignore" }); return false; } catch { return "no qemu-system-aarch64 here"; }
+})();
+const noServeC = existsSync(SERVE_C) ? false : `no C program at ${SERVE_C}: \`sh examples/linux-c/run.sh\` builds it`;
+
+for (const [name, words, reason] of [["the board under qemu", ["--board", BOARD], noBoard], ["the C program", [SERVE_C], noServeC]])
+  inBrowser(`${name}: its pages in the page`, () => withBridge(startServe(...words), async tab => {
+    await tab.until(shows("Lowunbisa"));
+    await seesSite(tab);
+    await set(tab, { lose: 10, repeat: 10, reorder: 10, damage: 10 });
+    await seesFiles(tab);
+  }), reason);

@@ -1,0 +1,106 @@
+// The ladder: its words against the program's, whether what came again is the same, and its picture.
+import test from "node:test";
+import assert from "node:assert/strict";
+import { execFileSync, spawn } from "node:child_process";
+import { join } from "node:path";
+import { ACK, FIN, PSH, SYN, tcpDatagram } from "../wire.js";
+import { Ladder, readReport, rowText, verdictOf } from "../ladder.js";
+import { drawLadder } from "../picture.js";
+import { SITE, UIPD, here, noProgram, startSession, top } from "./node_process.mjs";
+
+const NODE = [10, 0, 0, 1], OWN = [10, 0, 0, 2];
+
+// Tells the ladder segments of a node: gives of each whether it came again, and where it differs.
+function told(...segments) {
+  const ladder = new Ladder();
+  return segments.map(([seq, text, flags = ACK, toPort = 5]) => {
+    const segment = { fromPort: 80, toPort, seq: seq >>> 0, ack: 1, flags, window: 1, mss: 0, text: Buffer.from(text) };
+    const { isAgain, otherAt } = ladder.tell(tcpDatagram(NODE, OWN, 1, segment), false);
+    return isAgain ? otherAt ?? "same" : "new";
+  });
+}
+
+test("of what came again it is said whether it is the same", () => {
+  assert.deepEqual(told([9, "", SYN | ACK], [9, "", SYN | ACK], [10, "abcd"], [10, "abcd"], [10, "abxd"], [14, "e"]),
+    ["new", "same", "new", "same", 3, "new"]);
+  // cut otherwise, longer and shorter; a bare acknowledgement never came before
+  assert.deepEqual(told([0, "abcd"], [2, "cdef"], [1, "bc"], [3, "def"], [2, "ceef"], [6, ""]),
+    ["new", "same", "same", "same", 3, "new"]);
+  // a FIN stands at a number too
+  assert.deepEqual(told([0, "ab", ACK | FIN], [0, "ab", ACK | FIN], [0, "abc"], [0, "a", ACK | FIN]), ["new", "same", 2, 1]);
+  // a hole, its filling, and what is ahead of all that is kept
+  assert.deepEqual(told([0, "a"], [3, "d"], [1, "bc"], [0, "abcd"], [200000, "x"], [200000, "y"], [0, "a"]),
+    ["new", "new", "new", "same", "new", 200000, "new"]);
+});
+
+test("numbers may wrap, and a long flow is compared as far back as a window", () => {
+  const first = 2 ** 32 - 70000, parts = [];
+  for (let n = 0; n < 140; n++) parts.push([first + n * 1000, String.fromCharCode(65 + n % 26).repeat(1000)]);
+  const back = [first + 80 * 1000, parts[80][1]], other = [first + 139 * 1000, "?"], old = [first + 999, "?"];
+  assert.deepEqual(told(...parts, back, other, old).slice(-3), ["same", 139000, "new"]);
+});
+
+test("each connection has its own numbers, and a SYN of ours with another begins a new one", () => {
+  const ladder = new Ladder();
+  const row = (isToNode, port, seq, flags, text = "") => {
+    const ports = isToNode ? { fromPort: port, toPort: 80 } : { fromPort: 80, toPort: port };
+    const segment = { ...ports, seq, ack: 1, flags, window: 1, mss: 0, text: Buffer.from(text) };
+    return rowText({ ...ladder.tell(tcpDatagram(isToNode ? OWN : NODE, isToNode ? NODE : OWN, 1, segment), isToNode), time: "0.1" });
+  };
+  assert.deepEqual([row(true, 7, 100, SYN), row(false, 7, 900, SYN | ACK), row(true, 8, 40, SYN), row(true, 7, 101, ACK | PSH, "hi")],
+    ["1 0.1 c1 S 0 0", "2 0.1 n1 SA 0 0", "3 0.1 c2 S 0 0", "4 0.1 c1 AP 1 2"]);
+  assert.deepEqual([row(true, 7, 101, ACK | PSH, "hi"), row(true, 7, 500, SYN), row(false, 7, 950, SYN | ACK), row(true, 7, 501, ACK, "ho")],
+    ["5 0.1 c1 AP 1 2 again, the same bytes", "6 0.1 c3 S 0 0", "7 0.1 n3 SA 0 0", "8 0.1 c3 A 1 2"]);
+});
+
+test("what it keeps does not grow with the connections", { timeout: 60000 }, () => {
+  const ladder = new Ladder(), text = new Uint8Array(1400), before = process.memoryUsage().arrayBuffers;
+  for (let port = 1; port <= 2000; port++)
+    for (const seq of [1, 1401]) ladder.tell(tcpDatagram(NODE, OWN, 1, { fromPort: 80, toPort: port, seq, ack: 1, flags: ACK, window: 1, mss: 0, text }), false);
+  global.gc?.();
+  assert.ok(process.memoryUsage().arrayBuffers - before < 2e7);
+});
+
+test("a report of uipd is read, written back to the very line, and drawn", { skip: noProgram }, () => {
+  const report = execFileSync(UIPD, ["replay", SITE, join(top, "examples/page.schedule"), "show"]).toString();
+  const { rows, unit } = readReport(report);
+  assert.equal(unit, "ticks");
+  assert.equal(rows.map(rowText).join("\n"), report.split("\nclient")[0]);
+  const picture = drawLadder(rows, { title: "a <page>", unit });
+  assert.equal(picture.match(/<path class="wire"/g).length, rows.length);
+  assert.match(picture, /<text [^>]*>AP 1 376 {2}again<\/text>/);
+  assert.match(picture, /4 ticks later/);
+  assert.match(picture, /a &#60;page&#62;/);
+  assert.throws(() => readReport("ticks 4 datagrams 9\n"), /no row of a ladder/);
+});
+
+test("a ladder of the page is read back too", () => {
+  const rows = [
+    { number: 1, time: "0.001", who: "c1", flags: "S", seq: 0, len: 0, isToNode: true, isAgain: false, otherAt: null, hasBytes: false, fate: [] },
+    { number: 2, time: "0.002", who: "n1", flags: "AP", seq: 1, len: 9, isToNode: false, isAgain: true, otherAt: 4, hasBytes: true, fate: ["lost"] },
+    { number: 3, time: "0.900", who: "p", flags: "echo", seq: 0, len: 0, isToNode: true, isAgain: false, otherAt: null, hasBytes: false, fate: ["damaged", "late"] },
+    { number: 4, time: "0.901", who: "n1", flags: "AP", seq: 1, len: 9, isToNode: false, isAgain: true, otherAt: null, hasBytes: true, fate: [] },
+  ];
+  assert.deepEqual(readReport(rows.map(rowText).join("\n")), { rows, unit: "s" });
+  assert.equal(verdictOf(rows[1]), "again, OTHER BYTES at 4; lost");
+  assert.match(drawLadder(rows), /class="from again other lost"/);
+});
+
+test("a node by uIP's own rules is found: other bytes at one number", { timeout: 60000 }, async () => {
+  const rows = [], said = [], child = spawn("python3", [join(here, "by_uips_rules.py"), "0.1"], { stdio: ["pipe", "pipe", "inherit"] });
+  const session = startSession({ child, rate: 0, show: row => rows.push(row), notice: words => said.push(words) });
+  assert.match(Buffer.from((await session.whole("/")).bytes).toString(), /^This text was made 1 times\.\n$/);
+  assert.deepEqual([session.sums.again, session.sums.other], [0, 0]);
+  const pass = session.faults.pass;
+  session.faults.pass = function (datagram, isToNode, deliver) {   // the page is lost once
+    if (isToNode || datagram.length < 60) return pass.call(this, datagram, isToNode, deliver);
+    this.pass = pass;
+    return { words: ["lost"], go() {} };
+  };
+  assert.match(Buffer.from((await session.whole("/")).bytes).toString(), /^This text was made 2 times\.\n$/);
+  await session.close();
+  assert.equal(session.sums.other, 1);
+  const at = "HTTP/1.0 200 OK\r\nContent-Type: text/plain\r\n\r\nThis text was made ".length + 1;
+  assert.ok(rows.some(row => rowText(row).endsWith(`again, OTHER BYTES at ${at}`)), rows.map(rowText).join("\n"));
+  assert.ok(said.some(it => it.includes("other bytes at one number")));
+});

@@ -1,0 +1,119 @@
+// Lines and their errors, the silence that is filled, faults by a seed, and the capture's room.
+import test from "node:test";
+import assert from "node:assert/strict";
+import { slipText } from "../wire.js";
+import { attach, fillSilence } from "../line.js";
+import { openPort, portFault, segmentAt } from "../port.js";
+import { Faults } from "../faults.js";
+import { Capture } from "../capture.js";
+
+// A port as Web Serial has it: an error ends `readable`, and another stream takes its place, or none after the last. Each
+// turn is what comes and the name of the error behind it.
+function faultyPort(turns) {
+  const port = { readable: null, writable: new WritableStream() };
+  const next = () => {
+    const [text, name] = turns.shift() ?? [];
+    let isSaid = false;
+    port.readable = text ? new ReadableStream({
+      pull(out) {
+        if (!isSaid) out.enqueue(text);
+        else { next(); out.error(new DOMException("of the port", name)); }
+        isSaid = true;
+      },
+    }, { highWaterMark: 0 }) : null;
+  };
+  next();
+  return port;
+}
+
+test("errors of a port that pass end no line and are told; one that stays ends it", async () => {
+  const got = [], passed = [], names = ["FramingError", "ParityError", "BufferOverrunError", "BreakError", "NetworkError"];
+  const port = faultyPort(names.map((name, n) => [slipText(Uint8Array.of(n)), name]));
+  const why = await new Promise(resolve => attach(port, { tell: it => got.push(it[0]), passing: it => passed.push(it.name), ended: resolve }));
+  assert.deepEqual(got, [0, 1, 2, 3, 4]);
+  assert.deepEqual(passed, names.slice(0, 4));
+  assert.equal(why.name, "NetworkError");
+});
+
+test("each error of a port has its words", async () => {
+  for (const [name, words] of Object.entries({ BreakError: "break", BufferOverrunError: "overrun", FramingError: "framing",
+    ParityError: "parity", NetworkError: "pulled out", OtherError: "OtherError: why" }))
+    assert.match(portFault(new DOMException("why", name)), new RegExp(words));
+  const failing = (requestPort, open) => openPort(9600, { requestPort: async () => { requestPort?.(); return { open: async () => open?.() }; } });
+  const raise = name => () => { throw new DOMException("why", name); };
+  await assert.rejects(openPort(9600, null), /no Web Serial/);
+  await assert.rejects(failing(raise("NotFoundError")), /no port was chosen/);
+  await assert.rejects(failing(raise("SecurityError")), /wants a click/);
+  await assert.rejects(failing(null, raise("NetworkError")), /another program has it/);
+  await assert.rejects(failing(null, raise("InvalidStateError")), /open already/);
+  assert.ok(await failing());
+  assert.deepEqual([1200, 9600, 115200].map(segmentAt), [100, 200, 1460]);
+});
+
+test("a line that is closed is free: its streams are unlocked", async () => {
+  const written = [], line = { readable: new ReadableStream(), writable: new WritableStream({ write: it => { written.push(...it); } }) };
+  const wire = attach(line, { tell() {} });
+  wire.send(Uint8Array.of(1, 0xc0));
+  await new Promise(setImmediate);
+  await wire.close();
+  assert.deepEqual([line.readable.locked, line.writable.locked, written], [false, false, [0xc0, 1, 0xdb, 0xdc, 0xc0]]);
+});
+
+test("silence is filled at the rate, at no time much at once, and not while the line is behind", async () => {
+  const fills = [], wire = { counts: { written: 0, waiting: 0 }, fill: n => { fills.push(n); wire.counts.written += n; } };
+  const clock = { rate: 1 }, stop = fillSilence(wire, 10000, clock), start = performance.now();
+  await new Promise(resolve => setTimeout(resolve, 400));
+  const due = (performance.now() - start) * 10;
+  assert.ok(Math.abs(wire.counts.written - due) < 1500, `${wire.counts.written} of ${due}`);
+  wire.counts.written += 1e6;                              // others wrote
+  const before = fills.length;
+  await new Promise(resolve => setTimeout(resolve, 120));
+  assert.ok(fills.length - before <= 2);
+  clock.rate = 1000;
+  await new Promise(resolve => setTimeout(resolve, 120));
+  assert.equal(Math.max(...fills), 2500);
+  wire.counts.waiting = 2500;
+  const held = fills.length;
+  await new Promise(resolve => setTimeout(resolve, 60));
+  assert.equal(fills.length, held);
+  stop();
+});
+
+test("faults come as often as they should, and as they are told", () => {
+  const faults = Object.assign(new Faults(5), { lose: 0.1, repeat: 0.2, reorder: 0.3, damage: 0.4 }), counts = {};
+  const datagram = Uint8Array.from({ length: 50 }, (_, n) => n);
+  let delivered = 0, damaged = 0, expected = 0;
+  for (let n = 0; n < 20000; n++) {
+    const { words, go } = faults.pass(datagram, true, it => { delivered++; damaged += it.some((byte, at) => byte !== at); });
+    for (const word of words) counts[word] = (counts[word] ?? 0) + 1;
+    if (!words.includes("lost")) expected += words.includes("twice") ? 2 : 1;
+    go();
+  }
+  faults.pass(datagram, true, () => {}).go();
+  assert.ok(Math.abs(counts.lost / 2000 - 1) < 0.1 && Math.abs(counts.twice / 3600 - 1) < 0.1 && Math.abs(counts.damaged / 7200 - 1) < 0.1);
+  assert.ok(counts.late > 2000 && delivered >= expected - 2 && damaged > 0.35 * delivered);
+});
+
+test("a datagram that is late comes behind the next one, or in a while", async () => {
+  const faults = Object.assign(new Faults(1), { reorder: 1 }), got = [];
+  faults.pass(Uint8Array.of(1), true, it => got.push(it[0])).go();
+  assert.deepEqual(got, []);
+  faults.pass(Uint8Array.of(3), false, it => got.push(it[0])).go();
+  faults.pass(Uint8Array.of(2), true, it => got.push(it[0])).go();
+  assert.deepEqual(got, [2, 1]);
+  await new Promise(resolve => setTimeout(resolve, 400));
+  assert.deepEqual(got, [2, 1, 3]);
+  faults.pass(Uint8Array.of(4), true, it => got.push(it[0])).go();
+  faults.close();
+  assert.deepEqual(got, [2, 1, 3]);
+});
+
+test("a capture keeps to its room: the oldest records go", async () => {
+  const capture = new Capture(10000);
+  for (let n = 0; n < 1000; n++) capture.add(new Uint8Array(84).fill(n), 1234567890123);
+  const bytes = Buffer.from(await capture.file().arrayBuffer());
+  assert.ok(bytes.length <= 10024 && bytes.length > 5000);
+  assert.equal((bytes.length - 24) / 100 + capture.dropped, 1000);
+  assert.equal(bytes[bytes.length - 1], 999 & 0xff);
+  assert.deepEqual([bytes.readUInt32BE(24), bytes.readUInt32BE(28)], [1234567890, 123000]);
+});

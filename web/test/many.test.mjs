@@ -1,0 +1,30 @@
+// Very many pages: a thousand in a row and a thousand eight at once, with a tenth of the datagrams lost, a tenth repeated, a
+// tenth out of order, a tenth damaged, and all of them late. The time of both ends goes fifty times quicker.
+import test from "node:test";
+import assert from "node:assert/strict";
+import { setFlagsFromString } from "node:v8";
+import { runInNewContext } from "node:vm";
+import { noProgram, page, bodyOf, withSession } from "./node_process.mjs";
+
+setFlagsFromString("--expose-gc");
+const collect = runInNewContext("gc");
+const TENTH = { lose: 0.1, repeat: 0.1, reorder: 0.1, damage: 0.1, delay: 10 };
+const used = () => { collect(); const { heapUsed, arrayBuffers } = process.memoryUsage(); return heapUsed + arrayBuffers; };
+
+for (const [name, atOnce] of [["in a row", 1], ["eight at once", 8]])
+  test(`1,000 pages ${name}, a tenth of all struck`, { skip: noProgram, timeout: 300000 }, () =>
+    withSession({ faults: TENTH, speed: 50, seed: atOnce }, async session => {
+      session.capture.room = 1 << 16;     // so that it is full before the first look at the memory
+      session.atOnce = atOnce;
+      const first = await session.whole("/index.html");
+      assert.ok(bodyOf(page("/index.html")).equals(Buffer.from(first.bytes)));
+      const early = await session.fetchMany("/index.html", 200), before = used();
+      const late = await session.fetchMany("/index.html", 800), more = used() - before;
+      for (const [{ whole, wrong, broken }, count] of [[early, 200], [late, 800]])
+        assert.deepEqual([whole, wrong, broken], [count, 0, 0]);
+      const { struck, datagrams, other, again } = session.sums;
+      assert.ok(struck > datagrams / 4 && again > 300, `${struck} of ${datagrams} were struck, ${again} went again`);
+      assert.equal(other, 0);
+      assert.ok(more < 1e6, `${more} bytes more after 800 pages`);
+      assert.ok(session.host.connections.size < 20);
+    }));

@@ -1,0 +1,289 @@
+// The host and a node that we play, segment by segment: what the program's own node never sends.
+import test from "node:test";
+import assert from "node:assert/strict";
+import { ACK, FIN, RST, SYN, read, tcpDatagram } from "../wire.js";
+import { Host } from "../host.js";
+import { get, all } from "../http.js";
+
+// `say` is a segment of the node, and `heard` takes what the host sent since. Timers go off by hand.
+function played({ mss = 536, isOpened = true, connect = host => host.connect() } = {}) {
+  const sent = [], told = [], timers = new Map();
+  let time = 0, id = 0;
+  const clock = { now: () => time, later(wait, what) { timers.set(++id, { at: time + wait, what }); return id; } };
+  const host = new Host(it => sent.push(read(it).segment), { clock, waits: (_, waited) => told.push(waited) });
+  const clear = globalThis.clearTimeout;
+  globalThis.clearTimeout = timer => timers.delete(timer) || clear(timer);
+  const connection = connect(host), first = sent[0].seq;
+  const heard = () => sent.splice(0).map(it =>
+    ({ flags: it.flags, seq: it.seq - first >>> 0, ack: it.ack - 5000 >>> 0, len: it.text.length, window: it.window }));
+  const say = (flags, seq, ack, text = "", window = 1460) => host.hear(tcpDatagram([10, 0, 0, 1], [10, 0, 0, 2], 1, {
+    fromPort: 80, toPort: sent.port, seq: 5000 + seq >>> 0, ack: first + ack >>> 0, flags, window,
+    mss: flags & SYN ? mss : 0, text: Buffer.from(text) }));
+  sent.port = sent[0].fromPort;
+  const goOff = () => {
+    const [[next, { at, what }]] = [...timers].sort(([, a], [, b]) => a.at - b.at), wait = at - time;
+    timers.delete(next);
+    time = at;
+    what();
+    return wait;
+  };
+  heard();
+  if (isOpened) { say(SYN | ACK, 0, 1); heard(); }
+  return { host, connection, say, heard, told, goOff, timers, pass: wait => { time += wait; } };
+}
+
+// What a connection's reader got, and how it ended.
+function readerOf(connection) {
+  const got = [];
+  let isEnded = null;
+  (async () => { for await (const piece of connection.readable) got.push(...piece); })()
+    .then(() => { isEnded = "end"; }, error => { isEnded = error.message; });
+  return async () => { await new Promise(setImmediate); return [Buffer.from(got).toString(), isEnded]; };
+}
+
+const acks = (list, ack) => assert.deepEqual(list.map(it => [it.flags, it.ack, it.len]), [[ACK, ack, 0]]);
+const sizes = list => list.map(it => [it.seq, it.len]);
+
+test("text is taken in order and once, and acknowledged always", async () => {
+  const { say, heard, connection } = played(), text = readerOf(connection);
+  say(SYN | ACK, 0, 1);
+  acks(heard(), 1);                  // the SYN-ACK again
+  say(ACK, 1, 1, "abc");
+  acks(heard(), 4);
+  say(ACK, 6, 1, "fgh");             // ahead
+  acks(heard(), 4);
+  say(ACK, 1, 1, "abc");             // again
+  acks(heard(), 4);
+  say(ACK, 2, 1, "bcde");            // partly new
+  acks(heard(), 6);
+  say(ACK, 6, 9, "xyz");             // acknowledges what was never sent
+  acks(heard(), 6);
+  say(0, 6, 0, "xyz");               // acknowledges nothing
+  acks(heard(), 6);
+  say(RST, 4, 1);                    // a reset of an older number
+  assert.equal(connection.state, "ESTABLISHED");
+  say(ACK | FIN, 6, 1, "f");
+  assert.deepEqual(heard().map(it => [it.flags, it.seq, it.ack, it.len]), [[ACK | FIN, 1, 8, 0]]);
+  assert.equal(connection.state, "LAST-ACK");
+  say(ACK | FIN, 6, 1, "f");
+  acks(heard(), 8);
+  say(ACK, 8, 1, "behind its end");
+  acks(heard(), 8);
+  say(ACK, 8, 2);
+  assert.deepEqual([connection.state, heard()], ["CLOSED", []]);
+  assert.deepEqual(await text(), ["abcdef", "end"]);
+});
+
+test("a request is cut to the node's segments and its window", () => {
+  const { say, heard, connection } = played({ mss: 4 });
+  connection.write(Buffer.from("abcdefgh"));
+  assert.deepEqual(sizes(heard()), [[1, 4], [5, 4]]);
+  say(ACK, 1, 9, "", 3);
+  connection.write(Buffer.from("ijklm"));
+  assert.deepEqual(sizes(heard()), [[9, 3]]);
+  say(ACK, 1, 12, "", 0);
+  assert.deepEqual(sizes(heard()), [[12, 1]]);
+});
+
+test("what is not acknowledged goes again, and less where the window shrank", () => {
+  const { say, heard, connection, goOff, told } = played({ mss: 4 });
+  connection.write(Buffer.from("abcdefgh"));
+  heard();
+  assert.equal(goOff(), 1000);
+  assert.deepEqual(sizes(heard()), [[1, 4], [5, 4]]);
+  assert.equal(goOff(), 2000);
+  assert.equal(goOff(), 2000);
+  heard();
+  assert.deepEqual(told, [1000, 3000, 5000]);
+  say(ACK, 1, 5);                    // the first of them came: the wait is short again, and the other goes
+  assert.equal(goOff(), 1000);
+  assert.deepEqual(sizes(heard()), [[5, 4]]);
+  say(ACK, 1, 5, "", 2);
+  goOff();
+  assert.deepEqual(sizes(heard()), [[5, 2]]);
+  say(ACK, 1, 9);                    // all came after all
+  connection.write(Buffer.from("i"));
+  assert.deepEqual(sizes(heard()), [[9, 1]]);
+  for (let n = 0; connection.state !== "CLOSED"; n++) { assert.ok(n < 70); goOff(); }
+  assert.ok(told.at(-1) < 120000);
+});
+
+test("the wait follows the round trips, and not those of what went again", () => {
+  const { say, connection, goOff, pass, heard } = played();
+  connection.write(Buffer.from("a"));
+  pass(4000);
+  say(ACK, 1, 2);
+  connection.write(Buffer.from("b"));
+  assert.equal(goOff(), 4500);       // by RFC 6298 section 2: the round trips were 0 and 4000
+  assert.deepEqual(sizes(heard()).at(-1), [2, 1]);
+  pass(50000);
+  say(ACK, 1, 3);                    // of which sending?
+  connection.write(Buffer.from("c"));
+  assert.equal(goOff(), 4500);
+});
+
+test("while text is awaited the acknowledgement goes again, and a silent node is given up", async () => {
+  const { say, heard, connection, goOff, told, timers } = played(), text = readerOf(connection);
+  connection.write(Buffer.from("a"));
+  heard();
+  say(ACK, 1, 2, "x");
+  heard();
+  assert.deepEqual([goOff(), goOff(), goOff()], [1000, 2000, 2000]);
+  assert.deepEqual(heard().map(it => [it.flags, it.seq, it.ack, it.len]), Array(3).fill([ACK, 2, 2, 0]));
+  say(ACK, 2, 2, "y");               // it goes on: the wait is short again
+  heard();
+  assert.deepEqual(await text(), ["xy", null]);
+  assert.equal(goOff(), 1000);
+  for (let n = 0; connection.state !== "CLOSED"; n++) { assert.ok(n < 70); goOff(); }
+  assert.deepEqual(await text(), ["xy", "the node does not answer"]);
+  assert.equal(told.at(-1) >= 100000, true);
+  assert.equal(timers.size, 0);
+});
+
+test("a reader that is slow is told of by the window, and when it goes on", async () => {
+  const { say, heard, connection } = played(), reader = connection.readable.getReader();
+  for (let n = 0; n < 45; n++) say(ACK, 1 + n * 1460, 1, "x".repeat(1460));
+  const windows = heard().map(it => it.window);
+  assert.deepEqual([windows[0], windows[43], windows[44]], [65535 - 1460, 65535 - 44 * 1460, 0]);
+  await reader.read();
+  await new Promise(setImmediate);
+  assert.deepEqual(heard(), []);     // less than a segment has room
+  await reader.read();
+  await new Promise(setImmediate);
+  assert.deepEqual(heard().map(it => [it.flags, it.ack, it.window > 1460]), [[ACK, 45 * 1460 + 1, true]]);
+});
+
+test("who gives a connection up resets it, if it is open", () => {
+  const open = played(), opening = played({ isOpened: false });
+  open.connection.abort();
+  opening.connection.abort();
+  assert.deepEqual(open.heard().map(it => [it.flags, it.seq, it.ack]), [[RST | ACK, 1, 1]]);
+  assert.deepEqual(opening.heard(), []);
+  assert.deepEqual([open.timers.size, opening.timers.size], [0, 0]);
+});
+
+test("a node that has an older connection is told so, and asked again", () => {
+  const { say, heard, connection } = played({ isOpened: false });
+  say(ACK, 3, 77);
+  assert.deepEqual(heard().map(it => [it.flags, it.seq]), [[RST, 77], [SYN, 0]]);
+  say(SYN | ACK, 0, 1);
+  assert.equal(connection.state, "ESTABLISHED");
+});
+
+for (const order of ["both at once", "ours first"])
+  test(`both ends close: ${order}`, async () => {
+    const { say, heard, connection, goOff, host } = played(), text = readerOf(connection);
+    connection.end();
+    assert.deepEqual(heard().map(it => [it.flags, it.seq, it.ack]), [[ACK | FIN, 1, 1]]);
+    if (order === "both at once") {
+      say(ACK | FIN, 1, 1);
+      assert.equal(connection.state, "CLOSING");
+      acks(heard(), 2);
+      say(ACK, 2, 2);
+    } else {
+      say(ACK, 1, 2, "x");
+      assert.equal(connection.state, "FIN-WAIT-2");
+      acks(heard(), 2);
+      say(ACK | FIN, 2, 2);
+      acks(heard(), 3);
+    }
+    assert.equal(connection.state, "TIME-WAIT");
+    assert.deepEqual(await text(), [order === "ours first" ? "x" : "", "end"]);
+    say(ACK | FIN, order === "ours first" ? 2 : 1, 2);
+    acks(heard(), order === "ours first" ? 3 : 2);
+    assert.equal(goOff(), 60000);
+    assert.deepEqual([connection.state, host.connections.size, heard()], ["CLOSED", 0, []]);
+  });
+
+test("our end goes again until it is acknowledged", () => {
+  const { say, heard, connection, goOff } = played();
+  say(ACK | FIN, 1, 1);
+  assert.deepEqual(heard().map(it => [it.flags, it.seq]), [[ACK | FIN, 1]]);
+  goOff();
+  assert.deepEqual(heard().map(it => [it.flags, it.seq]), [[ACK | FIN, 1]]);
+  say(ACK, 2, 2);
+  assert.equal(connection.state, "CLOSED");
+});
+
+test("a segment to no connection is reset, and a reset is not", () => {
+  const sent = [], host = new Host(it => sent.push(read(it).segment));
+  const say = flags => host.hear(tcpDatagram([10, 0, 0, 1], [10, 0, 0, 2], 1,
+    { fromPort: 80, toPort: 9, seq: 7, ack: 8, flags, window: 1, mss: 0, text: Buffer.from("abc") }));
+  say(ACK);
+  say(SYN);
+  say(RST | ACK);
+  assert.deepEqual(sent.map(it => [it.flags, it.seq, it.ack]), [[RST, 8, 0], [RST | ACK, 0, 11]]);
+});
+
+test("a datagram of another host, or to another, changes nothing", () => {
+  const { host, heard, connection } = played();
+  const segment = { fromPort: 80, toPort: connection.port, seq: 5001, ack: 0, flags: RST, window: 1, mss: 0, text: [] };
+  host.hear(tcpDatagram([10, 0, 0, 3], [10, 0, 0, 2], 1, segment));
+  host.hear(tcpDatagram([10, 0, 0, 1], [10, 0, 0, 4], 1, segment));
+  assert.deepEqual([heard(), connection.state], [[], "ESTABLISHED"]);
+  host.hear(tcpDatagram([10, 0, 0, 1], [10, 0, 0, 2], 1, segment));
+  assert.equal(connection.state, "CLOSED");
+});
+
+test("a SYN that is reset for an older number is not given up", () => {
+  const { say, connection } = played({ isOpened: false });
+  say(RST | ACK, 0, 2);
+  say(RST, 0, 1);
+  assert.equal(connection.state, "SYN-SENT");
+  say(RST | ACK, 0, 1);
+  assert.equal(connection.state, "CLOSED");
+});
+
+test("an echo reply with another payload, or of another number, is none", async () => {
+  const sent = [], host = new Host(it => sent.push(it)), ping = host.ping(4, 200);
+  const reply = change => {
+    const it = sent[0].slice();
+    [it[12], it[13], it[14], it[15], it[16], it[17], it[18], it[19]] = [10, 0, 0, 1, 10, 0, 0, 2];
+    it[20] = 0;
+    change(it);
+    it.set([0, 0], 22);
+    let sum = 0;
+    for (let at = 20; at < it.length; at += 2) sum += it[at] << 8 | it[at + 1];
+    while (sum > 0xffff) sum = (sum & 0xffff) + (sum >>> 16);
+    it.set([~sum >> 8 & 0xff, ~sum & 0xff], 22);
+    host.hear(it);
+  };
+  reply(it => { it[30] ^= 1; });
+  reply(it => { it[25] ^= 1; });
+  await assert.rejects(ping, /no reply/);
+  const other = host.ping(4);
+  sent.shift();
+  reply(() => {});
+  assert.ok(await other >= 0);
+});
+
+// A request whose reply is told by hand.
+async function asked(...pieces) {
+  let connection;
+  const it = played({ connect: host => {
+    const reply = get(host, "/x");
+    connection = [...host.connections.values()][0];
+    return { reply };
+  } });
+  let seq = 1;
+  for (const piece of pieces) {
+    if (piece === null) it.say(ACK | FIN, seq, 1);
+    else it.say(ACK, seq, 1, piece);
+    seq += piece?.length ?? 1;
+  }
+  return { reply: await it.connection.reply, connection };
+}
+
+test("a reply's head is read, however it is cut", async () => {
+  const { reply } = await asked("HTTP/1.0 20", "0 OK\r\nServer: x\r\nContent-Type:  a/b \r", "\n\r", "\nab", "c", null);
+  assert.deepEqual([reply.status, reply.reason, reply.headers], [200, "OK", [["Server", "x"], ["Content-Type", "a/b"]]]);
+  assert.equal(Buffer.from(await all(reply.body)).toString(), "abc");
+});
+
+test("a reply that is shorter than it tells is cut, and one without a head is none", async () => {
+  const { reply } = await asked("HTTP/1.0 200 OK\r\nContent-Length: 4\r\n\r\nabc", null);
+  await assert.rejects(all(reply.body), /after 3 bytes of 4/);
+  await assert.rejects(asked("hello\r\n\r\n"), /no head/);
+  await assert.rejects(asked("x".repeat(9000)), /no head/);
+  await assert.rejects(asked("HTTP/1.0 200 OK\r\n", null), /before a head/);
+});
