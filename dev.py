@@ -244,7 +244,7 @@ def wrapped(text):
 
     def flush():
         if block:
-            words = re.findall(r"(?:`[^`]*`|\[[^\]]*\]\([^)]*\)|\S)+", " ".join(block))
+            words = re.findall(r"(?:`[^`]*`|\[[^\]]*\]\([^)]*\)|<!--.*?<!-- end -->|\S)+", " ".join(block))
             line = block[0][:len(block[0]) - len(block[0].lstrip())] + words[0]
             for word in words[1:]:
                 if len(line) + 1 + len(word) > WIDTH and not re.match(r"[-*+#|>]$|\d+\.$", word):
@@ -255,14 +255,17 @@ def wrapped(text):
             out.append(line)
             block.clear()
 
-    verbatim = False
+    in_fence = in_mark = False
     for line in text.split("\n"):
         fence, mark = line.lstrip().startswith("```"), re.match(r"<!-- (\w+)", line)
         item = re.match(r"(\s*)(?:[-*+]|\d+\.) ", line)
-        if verbatim or fence or mark or not line.strip() or re.match(r"\s*[|#>]|!\[|<", line) or (re.match(r" {4}|\t", line) and not block):
+        stays = re.match(r"\s*[|#>]|!\[|<", line) or (re.match(r" {4}|\t", line) and not block)
+        if in_fence or in_mark or fence or mark or not line.strip() or stays:
             flush()
             out.append(line)
-            verbatim ^= fence or bool(mark and (mark.group(1) == "end") == verbatim and "<!-- end -->" not in line[4:])
+            in_fence ^= fence
+            if mark and not in_fence:
+                in_mark = mark.group(1) != "end" and "<!-- end -->" not in line
             continue
         if item:
             flush()

@@ -198,7 +198,7 @@ def open_port(device, rate):
     return port
 
 
-def start_board(firmware, further):
+def emulate(firmware, further):
     """A board by qemu, with both ends of its serial line and the end of its monitor."""
     line, port = socket.socketpair()
     monitor, talk = socket.socketpair()
@@ -209,6 +209,13 @@ def start_board(firmware, further):
     board = subprocess.Popen(words, pass_fds=[port.fileno(), talk.fileno()])
     talk.close()
     return board, line.detach(), port.detach(), monitor
+
+
+def start_board(firmware, further=()):
+    """A board by qemu, with the end of its serial line, which ends where the board does, and that of its monitor."""
+    board, line, other, monitor = emulate(firmware, further)
+    os.close(other)
+    return board, line, monitor
 
 
 def save_memory(board, monitor, path):
@@ -314,10 +321,11 @@ def main():
     interface = make_interface(words.ether)
     server = monitor = None
     if words.board:
-        server, to_node, other, monitor = start_board(words.board, words.qemu)
+        if words.baud:
+            server, to_node, other, monitor = emulate(words.board, words.qemu)
+        else:
+            server, to_node, monitor = start_board(words.board, words.qemu)
         output = to_node
-        if not words.baud:
-            os.close(other)    # so the line ends where the board does
     elif words.line:
         to_node = output = port
         print(f"On the other end: stty -F PORT {words.line[1]} raw -echo min 0 time 5; "

@@ -43,6 +43,6 @@ void report_end(void) {
            used_seed, was_mixed ? " mixed" : "", counts.calls, counts.refused, counts.others, gone,
            (double)(counts.calls + counts.others) / gone);
     printf("%lu sessions, %lu datagrams sent, %lu echo replies, %lu opens (%lu of bad images, %lu without memory), "
-           "%lu pages compared, %lu of them whole\n", counts.sessions, counts.datagrams, counts.pings, counts.opens,
+           "%lu pages closed, %lu of them compared whole\n", counts.sessions, counts.datagrams, counts.pings, counts.opens,
            counts.bad_images, counts.refusals, counts.pages, counts.whole);
 }

@@ -2,14 +2,13 @@
 # Calls the library for C in random ways, and looks whether each call answers as its header and the formats foretell.
 #
 #     sh fuzz/run.sh [SECONDS] [SEED]     so long in all, a minute where none is named; then lines recorded for uipd are compared
-#     sh fuzz/run.sh asan CALLS SEED      so many calls, with the harness under the address and undefined-behaviour sanitizers
-#     sh fuzz/run.sh calls CALLS SEED     so many calls
-#     sh fuzz/run.sh mixed CALLS SEED     so many calls, of both kinds of link on one device
+#     sh fuzz/run.sh calls CALLS SEED [mixed]    so many calls; with `mixed` of both kinds of link on one device
+#     sh fuzz/run.sh asan CALLS SEED [mixed]     the same, with the harness under the address and undefined-behaviour sanitizers
 #     sh fuzz/run.sh planted              puts faults between the harness and the library, and sees that each is found
 #
 # It wants a C compiler on Linux, the library as `rt lib` in crates/uip_c builds it, and the program as `rt run` in crates/uipd does:
 # what is not built there is not built here. CC names another compiler, LIBRARY and UIPD another library and another program.
-case "$1" in -h|--help) sed -n '2,11s/^# \{0,1\}//p' "$0"; exit 0;; esac
+case "$1" in -h|--help) sed -n '2,10s/^# \{0,1\}//p' "$0"; exit 0;; esac
 here=$(cd "$(dirname "$0")" && pwd)
 top=$(cd "$here/.." && pwd)
 library=${LIBRARY:-$top/crates/uip_c/out/libuip_c.a}
@@ -23,9 +22,12 @@ mkdir -p "$out"
 # The harness by its name and the compiler's words.
 build() { name=$1; shift; "$cc" -std=gnu11 -g -Wall -Wextra -I"$top/include" "$@" "$here"/*.c "$library" -o "$out/$name" || fail "no $name was built"; }
 case "$1" in
+calls)
+    build fuzz -O2
+    exec "$out/fuzz" 1000000 "${2:-1000000}" "${3:-1}" $4;;
 asan)
     build fuzz_asan -O1 -fsanitize=address,undefined -fno-sanitize-recover=all
-    exec "$out/fuzz_asan" 1000000 "${2:-1000000}" "${3:-1}";;
+    exec "$out/fuzz_asan" 1000000 "${2:-1000000}" "${3:-1}" $4;;
 planted)
     wraps=$(for call in open hear call more hear_datagram counter close; do printf ' -Wl,--wrap=uip_%s' $call; done)
     missed=0
@@ -34,10 +36,6 @@ planted)
         if "$out/planted" 20 3000000 1 mixed >"$out/planted.txt"; then echo "MISSED $plant"; missed=1; else grep FINDING "$out/planted.txt"; fi
     done
     exit $missed;;
-calls|mixed)
-    build fuzz -O2
-    word=; [ "$1" = mixed ] && word=mixed
-    exec "$out/fuzz" 1000000 "${2:-1000000}" "${3:-1}" $word;;
 esac
 
 seconds=${1:-60}

@@ -21,8 +21,7 @@ PATIENCE = 8
 
 def is_answered(firmware, ping):
     """Whether the board answers one of the echo requests, of which the first came too early."""
-    board, line, other, monitor = browse.start_board(firmware, ["-S"])
-    os.close(other)
+    board, line, monitor = browse.start_board(firmware, ["-S"])
     os.write(line, ping)
     monitor.sendall(b"cont\n")
     end, heard = time.monotonic() + PATIENCE, b""
