@@ -28,8 +28,8 @@ OUTSIDE = set("""
     main clang gcc g++ cc man sh make ip qemu Linux std core alloc usize u8 u16 u32 u64 i32 true false main()
     arping slipif once_cell memchr2 cC nC mps2-an386
 """.split())
-# folders that a build makes, and types of content, are no paths of the repository
-NO_PATH = re.compile(r"(.*/)?out/.*|(text|image|application)/.*|[A-Z]+(/[A-Z]+)+|\d+(/\d+)+")
+# folders that a build makes, those of the kit, and types of content are no paths of the repository
+NO_PATH = re.compile(r"(.*/)?out/.*|rattle/.*|\d+(/\d+)+")
 
 
 # ---- the crates
