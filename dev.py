@@ -29,7 +29,7 @@ OUTSIDE = set("""
     arping slipif once_cell memchr2 cC nC mps2-an386
 """.split())
 # folders that a build makes, those of the kit, and types of content are no paths of the repository
-NO_PATH = re.compile(r"(.*/)?out/.*|rattle/.*|\d+(/\d+)+")
+NO_PATH = re.compile(r"(.*/)?out/.*|rattle/.*|(text|image|application)/.*|[A-Z]+(/[A-Z]+)+|\d+(/\d+)+")
 
 
 # ---- the crates
