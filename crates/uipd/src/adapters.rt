@@ -107,7 +107,7 @@ impl<W: Write> Sink for WriterSink<W> {
 
 /// Does what the words say over a line that is read and an output that is written; what is told beside the output is written to
 /// `errors`. The last word says whether the reader is a terminal.
-pub fn run_over<H: Shelf, R: Read, W: Write, E: Write>(
+pub fn run_over<H: Shelf, R: Read + Drop, W: Write + Drop, E: Write + Drop>(
     alloc: Global,
     words: &[String],
     shelf: &mut H,
