@@ -20,10 +20,11 @@ use Rattle.serve_loop.proofs.SlipServeLaws.{said_on_line}
 use Rattle.serve_loop.specs.Pace.{is_beat}
 use Rattle.uip_node.proofs.Basics.{both_ways, choose}
 use Rattle.uip_node.proofs.Fits.{all_nil, all_cons}
-use Rattle.line_promise.specs.Lines.{EverySerialLine, IsItem, replies_of, with_first}
+use Rattle.line_promise.specs.Lines.{EverySerialLine, IsItem}
 use Rattle.node_laws.specs.Wire.{IsOfLine}
 use Rattle.node_laws.specs.Wire.IsOfLine.{of_bytes, of_overlong, of_call}
-use Rattle.node_laws.proofs.EveryTurn.{every_turn, turn_events}
+use Rattle.node_laws.proofs.EveryTurn.{every_turn}
+use Rattle.node_laws.proofs.TurnRuns.{turn_events, sends}
 use Rattle.node_laws.specs.Turns.{turns_of}
 
 head_all : {X : Type 0} (P : X → Type 0) (x : X) (xs : List X) → All P (x ∷ xs) → P x
@@ -87,15 +88,6 @@ module _ (own : Addr) where
 
 pub of_line : (own : Addr) (pace : ℕ) (items : List Item) → All IsItem items → All (IsOfLine own) (line_events own pace items)
 of_line own pace items a = behind own pace [] items (all_nil IsByte) a
-
--- what is sent in the turns of a node is what its run sends
-same_first : (sent : Option Reply) (replies : List Reply) → with_first sent replies ≡ joined sent replies
-same_first None replies = refl
-same_first (Some reply) replies = refl
-
-sends : (m : Meaning) (served : ℕ → Bool) (events : List Event) (n : AbstractNode) → replies_of (turns_of m served events n) ≡ (run m served events n).sent
-sends m served [] n = refl
-sends m served (e ∷ es) n = same_first (step m served n e).sent _ ∙ ap (λ l. joined (step m served n e).sent l) (sends m served es (step m served n e).node)
 
 pub every_serial_line : EverySerialLine
 every_serial_line m pages lawful page served numbers w own a pace items is =

@@ -1,29 +1,19 @@
 -- What is kept on a serial line (RFC 1055): of the items that came over it and of the text that was written.
 use Rattle.std.specs.List.{All}
-use Rattle.std.specs.Prelude.{◌≡◌, ℕ, ◌<◌, Bool, List, [], ◌∷◌, map, Option, Some, None}
+use Rattle.std.specs.Prelude.{◌≡◌, ℕ, ◌<◌, Bool, List, map}
 use Rattle.uip_wire.specs.declared.addr.Addr.{Addr}
 use Rattle.app_events.specs.Part.{Meaning}
 use Rattle.app_events.specs.Pages.{Pages, IsPaged, IsAddr, IsWord}
 use Rattle.uip_edge.specs.declared.item.Item.{Item}
 use Rattle.uip_edge.specs.declared.item.Item.TheVariants.{Byte, Quiet}
-use Rattle.uip_node.specs.Events.{Reply}
 use Rattle.uip_node.specs.Laws.{HasBytes}
-use Rattle.node_laws.specs.Talks.{Turn}
+use Rattle.node_laws.specs.Talks.{Turn, replies_of}
 use Rattle.node_laws.specs.KeepsTurns.{KeepsTurns}
 use Rattle.node_laws.specs.Wire.{IsReadByPeer}
 use Rattle.serve_loop.specs.LineEvents.{line_events}
 use Rattle.serve_loop.specs.LineOutput.{output_by}
 use Rattle.serve_loop.specs.SlipWay.{slip_way}
 use Rattle.serve_loop.specs.Texts.{text_of}
-
--- what is sent in these turns, the oldest first
-abbrev pub with_first : Option Reply → List Reply → List Reply
-with_first None replies = replies
-with_first (Some reply) replies = reply ∷ replies
-
-abbrev pub replies_of : List Turn → List Reply
-replies_of [] = []
-replies_of (t ∷ turns) = with_first t.sent (replies_of turns)
 
 -- a byte is below 256
 abbrev pub IsItem : Item → Type 0

@@ -63,11 +63,6 @@ module _ (m : Meaning) (served : ℕ → Bool) where
   all_echoed [] n = all_nil IsEchoed
   all_echoed (e ∷ es) n = all_cons IsEchoed _ _ (echoed n e) (all_echoed es (step m served n e).node)
 
-  -- the events of the turns are those that came
-  pub turn_events : (events : List Event) (n : AbstractNode) → map (λ t. t.event) (turns_of m served events n) ≡ events
-  turn_events [] n = refl
-  turn_events (e ∷ es) n = ap (λ l. e ∷ l) (turn_events es (step m served n e).node)
-
 pub every_turn : EveryTurn
 every_turn m pages lawful page served own a numbers w events of =
     let are : All IsEvent events = events_fit own events of in

@@ -7,6 +7,7 @@ pub mod Receiving
 pub mod Whole
 pub mod Wire
 pub mod PeerReads
+pub mod TurnRuns
 pub mod EveryTurn
 pub mod Rows
 pub mod WrongLives

@@ -28,6 +28,15 @@ pub record Turn : Type 0 where
   pub event : Event
   pub sent : Option Reply
 
+-- what is sent in these turns, the oldest first
+abbrev pub with_first : Option Reply → List Reply → List Reply
+with_first None replies = replies
+with_first (Some reply) replies = reply ∷ replies
+
+abbrev pub replies_of : List Turn → List Reply
+replies_of [] = []
+replies_of (t ∷ turns) = with_first t.sent (replies_of turns)
+
 -- the exchanges with a peer in these turns, the newest first, in front of those before
 abbrev pub talk_behind : Sockets → List Turn → List Exchange → List Exchange
 talk_behind p [] before = before

@@ -31,7 +31,7 @@ use Rattle.web_pages.specs.Serving.{is_served, no_hits}
 use Rattle.web_pages.specs.WebMeaning.{hit_at, hits_by, is_acknowledged, waits_for_capture, web_meaning}
 use Rattle.uip_node.proofs.Basics.{choose, eqb-eq, wrap_wrap}
 use Rattle.uip_node.proofs.FitNodes.{Inside, slot_inside}
-use Rattle.link_world.proofs.FitWorlds.{position_in}
+use Rattle.uip_node.proofs.FitNodes.{position_in}
 use Rattle.uip_node.proofs.Connections.{all_closed, get_set, index_none, index_of, set_past}
 use Rattle.uip_node.proofs.Connections.Written.{here, there}
 use Rattle.replay_command.specs.Hits.{HitsAreCounted, becomes_hit, hits_over, is_place, one_hits}
