@@ -31,7 +31,7 @@ pub record IsLeft {F : Type 0} (reply : FileReply F) (thread : Thread) (name : L
       ≡ drop part.acked (text_by reply.gives reply.files (page_pieces reply name) (part.captures ++ later))
   pub whole : (later : List Moment) → reach_by reply.gives (left_from reply thread) later
       ≡ reach_by reply.gives (page_pieces reply name) (part.captures ++ later)
-  pub calls : length part.captures + calls_in reply.gives.calling (left_from reply thread) 
+  pub calls : length part.captures + calls_in reply.gives.calling (left_from reply thread)
       ≡ calls_in reply.gives.calling (page_pieces reply name)
   pub within : part.acked ≤ length (text_by reply.gives reply.files (page_pieces reply name) part.captures)
 

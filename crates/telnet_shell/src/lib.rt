@@ -10,7 +10,9 @@ mod shell;
 
 pub use command::Command;
 pub use desk::Desk;
-pub use laws::{constant_values, desk_is_two_applications, shell_keeps_its_talk, shell_laws, worked_talks};
+pub use laws::{
+    constant_values, desk_is_two_applications, shell_keeps_its_talk, shell_laws, worked_talks,
+};
 pub use shell::{Shell, TELNET_PORT};
 
 /// After so many ticks with nothing outstanding and no other event between them the connection is given up.

@@ -18,6 +18,8 @@ mod telling;
 mod watch;
 
 pub use converting::slip;
-pub use laws::{constant_values, lines_come_back, read_in_one_way, records_are_datagrams, slip_end_is_told};
+pub use laws::{
+    constant_values, lines_come_back, read_in_one_way, records_are_datagrams, slip_end_is_told,
+};
 pub use slip_end::{CaptureWhy, SlipEnd};
 pub use telling::{dump, pcap};

@@ -71,14 +71,24 @@ fn the_last_word_makes_the_reader_a_terminal(rt: HostRuntime) -> Result<(), Fail
     let ping = bytes_of(alloc, &[PING])?;
     let pong = bytes_of(alloc, &[PONG])?;
     let rows: [(&[&str], Status); 2] = [
-        (&["serve", "-", "10.0.0.1", "items", "32", "tty"], Status::Budget),
+        (
+            &["serve", "-", "10.0.0.1", "items", "32", "tty"],
+            Status::Budget,
+        ),
         (&["serve", "-", "10.0.0.1", "items", "32"], Status::Done),
     ];
     for (words, status) in rows {
         let words = words_of(alloc, words)?;
         let mut shelf = MemShelf::new(Vec::new(alloc), Vec::new(alloc));
         let (mut room, mut errors) = ([0; 64], [0; 8]);
-        let ended = run_over(alloc, &words, &mut shelf, &ping[..], &mut room[..], &mut errors[..]);
+        let ended = run_over(
+            alloc,
+            &words,
+            &mut shelf,
+            &ping[..],
+            &mut room[..],
+            &mut errors[..],
+        );
         assert_eq!(rt; ended, status);
         assert!(rt; room.starts_with(&pong));
         assert_eq!(rt; room[30], 0);
@@ -95,7 +105,14 @@ fn names_are_told_beside_the_output(rt: HostRuntime) -> Result<(), Fail> {
     let words = words_of(alloc, &WORDS)?;
     let mut shelf = MemShelf::new(Vec::new(alloc), Vec::new(alloc));
     let (mut room, mut errors) = ([0; 128], [0; 32]);
-    let ended = run_over(alloc, &words, &mut shelf, &reply[..], &mut room[..], &mut errors[..]);
+    let ended = run_over(
+        alloc,
+        &words,
+        &mut shelf,
+        &reply[..],
+        &mut room[..],
+        &mut errors[..],
+    );
     assert_eq!(rt; ended, Status::Done);
     assert!(rt; room.starts_with(&query));
     assert!(rt; errors.starts_with(b"a.b 192.0.2.7\n\0"));
