@@ -9,8 +9,8 @@ pub record ConstantValues : Type 0 where
   pub most_commands : MOST_COMMANDS ≡ 32
   pub longest_line : LONGEST_LINE ≡ 16
   pub telnet_port : TELNET_PORT ≡ 23
-  pub iac : IAC ≡ 255
-  pub dont : DONT ≡ 254
-  pub do : DO ≡ 253
-  pub wont : WONT ≡ 252
-  pub will : WILL ≡ 251
+  pub iac_byte : IAC ≡ 255
+  pub dont_byte : DONT ≡ 254
+  pub do_byte : DO ≡ 253
+  pub wont_byte : WONT ≡ 252
+  pub will_byte : WILL ≡ 251
