@@ -7,7 +7,7 @@ use Rattle.file_tree.specs.Site.{files_of}
 use Rattle.web_pages.specs.Serving.{is_served, no_hits}
 use Rattle.web_pages.specs.WebMeaning.{web_meaning}
 use Rattle.httpd.specs.contracts.httpd.HttpdApp.TheImpl.{ghosts}
-use Rattle.httpd.specs.declared.httpd.Httpd.{Httpd}
+use Rattle.httpd.specs.First.{Httpd}
 use Rattle.httpd.specs.declared.web.Web.{Web}
 use Rattle.uip_edge.specs.declared.item.Item.{Item}
 use Rattle.uip_node.specs.Node.{AbstractNode, opening}
