@@ -8,6 +8,16 @@
 
 It follows the names of specs/ through their imports, from the clauses of `run_told` in crates/uipd/src/run_told.rt.
 A definition belongs to the part of its file; a file that no part names is told as one that the page lacks.
+
+What stands between a mark and `<!-- end -->` on the page is written from the sources:
+
+    <!-- list: CRATE CRATE/File .. -->   the definitions of these files, with their lines
+    <!-- all -->                         how many definitions and lines the contract rests on
+    <!-- count: MODULE.NAME .. -->       the same of some definitions
+    <!-- arms: MODULE.NAME .. -->        the same of the arms of `TaskRuns` that name them: what a command rests on
+    <!-- text: MODULE: NAME, NAME -->    these definitions, word for word
+    <!-- trait: CRATE/src/FILE.rt -->    the clauses of a trait's calls
+    <!-- constants -->                   the constants of the code that the definitions name, with the values that theorems pin
 """
 import collections
 import glob
@@ -24,8 +34,10 @@ IMPORT = re.compile(r"^(?:pub |ghost )?use (Rattle\.[^\s{;]+?)(?:\.\{([^}]*)\}| 
 
 
 class Definition:
-    def __init__(self, module, name, path, start):
-        self.module, self.name, self.path, self.start, self.lines = module, name, path, start, []
+    """One definition of specs/: its lines, and the comment above it."""
+
+    def __init__(self, module, name, path, start, comment):
+        self.module, self.name, self.path, self.start, self.comment, self.lines = module, name, path, start, comment, []
 
     def body(self):
         return "\n".join(re.sub(r"--.*", "", line) for line in self.lines)
@@ -57,8 +69,8 @@ class Sources:
         with open(path, encoding="utf8") as file:
             text = file.read()
         self.imports[module] = imports_of(text)
-        current, comment = None, None
-        for number, line in enumerate(text.split("\n"), 1):
+        current, comment, all_lines = None, None, text.split("\n")
+        for number, line in enumerate(all_lines, 1):
             if not line.strip() or re.match(r"(pub )?use |(pub )?mod |pub mod", line):
                 current, comment = None, None
                 continue
@@ -67,7 +79,7 @@ class Sources:
                 continue
             found = HEAD.match(line)
             if found and not re.match(r"^  pub \S+ :", line):
-                current = Definition(module, found.group(1), place, comment or number)
+                current = Definition(module, found.group(1), place, comment or number, all_lines[(comment or number) - 1:number - 1])
                 self.definitions[(module, current.name)] = current
                 if re.match(r"^\s*(pub )?data", line):
                     data = current
@@ -123,6 +135,72 @@ class Sources:
         return self.named(call.group(0), "", *imports_of(text))
 
 
+def counted(found):
+    return f"{len(found)} definitions in {len({d.path for d in found})} files, {sum(len(d.lines) for d in found)} lines"
+
+
+def root_of(sources, name):
+    root = sources.resolve(name)
+    if root is None:
+        sys.exit(f"trusted.py: no definition {name}")
+    return root
+
+
+def counts_of(sources, names):
+    return counted(sources.closure([root_of(sources, it) for it in names.split()]))
+
+
+def arms_of(sources, names):
+    """What the arms of `TaskRuns` rest on that name these definitions."""
+    table = root_of(sources, "uipd.specs.Running.TaskRuns")
+    wanted = [root_of(sources, it) for it in names.split()]
+    roots = set()
+    for line in table.lines:
+        named = sources.named(line, table.module, *sources.imports[table.module]) - {table}
+        if named.intersection(wanted):
+            roots |= named - {root_of(sources, "uipd.specs.Words.Task")}
+    return counted(sources.closure(roots or wanted))
+
+
+def printed(sources, module, names):
+    """Definitions word for word, each with its comment and without the words that make it visible to other files."""
+    out = ["```"]
+    for name in (it.strip() for it in names.split(",")):
+        it = root_of(sources, f"{module}.{name}")
+        lines = it.comment + it.lines
+        out += [re.sub(r"^(\s*)(?:abbrev |unfoldable )?pub ", r"\1", re.sub(r"^abbrev |^unfoldable ", "", line)) for line in lines] + [""]
+    return "\n".join(out[:-1] + ["```"])
+
+
+def trait_of(path):
+    """The trait of a file of src/: its comments, its ghost members and the clauses of its calls."""
+    with open(os.path.join(CRATES, path), encoding="utf8") as file:
+        text = file.read()
+    found = re.search(r"^(?:///.*\n)+pub trait .*?^}", text, re.S | re.M)
+    return "\n".join(["```", found.group(0), "```"])
+
+
+def constants_of(sources):
+    """A row for each constant of the code that a definition of the closure names: its value by the theorem of its crate, and who names it.
+    A constant that no theorem pins is told."""
+    named, pinned = collections.defaultdict(set), {}
+    for path in glob.glob(CRATES + "/*/specs/ConstantValues.antt"):
+        crate = os.path.relpath(path, CRATES).split("/")[0]
+        with open(path, encoding="utf8") as file:
+            pinned.update({(crate, name): value for name, value in re.findall(r"^  pub \w+ : (\w+) ≡ (\d+)$", file.read(), re.M)})
+    for definition in sources.closure(sources.top()):
+        for word in set(re.findall(r"\b[A-Z][A-Z0-9_]+\b", definition.body())):
+            place = sources.imports[definition.module][0].get(word, "")
+            if ".TheConstants." in place:
+                named[(place.split(".")[0], word)].add(definition.name)
+    rows, lost = ["| constant | value | of | named by |", "|---|---|---|---|"], []
+    for (crate, name), users in sorted(named.items(), key=lambda it: it[0]):
+        value = pinned.get((crate, name))
+        rows.append(f"| `{name}` | {int(value):,} | `{crate}` | {', '.join(sorted(users))} |" if value else f"| `{name}` | not pinned | `{crate}` | |")
+        lost += [] if value else [f"{crate}: no theorem pins {name}"]
+    return "\n".join(rows), lost
+
+
 def lists_of(definitions):
     """A line for each file: its definitions in their order, and how many lines they have."""
     files = collections.defaultdict(list)
@@ -163,15 +241,22 @@ def written(page, sources):
     for files, lines in zip(parts, lists):
         mark = f"<!-- list: {' '.join(files)} -->"
         page = re.sub(re.escape(mark) + r".*?<!-- end -->", lambda _: "\n".join([mark, *lines, "<!-- end -->"]), page, flags=re.S)
-    count = lambda found: f"{len(found)} definitions in {len({d.path for d in found})} files, {sum(len(d.lines) for d in found)} lines"
-    page = re.sub(r"<!-- all -->.*?<!-- end -->", f"<!-- all -->{count(needed)}<!-- end -->", page, flags=re.S)
-    for name in re.findall(r"<!-- count: (\S+) -->", page):
-        root = sources.resolve(name)
-        if root is None:
-            sys.exit(f"trusted.py: no definition {name}")
-        mark = f"<!-- count: {name} -->"
-        page = re.sub(re.escape(mark) + r".*?<!-- end -->", mark + count(sources.closure([root])) + "<!-- end -->", page, flags=re.S)
-    return page, lost
+    constants, unpinned = constants_of(sources)
+    lines = {
+        "all": lambda rest: counted(needed),
+        "count": lambda rest: counts_of(sources, rest),
+        "arms": lambda rest: arms_of(sources, rest),
+        "text": lambda rest: "\n" + printed(sources, *rest.split(": ", 1)) + "\n",
+        "trait": lambda rest: "\n" + trait_of(rest) + "\n",
+        "constants": lambda rest: "\n" + constants + "\n",
+    }
+
+    def filled(found):
+        kind, rest = found.group(1), (found.group(2) or "").strip()
+        return f"<!-- {kind}{': ' + rest if rest else ''} -->{lines[kind](rest)}<!-- end -->"
+
+    page = re.sub(r"<!-- (all|count|arms|text|trait|constants)(?:: (.*?))? -->.*?<!-- end -->", filled, page, flags=re.S)
+    return page, lost + (unpinned if "<!-- constants -->" in page else [])
 
 
 def cited_elsewhere():
@@ -224,7 +309,7 @@ def main():
         page = file.read()
     new, lost = written(page, sources)
     for line in lost:
-        print(f"trusted.py: no part of the page has {line}")
+        print(f"trusted.py: {line}" if "no theorem" in line else f"trusted.py: no part of the page has {line}")
     if words == ["write"]:
         with open(PAGE, "w", encoding="utf8") as file:
             file.write(new)

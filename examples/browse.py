@@ -13,12 +13,17 @@ needs qemu-system-aarch64.
     --desk               a shell at port 23 beside the pages (`UIPD desk`)
     --board FIRMWARE     no server is started: the node runs on a board of its own, by qemu, and this is its serial port
     --memory FILE        with --board: the board's memory is written to FILE at the end
+    --baud RATE          with --board: its line has RATE bits a second and waits for nobody: a byte that the board has not taken
+                         within a quarter of a second is lost, and how many were is told at the end
+    --qemu WORDS         with --board: further words for qemu, whose program the variable QEMU may name
     --record DIR         writes the bytes of the line to DIR/to-node and DIR/from-node
     --help               this text
 
 The line has a rate, as a real one has (20,000 bytes a second, or that of the port), and its silence is filled with bytes that mean
-nothing: so the server's `pace` is a clock of half seconds, however busy the line is. A board has a clock of its own, and its line is not filled.
+nothing: so the server's `pace` is a clock of half seconds, however busy the line is. A board has a clock of its own, and its line
+is not filled.
 """
+import contextlib
 import ctypes
 import fcntl
 import os
@@ -37,9 +42,11 @@ END, ESC, ESC_END, ESC_ESC = 0xC0, 0xDB, 0xDC, 0xDD
 CLONE_NEWUSER, CLONE_NEWNET = 0x10000000, 0x40000000
 TUNSETIFF, IFF_TUN, IFF_TAP, IFF_NO_PI = 0x400454CA, 1, 2, 0x1000
 NODE_MAC = "02:00:00:00:00:01"
+QEMU = os.environ.get("QEMU", "qemu-system-aarch64")
 LOCAL_RATE = 20000
 BOARD_RATE = 200000
 BOARD_MEMORY = (0x40000000, 0x10000)
+PATIENCE = 0.25
 
 
 class Slip:
@@ -83,6 +90,7 @@ class Line:
     """The bytes to the node, at a rate: what waits goes out as time passes, and the rest of the time may be filled."""
 
     def __init__(self, descriptor, form, rate, is_filled, record):
+        self.is_heard = False    # whether something came from the other end
         self.descriptor, self.form, self.rate, self.is_filled, self.record = descriptor, form, rate, is_filled, record
         self.queue, self.start, self.sent = b"", time.monotonic(), 0
 
@@ -103,6 +111,32 @@ class Line:
             self.record.write(text)
         while text:
             text = text[os.write(self.descriptor, text[:1024]):]
+
+
+class HastyLine(Line):
+    """A line that waits for nobody once its other end was heard: what stands unread there for too long is lost, the oldest first."""
+
+    def __init__(self, descriptor, form, rate, record, other):
+        super().__init__(descriptor, form, rate, False, record)
+        self.other = socket.socket(fileno=other)
+        self.lost, self.written, self.marks = 0, 0, []
+
+    def unread(self):
+        return int.from_bytes(fcntl.ioctl(self.other, termios.FIONREAD, bytes(4)), sys.byteorder)
+
+    def beat(self):
+        now = time.monotonic()
+        while self.marks and self.marks[0][0] < now - PATIENCE:
+            due = self.marks.pop(0)[1]
+            late = min(due - self.written + self.unread(), self.unread())
+            if self.is_heard and late > 0:
+                with contextlib.suppress(BlockingIOError):    # the board took them after all
+                    self.lost += len(self.other.recv(late, socket.MSG_DONTWAIT))
+        waited = len(self.queue)
+        super().beat()
+        if len(self.queue) < waited:
+            self.written += waited - len(self.queue)
+            self.marks.append((now, self.written))
 
 
 def fail(text):
@@ -164,17 +198,17 @@ def open_port(device, rate):
     return port
 
 
-def start_board(firmware):
-    """A board by qemu, with the ends of its serial port and of its monitor."""
+def start_board(firmware, further):
+    """A board by qemu, with both ends of its serial line and the end of its monitor."""
     line, port = socket.socketpair()
     monitor, talk = socket.socketpair()
-    words = ["qemu-system-aarch64", "-M", "virt", "-cpu", "cortex-a53", "-m", "64", "-nic", "none", "-display", "none", "-bios", firmware,
+    words = [QEMU, "-M", "virt,gic-version=2", "-cpu", "cortex-a53", "-m", "64", "-nic", "none", "-display", "none",
+             "-bios", firmware, *further,
              "-chardev", f"socket,id=line,fd={port.fileno()}", "-serial", "chardev:line",
              "-chardev", f"socket,id=talk,fd={talk.fileno()}", "-mon", "chardev=talk"]
     board = subprocess.Popen(words, pass_fds=[port.fileno(), talk.fileno()])
-    port.close()
     talk.close()
-    return board, line.detach(), monitor
+    return board, line.detach(), port.detach(), monitor
 
 
 def save_memory(board, monitor, path):
@@ -193,6 +227,7 @@ def bridge(interface, line, output, record, is_done):
                 data = os.read(output, 65536)
                 if not data:
                     fail("the server ended")
+                line.is_heard = True
                 if record:
                     record.write(data)
                 for datagram in line.form.feed(data):
@@ -212,7 +247,8 @@ class Words:
         self.command = words[words.index("--") + 1:] if "--" in words else []
         words = words[:words.index("--")] if "--" in words else words
         self.ether = self.desk = False
-        self.line = self.folder = self.board = self.memory = None
+        self.line = self.folder = self.board = self.memory = self.baud = None
+        self.qemu = []
         plain = []
         while words:
             word, words = words[0], words[1:]
@@ -224,6 +260,10 @@ class Words:
                 self.board, words = words[0], words[1:]
             elif word == "--memory" and words:
                 self.memory, words = words[0], words[1:]
+            elif word == "--baud" and words and words[0].isdigit():
+                self.baud, words = int(words[0]), words[1:]
+            elif word == "--qemu" and words:
+                self.qemu, words = words[0].split(), words[1:]
             elif word == "--line" and len(words) > 1 and words[1].isdigit():
                 self.line, words = (words[0], int(words[1])), words[2:]
             elif word.startswith("-") or len(plain) == 2:
@@ -238,8 +278,8 @@ class Words:
             fail("--desk is served over a serial line: leave --ether out")
         if not shutil.which("ip"):
             fail("no command `ip` here: it is in the package iproute2")
-        if self.board and not shutil.which("qemu-system-aarch64"):
-            fail("no command qemu-system-aarch64 here: it is in the package qemu-system-arm")
+        if self.board and not shutil.which(QEMU):
+            fail(f"no command {QEMU} here: qemu-system-aarch64 is in the package qemu-system-arm")
         if self.board and not os.path.exists(self.board):
             fail(f"no firmware at {self.board}: `sh examples/board/run.sh build` builds it")
         is_here = self.line is None and self.board is None
@@ -268,21 +308,24 @@ def recording(folder, name):
 def main():
     words = Words(sys.argv[1:])
     words.check()
-    rate = words.line[1] // 10 if words.line else BOARD_RATE if words.board else LOCAL_RATE
+    rate = words.line[1] // 10 if words.line else words.baud // 10 if words.baud else BOARD_RATE if words.board else LOCAL_RATE
     port = open_port(*words.line) if words.line else None
     entry = enter_namespace()
     interface = make_interface(words.ether)
     server = monitor = None
     if words.board:
-        server, to_node, monitor = start_board(words.board)
+        server, to_node, other, monitor = start_board(words.board, words.qemu)
         output = to_node
+        if not words.baud:
+            os.close(other)    # so the line ends where the board does
     elif words.line:
         to_node = output = port
         print(f"On the other end: stty -F PORT {words.line[1]} raw -echo min 0 time 5; "
               f"uipd {words.kind()} SITE 10.0.0.1 pace {rate // 2} tty <PORT >PORT")
     else:
         server, to_node, output = start_server(words.server_words(rate))
-    line = Line(to_node, Frames() if words.ether else Slip(), rate, not words.board, recording(words.folder, "to-node"))
+    form, record = Frames() if words.ether else Slip(), recording(words.folder, "to-node")
+    line = HastyLine(to_node, form, rate, record, other) if words.baud else Line(to_node, form, rate, not words.board, record)
     child = subprocess.Popen(words.command) if words.command else None
     if not child:
         print("The site is at http://10.0.0.1/ in a network of its own. From another terminal:")
@@ -294,6 +337,8 @@ def main():
         bridge(interface, line, output, recording(words.folder, "from-node"), lambda: child is not None and child.poll() is not None)
     except KeyboardInterrupt:
         pass
+    if words.baud:
+        print(f"the line lost {line.lost} of {line.written} bytes", flush=True)
     if monitor and words.memory:
         save_memory(server, monitor, words.memory)
     if server:

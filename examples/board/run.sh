@@ -6,14 +6,19 @@
 #     sh examples/board/run.sh build           builds it alone
 #     sh examples/board/run.sh -- COMMAND ..   runs a command beside it, and ends with its status
 #     sh examples/board/run.sh usage           fetches every file, and says what flash and memory the firmware used
+#     sh examples/board/run.sh map             asks the processor what the map of memory allows, and compares
+#     sh examples/board/run.sh early           lets bytes come before the port is open
+#     sh examples/board/run.sh line            two clients at once over a line of 19,200 bits a second that waits for nobody
+#     sh examples/board/run.sh stack           fetches every file, and says how far the stack pointer went
 #
 # It wants qemu-system-aarch64 (Debian: qemu-system-arm), python3, `ip` and /dev/net/tun, and clang and ld.lld, which the kit of rt
-# has: CLANG and LLD name others. The library is built by rt where it is not there.
-case "$1" in -h|--help) sed -n '2,13s/^# \{0,1\}//p' "$0"; exit 0;; esac
+# has: CLANG, LLD and QEMU name others. The library is built by rt where it is not there; LIBRARY names another.
+case "$1" in -h|--help) sed -n '2,17s/^# \{0,1\}//p' "$0"; exit 0;; esac
 here=$(cd "$(dirname "$0")" && pwd)
 top=$(cd "$here/../.." && pwd)
 out=$here/out
-library=$out/libuip_c.a
+library=${LIBRARY:-$out/libuip_c.a}
+site=${SITE:-$top/examples/site.img}
 kit=${KIT:-/opt/rattle}/toolchain/bin
 fail() { echo "board: $1" >&2; exit 1; }
 # The first of these programs that is there.
@@ -21,30 +26,61 @@ tool() { for name; do command -v "$name" && return; done; }
 clang=$(tool "${CLANG:-clang}" "$kit/clang") || fail "no clang here: it is in the kit of rt, and in the package clang"
 lld=$(tool "${LLD:-ld.lld}" "$kit/ld.lld") || fail "no ld.lld here: it is in the kit of rt, and in the package lld"
 mkdir -p "$out"
-if [ ! -f "$library" ] || [ -n "$(find "$top/crates" -name '*.rt' -newer "$library" | head -1)" ]; then
+if [ -z "$LIBRARY" ] && { [ ! -f "$library" ] || [ -n "$(find "$top/crates" -name '*.rt' -newer "$library" | head -1)" ]; }; then
     command -v rt >/dev/null || fail "no library of these sources at $library, and no command rt to build it"
     built=$top/crates/uip_c/out/libuip_c.a
     put_back() { if [ -f "$out/host.a" ]; then mv "$out/host.a" "$built"; fi; }    # the library for this machine
     trap put_back EXIT
     trap 'exit 1' INT TERM
     if [ -f "$built" ]; then mv "$built" "$out/host.a"; fi
-    (cd "$top/crates/uip_c" && rt lib --target aarch64-unknown-linux-gnu) >"$out/lib.log" 2>&1 || { tail -5 "$out/lib.log" >&2; fail "rt lib failed in crates/uip_c"; }
+    (cd "$top/crates/uip_c" && rt lib --target aarch64-unknown-linux-gnu) >"$out/lib.log" 2>&1 \
+        || { tail -5 "$out/lib.log" >&2; fail "rt lib failed in crates/uip_c"; }
     mv "$built" "$library" && put_back
 fi
 
-compile() { "$clang" --target=aarch64-none-elf -ffreestanding -fno-builtin -Os -Wall -Wextra -ffunction-sections -I"$top/include" "$@" || fail "clang failed"; }
-for name in board main; do compile -c "$here/$name.c" -o "$out/$name.o"; done
-compile -c "$here/start.S" -o "$out/start.o"
-compile -DSITE="\"${SITE:-$top/examples/site.img}\"" -c "$here/site.S" -o "$out/site.o"
-link() { "$lld" -T "$here/link.ld" --gc-sections "$@" "$out/start.o" "$out/board.o" "$out/main.o" "$out/site.o" "$library" || fail "ld.lld failed"; }
-link -Map="$out/board.map" -o "$out/board.elf"
-link --oformat binary -o "$out/board.bin"
+# The heap is an array of just the memory that a device with this site needs.
+heap="-DUIP_HEAP_SIZE=UIP_MEMORY($(wc -c <"$site"),$(od -An -j8 -N2 -tu1 "$site" | awk '{ print $1 * 256 + $2 }'))"
+compile() {
+    "$clang" --target=aarch64-none-elf -ffreestanding -fno-builtin -Os -Wall -Wextra -ffunction-sections -fdata-sections \
+        -I"$top/include" -I"$here" -idirafter "$here/fallback" -c "$@" || fail "clang failed"
+}
+compile "$here/start.S" -o "$out/start.o"
+compile "$here/main.c" -o "$out/main.o"
+compile -mgeneral-regs-only "$here/board.c" -o "$out/board.o"
+compile "$heap" "$top/examples/heap.c" -o "$out/heap.o"
+compile -DSITE="\"$site\"" "$here/site.S" -o "$out/site.o"
+# A firmware by its name, of the object files that it has of its own.
+link() {
+    name=$1; shift
+    set -- -T "$here/link.ld" --gc-sections "$out/start.o" "$@" "$out/heap.o" "$out/site.o" "$library"
+    "$lld" -Map="$out/$name.map" -o "$out/$name.elf" "$@" && "$lld" --oformat binary -o "$out/$name.bin" "$@" || fail "ld.lld failed"
+}
+link board "$out/board.o" "$out/main.o"
 python3 "$here/usage.py" "$out" || exit 1
 [ "$1" = build ] && exit 0
 
-command -v qemu-system-aarch64 >/dev/null || fail "no qemu-system-aarch64 here: it is in the package qemu-system-arm"
-if [ "$1" = usage ]; then
-    python3 "$top/examples/browse.py" --board "$out/board.bin" --memory "$out/memory" -- python3 "$top/examples/fetch.py" || exit 1
-    exec python3 "$here/usage.py" "$out" "$out/memory"
-fi
+qemu=${QEMU:-qemu-system-aarch64}
+command -v "$qemu" >/dev/null || fail "no $qemu here: qemu-system-aarch64 is in the package qemu-system-arm"
+browse() { python3 "$top/examples/browse.py" --board "$@"; }
+case "$1" in
+usage)
+    browse "$out/board.bin" --memory "$out/memory" -- python3 "$top/examples/fetch.py" || exit 1
+    exec python3 "$here/usage.py" "$out" "$out/memory";;
+map)
+    compile "$here/map_test.c" -o "$out/map_test.o"
+    link map_test "$out/board.o" "$out/map_test.o"
+    exec python3 "$here/map.py" "$out" "$qemu";;
+early)
+    exec python3 "$here/early.py" "$out/board.bin";;
+line)
+    compile -mgeneral-regs-only -DLINE_RATE=1920 "$here/board.c" -o "$out/slow_board.o"
+    link slow "$out/slow_board.o" "$out/main.o"
+    fetch="python3 $top/examples/fetch.py"
+    browse "$out/slow.bin" --baud 19200 -- sh -c "$fetch & one=\$!; $fetch && wait \$one" >"$out/line.txt"; status=$?
+    cat "$out/line.txt"
+    grep -q '^the line lost 0 of' "$out/line.txt" || fail "bytes were lost while a text went out"
+    exit $status;;
+stack)
+    exec python3 "$here/stack.py" "$out" "$qemu" python3 "$top/examples/fetch.py";;
+esac
 exec python3 "$top/examples/browse.py" --board "$out/board.bin" "$@"

@@ -4,7 +4,7 @@
     python3 examples/board/usage.py FOLDER [MEMORY]
 
 FOLDER has what the linker wrote, board.elf and board.map, and MEMORY is the board's memory behind a run. The stack was painted at
-reset, so its greatest depth is where the paint ends: that is what this run used. Where llvm-objdump is there, the greatest depth
+reset, so its greatest depth is where the paint ends: that is what this run used (stack.py looks at the stack pointer itself). Where llvm-objdump is there, the greatest depth
 of all is told too, by the frames of the functions and who calls whom, as the linked code has them: no proof speaks of the stack.
 """
 import os
@@ -60,12 +60,14 @@ def main():
     folder = sys.argv[1]
     at = read_map(os.path.join(folder, "board.map"))
     image = at["site_image_end"] - at["site_image"]
-    start = at["__bss_start"]
-    static = at["__bss_end"] - start
+    start = at["__stack_low"]
+    static = at["__bss_end"] - at["__bss_start"]
     print(f"flash: {at['__flash_end'] - image} bytes, and {image} of the site's image")
     print(f"static memory: {static} bytes")
     if shutil.which("llvm-objdump"):
-        print(f"stack: {depth('main', *read_code(os.path.join(folder, 'board.elf')))} bytes at most, by the frames of the code")
+        frames, calls = read_code(os.path.join(folder, "board.elf"))
+        own, further = depth("main", frames, calls), depth("vector_interrupt", frames, calls)
+        print(f"stack: {own} bytes at most, by the frames of the code, and {further} of an interrupt")
     if len(sys.argv) == 2:
         return
     with open(sys.argv[2], "rb") as file:
@@ -74,7 +76,9 @@ def main():
     used = len(stack) - next((i for i, byte in enumerate(stack) if byte != PAINT), len(stack))
     place = at["heap_used"] - start
     heap = int.from_bytes(memory[place:place + 8], "little")
+    lost = int.from_bytes(memory[at["port_lost"] - start:][:4], "little")
     print(f"memory in this run: {static + used + heap} bytes: static {static}, stack {used}, heap {heap}")
+    print(f"the port was overrun {lost} times")
 
 
 main()

@@ -1,7 +1,14 @@
 // Makes each call of the library once, fine and refused, and compares what it answers. Ends with 0 where all came as it should.
+// It is C99 and C++ alike, as a program of either may use the library.
 #include <stdio.h>
 #include <string.h>
 #include "uip.h"
+
+#ifdef __cplusplus
+extern "C" size_t heap_blocks;
+#else
+extern size_t heap_blocks;    // of the heap: how many blocks are not given back
+#endif
 
 // An echo request from 10.0.0.2 to 10.0.0.1 and its reply (RFC 791, RFC 792), as datagrams and on the line (RFC 1055).
 #define REQUEST "E\0\0\x1e\0\0\0\0\x40\1\x66\xdd\x0a\0\0\2\x0a\0\0\1\x08\0\x37\x1c\0\7\0\1"
@@ -9,44 +16,66 @@
 static const unsigned char request[] = REQUEST "\xc0\xdb", reply[] = REPLY "\xc0\xdb";
 static const unsigned char request_text[] = "\xc0" REQUEST "\xdb\xdc\xdb\xdd\xc0", reply_text[] = "\xc0" REPLY "\xdb\xdc\xdb\xdd\xc0";
 static const unsigned char image[] = "UIPSITE1\0", own[4] = {10, 0, 0, 1};
+static uip_device device = UIP_INIT;
 static unsigned char out[UIP_ROOM];
 static int wrong;
+
+// What the inline functions hand on.
+typedef struct { unsigned char bytes[UIP_ROOM]; size_t len; } text;
+
+static void keep(void *to, const unsigned char *bytes, size_t len) {
+    text *kept = (text *)to;
+    memcpy(kept->bytes + kept->len, bytes, len);
+    kept->len += len;
+}
 
 static void expect(int is_so, const char *what) {
     if (!is_so) printf("WRONG %s\n", what);
     wrong += !is_so;
 }
 
-static int is(uip_done done, unsigned status, uip_size taken, uip_size wrote) {
+static int is(uip_done done, unsigned status, size_t taken, size_t wrote) {
     return done.status == status && done.taken == taken && done.wrote == wrote;
 }
 
-int main(void) {
-    uip_device device = {0};
+static void without_a_device(void) {
     expect(is(uip_hear(&device, request_text, 34, out, sizeof out), UIP_NO_DEVICE, 0, 0), "uip_hear without a device");
     expect(is(uip_call(&device, 0, out, sizeof out), UIP_NO_DEVICE, 0, 0), "uip_call without a device");
     expect(is(uip_hear_datagram(&device, request, 30, out, sizeof out), UIP_NO_DEVICE, 0, 0), "uip_hear_datagram without a device");
     expect(is(uip_call_datagram(&device, 0, out, sizeof out), UIP_NO_DEVICE, 0, 0), "uip_call_datagram without a device");
     expect(is(uip_more(&device, out, sizeof out), UIP_NO_DEVICE, 0, 0), "uip_more without a device");
     expect(uip_ticks(&device).status == UIP_NO_DEVICE, "uip_ticks without a device");
-    expect(uip_counter(&device, 1).status == UIP_NO_DEVICE, "uip_counter without a device");
+    expect(uip_counter(&device, UIP_DATAGRAMS_IN).status == UIP_NO_DEVICE, "uip_counter without a device");
     expect(uip_close(&device) == UIP_NO_DEVICE, "uip_close without a device");
+    expect(uip_hear_all(&device, request_text, 34, out, sizeof out, keep, out) == UIP_NO_DEVICE, "uip_hear_all without a device");
+    expect(uip_tick_all(&device, out, sizeof out, keep, out) == UIP_NO_DEVICE, "uip_tick_all without a device");
+}
 
+static void opening(void) {
     uip_opened opened = uip_open(&device, (const unsigned char *)"UIPSITE1\0\1\2/", 12, own);
     expect(opened.status == UIP_BAD_SITE && opened.entry == 1 && !strcmp(opened.word, "cut"), "uip_open with a bad image");
+    expect(heap_blocks == 0, "the heap behind a bad image");
     expect(uip_open(&device, image, 10, own).status == UIP_FINE, "uip_open");
+    size_t blocks = heap_blocks;
     expect(uip_open(&device, image, 10, own).status == UIP_HAS_DEVICE, "uip_open twice");
+    expect(blocks > 0 && heap_blocks == blocks, "the heap while a device is open");
+}
 
+static void bad_calls(void) {
     expect(is(uip_hear(&device, request_text, 34, out, UIP_LEAST_ROOM - 1), UIP_BAD_CALL, 0, 0), "uip_hear with too little room");
     expect(is(uip_hear(&device, request_text, 0, out, sizeof out), UIP_BAD_CALL, 0, 0), "uip_hear with no bytes");
     expect(is(uip_call(&device, 10, out, sizeof out), UIP_BAD_CALL, 0, 0), "uip_call of slot 10");
-    expect(is(uip_hear_datagram(&device, request, UIP_DATAGRAM_ROOM + 1, out, sizeof out), UIP_BAD_CALL, 0, 0), "uip_hear_datagram, too long");
+    expect(is(uip_hear_datagram(&device, request, UIP_DATAGRAM_ROOM + 1, out, sizeof out), UIP_BAD_CALL, 0, 0), "uip_hear_datagram, long");
     expect(is(uip_call_datagram(&device, 0, out, UIP_DATAGRAM_ROOM - 1), UIP_BAD_CALL, 0, 0), "uip_call_datagram with too little room");
-    expect(uip_counter(&device, 0).status == UIP_BAD_CALL && uip_counter(&device, 21).status == UIP_BAD_CALL, "uip_counter of no counter");
+    expect(uip_counter(&device, 0).status == UIP_BAD_CALL && uip_counter(&device, 21).status == UIP_BAD_CALL, "uip_counter of none");
+    expect(uip_hear_all(&device, request_text, 34, out, 1, keep, out) == UIP_BAD_CALL, "uip_hear_all with too little room");
+}
 
+static void fine_calls(void) {
     expect(is(uip_hear(&device, request_text, 34, out, sizeof out), UIP_FINE, 34, 34) && !memcmp(out, reply_text, 34), "uip_hear");
-    for (uip_size slot = 0; slot < UIP_SLOTS; slot++) expect(is(uip_call(&device, slot, out, sizeof out), UIP_FINE, 0, 0), "uip_call");
-    expect(is(uip_hear_datagram(&device, request, 30, out, UIP_DATAGRAM_ROOM), UIP_FINE, 30, 30) && !memcmp(out, reply, 30), "uip_hear_datagram");
+    for (size_t slot = 0; slot < UIP_SLOTS; slot++) expect(is(uip_call(&device, slot, out, sizeof out), UIP_FINE, 0, 0), "uip_call");
+    uip_done whole = uip_hear_datagram(&device, request, 30, out, UIP_DATAGRAM_ROOM);
+    expect(is(whole, UIP_FINE, 30, 30) && !memcmp(out, reply, 30), "uip_hear_datagram");
     expect(is(uip_call_datagram(&device, 0, out, UIP_DATAGRAM_ROOM), UIP_FINE, 0, 0), "uip_call_datagram");
     uip_done part = uip_hear(&device, request_text, 34, out, 20);
     expect(part.status == UIP_FINE && part.left == 1 && part.taken == 34 && part.wrote == 19, "uip_hear with little room");
@@ -54,11 +83,33 @@ int main(void) {
     expect(is(uip_call(&device, 0, out + 19, 15), UIP_TEXT_LEFT, 0, 0), "uip_call while a text is left");
     part = uip_more(&device, out + 19, 15);
     expect(is(part, UIP_FINE, 0, 15) && part.left == 0 && !memcmp(out, reply_text, 34), "uip_more");
-    uip_number ticks = uip_ticks(&device), replies = uip_counter(&device, 12);
+    uip_number ticks = uip_ticks(&device), replies = uip_counter(&device, UIP_ECHO_REPLIES_OUT);
     expect(ticks.status == UIP_FINE && ticks.number == 2, "uip_ticks");
     expect(replies.status == UIP_FINE && replies.number == 3, "uip_counter");
-    expect(uip_close(&device) == UIP_FINE && uip_close(&device) == UIP_NO_DEVICE, "uip_close");
-    expect(uip_open(&device, image, 10, own).status == UIP_FINE && uip_close(&device) == UIP_FINE, "uip_open again");
+}
+
+// Two requests behind each other on the line, in the least room.
+static void whole_lines(void) {
+    static text kept;
+    unsigned char line[68];
+    memcpy(line, request_text, 34);
+    memcpy(line + 34, request_text, 34);
+    expect(uip_hear_all(&device, line, 68, out, UIP_LEAST_ROOM, keep, &kept) == UIP_FINE, "uip_hear_all");
+    expect(kept.len == 68, "how much uip_hear_all handed on");
+    expect(!memcmp(kept.bytes, reply_text, 34) && !memcmp(kept.bytes + 34, reply_text, 34), "what uip_hear_all handed on");
+    expect(uip_tick_all(&device, out, UIP_LEAST_ROOM, keep, &kept) == UIP_FINE && kept.len == 68, "uip_tick_all");
+    expect(uip_ticks(&device).number == 3, "uip_ticks behind uip_tick_all");
+}
+
+int main(void) {
+    without_a_device();
+    opening();
+    bad_calls();
+    fine_calls();
+    whole_lines();
+    expect(uip_close(&device) == UIP_FINE && heap_blocks == 0 && uip_close(&device) == UIP_NO_DEVICE, "uip_close");
+    expect(uip_open(&device, image, 10, own).status == UIP_FINE, "uip_open again");
+    expect(uip_close(&device) == UIP_FINE && heap_blocks == 0, "uip_close again");
     if (!wrong) puts("each call answers as it should");
     return wrong != 0;
 }

@@ -3,16 +3,24 @@
 #include "uip.h"
 
 static _Alignas(16) unsigned char nothing[16];
+size_t heap_blocks;    // how many blocks are not given back
 
 static uip_block block_at(void *block) {
     return block ? (uip_block){1, block} : (uip_block){0, nothing};
 }
 
-uip_block rattle_alloc(uip_size len, uip_size align) { return block_at(malloc(len ? len : align)); }
+uip_block rattle_alloc(size_t len, size_t align) {
+    uip_block taken = block_at(malloc(len ? len : align));
+    heap_blocks += taken.ok;
+    return taken;
+}
 
-uip_block rattle_realloc(void *block, uip_size kept, uip_size len, uip_size align) {
+uip_block rattle_realloc(void *block, size_t kept, size_t len, size_t align) {
     (void)kept;
     return block_at(realloc(block, len ? len : align));
 }
 
-void rattle_dealloc(void *block) { free(block); }
+void rattle_dealloc(void *block) {
+    free(block);
+    heap_blocks--;
+}

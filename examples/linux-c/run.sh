@@ -1,28 +1,52 @@
 #!/bin/sh
-# Builds a C program over the library on this machine, makes each call of the library once, and compares what the program writes
-# for recorded lines with what uipd writes.
+# Builds C programs over the library on this machine, makes each call of the library once, from C and from C++, and compares what a
+# program writes for recorded lines with what uipd writes, with a heap over malloc and with one over an array that just holds it.
 #
 #     sh examples/linux-c/run.sh
 #
 # It wants a C compiler, and the library and the program as they are built by `rt lib` in crates/uip_c and `rt run` in crates/uipd;
-# what is not built there is built first where rt is on the path, which takes some minutes. CC names another compiler.
-case "$1" in -h|--help) sed -n '2,9s/^# \{0,1\}//p' "$0"; exit 0;; esac
+# what is not built there is built first where rt is on the path, which takes some minutes. CC and CXX name other compilers, LIBRARY
+# and UIPD another library and another program.
+case "$1" in -h|--help) sed -n '2,10s/^# \{0,1\}//p' "$0"; exit 0;; esac
 here=$(cd "$(dirname "$0")" && pwd)
 top=$(cd "$here/../.." && pwd)
-library=$top/crates/uip_c/out/libuip_c.a
-uipd=$top/crates/uipd/out/uipd
+library=${LIBRARY:-$top/crates/uip_c/out/libuip_c.a}
+uipd=${UIPD:-$top/crates/uipd/out/uipd}
+site=$top/examples/site.img
 fail() { echo "linux-c: $1" >&2; exit 1; }
 cc=${CC:-cc}
+cxx=${CXX:-c++}
 command -v "$cc" >/dev/null || fail "no C compiler $cc here"
-if [ ! -f "$library" ] || [ -n "$(find "$top/crates" -name '*.rt' -newer "$library" | head -1)" ]; then
+if [ -z "$LIBRARY" ] && { [ ! -f "$library" ] || [ -n "$(find "$top/crates" -name '*.rt' -newer "$library" | head -1)" ]; }; then
     command -v rt >/dev/null || fail "no library of these sources at $library, and no command rt to build it"
     (cd "$top/crates/uip_c" && rt lib) >/dev/null || fail "rt lib failed in crates/uip_c"
 fi
 mkdir -p "$here/out"
-for name in serve each_call; do
-    "$cc" -O2 -Wall -Wextra -I"$top/include" "$here/$name.c" "$here/heap.c" "$library" -o "$here/out/uip_$name" || exit 1
+strict="-pedantic -Wall -Wextra -Wconversion -Werror"
+for standard in c90 c99; do
+    echo '#include "uip.h"' | "$cc" -std=$standard $strict -I"$top/include" -x c -fsyntax-only - || fail "the header is no $standard"
 done
-"$here/out/uip_each_call" || exit 1
+# A program by its name, its heap and what the heap's compiler is told.
+build() { "$cc" -O2 -Wall -Wextra -I"$top/include" $4 "$here/$1.c" "$2" "$library" -o "$here/out/$3" || fail "no $3 was built"; }
+build serve "$here/heap.c" uip_serve
+build each_call "$here/heap.c" uip_each_call
+build each_call "$top/examples/heap.c" uip_each_call_array "-DUIP_HEAP_SIZE=UIP_MEMORY(12,1)"
+"$here/out/uip_each_call" || fail "not each call answers as it should"
+"$here/out/uip_each_call_array" || fail "not each call answers as it should over a heap of one array"
+if command -v "$cxx" >/dev/null; then
+    "$cc" -O2 -I"$top/include" -c "$here/heap.c" -o "$here/out/heap.o" || fail "no heap was built"
+    "$cxx" -std=c++11 $strict -I"$top/include" -x c++ "$here/each_call.c" -x none "$here/out/heap.o" "$library" -o "$here/out/uip_each_call_cxx" \
+        || fail "C++ does not link the library"
+    "$here/out/uip_each_call_cxx" || fail "not each call answers as it should from C++"
+else
+    echo "skipped: nothing was built by a C++ compiler, since $cxx is not here"
+fi
+# The site's image over an array of just the memory that the header tells, and of one block less.
+bytes=$(wc -c <"$site")
+files=$(od -An -j8 -N2 -tu1 "$site" | awk '{ print $1 * 256 + $2 }')
+build serve "$top/examples/heap.c" uip_serve_array "-DUIP_HEAP_SIZE=UIP_MEMORY($bytes,$files)"
+build serve "$top/examples/heap.c" uip_serve_short "-DUIP_HEAP_SIZE=UIP_MEMORY($bytes,$files)-64"
+"$here/out/uip_serve_short" serve "$site" 10.0.0.1 </dev/null 2>"$here/out/short" && fail "a device was opened in less memory than the header tells"
 
 if [ ! -x "$uipd" ]; then
     command -v rt >/dev/null || fail "no program at $uipd to compare with, and no command rt to build it"
@@ -32,9 +56,11 @@ fi
 # A line by its file and the words behind the address.
 compare() {
     line=$1; shift
-    "$uipd" serve "$top/examples/site.img" 10.0.0.1 "$@" <"$line" >"$here/out/by_uipd" || fail "uipd failed on $line"
-    "$here/out/uip_serve" serve "$top/examples/site.img" 10.0.0.1 "$@" <"$line" >"$here/out/by_c" || fail "the C program failed on $line"
-    cmp "$here/out/by_uipd" "$here/out/by_c" || fail "the C program writes other bytes than uipd for $line $*"
+    "$uipd" serve "$site" 10.0.0.1 "$@" <"$line" >"$here/out/by_uipd" || fail "uipd failed on $line"
+    for program in uip_serve uip_serve_array; do
+        "$here/out/$program" serve "$site" 10.0.0.1 "$@" <"$line" >"$here/out/by_c" || fail "$program failed on $line"
+        cmp "$here/out/by_uipd" "$here/out/by_c" || fail "$program writes other bytes than uipd for $line $*"
+    done
     echo "the same $(wc -c <"$here/out/by_c") bytes for $(basename "$line") $*"
 }
 compare "$top/examples/ping.slip"

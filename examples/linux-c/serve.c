@@ -10,7 +10,7 @@
 #include <unistd.h>
 #include "uip.h"
 
-static uip_device device;
+static uip_device device = UIP_INIT;
 static unsigned char out[256];
 
 static void stop(int status, const char *why) {
@@ -18,26 +18,22 @@ static void stop(int status, const char *why) {
     exit(status);
 }
 
-// Writes what a call handed out, and what is left of it; gives what the call took.
-static uip_size handed_out(uip_done done) {
-    uip_size taken = done.taken;
-    for (;; done = uip_more(&device, out, sizeof out)) {
-        if (done.status != UIP_FINE) stop(3, "a call was refused");
-        for (uip_size at = 0; at < done.wrote;) {
-            ssize_t count = write(1, out + at, done.wrote - at);
-            if (count <= 0) stop(4, "a write failed");
-            at += (uip_size)count;
-        }
-        if (!done.left) return taken;
+// Writes a piece of a text.
+static void write_line(void *to, const unsigned char *bytes, size_t len) {
+    (void)to;
+    for (size_t at = 0; at < len;) {
+        ssize_t count = write(1, bytes + at, len - at);
+        if (count <= 0) stop(4, "a write failed");
+        at += (size_t)count;
     }
 }
 
 static void tick(void) {
-    for (uip_size slot = 0; slot < UIP_SLOTS; slot++) handed_out(uip_call(&device, slot, out, sizeof out));
+    if (uip_tick_all(&device, out, sizeof out, write_line, 0) != UIP_FINE) stop(3, "a call was refused");
 }
 
-static void hear(const unsigned char *bytes, uip_size len) {
-    for (uip_size at = 0; at < len;) at += handed_out(uip_hear(&device, bytes + at, len - at, out, sizeof out));
+static void hear(const unsigned char *bytes, size_t len) {
+    if (uip_hear_all(&device, bytes, len, out, sizeof out, write_line, 0) != UIP_FINE) stop(3, "a call was refused");
 }
 
 // Opens the device with the site of a file at an address. The library keeps a copy of the image.
@@ -48,7 +44,7 @@ static void open_site(const char *path, const char *address) {
     int file = open(path, O_RDONLY);
     ssize_t len = file < 0 ? -1 : read(file, image, sizeof image);
     if (len < 0) stop(3, "no such image");
-    uip_opened opened = uip_open(&device, image, (uip_size)len, own);
+    uip_opened opened = uip_open(&device, image, (size_t)len, own);
     if (opened.status == UIP_BAD_SITE) fprintf(stderr, "bad site %s %u\n", opened.word, opened.entry);
     if (opened.status != UIP_FINE) stop(3, "no device was opened");
 }
@@ -56,7 +52,7 @@ static void open_site(const char *path, const char *address) {
 int main(int argc, char **argv) {
     if (argc < 4 || strcmp(argv[1], "serve")) stop(2, "serve SITE ADDRESS [pace K] [tty]");
     open_site(argv[2], argv[3]);
-    uip_size pace = argc > 5 && !strcmp(argv[4], "pace") ? strtoull(argv[5], 0, 10) : 0, left = pace;
+    size_t pace = argc > 5 && !strcmp(argv[4], "pace") ? strtoull(argv[5], 0, 10) : 0, left = pace;
     int is_tty = !strcmp(argv[argc - 1], "tty");
     for (;;) {
         static unsigned char bytes[4096];
@@ -65,8 +61,8 @@ int main(int argc, char **argv) {
         ssize_t count = read(0, bytes, sizeof bytes);
         if (is_tty && count == 0) { tick(); continue; }   // a terminal whose reads give up after half a second
         if (count <= 0) break;
-        for (uip_size at = 0, len = (uip_size)count; at < len;) {
-            uip_size part = pace && left < len - at ? left : len - at;
+        for (size_t at = 0, len = (size_t)count; at < len;) {
+            size_t part = pace && left < len - at ? left : len - at;
             hear(bytes + at, part);
             at += part;
             if (pace && (left -= part) == 0) { tick(); left = pace; }

@@ -1,5 +1,6 @@
 //! Generated text: what the functions of a script give. A generator first fixes one capture record of the moment, and
-//! takes all its bytes from that record, so text that is sent again is made again byte for byte. It takes no memory.
+//! takes all its bytes from that record, so text that is sent again is made again byte for byte. No call is given an
+//! allocator; that none takes memory is no clause.
 #![tactic(auto)]
 
 mod capture;

@@ -1,5 +1,6 @@
-//! One connection of TCP, event by event (RFC 793, section 3.9): each event is a step of the table in docs, and what it asks
-//! of the node is a `Step`. The definitions of the abstract connection stand in `specs/`; every layer above speaks of them.
+//! One connection of TCP, event by event (RFC 793, section 3.9): each event is a step of the table in
+//! `specs/OnSegment.antt`, and what it asks of the node is a `Step`. The definitions of the abstract connection stand
+//! in `specs/`; every layer above speaks of them.
 #![tactic(auto)]
 
 mod alone;

@@ -1,5 +1,5 @@
-//! UDP over IPv4 (RFC 768): the datagram that carries data from one port to another, and the data of a received one. It takes
-//! no memory.
+//! UDP over IPv4 (RFC 768): the datagram that carries data from one port to another, and the data of a received one. No
+//! call is given an allocator; that none takes memory is no clause.
 #![tactic(auto)]
 
 mod received;

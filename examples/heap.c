@@ -1,0 +1,30 @@
+// A heap over one array, for a program that has no other. Blocks are handed out in turn; once all are given back, all is free again.
+// UIP_HEAP_SIZE is the array's size: UIP_MEMORY (uip.h) for each device that is open at the same time. It is for one thread.
+#include "uip.h"
+
+#ifndef UIP_HEAP_SIZE
+#define UIP_HEAP_SIZE UIP_MEMORY(65536, 64)
+#endif
+
+static _Alignas(16) unsigned char area[UIP_HEAP_SIZE];
+size_t heap_used;      // the place in the array behind the last block
+size_t heap_blocks;    // how many blocks are not given back
+
+uip_block rattle_alloc(size_t len, size_t align) {
+    size_t at = (heap_used + align - 1) & ~(align - 1);
+    if (len == 0) len = align;
+    if (at > sizeof area || len > sizeof area - at) return (uip_block){0, area};
+    heap_used = at + len;
+    heap_blocks++;
+    return (uip_block){1, area + at};
+}
+
+uip_block rattle_realloc(void *block, size_t kept, size_t len, size_t align) {
+    (void)block, (void)kept, (void)len, (void)align;
+    return (uip_block){0, area};
+}
+
+void rattle_dealloc(void *block) {
+    (void)block;
+    if (--heap_blocks == 0) heap_used = 0;
+}

@@ -1,0 +1,192 @@
+// Single calls of the library. What each answers is foretold from its words and from what the handle has, by include/uip.h: a call
+// that is refused leaves the handle, the area and the heap as they were, and one that is fine touches the heap in uip_open alone.
+#include <string.h>
+#include "fuzz.h"
+
+enum { MOST_ROOM = 1 << 20, LOOKED_AT = 256 };
+
+static area line_in, datagram_in, image_in, outputs;
+static byte before[2 * LOOKED_AT];
+static size_t heap_before;
+static uip_device handle_before;
+
+void calls_begin(void) {
+    line_in = area_new(1 << 16, 1);
+    datagram_in = area_new(1 << 16, 1);
+    image_in = area_new(1 << 20, 1);
+    outputs = area_new(MOST_ROOM, 0);
+}
+
+// The bytes of an area for output that are looked at: its front and its end.
+static size_t looked_at(size_t room) { return room < 2 * LOOKED_AT ? room : LOOKED_AT; }
+
+static byte *begin(const tested *t, size_t room) {
+    byte *out = take_room(&outputs, room);
+    size_t len = looked_at(room);
+    memset(out, (int)below(256), len);
+    memcpy(before, out, len);
+    if (room > len) memcpy(before + LOOKED_AT, out + room - LOOKED_AT, LOOKED_AT);
+    heap_before = heap_calls;
+    handle_before = t->handle;
+    return out;
+}
+
+static void is_untouched(const tested *t, const byte *out, size_t room, const char *what) {
+    size_t len = looked_at(room);
+    WANT(!memcmp(before, out, len), "%s was refused and wrote to the area", what);
+    WANT(room == len || !memcmp(before + LOOKED_AT, out + room - LOOKED_AT, LOOKED_AT), "%s was refused and wrote to the area", what);
+    WANT(!memcmp(&t->handle, &handle_before, sizeof t->handle), "%s was refused and wrote to the handle", what);
+}
+
+// The status that a call answers: its own words go first, then whether there is a device, then whether a text is left.
+static unsigned foretold(const tested *t, int is_bad, int asks_idle) {
+    return is_bad ? UIP_BAD_CALL : !t->is_open ? UIP_NO_DEVICE : asks_idle && t->has_left ? UIP_TEXT_LEFT : UIP_FINE;
+}
+
+static void end(tested *t, uip_done done, unsigned wanted, const byte *out, size_t room, text *to, const char *what) {
+    counts.calls++;
+    WANT(done.status == wanted, "%s answers %u, and %u was foretold", what, done.status, wanted);
+    WANT(heap_calls == heap_before, "%s called the heap", what);
+    if (wanted != UIP_FINE) {
+        counts.refused++;
+        WANT(done.taken == 0 && done.wrote == 0, "%s was refused and took %zu, wrote %zu", what, done.taken, done.wrote);
+        is_untouched(t, out, room, what);
+        return;
+    }
+    WANT(done.wrote <= room, "%s wrote %zu bytes to an area of %zu", what, done.wrote, room);
+    WANT(done.left <= 1 && (done.left == 0 || done.wrote + 1 >= room), "%s left a text with room to go on", what);
+    WANT(done.left == 0 || room < UIP_ROOM, "%s left a text with all room", what);
+    WANT(t->handle.is_open == 1, "%s closed the handle", what);
+    WANT(to->len + done.wrote <= LONGEST_TEXT, "the harness has no room for a text");
+    memcpy(to->bytes + to->len, out, done.wrote);
+    to->len += done.wrote;
+    t->has_left = (int)done.left;
+}
+
+uip_done call_hear(tested *t, const byte *bytes, size_t len, size_t room, text *to) {
+    byte *out = begin(t, room);
+    uip_done done = uip_hear(&t->handle, put_input(&line_in, bytes, len), len, out, room);
+    unsigned wanted = foretold(t, len == 0 || room < UIP_LEAST_ROOM, 1);
+    end(t, done, wanted, out, room, to, "uip_hear");
+    WANT(wanted != UIP_FINE || (done.taken >= 1 && done.taken <= len), "uip_hear took %zu of %zu bytes", done.taken, len);
+    return done;
+}
+
+uip_done call_slot(tested *t, unsigned slot, size_t room, text *to) {
+    byte *out = begin(t, room);
+    uip_done done = uip_call(&t->handle, slot, out, room);
+    end(t, done, foretold(t, slot >= UIP_SLOTS || room < UIP_LEAST_ROOM, 1), out, room, to, "uip_call");
+    WANT(done.taken == 0, "uip_call took bytes");
+    return done;
+}
+
+uip_done call_more(tested *t, size_t room, text *to) {
+    byte *out = begin(t, room);
+    uip_done done = uip_more(&t->handle, out, room);
+    int had_left = t->has_left;
+    end(t, done, foretold(t, room < UIP_LEAST_ROOM, 0), out, room, to, "uip_more");
+    WANT(done.taken == 0 && (had_left || done.wrote == 0), "uip_more wrote where nothing was left");
+    return done;
+}
+
+uip_done call_datagram(tested *t, const byte *datagram, size_t len, text *to) {
+    size_t room = chance(90) ? LARGEST : between(LARGEST, 4000);
+    byte *out = begin(t, room);
+    uip_done done = uip_hear_datagram(&t->handle, put_input(&datagram_in, datagram, len), len, out, room);
+    unsigned wanted = foretold(t, len == 0 || len > LARGEST, 1);
+    end(t, done, wanted, out, room, to, "uip_hear_datagram");
+    WANT(done.left == 0 && done.taken == (wanted == UIP_FINE ? len : 0), "uip_hear_datagram took %zu of %zu bytes", done.taken, len);
+    return done;
+}
+
+uip_done call_slot_datagram(tested *t, unsigned slot, text *to) {
+    size_t room = chance(90) ? LARGEST : between(LARGEST, 4000);
+    byte *out = begin(t, room);
+    uip_done done = uip_call_datagram(&t->handle, slot, out, room);
+    end(t, done, foretold(t, slot >= UIP_SLOTS, 1), out, room, to, "uip_call_datagram");
+    WANT(done.left == 0 && done.taken == 0, "uip_call_datagram left a text");
+    return done;
+}
+
+// Opens with an image, of which the first fault is foretold, and with an allocation refused, which is foretold by the heap.
+void call_open(tested *t, const byte *image, size_t len, const byte *own) {
+    unsigned entry;
+    const char *word = site_fault(image, len, &entry);
+    size_t blocks = heap_blocks;
+    (void)begin(t, 0);
+    heap_refused = 0;
+    uip_opened opened = uip_open(&t->handle, put_input(&image_in, image, len), len, put_input(&datagram_in, own, 4));
+    heap_refuses = 0;
+    counts.opens++, counts.calls++;
+    unsigned wanted = t->is_open ? UIP_HAS_DEVICE : heap_refused ? UIP_NO_MEMORY : word ? UIP_BAD_SITE : UIP_FINE;
+    WANT(opened.status == wanted, "uip_open answers %u, and %u was foretold", opened.status, wanted);
+    counts.refusals += wanted == UIP_NO_MEMORY, counts.bad_images += wanted == UIP_BAD_SITE;
+    if (wanted == UIP_BAD_SITE) {
+        byte told[8] = {0};
+        memcpy(told, word, strlen(word));
+        WANT(!memcmp(opened.word, told, 8) && opened.entry == entry, "uip_open tells %.8s %u of an image, and %s %u was foretold",
+             opened.word, opened.entry, word, entry);
+    }
+    if (wanted == UIP_FINE) {
+        t->is_open = 1, t->has_left = 0;
+        return;
+    }
+    WANT(heap_blocks == blocks, "uip_open took memory and opened no device");
+    WANT(wanted != UIP_HAS_DEVICE || heap_calls == heap_before, "uip_open called the heap of a handle with a device");
+    WANT(!memcmp(&t->handle, &handle_before, sizeof t->handle), "uip_open was refused and wrote to the handle");
+}
+
+void call_close(tested *t) {
+    (void)begin(t, 0);
+    unsigned status = uip_close(&t->handle);
+    counts.calls++;
+    WANT(status == (t->is_open ? UIP_FINE : UIP_NO_DEVICE), "uip_close answers %u", status);
+    WANT(t->is_open || heap_calls == heap_before, "uip_close called the heap without a device");
+    t->is_open = t->has_left = 0;
+}
+
+// A call that has to be refused: with bad words, or while a text is left, or without a device.
+void refused_calls(tested *t) {
+    static byte none[LARGEST + 2];
+    text nowhere = {none, 0};
+    int is_idle = t->is_open && !t->has_left;
+    switch (below(8)) {
+    case 0: call_hear(t, none, 0, 2 + below(4000), &nowhere); break;
+    case 1: call_hear(t, none, between(1, 100), below(2), &nowhere); break;
+    case 2: call_slot(t, chance(50) ? UIP_SLOTS : (unsigned)random_next() | 0x10, is_idle ? 2 : below(4000), &nowhere); break;
+    case 3: call_slot(t, below(UIP_SLOTS), below(2), &nowhere); break;
+    case 4: call_more(t, below(2), &nowhere); break;
+    case 5: call_datagram(t, none, chance(50) ? 0 : LARGEST + 1, &nowhere); break;
+    case 6: call_slot_datagram(t, chance(50) ? UIP_SLOTS : (unsigned)random_next() | 0x10, &nowhere); break;
+    default:
+        if (is_idle) break;
+        call_hear(t, none, between(1, 100), 2 + below(4000), &nowhere);
+        call_slot(t, below(UIP_SLOTS), 2 + below(4000), &nowhere);
+        call_datagram(t, none, between(1, LARGEST), &nowhere);
+        call_slot_datagram(t, below(UIP_SLOTS), &nowhere);
+    }
+    if (chance(20)) {
+        size_t number = chance(50) ? 0 : UIP_COUNTERS + 1 + random_next();
+        uip_number read = uip_counter(&t->handle, number);
+        WANT(read.status == UIP_BAD_CALL && read.number == 0, "uip_counter of %zu answers %u", number, read.status);
+        counts.calls++;
+    }
+}
+
+// A counter of a device, which is read at any time.
+unsigned numbers_of(tested *t, unsigned number) {
+    (void)begin(t, 0);
+    uip_number read = number ? uip_counter(&t->handle, number) : uip_ticks(&t->handle);
+    counts.calls++;
+    WANT(heap_calls == heap_before, "a read called the heap");
+    WANT(read.status == (t->is_open ? UIP_FINE : UIP_NO_DEVICE), "a read answers %u", read.status);
+    return read.number;
+}
+
+// Reads the ticks or a counter, which lies between what the model counted before and after what is being heard. 19 and 20 it does not
+// count.
+void reads(tested *t, const model *least, const model *most) {
+    unsigned number = below(19), told = numbers_of(t, number);
+    unsigned low = number ? least->numbers[number] : least->ticks, high = number ? most->numbers[number] : most->ticks;
+    if (t->is_open) WANT(told - low <= high - low, "counter %u is %u, and %u to %u was foretold", number, told, low, high);
+}

@@ -1,0 +1,104 @@
+// What the parts of the harness share. main.c says how they work together.
+#ifndef FUZZ_H
+#define FUZZ_H
+
+#include "uip.h"
+
+typedef unsigned char byte;
+
+enum { MOST_FILES = 1024, LONGEST_TEXT = 1 << 21, LARGEST = UIP_DATAGRAM_ROOM };
+
+// random.c: numbers that follow from a seed alone.
+void random_begin(unsigned long seed);
+unsigned long random_next(void);
+unsigned below(unsigned count);                       // 0 to count - 1, evenly
+unsigned between(unsigned least, unsigned most);
+int chance(unsigned percent);
+void random_bytes(byte *to, size_t len);
+
+// report.c: what was found, and what was counted.
+_Noreturn void fail(const char *format, ...) __attribute__((format(printf, 1, 2)));
+#define WANT(is_so, ...) do { if (!(is_so)) fail(__VA_ARGS__); } while (0)
+extern struct counts {
+    unsigned long calls, others, refused, opens, bad_images, refusals, sessions, pages, whole, datagrams, pings;
+} counts;
+void report_begin(unsigned long seed, int is_mixed);
+void report_end(void);
+double seconds_gone(void);
+
+// areas.c: areas that end at a page which cannot be touched; an input is read-only where the library sees it.
+typedef struct { byte *writable, *seen; size_t len; } area;
+area area_new(size_t len, int is_input);
+const byte *put_input(const area *in, const byte *bytes, size_t len);    // the bytes, at the end of the area
+byte *take_room(const area *out, size_t room);                           // the last bytes of an area for output
+
+// heap.c: the heap of the library. Each block ends at such a page, and what is given back is gone.
+extern size_t heap_blocks, heap_calls;     // blocks that are not given back; calls of the heap
+extern unsigned heap_refuses;              // 0, or which allocation from now on is refused
+extern int heap_refused;                   // whether one was
+void heap_check(void);                     // the bytes around the blocks are as they were
+
+// wire.c: datagrams by RFC 791, 792 and 793, and the line by RFC 1055.
+typedef struct {
+    byte source[4], target[4];
+    unsigned from, to, seq, ack, flags, window, mss;
+    const byte *text;
+    size_t len;
+} segment;
+enum { FIN = 1, SYN = 2, RST = 4, PSH = 8, ACK = 16 };
+unsigned sum_of(const byte *bytes, size_t len, unsigned before);         // the one's complement sum, 16 bits
+size_t write_segment(byte *to, const segment *s);
+size_t write_ping(byte *to, const byte *source, const byte *target, size_t len);
+void repair_sums(byte *datagram, size_t len);
+int read_segment(const byte *datagram, size_t len, segment *s);          // 1 where it is a sound TCP datagram
+int is_sound_reply(const byte *datagram, size_t len);                    // 1 where it is a sound echo reply
+size_t write_frame(byte *to, const byte *datagram, size_t len);
+typedef struct { byte bytes[LARGEST]; size_t len; int is_escaped, is_over; } decoder;
+int decode(decoder *d, byte b);            // 1: its bytes are a frame, and -1: an overlong frame ended; then the caller empties it
+
+// sites.c: images, by docs/FORMATS.md.
+typedef struct { byte name[64], kind[64]; unsigned name_len, kind_len; const byte *content; size_t len; } file;
+typedef struct { byte *image; size_t len; unsigned count; file files[MOST_FILES]; int is_two; } site;
+void make_site(site *s, int has_calls);
+const char *site_fault(const byte *image, size_t len, unsigned *entry);    // the word of the first fault, or 0
+size_t page_of(const site *s, const byte *name, size_t name_len, byte *to, size_t most);    // 0: it has a call, or no room
+
+// model.c: what a node counts of datagrams that come and go.
+typedef struct { unsigned numbers[21], ticks; byte own[4]; } model;
+void model_hears(model *m, const byte *datagram, size_t len);
+void model_sends(model *m, const byte *datagram, size_t len);
+
+// devices.c: three devices in step. Each gives what was sent to `heard_back`, a datagram at a time.
+typedef struct { int is_mixed, may_be_overlong; unsigned pace; } way;
+extern model counted;
+void devices_open(const site *s, const byte *own, const way *how);
+void devices_hear(const byte *line, size_t len);         // bytes of the line
+void devices_hear_datagram(const byte *datagram, size_t len);
+void devices_tick(unsigned slot);
+void devices_close(void);
+void heard_back(const byte *datagram, size_t len);       // of clients.c
+void record_begin(const char *folder, const site *s, const byte *own, unsigned pace);
+void record_end(void);
+
+// calls.c: single calls of the device under test, fine and refused, each as it was foretold.
+typedef struct { uip_device handle; int is_open, has_left; } tested;
+typedef struct { byte *bytes; size_t len; } text;
+uip_done call_hear(tested *t, const byte *bytes, size_t len, size_t room, text *to);
+uip_done call_slot(tested *t, unsigned slot, size_t room, text *to);
+uip_done call_more(tested *t, size_t room, text *to);
+uip_done call_datagram(tested *t, const byte *datagram, size_t len, text *to);
+uip_done call_slot_datagram(tested *t, unsigned slot, text *to);
+void call_open(tested *t, const byte *image, size_t len, const byte *own);
+void call_close(tested *t);
+void refused_calls(tested *t);
+void reads(tested *t, const model *least, const model *most);
+void calls_begin(void);
+unsigned numbers_of(tested *t, unsigned number);
+
+// clients.c: clients, honest and dishonest, behind a link that loses, repeats, reorders and damages.
+void clients_begin(const site *s, const byte *own, int may_be_overlong);
+void clients_act(void);                                  // one step of one of them, or of the link
+void clients_tick(void);
+void clients_end(void);
+
+#endif

@@ -1,0 +1,71 @@
+// Faults between the harness and the library, one for each number PLANT: the harness has to find each (`sh fuzz/run.sh planted`). The
+// linker puts these calls in the place of the library's (--wrap).
+#include <string.h>
+#include "uip.h"
+
+typedef unsigned char byte;
+
+uip_opened __real_uip_open(uip_device *d, const byte *image, size_t len, const byte *own);
+uip_done __real_uip_hear(uip_device *d, const byte *bytes, size_t len, byte *out, size_t room);
+uip_done __real_uip_call(uip_device *d, size_t slot, byte *out, size_t room);
+uip_done __real_uip_more(uip_device *d, byte *out, size_t room);
+uip_done __real_uip_hear_datagram(uip_device *d, const byte *datagram, size_t len, byte *out, size_t room);
+uip_number __real_uip_counter(uip_device *d, size_t number);
+unsigned __real_uip_close(uip_device *d);
+
+static unsigned calls;
+
+uip_opened __wrap_uip_open(uip_device *d, const byte *image, size_t len, const byte *own) {
+    static byte copy[1 << 21];
+    memcpy(copy, image, len);
+    if (PLANT == 1 && len > 200) copy[len - 1] ^= 1;                              // a byte of the site is another
+    uip_opened opened = __real_uip_open(d, copy, len, own);
+    if (PLANT == 2 && opened.status == UIP_BAD_SITE && opened.entry) opened.entry--;
+    if (PLANT == 3 && opened.status == UIP_BAD_SITE) rattle_alloc(1, 1);          // a block is kept
+    return opened;
+}
+
+uip_done __wrap_uip_hear(uip_device *d, const byte *bytes, size_t len, byte *out, size_t room) {
+    uip_done done = __real_uip_hear(d, bytes, len, out, room);
+    int is_due = ++calls % 1000 == 0;
+    if (PLANT == 4 && is_due && done.taken > 1) done.taken--;                     // a byte was taken and is not told
+    if (PLANT == 5 && is_due && done.wrote && !done.left) done.wrote--;           // a byte is not handed out
+    if (PLANT == 6 && done.status == UIP_BAD_CALL && room) out[room - 1]++;       // a refused call writes
+    if (PLANT == 7 && is_due && done.status == UIP_FINE) out[room] = 0;           // a byte behind the room
+    if (PLANT == 8 && is_due && done.status == UIP_FINE) ((byte *)bytes)[0] = 0;  // what was only lent is written
+    if (PLANT == 9 && done.status == UIP_TEXT_LEFT) done.status = UIP_BAD_CALL;
+    return done;
+}
+
+uip_done __wrap_uip_call(uip_device *d, size_t slot, byte *out, size_t room) {
+    if (PLANT == 10 && slot == 9) slot = 8;                                       // another slot is called
+    uip_done done = __real_uip_call(d, slot, out, room);
+    if (PLANT == 11 && done.status == UIP_NO_DEVICE) d->is_open = 2;              // a refused call writes to the handle
+    return done;
+}
+
+uip_done __wrap_uip_more(uip_device *d, byte *out, size_t room) {
+    uip_done done = __real_uip_more(d, out, room);
+    if (PLANT == 12 && ++calls % 1000 == 0 && done.wrote) out[0] ^= 1;            // a byte of a text is another
+    return done;
+}
+
+uip_done __wrap_uip_hear_datagram(uip_device *d, const byte *datagram, size_t len, byte *out, size_t room) {
+    static byte room_of_own[UIP_ROOM];
+    uip_done done = __real_uip_hear_datagram(d, datagram, len, out, room);
+    if (PLANT == 13) __real_uip_hear(d, (const byte *)"\xc0", 1, room_of_own, UIP_ROOM);    // an open frame is thrown away
+    return done;
+}
+
+uip_number __wrap_uip_counter(uip_device *d, size_t number) {
+    if (PLANT == 14 && number == UIP_TCP_REFUSED) number = UIP_TCP_CHECKSUM;      // the counter beside it
+    return __real_uip_counter(d, number);
+}
+
+unsigned __wrap_uip_close(uip_device *d) {
+    if (PLANT == 15 && d->is_open) {                                              // the memory is kept
+        memset(d, 0, sizeof *d);
+        return UIP_FINE;
+    }
+    return __real_uip_close(d);
+}
