@@ -18,15 +18,19 @@ status=0
 tests() {
     name=$1; shift
     timeout 400 node --test --test-force-exit --test-concurrency=1 --test-reporter=spec "$@" >"$log" 2>&1 || { status=1; grep -A12 '^✖' "$log"; }
-    sed -n 's/^﹣.* # /web: skipped: /p' "$log" | sort | uniq -c | sed 's/^ *\([0-9]*\) web: skipped:/web: skipped: \1 tests:/'
-    echo "web: $name: $(sed -n 's/^ℹ pass //p' "$log") passed, $(sed -n 's/^ℹ fail //p' "$log") failed in $(sed -n 's/^ℹ duration_ms \([0-9]*\)[0-9]\{3\}.*/\1/p' "$log") s"
+    sed -n 's/^﹣.* # /skipped: /p' "$log" | sort | uniq -c | sed 's/^ *\([0-9]*\) skipped:/skipped: \1 tests of the page:/'
+    count() { sed -n "s/^ℹ $1 //p" "$log"; }
+    seconds=$(count duration_ms)
+    echo "web: $name: $(count pass) passed, $(count fail) failed in $((${seconds%%.*} / 1000)) s"
 }
 
-client() { tests "the client under node" web/test/wire.test.mjs web/test/scripted.test.mjs web/test/line.test.mjs web/test/ladder.test.mjs web/test/talk.test.mjs web/test/many.test.mjs; }
-browser() {
-    if [ ! -x examples/linux-c/out/uip_serve ] && [ -f crates/uip_c/out/libuip_c.a ]; then timeout 120 sh examples/linux-c/run.sh >/dev/null 2>&1; fi
-    tests "the page in Chromium" web/test/browser.test.mjs
+client() {
+    suites=
+    for suite in wire scripted line ladder talk many; do suites="$suites web/test/$suite.test.mjs"; done
+    tests "the client under node" $suites
 }
+browser() { tests "the page in Chromium" web/test/browser.test.mjs; }
+# All, or with --quick those that want no browser, in so many seconds.
 planted() { timeout "$1" node web/test/planted.mjs $2 || { echo "web: a planted fault was not found, or not all were tried in time"; status=1; }; }
 
 case "${1:-all}" in
