@@ -34,14 +34,16 @@ async function fetched(tab, name) {
 }
 
 // Every file in the frame, byte for byte.
+async function seesFile(tab, name) {
+  const { status, type, bytes } = await fetched(tab, name), wanted = page(name);
+  assert.equal(status, 200, name);
+  assert.ok(wanted.toString("latin1").includes(`Content-type: ${type}\r\n`), type);
+  assert.ok(bodyOf(wanted).equals(bytes), name);
+}
 async function seesFiles(tab) {
-  for (const name of FILES) {
-    const { status, type, bytes } = await fetched(tab, name), wanted = page(name);
-    assert.equal(status, 200, name);
-    assert.ok(wanted.toString("latin1").includes(`Content-type: ${type}\r\n`), type);
-    assert.ok(bodyOf(wanted).equals(bytes), name);
-  }
-  assert.equal((await fetched(tab, "/no-such-file")).status, 404);
+  const nothing = fetched(tab, "/no-such-file");
+  await Promise.all(FILES.map(name => seesFile(tab, name)));
+  assert.equal((await nothing).status, 404);
 }
 
 // The start page has its style and picture; a link leads to the script page, and back and reload lead as they should.

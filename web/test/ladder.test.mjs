@@ -106,7 +106,7 @@ test("a ladder of the page is read back too", () => {
 });
 
 test("a node by uIP's own rules is found: other bytes at one number", { timeout: 60000 }, async () => {
-  const rows = [], said = [], words = [join(here, "by_uips_rules.py"), "0.1"];
+  const rows = [], said = [], words = [join(here, "by_uips_rules.py"), "1"];
   const child = spawn("python3", words, { stdio: ["pipe", "pipe", "inherit"] });
   const session = startSession({ child, rate: 0, show: row => rows.push(row), notice: words => said.push(words) });
   assert.match(Buffer.from((await session.whole("/")).bytes).toString(), /^This text was made 1 times\.\n$/);

@@ -1,5 +1,6 @@
 // The table of planted faults: each is an edit of a module, and the test that has to fail with it. `node planted.mjs [WORD]`
-// tries them all, or those of a module or a test with that word, and fails where a fault is not found.
+// tries them all, or those of a module or a test with that word, or with `--quick` those that want no browser; it fails
+// where a fault is not found.
 import { spawnSync } from "node:child_process";
 import { cpSync, mkdtempSync, readFileSync, rmSync, symlinkSync, writeFileSync } from "node:fs";
 import { tmpdir } from "node:os";
@@ -118,7 +119,7 @@ const FAULTS = {
     [`flags & SYN ? [START] : []`, `[]`, "ladder", "whether it is the same"],
     [`if (ahead < -this.#kept.length) return UNKNOWN;`, "", "ladder", "numbers may wrap"],
     [`if (count >= this.#kept.length) this.#kept.fill(UNKNOWN);`, `if (count >= this.#kept.length);`, "ladder", "whether it is the same"],
-    [`this.#kept[this.#place(number)] = old[number % old.length];`, "", "ladder", "numbers may wrap"],
+    [`this.#kept[this.#place(number)] = old[number % old.length];`, "", "ladder", "whether it is the same"],
     [`if (!talk || isAnew && isToNode)`, `if (!talk)`, "ladder", "its own numbers"],
     [`if (isAnew || !talk[side])`, `if (!talk[side])`, "ladder", "its own numbers"],
     [`if (this.#talks.size > TALKS) this`, `if (false) this`, "ladder", "does not grow"],
@@ -154,7 +155,7 @@ const FAULTS = {
     [`source !== this.element.contentWindow || `, "", "browser", "the page as one file"],
     [`    await Promise.all([...page.querySelectorAll(NAMED)].map(it => this.#putIn(it, base)));\n`, "", "browser", "the page as one file"],
     [`window.fetch = what =>`, `window.fetched = what =>`, "browser", "the page as one file"],
-    [`    event.preventDefault();\n    ask`, `    ask`, "browser", "the page as one file"],
+    [`    ask({ visit: link.getAttribute("href") });`, "", "browser", "the page as one file"],
   ],
   "serve.py": [
     [` or self.headers.get("Origin") != f"http://{self.headers['Host']}"`, "", "browser", "why a node ended"],
@@ -165,17 +166,27 @@ const FAULTS = {
   ],
 };
 
-// Whether the test fails with the edit.
-function isFound(folder, file, [old, other, suite, words]) {
-  const path = join(folder, "web", file), text = readFileSync(path, "utf8");
-  if (text.split(old).length !== 2) throw new Error(`${file} has not once: ${old}`);
-  writeFileSync(path, text.replace(old, () => other));
+function passes(folder, suite, words) {
   const args = ["--test", "--test-force-exit", `--test-name-pattern=${words}`, join(folder, `web/test/${suite}.test.mjs`)];
   const options = { env: { ...process.env, UIPD, SITE }, stdio: "ignore" };
-  const { status } = spawnSync("timeout", ["-k", "1", LONGEST, process.execPath, ...args], options);
-  writeFileSync(path, text);
-  return status !== 0;
+  return spawnSync("timeout", ["-k", "1", LONGEST, process.execPath, ...args], options).status === 0;
 }
+
+const passed = new Map();   // by the test: whether it passes without an edit
+
+// Whether the test passes as it is, and fails with the edit.
+function isFound(folder, file, [old, other, suite, words]) {
+  const path = join(folder, "web", file), text = readFileSync(path, "utf8"), test = `${suite} ${words}`;
+  if (text.split(old).length !== 2) throw new Error(`${file} has not once: ${old}`);
+  if (!passed.has(test)) passed.set(test, passes(folder, suite, words));
+  writeFileSync(path, text.replace(old, () => other));
+  const isFailed = !passes(folder, suite, words);
+  writeFileSync(path, text);
+  return isFailed && passed.get(test);
+}
+
+const isWanted = (word, file, [, , suite, words]) =>
+  word === "--quick" ? suite !== "browser" : [file, suite, words].some(text => text.includes(word));
 
 function main(word = "") {
   const skipped = suite => noProgram || suite === "browser" && noChromium;
@@ -183,10 +194,10 @@ function main(word = "") {
   cpSync(join(here, ".."), join(folder, "web"), { recursive: true });
   symlinkSync(join(top, "examples"), join(folder, "examples"));
   for (const [file, edits] of Object.entries(FAULTS))
-    for (const edit of edits.filter(it => [file, it[2], it[3]].some(text => text.includes(word)))) {
+    for (const edit of edits.filter(it => isWanted(word, file, it))) {
       const verdict = skipped(edit[2]) ? "skipped" : isFound(folder, file, edit) ? "found" : "missed";
       counts[verdict]++;
-      if (verdict !== "found" || word) console.log(`${verdict}: ${file}: ${edit[0].split("\n")[0]} (${edit[2]}: ${edit[3]})`);
+      if (verdict !== "found" || word !== "--quick") console.log(`${verdict}: ${file}: ${edit[0].split("\n")[0]} (${edit[2]}: ${edit[3]})`);
     }
   rmSync(folder, { recursive: true, force: true });
   console.log(`planted faults: ${counts.found} found, ${counts.missed} not found, ${counts.skipped} not tried`);
