@@ -228,11 +228,14 @@ fn knows_its_words(rt: HostRuntime) -> Result<(), Fail> {
 fn shows_its_own_texts(rt: HostRuntime) -> Result<(), Fail> {
     let alloc = rt.alloc();
     for (word, text) in [("--help", HELP), ("--version", VERSION)] {
-        Trial::new(&[word], &[], text).check(&rt, alloc, 4096)?;
+        let words = [word];
+        let shown = Trial::new(&words, &[], text);
+        shown.check(&rt, alloc, 4096)?;
         let full = Trial {
             room: 4,
+            output: front(text, 4),
             status: Status::WriteFault,
-            ..Trial::new(&[word], &[], front(text, 4))
+            ..shown
         };
         full.check(&rt, alloc, 4096)?;
     }
