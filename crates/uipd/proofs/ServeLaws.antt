@@ -13,16 +13,21 @@ use Rattle.uip_node.specs.declared.node.Node.{Node}
 use Rattle.uip_node.specs.Node.{opening}
 use Rattle.uip_node.specs.StandsFor.{Stands}
 use Rattle.uip_wire.specs.declared.addr.Addr.{Addr}
+use Rattle.ethernet_arp.specs.EtherWay.{ether_way}
+use Rattle.ethernet_arp.specs.Frames.{Host}
+use Rattle.ethernet_arp.specs.Learning.{Act}
+use Rattle.ethernet_arp.specs.declared.mac.Mac.{Mac}
 use Rattle.line_medium.specs.Ways.{Way}
 use Rattle.serve_loop.specs.DeedRuns.{Deed, FrontSaid, Station, after_deed, after_deeds, said, said_by_deed}
 use Rattle.serve_loop.specs.DeedServing.{IsStationed, SaidBy, ServesOver}
 use Rattle.serve_loop.specs.LineDeeds.{line_deeds}
 use Rattle.serve_loop.specs.LineOutput.{opening_at, output_by}
 use Rattle.serve_loop.proofs.RunLaws.{said-append}
-use Rattle.uipd.specs.Output.{output_over}
+use Rattle.uipd.specs.Output.{host_at, output_over}
 use Rattle.uipd.specs.Serving.{RunsBy}
 use Rattle.uipd.specs.Statuses.{status_of_serving}
 use Rattle.uipd.specs.declared.words.LineKind.{LineKind}
+use Rattle.uipd.specs.declared.words.LineKind.TheVariants.{Ethernet}
 use Rattle.uipd.specs.declared.words.ServedLine.{ServedLine}
 
 -- the output was written by the end, and a write failed only where there is some
@@ -69,3 +74,12 @@ line_run {S = S} {C = C} g shared line kind w before after did did' old new end 
     let out = subst (PutsOut end old.sink.written new.sink.written) (sym (same m numbers it.taken))
     (puts_out m g.served line.own w (deeds line.own) (opening_at line.own numbers) P Q old.sink.written new.sink.written (record { stands = st; acted = began }) end two) in
     inl (end, refl, record { taken = it.taken; consumed = it.consumed; ends = it.ends; written = out.written; some = out.some })
+
+-- so over Ethernet frames, by a host that is that of the line
+pub ether_run : {A S : Type 0} (g : Ghosts A S) (shared : S) (line : ServedLine) (mac : Mac) (before after : Node A S) (h : Host) (did did' : List Act → Type 0) (old new : LineTold) (end : ServeEnd)
+    → before.shared ≡ shared → Stands g before (opening line.own (g.numbers shared)) [] → did [] → h ≡ host_at line.own mac
+    → ServesOver g (ether_way h) did did' line.limits.pace line.limits.items before after old new end
+    → RunsBy (g.meaning (g.kept shared)) g.served (g.numbers shared) (record line { kind = Ethernet mac }) old new (status_of_serving end)
+ether_run g shared line mac before after h did did' old new end is st began same it =
+    line_run g shared line (Ethernet mac) (ether_way (host_at line.own mac)) before after did did' old new end (λ m numbers items. refl) is st began
+    (subst (λ (k : Host). ServesOver g (ether_way k) did did' line.limits.pace line.limits.items before after old new end) same it)

@@ -303,7 +303,8 @@ fn slip_words(words: &[String]) -> Option<Command<'_>>
 
 /// A text of the program's own, where no words stand behind the one that asks for it.
 fn shown<'a>(text: &'a [u8], words: &[String]) -> Option<Command<'a>>
-    ensures { option_map task_meant result ≡ text_asked text.now (map string_bytes words.now) }
+    ensures task { option_map task_meant result ≡ text_asked text.now (map string_bytes words.now) }
+    ensures allowed { IfSome result IsAllowed }
 {
     match words {
         [] => Some(Command::Show(text)),

@@ -1,15 +1,11 @@
 use Rattle.std.proofs.Common.{refl, sym, subst}
 use Rattle.uip_edge.specs.Telling.{line_told}
-use Rattle.ethernet_arp.specs.EtherWay.{ether_way}
-use Rattle.ethernet_arp.specs.Frames.{Host}
-use Rattle.serve_loop.specs.DeedServing.{ServesOver}
 use Rattle.serve_loop.specs.SlipWay.{any_acts, slip_way}
-use Rattle.uipd.specs.Output.{host_at}
 use Rattle.uipd.specs.Serving.{RunsBy}
 use Rattle.uipd.specs.Statuses.{status_of_serving}
 use Rattle.uipd.specs.declared.words.LineKind.{LineKind}
-use Rattle.uipd.specs.declared.words.LineKind.TheVariants.{Ethernet, Serial}
-use Rattle.uipd.proofs.ServeLaws.{line_run}
+use Rattle.uipd.specs.declared.words.LineKind.TheVariants.{Serial}
+use Rattle.uipd.proofs.ServeLaws.{ether_run, line_run}
 use Rattle.uipd.proofs.serve.serve_by.Goals as goal
 
 pub returns-in-Serial : goal.returns-in-Serial
@@ -27,8 +23,5 @@ returns-in-Ok g c =
     let new = line_told g.L.Link g.K.Sink c.serve_ether.new.link c.serve_ether.new.sink in
     rw c.from-in-Ethernet.ensures
     (subst (λ (k : LineKind). RunsBy (g.A.App.meaning (g.A.App.kept c.args.shared)) g.A.App.served (g.A.App.numbers c.args.shared) (record c.args.line { kind = k }) old new (status_of_serving c.serve_ether.result)) (sym c.in-Ethernet.is)
-    (line_run g.A.App c.args.shared c.args.line (Ethernet c.in-Ethernet.mac) (ether_way (host_at c.args.line.own c.in-Ethernet.mac)) c.in-Ok.node c.serve_ether.new.node
-    _ _ old new c.serve_ether.result (λ m numbers items. refl)
-    c.in-Ok.ensures.shared c.in-Ok.ensures.stands c.new-arp.ensures.knows
-    (subst (λ (h : Host). ServesOver g.A.App (ether_way h) _ _
-    c.args.line.limits.pace c.args.line.limits.items c.in-Ok.node c.serve_ether.new.node old new c.serve_ether.result) c.new-arp.ensures.host c.serve_ether.ensures.serves)))
+    (ether_run g.A.App c.args.shared c.args.line c.in-Ethernet.mac c.in-Ok.node c.serve_ether.new.node _ _ _ old new c.serve_ether.result c.in-Ok.ensures.shared c.in-Ok.ensures.stands
+    c.new-arp.ensures.knows c.new-arp.ensures.host c.serve_ether.ensures.serves))
