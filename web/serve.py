@@ -24,6 +24,7 @@ import html
 import json
 import os
 import select
+import signal
 import struct
 import sys
 import threading
@@ -338,6 +339,7 @@ def main():
     print(f"The page is at {url} (Chromium; Ctrl-C ends it). The node: {Handler.node.name if Handler.node else 'none'}.", flush=True)
     if words.is_opened:
         webbrowser.open(url)
+    signal.signal(signal.SIGTERM, lambda *_: sys.exit(0))   # what it started ends with it
     try:
         server.serve_forever()
     except KeyboardInterrupt:

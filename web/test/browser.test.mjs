@@ -50,9 +50,10 @@ async function seesFiles(tab) {
 async function seesSite(tab) {
   await seesFiles(tab);
   await tab.until(`frames[0].document.images[0].complete`);
-  assert.deepEqual(await tab.run(`
+  const seen = await tab.run(`
     const { document } = frames[0], [image] = document.images, [sheet] = document.styleSheets;
-    return [image.naturalWidth > 0, sheet.cssRules.length, frames[0].getComputedStyle(document.body).color]`), [true, 5, "rgb(20, 44, 36)"]);
+    return [image.naturalWidth > 0, sheet.cssRules.length, frames[0].getComputedStyle(document.body).color]`);
+  assert.deepEqual(seen, [true, 5, "rgb(20, 44, 36)"]);
   await tab.run(`frames[0].document.querySelector('a[href="/stats.shtml"]').click()`);
   await tab.until(shows("What it counts"));
   assert.match(await tab.run(`return frames[0].document.body.innerText`), /ESTABLISHED/);
@@ -336,7 +337,7 @@ inBrowser("the page as one file: every file, what a page names, links, and a scr
 
 inBrowser("a serial port behind the bridge: one page has it at a time, and it is told when it goes away", async () => {
   const words = [join(here, "on_terminal.py"), "--port", UIPD, "serve", SITE, "10.0.0.1", "pace", "5760", "tty"];
-  const port = spawn("python3", words, { stdio: ["ignore", "pipe", "inherit"] });
+  const port = spawn("python3", words, { stdio: ["pipe", "pipe", "inherit"] });
   const name = await new Promise(resolve => port.stdout.once("data", text => resolve(`${text}`.trim())));
   await withBridge(startServe("--line", name, "115200"), async (tab, { url }) => {
     await tab.until(shows("Lowunbisa"));
@@ -346,7 +347,7 @@ inBrowser("a serial port behind the bridge: one page has it at a time, and it is
     await other.call("Page.close");
     port.kill();
     await tab.until(ends("the line ended: the port went away"));
-  });
+  }).finally(() => port.kill());
 });
 
 inBrowser("two pages at once have each a node of its own", () => withBridge(startServeOfSite(), async (tab, { url }) => {
@@ -366,7 +367,8 @@ const BOARD = process.env.BOARD ?? join(top, "examples/board/out/board.bin");
 const SERVE_C = process.env.SERVE_C ?? join(top, "examples/linux-c/out/uip_serve");
 const noBoard = (() => {
   if (!existsSync(BOARD)) return `no firmware at ${BOARD}: \`sh examples/board/run.sh build\` builds it`;
-  try { execFileSync("qemu-system-aarch64", ["--version"], { stdio: "ignore" }); return false; } catch { return "no qemu-system-aarch64 here"; }
+  const qemu = process.env.QEMU ?? "qemu-system-aarch64";
+  try { execFileSync(qemu, ["--version"], { stdio: "ignore" }); return false; } catch { return `no ${qemu} here`; }
 })();
 const noServeC = existsSync(SERVE_C) ? false : `no C program at ${SERVE_C}: \`sh examples/linux-c/run.sh\` builds it`;
 
