@@ -11,7 +11,7 @@ import { readReport } from "./ladder.js";
 import { drawLadder } from "./picture.js";
 
 const $ = id => document.getElementById(id);
-const SLIDERS = ["lose", "repeat", "reorder", "damage", "delay"], NOTICES = 30, DRAWN = 400;
+const SLIDERS = ["lose", "repeat", "reorder", "damage", "delay"], NOTICES = 30, DRAWN = 1000;
 const clock = new Clock(), rows = new Rows($("rows"));
 const bridged = JSON.parse(document.querySelector("meta[name=bridge]")?.content ?? "null");
 
@@ -133,8 +133,9 @@ async function drawReport() {
   const [file] = $("report").files;
   if (!file) return;
   $("report").value = "";
-  const { rows: list, unit } = readReport(await file.text());
-  draw(list, { title: file.name, unit });
+  const { rows: list, unit } = readReport(await file.text()), shown = list.slice(0, DRAWN);
+  if (shown.length < list.length) notice(`the first ${DRAWN} datagrams of ${list.length} are drawn`);
+  draw(shown, { title: file.name, unit });
 }
 
 const saveLadder = () => save(new Blob([rows.text()], { type: "text/plain" }), "ladder.txt");
