@@ -8,7 +8,7 @@ import { join } from "node:path";
 import { noChromium } from "./chromium.mjs";
 import { SITE, UIPD, here, noProgram, top } from "./node_process.mjs";
 
-const LONGEST = "40";   // seconds: a test that hangs has failed
+const LONGEST = "25";   // seconds: a test that hangs has failed
 
 // By module: the text that stands there once, what stands in its place, the test's file, and words of its name.
 const FAULTS = {
