@@ -45,8 +45,9 @@ const frame = () => hasWorker && !$("apart").checked ? byWorker : plain;
 
 // A line that is open becomes the session's.
 function begin(line, { rate, fill, ...options }) {
-  const over = why => close(why ? `the line ended: ${why}` : "the line ended");
-  session = new Session(line, { ...options, clock, seed: Date.now(), show: row => rows.add(row), notice, over });
+  const over = why => { if (session === own) close(why ? `the line ended: ${why}` : "the line ended"); };
+  const own = new Session(line, { ...options, clock, seed: Date.now(), show: row => rows.add(row), notice, over });
+  session = own;
   session.rate = rate;
   $("fill").checked = fill;
   apply();

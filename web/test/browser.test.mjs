@@ -119,6 +119,7 @@ inBrowser("a serial port is pinged, captured, closed and opened again", () => wi
   assert.match(dump(line), /icmp 10\.0\.0\.2 10\.0\.0\.1 8 0\n.* icmp 10\.0\.0\.1 10\.0\.0\.2 0 0\n/);
   await click(tab, "close");
   await tab.until(`navigator.serial.ports[0].readable === null`);
+  await tab.until(ends("no line is open"));
   assert.deepEqual((await fetched(tab, "/gone-away")).bytes.toString(), "no line is open\n");
   await tab.run(`frames[0].document.title = ""`);
   await click(tab, "open-port");
