@@ -323,7 +323,10 @@ inBrowser("the page as one file: every file, what a page names, links, and a scr
     await tab.run(`addEventListener("message", ({ data }) => { if (data.told) self.told = data.told }); node.visit("/own.html")`);
     await tab.until(`self.told`);
     assert.equal(await tab.run(`return self.told`), readFileSync(join(top, "examples/site/style.css")).toString());
-    await tab.run(`postMessage({ visit: "/404.html" }, "*")`);   // of another window than the frame: it means nothing
+    await tab.run(`   // of another window than the frame: it means nothing
+      postMessage({ visit: "/404.html" }, "*");
+      for (let n = 0; n < 5; n++) await node.session.whole("/style.css");
+      await new Promise(resolve => setTimeout(resolve, 500))`);
     const [x, y] = await tab.run(`const it = document.getElementById("frame").getBoundingClientRect(); return [it.x + 90, it.y + 90]`);
     assert.equal(await tab.run(`return document.getElementById("target").value`), "/own.html");
     for (const type of ["mousePressed", "mouseReleased"])
