@@ -11,7 +11,7 @@ import { readReport } from "./ladder.js";
 import { drawLadder } from "./picture.js";
 
 const $ = id => document.getElementById(id);
-const SLIDERS = ["lose", "repeat", "reorder", "damage", "delay"], NOTICES = 30, DRAWN = 400;
+const SLIDERS = ["lose", "repeat", "reorder", "damage", "delay"], NOTICES = 30, DRAWN = 1000;
 const clock = new Clock(), rows = new Rows($("rows"));
 const bridged = JSON.parse(document.querySelector("meta[name=bridge]")?.content ?? "null");
 
@@ -45,8 +45,9 @@ const frame = () => hasWorker && !$("apart").checked ? byWorker : plain;
 
 // A line that is open becomes the session's.
 function begin(line, { rate, fill, ...options }) {
-  const over = why => close(why ? `the line ended: ${why}` : "the line ended");
-  session = new Session(line, { ...options, clock, seed: Date.now(), show: row => rows.add(row), notice, over });
+  const over = why => { if (session === own) close(why ? `the line ended: ${why}` : "the line ended"); };
+  const own = new Session(line, { ...options, clock, seed: Date.now(), show: row => rows.add(row), notice, over });
+  session = own;
   session.rate = rate;
   $("fill").checked = fill;
   apply();
@@ -133,8 +134,9 @@ async function drawReport() {
   const [file] = $("report").files;
   if (!file) return;
   $("report").value = "";
-  const { rows: list, unit } = readReport(await file.text());
-  draw(list, { title: file.name, unit });
+  const { rows: list, unit } = readReport(await file.text()), shown = list.slice(0, DRAWN);
+  if (shown.length < list.length) notice(`the first ${DRAWN} datagrams of ${list.length} are drawn`);
+  draw(shown, { title: file.name, unit });
 }
 
 const saveLadder = () => save(new Blob([rows.text()], { type: "text/plain" }), "ladder.txt");

@@ -42,7 +42,8 @@ export class Rows {
 
 function lineOf(row) {
   const { number, time, isToNode, who, flags, seq, len, isAgain, otherAt, fate } = row, line = document.createElement("tr");
-  line.className = [isToNode ? "to" : "from", isAgain && "again", otherAt !== null && "other", fate.length && "struck"].filter(Boolean).join(" ");
+  const kinds = [isToNode ? "to" : "from", isAgain && "again", otherAt !== null && "other", fate.length && "struck"];
+  line.className = kinds.filter(Boolean).join(" ");
   for (const text of [number, time, isToNode ? "→" : "←", who, flags, seq, len, verdictOf(row)])
     line.append(Object.assign(document.createElement("td"), { textContent: text }));
   return line;

@@ -24,6 +24,7 @@ import html
 import json
 import os
 import select
+import signal
 import struct
 import sys
 import threading
@@ -312,19 +313,19 @@ class Words:
         if self.line:
             return Port(*self.line)
         if self.board:
-            return self.existing(self.board, "no firmware at {}: `sh examples/board/run.sh build` builds it") and Board(self.board)
+            self.has_to_exist(self.board, "no firmware at {}: `sh examples/board/run.sh build` builds it")
+            return Board(self.board)
         if self.command:
             return Program(" ".join(self.command), self.command, False)
-        self.existing(self.uipd, "no program at {}: `rt run` in crates/uipd builds it")
-        self.existing(self.site, "no image at {}: `sh examples/pack.sh` packs it")
+        self.has_to_exist(self.uipd, "no program at {}: `rt run` in crates/uipd builds it")
+        self.has_to_exist(self.site, "no image at {}: `sh examples/pack.sh` packs it")
         words = ["serve", self.site, "10.0.0.1", "pace", str(browse.LOCAL_RATE // 2), "tty"]
         name = f"{os.path.basename(self.uipd)} serve {os.path.basename(self.site)}"
         return Program(name, [self.uipd, *words], True)
 
-    def existing(self, path, words):
+    def has_to_exist(self, path, words):
         if not os.path.exists(path):
             fail(words.format(path))
-        return True
 
 
 def main():
@@ -338,6 +339,7 @@ def main():
     print(f"The page is at {url} (Chromium; Ctrl-C ends it). The node: {Handler.node.name if Handler.node else 'none'}.", flush=True)
     if words.is_opened:
         webbrowser.open(url)
+    signal.signal(signal.SIGTERM, lambda *_: sys.exit(0))   # what it started ends with it
     try:
         server.serve_forever()
     except KeyboardInterrupt:

@@ -8,7 +8,8 @@ import { Capture } from "./capture.js";
 import { Ladder } from "./ladder.js";
 import { all, get } from "./http.js";
 
-const AT_ONCE = 8;        // the node has ten connections
+const TEN = 10;           // the connections of a node by uIP's usual settings
+const AT_ONCE = 8;
 const TRIES = 3;          // of a page of which not a byte came
 const REMEMBERED = 256;   // pages of which the sum is kept
 const LONG = 3000;        // milliseconds without an answer that are worth a word
@@ -78,10 +79,9 @@ export class Session {
 
   #tellWait({ state }, waited) {
     if (waited < LONG) return;
-    const time = `${Math.round(waited / 1000)} s`, others = this.host.connections.size - 1;
-    if (state !== "SYN-SENT") this.notice(`no answer for ${time}; asked again`, "wait");
-    else if (others < 10) this.notice(`no answer to a new connection for ${time}: is the node there, or still starting? asked again`, "wait");
-    else this.notice(`no answer to a new connection for ${time}: the node may have none free, ${others} are open; asked again`, "wait");
+    const others = this.host.connections.size - 1, what = state === "SYN-SENT" ? " to a new connection" : "";
+    const many = others < TEN ? "is the node there, or still starting?" : `the node may have none free, ${others} are open;`;
+    this.notice(`no answer${what} for ${Math.round(waited / 1000)} s${what ? `: ${many}` : ";"} asked again`, "wait");
   }
 
   // A page of the node; some at once, and the others wait.

@@ -50,9 +50,10 @@ async function seesFiles(tab) {
 async function seesSite(tab) {
   await seesFiles(tab);
   await tab.until(`frames[0].document.images[0].complete`);
-  assert.deepEqual(await tab.run(`
+  const seen = await tab.run(`
     const { document } = frames[0], [image] = document.images, [sheet] = document.styleSheets;
-    return [image.naturalWidth > 0, sheet.cssRules.length, frames[0].getComputedStyle(document.body).color]`), [true, 5, "rgb(20, 44, 36)"]);
+    return [image.naturalWidth > 0, sheet.cssRules.length, frames[0].getComputedStyle(document.body).color]`);
+  assert.deepEqual(seen, [true, 5, "rgb(20, 44, 36)"]);
   await tab.run(`frames[0].document.querySelector('a[href="/stats.shtml"]').click()`);
   await tab.until(shows("What it counts"));
   assert.match(await tab.run(`return frames[0].document.body.innerText`), /ESTABLISHED/);
@@ -118,6 +119,7 @@ inBrowser("a serial port is pinged, captured, closed and opened again", () => wi
   assert.match(dump(line), /icmp 10\.0\.0\.2 10\.0\.0\.1 8 0\n.* icmp 10\.0\.0\.1 10\.0\.0\.2 0 0\n/);
   await click(tab, "close");
   await tab.until(`navigator.serial.ports[0].readable === null`);
+  await tab.until(ends("no line is open"));
   assert.deepEqual((await fetched(tab, "/gone-away")).bytes.toString(), "no line is open\n");
   await tab.run(`frames[0].document.title = ""`);
   await click(tab, "open-port");
@@ -321,7 +323,10 @@ inBrowser("the page as one file: every file, what a page names, links, and a scr
     await tab.run(`addEventListener("message", ({ data }) => { if (data.told) self.told = data.told }); node.visit("/own.html")`);
     await tab.until(`self.told`);
     assert.equal(await tab.run(`return self.told`), readFileSync(join(top, "examples/site/style.css")).toString());
-    await tab.run(`postMessage({ visit: "/404.html" }, "*")`);   // of another window than the frame: it means nothing
+    await tab.run(`   // of another window than the frame: it means nothing
+      postMessage({ visit: "/404.html" }, "*");
+      for (let n = 0; n < 5; n++) await node.session.whole("/style.css");
+      await new Promise(resolve => setTimeout(resolve, 500))`);
     const [x, y] = await tab.run(`const it = document.getElementById("frame").getBoundingClientRect(); return [it.x + 90, it.y + 90]`);
     assert.equal(await tab.run(`return document.getElementById("target").value`), "/own.html");
     for (const type of ["mousePressed", "mouseReleased"])
@@ -336,7 +341,7 @@ inBrowser("the page as one file: every file, what a page names, links, and a scr
 
 inBrowser("a serial port behind the bridge: one page has it at a time, and it is told when it goes away", async () => {
   const words = [join(here, "on_terminal.py"), "--port", UIPD, "serve", SITE, "10.0.0.1", "pace", "5760", "tty"];
-  const port = spawn("python3", words, { stdio: ["ignore", "pipe", "inherit"] });
+  const port = spawn("python3", words, { stdio: ["pipe", "pipe", "inherit"] });
   const name = await new Promise(resolve => port.stdout.once("data", text => resolve(`${text}`.trim())));
   await withBridge(startServe("--line", name, "115200"), async (tab, { url }) => {
     await tab.until(shows("Lowunbisa"));
@@ -346,7 +351,7 @@ inBrowser("a serial port behind the bridge: one page has it at a time, and it is
     await other.call("Page.close");
     port.kill();
     await tab.until(ends("the line ended: the port went away"));
-  });
+  }).finally(() => port.kill());
 });
 
 inBrowser("two pages at once have each a node of its own", () => withBridge(startServeOfSite(), async (tab, { url }) => {
@@ -366,7 +371,8 @@ const BOARD = process.env.BOARD ?? join(top, "examples/board/out/board.bin");
 const SERVE_C = process.env.SERVE_C ?? join(top, "examples/linux-c/out/uip_serve");
 const noBoard = (() => {
   if (!existsSync(BOARD)) return `no firmware at ${BOARD}: \`sh examples/board/run.sh build\` builds it`;
-  try { execFileSync("qemu-system-aarch64", ["--version"], { stdio: "ignore" }); return false; } catch { return "no qemu-system-aarch64 here"; }
+  const qemu = process.env.QEMU ?? "qemu-system-aarch64";
+  try { execFileSync(qemu, ["--version"], { stdio: "ignore" }); return false; } catch { return `no ${qemu} here`; }
 })();
 const noServeC = existsSync(SERVE_C) ? false : `no C program at ${SERVE_C}: \`sh examples/linux-c/run.sh\` builds it`;
 

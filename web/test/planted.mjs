@@ -8,7 +8,7 @@ import { join } from "node:path";
 import { noChromium } from "./chromium.mjs";
 import { SITE, UIPD, here, noProgram, top } from "./node_process.mjs";
 
-const LONGEST = "40";   // seconds: a test that hangs has failed
+const LONGEST = "25";   // seconds: a test that hangs has failed
 
 // By module: the text that stands there once, what stands in its place, the test's file, and words of its name.
 const FAULTS = {
@@ -69,15 +69,18 @@ const FAULTS = {
     [`this.#pings.get(echo.number)?.hear`, `[...this.#pings.values()][0]?.hear`, "scripted", "an echo reply"],
     [`    if (flags & RST) return;\n`, "", "scripted", "segment to no connection"],
     [`plus(seq, length));`, `seq);`, "scripted", "segment to no connection"],
-    [`(Math.abs(time - trip.mean) - trip.spread) / 4`, `(Math.abs(time - trip.mean) - trip.spread) / 2`, "scripted", "follows the round trips"],
-    [`do this.#port = (this.#port + 1) % PORTS; while (this.connections.has(FIRST_PORT + this.#port));`, `this.#port = 7;`, "talk", "ports are taken"],
+    [`(Math.abs(time - trip.mean) - trip.spread) / 4`,
+      `(Math.abs(time - trip.mean) - trip.spread) / 2`, "scripted", "follows the round trips"],
+    [`do this.#port = (this.#port + 1) % PORTS; while (this.connections.has(FIRST_PORT + this.#port));`,
+      `this.#port = 7;`, "talk", "ports are taken"],
     [`if (connection?.toPort === segment.fromPort) connection`, `if (connection) connection`, "scripted", "of another port"],
   ],
   "http.js": [
     [`count < length`, `false`, "scripted", "shorter than it tells"],
     [`count = rest.length`, `count = 0`, "scripted", "a reply's head is read"],
     [`if (text.length > LONGEST_HEAD) throw`, `if (false) throw`, "scripted", "shorter than it tells"],
-    [`if (done) throw new Error("the node closed before a head");`, `if (done) return { text, end: text.length };`, "scripted", "shorter than it tells"],
+    [`if (done) throw new Error("the node closed before a head");`,
+      `if (done) return { text, end: text.length };`, "scripted", "shorter than it tells"],
     [`        stream.close();`, `        return;`, "scripted", "a reply's head is read"],
     [`    connection.abort();\n    throw error;`, `    throw error;`, "scripted", "shorter than it tells"],
   ],
@@ -135,12 +138,13 @@ const FAULTS = {
     [`if (!error.isReset || left === 0) throw error;`, `throw error;`, "talk", "asked for anew"],
     [`if (first === undefined || first === sum) this`, `if (true) this`, "ladder", "uIP's own rules"],
     [`.catch(error => { this.sums.broken++; throw error; })`, "", "talk", "asked for anew"],
-    [`if (others < 10) this.notice`, `if (true) this.notice`, "talk", "eleven connections"],
+    [`others < TEN ?`, `true ?`, "talk", "eleven connections"],
     [`    if (next) next();\n    else this.#running--;`, `    next?.();`, "talk", "eight connections at once"],
     [`if (row.bad) this.#tellNoise(row.bad);`, "", "browser", "opening the port resets"],
   ],
   "worker.js": [
-    [`if (isPage && !url.href.startsWith(BASE)) return Response.redirect(BASE + place.id + place.target);`, "", "browser", "without the Navigation API"],
+    [`if (isPage && !url.href.startsWith(BASE)) return Response.redirect(BASE + place.id + place.target);`,
+      "", "browser", "without the Navigation API"],
     [`return of && url.origin === location.origin ? `, `return false ? `, "browser", "the page at /:"],
     [`if (data !== "not mine") resolve(data); else if`, `resolve(data); if`, "browser", "two pages at once"],
   ],
@@ -160,7 +164,8 @@ const FAULTS = {
   "serve.py": [
     [` or self.headers.get("Origin") != f"http://{self.headers['Host']}"`, "", "browser", "why a node ended"],
     [`if not self.is_ours():`, `if False:`, "browser", "why a node ended"],
-    [`if kind is None or name not in os.listdir(HERE):`, `if kind is None:\n            kind = "text/plain"\n        if False:`, "browser", "why a node ended"],
+    [`if kind is None or name not in os.listdir(HERE):`,
+      `if kind is None:\n            kind = "text/plain"\n        if False:`, "browser", "why a node ended"],
     [`if not self.is_taken.acquire(blocking=False):`, `if False:`, "browser", "serial port behind the bridge"],
     [`    if not line.is_over:\n        socket.close(line.why())`, `    pass`, "browser", "why a node ended"],
   ],

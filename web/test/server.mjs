@@ -8,9 +8,13 @@ import { here, UIPD } from "./node_process.mjs";
 
 const WEB = join(here, ".."), TYPES = { ".html": "text/html", ".js": "text/javascript", ".css": "text/css" };
 
+// A program that ends where this process does: its shell waits for the end of what it is told.
+const TIED = `"$@" & cat >/dev/null; kill $! 2>/dev/null; wait $!`;
+
 // web/serve.py at a free port, with further words.
 export async function startServe(...words) {
-  const child = spawn("python3", [join(WEB, "serve.py"), "--port", "0", ...words], { stdio: ["ignore", "pipe", "inherit"] });
+  const command = ["python3", join(WEB, "serve.py"), "--port", "0", ...words];
+  const child = spawn("sh", ["-c", TIED, "sh", ...command], { stdio: ["pipe", "pipe", "inherit"] });
   const url = await new Promise((resolve, reject) => {
     let said = "";
     child.stdout.on("data", text => {
@@ -20,7 +24,7 @@ export async function startServe(...words) {
     });
     child.on("exit", () => reject(new Error("serve.py ended")));
   });
-  return { url, stop: () => child.kill("SIGINT"), ended: new Promise(resolve => child.on("exit", resolve)) };
+  return { url, stop: () => child.stdin.end(), ended: new Promise(resolve => child.on("exit", resolve)) };
 }
 
 export const startServeOfSite = (...words) => startServe(UIPD, ...words);
@@ -65,58 +69,64 @@ export async function serve({ base = "/", node = null } = {}) {
   return { url: origin + base, origin, asked, stop };
 }
 
-// Puts a stand-in for navigator.serial in place, as the page sees it: it keeps the shape of Web Serial. `readable` and
-// `writable` are null until a port is open, are streams then, and null again once it is closed; an error that passes gives
-// another stream; a locked stream refuses the close; a port is chosen by a click alone.
-function standIn(origin) {
-  class Port extends EventTarget {
-    readable = null;
-    writable = null;
-    #number;
-    #stop;
-    #incoming;
-    #pending = null;
-    #out;
-    getInfo() { return { usbVendorId: 0x0403, usbProductId: 0x6001 }; }
-    #at(deed) { return `${origin}/serial/${this.#number}/${deed}`; }
-    async open({ baudRate, bufferSize = 255 }) {
-      if (self.refuseOpen) throw new DOMException("Failed to open serial port.", "NetworkError");
-      if (this.readable) throw new DOMException("The port is already open.", "InvalidStateError");
-      this.opened = { baudRate, bufferSize };
-      this.#number = await (await fetch(`${origin}/serial`, { method: "POST" })).text();
-      this.#stop = new AbortController();
-      this.#incoming = (await fetch(this.#at("read"), { signal: this.#stop.signal })).body.getReader();
-      this.#renew();
-      const write = bytes => fetch(this.#at("write"), { method: "POST", body: bytes.slice() }).then(() => {});
-      this.writable = new WritableStream({ write });
-    }
-    #renew() {
-      this.readable = new ReadableStream({
-        start: out => { this.#out = out; },
-        pull: async out => {
-          const { value, done } = await (this.#pending ??= this.#incoming.read());
-          if (out !== this.#out) return;
-          this.#pending = null;
-          if (done) out.close(); else out.enqueue(value);
-        },
-      }, { highWaterMark: 0 });
-    }
-    fail(name) {
-      const out = this.#out;
-      if (name === "NetworkError") this.readable = null; else this.#renew();
-      out.error(new DOMException("of the port", name));
-    }
-    async close() {
-      if (this.readable?.locked || this.writable?.locked) throw new TypeError("Cannot cancel a locked stream");
-      this.readable = this.writable = null;
-      this.#stop.abort();
-      await fetch(this.#at("close"), { method: "POST" });
-    }
+// A stand-in for a serial port, as the page sees it, whose bytes go to the program behind /serial. It keeps the shape of Web
+// Serial: `readable` and `writable` are null until it is open, are streams then, and null again once it is closed; an error
+// that passes gives another stream; a locked stream refuses the close.
+class StandInPort extends EventTarget {
+  static origin;
+  readable = null;
+  writable = null;
+  #number;
+  #stop;
+  #incoming;
+  #pending = null;
+  #out;
+
+  #at(deed) { return `${StandInPort.origin}/serial/${this.#number}/${deed}`; }
+
+  async open({ baudRate, bufferSize = 255 }) {
+    if (self.refuseOpen) throw new DOMException("Failed to open serial port.", "NetworkError");
+    if (this.readable) throw new DOMException("The port is already open.", "InvalidStateError");
+    this.opened = { baudRate, bufferSize };
+    this.#number = await (await fetch(`${StandInPort.origin}/serial`, { method: "POST" })).text();
+    this.#stop = new AbortController();
+    this.#incoming = (await fetch(this.#at("read"), { signal: this.#stop.signal })).body.getReader();
+    this.#renew();
+    const write = bytes => fetch(this.#at("write"), { method: "POST", body: bytes.slice() }).then(() => {});
+    this.writable = new WritableStream({ write });
   }
+
+  #renew() {
+    this.readable = new ReadableStream({
+      start: out => { this.#out = out; },
+      pull: async out => {
+        const { value, done } = await (this.#pending ??= this.#incoming.read());
+        if (out !== this.#out) return;
+        this.#pending = null;
+        if (done) out.close(); else out.enqueue(value);
+      },
+    }, { highWaterMark: 0 });
+  }
+
+  fail(name) {
+    const out = this.#out;
+    if (name === "NetworkError") this.readable = null; else this.#renew();
+    out.error(new DOMException("of the port", name));
+  }
+
+  async close() {
+    if (this.readable?.locked || this.writable?.locked) throw new TypeError("Cannot cancel a locked stream");
+    this.readable = this.writable = null;
+    this.#stop.abort();
+    await fetch(this.#at("close"), { method: "POST" });
+  }
+}
+
+// Puts the stand-in in the place of navigator.serial. A port is chosen by a click alone.
+function putSerialInPlace(Port) {
   if (self !== top) return;
   const ports = [], serial = new EventTarget();
   serial.ports = ports;
-  serial.getPorts = async () => ports;
   serial.requestPort = async () => {
     if (!navigator.userActivation.isActive) throw new DOMException("no gesture", "SecurityError");
     if (self.chooseNone) throw new DOMException("No port selected by the user.", "NotFoundError");
@@ -125,4 +135,5 @@ function standIn(origin) {
   Object.defineProperty(Navigator.prototype, "serial", { configurable: true, value: serial });
 }
 
-export const serialAt = origin => `(${standIn})(${JSON.stringify(origin)})`;
+export const serialAt = origin =>
+  `{ ${StandInPort}; StandInPort.origin = ${JSON.stringify(origin)}; (${putSerialInPlace})(StandInPort); }`;
