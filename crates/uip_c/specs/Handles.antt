@@ -7,7 +7,7 @@ use Rattle.site_image.specs.Files.{File}
 use Rattle.httpd.specs.contracts.httpd.HttpdApp.TheImpl.{ghosts}
 use Rattle.uip_wire.specs.declared.addr.Addr.{Addr}
 use Rattle.uip_device.specs.Calls.{Call, DoesNothing}
-use Rattle.uip_device.specs.Devices.{Answered, Answers}
+use Rattle.uip_device.specs.Devices.{Answered, Answers, left_text_of}
 use Rattle.uip_device.specs.WebDevices.{IsFreshWebDevice, WebDevice}
 use Rattle.uip_c.specs.declared.status.UipDone.{UipDone}
 use Rattle.uip_c.specs.declared.status.TheConstants.{BAD_CALL, FINE, NO_DEVICE, TEXT_LEFT}
@@ -37,6 +37,16 @@ Did call old new handed = HandleAnswers call old new handed
 abbrev pub DidAll : List Answered → Option WebDevice → Option WebDevice → Type 0
 DidAll [] a c = a ≡ c
 DidAll (it ∷ all) a c = (b : Option WebDevice) × Did it.call a b it.handed × DidAll all b c
+
+-- the text that is left to be handed out of the device of a handle
+abbrev pub left_text_in : Option WebDevice → List ℕ
+left_text_in None = []
+left_text_in (Some d) = left_text_of d
+
+-- what was left of a text behind each of these calls
+abbrev pub lefts_in : (all : List Answered) (a c : Option WebDevice) → DidAll all a c → List (List ℕ)
+lefts_in [] a c same = []
+lefts_in (it ∷ all) a c more = left_text_in more.0 ∷ lefts_in all more.0 c more.2
 
 -- the statuses of a call that hands out a text or a datagram of its own
 abbrev pub IsTextStatus : ℕ → Type 0

@@ -1,21 +1,26 @@
 -- What opening a handle comes to.
+use Rattle.std.specs.List.{All}
 use Rattle.std.specs.Prelude.{◌≡◌, ℕ, List, ◌++◌, replicate, take, Ok, Err}
 use Rattle.std.specs.declared.option.Option.{Option}
 use Rattle.site_image.specs.declared.site_error.SiteError.{SiteError}
 use Rattle.site_image.specs.declared.site_error.SiteWhy.{SiteWhy}
 use Rattle.site_image.specs.Faults.{read_image}
-use Rattle.site_image.specs.Files.{File}
 use Rattle.site_image.specs.Grammar.{IsImage}
+use Rattle.file_tree.specs.Site.{IsLoaded, SiteContent, files_of}
+use Rattle.app_events.specs.Pages.{IsByte}
 use Rattle.site_commands.specs.Report.{why_word}
 use Rattle.uip_device.specs.WebDevices.{WebDevice}
 use Rattle.uip_c.specs.Handles.{OpensAs}
 
--- the image stands for files by the grammar and is read as them, and a device was opened with them at this address
+-- the image stands for the files of a site by the grammar and is read as them, the site was loaded and is bytes, and a device was opened
+-- with the files at this address
 pub record OpensFine (image own : List ℕ) (old new : Option WebDevice) : Type 0 where
-  pub files : List File
-  pub read : read_image image ≡ Ok files
-  pub spelled : IsImage image files
-  pub opened : OpensAs files (record { 0 = own }) old new
+  pub site : SiteContent
+  pub loaded : IsLoaded site
+  pub bytes : All IsByte site.image
+  pub read : read_image image ≡ Ok (files_of site)
+  pub spelled : IsImage image (files_of site)
+  pub opened : OpensAs (files_of site) (record { 0 = own }) old new
 
 -- eight bytes: the word of a fault, and zeros behind it
 abbrev pub IsWordOf : SiteWhy → List ℕ → Type 0

@@ -1,5 +1,7 @@
 pub mod AnswerLaws
+pub mod BringLaws
 pub mod CallLaws
 pub mod FrameLaws
 pub mod HandLaws
+pub mod KeepLaws
 pub mod SendLaws

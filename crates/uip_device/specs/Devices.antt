@@ -55,6 +55,11 @@ abbrev pub AnswersAll : {A S : Type 0} → Ghosts A S → List Answered → Devi
 AnswersAll g [] a c = a ≡ c
 AnswersAll {A = A} {S = S} g (it ∷ all) a c = (b : Device A S) × Answers g it.call a b it.handed × AnswersAll g all b c
 
+-- what was left of a text behind each of these calls
+abbrev pub lefts_of : {A S : Type 0} (g : Ghosts A S) (all : List Answered) (a c : Device A S) → AnswersAll g all a c → List (List ℕ)
+lefts_of g [] a c same = []
+lefts_of g (it ∷ all) a c more = left_text_of more.0 ∷ lefts_of g all more.0 c more.2
+
 -- what was handed out over the serial line, one behind another, and the datagrams that were handed out over the other link, or no
 -- bytes where a call there sent none
 abbrev pub line_handed : List Answered → List ℕ

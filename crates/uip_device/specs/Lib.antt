@@ -1,6 +1,7 @@
 pub mod Calls
 pub mod Devices
 pub mod Handing
+pub mod Keeping
 pub mod Output
 pub mod Sending
 pub mod WebDevices

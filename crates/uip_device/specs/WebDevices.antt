@@ -1,9 +1,11 @@
 -- A device with the web server of a site.
+use Rattle.std.specs.List.{All}
 use Rattle.std.specs.Prelude.{◌≡◌, ℕ, List, [], Result, Ok, Err, ⊤}
 use Rattle.site_image.specs.Faults.{read_image}
 use Rattle.site_image.specs.Files.{File}
 use Rattle.site_image.specs.Grammar.{IsImage}
-use Rattle.file_tree.specs.Site.{files_of}
+use Rattle.app_events.specs.Pages.{IsByte}
+use Rattle.file_tree.specs.Site.{IsLoaded, files_of}
 use Rattle.web_pages.specs.Serving.{is_served, no_hits}
 use Rattle.web_pages.specs.WebMeaning.{web_meaning}
 use Rattle.httpd.specs.contracts.httpd.HttpdApp.TheImpl.{ghosts}
@@ -36,8 +38,10 @@ IsSoundWebDevice d = IsSoundDevice ghosts d
 abbrev pub IsFreshWebDevice : List File → Addr → WebDevice → Type 0
 IsFreshWebDevice files own d = IsFreshDevice ghosts (web_meaning files) (no_hits files) own d
 
--- a fresh device at this address with the files for which the image stands by the grammar
+-- a fresh device at this address with the files for which the image stands by the grammar; its site was loaded, and is bytes
 pub record IsOpened (image : List ℕ) (own : Addr) (d : WebDevice) : Type 0 where
+  pub loaded : IsLoaded d.node.shared.site
+  pub bytes : All IsByte d.node.shared.site.image
   pub read : read_image image ≡ Ok (files_of d.node.shared.site)
   pub spelled : IsImage image (files_of d.node.shared.site)
   pub fresh : IsFreshWebDevice (files_of d.node.shared.site) own d

@@ -1,15 +1,20 @@
 //! What calls in turn hand out.
 
 ghost use Rattle.std.specs.Prelude.{◌≡◌, ◌++◌, ℕ, List, [], None};
+ghost use Rattle.std.specs.List.{All};
+ghost use Rattle.app_events.specs.Pages.{IsAddr, IsPaged, IsWord, Pages};
 ghost use Rattle.app_events.specs.Part.{Meaning};
 ghost use Rattle.uip_edge.specs.declared.item.Item.{Item};
+ghost use Rattle.uip_node.specs.Laws.{HasBytes};
 ghost use Rattle.uip_node.specs.Node.{opening};
 ghost use Rattle.uip_wire.specs.declared.addr.Addr.{Addr};
 ghost use Rattle.serve_loop.specs.LineOutput.{output_by};
 ghost use Rattle.serve_loop.specs.SlipWay.{slip_way};
 ghost use Rattle.uip_device.specs.Calls.{Bring};
 ghost use Rattle.uip_device.specs.declared.device.Device.{Device as AnyDevice};
-ghost use Rattle.uip_device.specs.Devices.{Answered, AnswersAll, IsFreshDevice, calls_of, datagrams_handed, left_text_of, line_handed};
+ghost use Rattle.uip_device.specs.Devices.{Answered, AnswersAll, IsFreshDevice, calls_of, lefts_of};
+ghost use Rattle.uip_device.specs.Devices.{datagrams_handed, left_text_of, line_handed};
+ghost use Rattle.uip_device.specs.Keeping.{IsOfBytes, KeepsCalls};
 ghost use Rattle.uip_device.specs.Output.{datagrams_sent, line_sent};
 
 use app_events::App;
@@ -24,6 +29,15 @@ pub fn calls_are_told<A: App>()
     ensures datagrams { (m : Meaning) (numbers : List ℕ) (own : Addr) (all : List Answered) (old new : AnyDevice A A.Shared)
         → IsFreshDevice A.App m numbers own old → AnswersAll A.App all old new
         → datagrams_handed all ≡ datagrams_sent m A.served own [] (calls_of all) (opening own numbers) }
+{}
+
+/// Whatever bytes are heard and whatever else is called in turn, of a fresh device with an application whose text is a page of bytes: each
+/// call hands out what is sent in turns of what it brings, and the turns keep the promise.
+pub fn calls_keep_the_promise<A: App>()
+    ensures { (m : Meaning) (pages : Pages) → IsPaged m pages → HasBytes pages → (numbers : List ℕ) → All IsWord numbers
+        → (own : Addr) → IsAddr own → (all : List Answered) → All IsOfBytes (calls_of all) → (old new : AnyDevice A A.Shared)
+        → IsFreshDevice A.App m numbers own old → (answered : AnswersAll A.App all old new)
+        → KeepsCalls pages A.served own all (lefts_of A.App all old new answered) }
 {}
 
 /// Calls that bring the items of a line at a pace, in order, hand out what the server of a serial line writes for these

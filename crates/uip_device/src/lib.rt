@@ -10,5 +10,5 @@ mod opening;
 
 pub use device::{Device, Heard};
 pub use handing::LARGEST_TEXT;
-pub use laws::{calls_are_told, line_is_served};
+pub use laws::{calls_are_told, calls_keep_the_promise, line_is_served};
 pub use opening::{OpenFault, WebDevice, open_web};

@@ -1,5 +1,8 @@
 //! A device with the web server of a site is opened.
 
+ghost use Rattle.std.specs.List.{All};
+ghost use Rattle.app_events.specs.Pages.{IsByte};
+ghost use Rattle.file_tree.specs.Site.{IsLoaded};
 ghost use Rattle.uip_device.specs.WebDevices.{OpensDevice};
 
 use crate::device::Device;
@@ -22,6 +25,19 @@ pub enum OpenFault {
     NoMemory,
 }
 
+/// What is kept by every site.
+fn see_loaded(site: &Site)
+    ensures loaded { IsLoaded site.now }
+    ensures bytes { All IsByte site.now.image }
+{
+    see_bytes(&site.image);
+}
+
+/// A text is bytes.
+fn see_bytes(text: &[u8])
+    ensures { All IsByte text.now }
+{}
+
 /// A device at an address with the site of an image, which is copied. After this no call of it takes memory.
 pub fn open_web(alloc: Global, image: &[u8], own: Addr) -> Result<WebDevice, OpenFault>
     ensures { OpensDevice image.now own result }
@@ -31,6 +47,7 @@ pub fn open_web(alloc: Global, image: &[u8], own: Addr) -> Result<WebDevice, Ope
         Err(LoadFault::Bad(error)) => return Err(OpenFault::BadSite(error)),
         Err(_) => return Err(OpenFault::NoMemory),
     };
+    see_loaded(&site);
     let Ok(web) = Web::new(alloc, site) else {
         return Err(OpenFault::NoMemory);
     };
