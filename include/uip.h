@@ -1,7 +1,7 @@
 /*
  * The stack as a library: one IP node with ping and a web server, behind a serial line (SLIP, RFC 1055) or any link that
- * carries datagrams. Link libuip_c.a. Each call is proved to hand out just what the node is defined to send, and so is any
- * list of calls over one kind of link (docs/ARCHITECTURE.md). What C has to keep is all that stands here.
+ * carries datagrams. Link libuip_c.a. It is proved to hand out, for whatever is called in turn, just what the node is defined to
+ * send (docs/ARCHITECTURE.md). What C has to keep is all that stands here.
  *
  *     static uip_device device = UIP_INIT;
  *     static unsigned char out[UIP_ROOM];          with less room a text goes out in pieces: see uip_more
@@ -128,7 +128,7 @@ uip_done uip_more(uip_device *device, unsigned char *out, size_t room);
 /*
  * uip_hear and uip_call over a link that carries datagrams: a datagram of 1 to 1500 bytes comes, and what is sent is a datagram,
  * which is never left. Both kinds of call may be mixed on one device: a datagram is taken as it comes, also in the middle of a
- * frame of the line. Each call is proved for itself; what is proved of a whole list of calls is proved of one kind.
+ * frame of the line.
  */
 uip_done uip_hear_datagram(uip_device *device, const unsigned char *datagram, size_t len, unsigned char *out, size_t room);
 uip_done uip_call_datagram(uip_device *device, size_t slot, unsigned char *out, size_t room);
