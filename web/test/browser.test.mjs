@@ -116,7 +116,7 @@ inBrowser("a serial port is pinged, captured, closed and opened again", () => wi
   const capture = await tab.run(`
     return btoa(String.fromCharCode(...new Uint8Array(await node.session.capture.file().arrayBuffer())))`);
   const line = execFileSync(UIPD, ["slip"], { input: Buffer.from(capture, "base64") });
-  assert.match(dump(line), /icmp 10\.0\.0\.2 10\.0\.0\.1 8 0\n.* icmp 10\.0\.0\.1 10\.0\.0\.2 0 0\n/);
+  assert.match(dump(line), /icmp 10\.0\.0\.2 10\.0\.0\.1 8 0\n[^]* icmp 10\.0\.0\.1 10\.0\.0\.2 0 0\n/);
   await click(tab, "close");
   await tab.until(`navigator.serial.ports[0].readable === null`);
   await tab.until(ends("no line is open"));
