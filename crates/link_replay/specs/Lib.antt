@@ -13,3 +13,13 @@ pub mod WorkedReports
 pub mod Kinds
 pub mod Summary
 pub mod WorkedSummaries
+pub mod Ending
+pub mod Laws
+pub mod Outcome
+pub mod Promises
+pub mod Due
+pub mod Web
+pub mod Honest
+pub mod Worked
+pub mod Hits
+pub mod Apart

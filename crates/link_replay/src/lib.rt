@@ -1,5 +1,6 @@
-//! The world of a replay: the real node, its clients, and every datagram that was sent. A schedule's lines are done act by act, and
-//! `specs/` ties each act to the world over plain data of `link_world`. What became of it is told as a report or in one line.
+//! A replay. Its world is the real node, its clients, and every datagram that was sent: a schedule's lines are done act by act, and
+//! `specs/` ties each act to the world over plain data of `link_world`. What became of it is told as a report or in one line. The image
+//! of a site and the text of a schedule are read from a shelf, and the contract of `replay` has the headline: what each client received.
 #![tactic(auto)]
 
 mod acting;
@@ -11,17 +12,23 @@ mod datagram_line;
 mod datagrams;
 mod delivering;
 mod faults;
+mod headline;
 mod kind;
 mod kinds;
 mod laws;
 mod line;
+mod lines;
 mod link;
+mod loading;
 mod marks;
 mod opening;
 mod own;
 mod playing;
 mod readers;
+mod replay_end;
+mod replaying;
 mod reporting;
+mod seeing;
 mod sent;
 mod side;
 mod sides;
@@ -29,16 +36,26 @@ mod socket_pair;
 mod summing;
 mod tally;
 mod telling;
+mod text_playing;
 mod texts;
+mod told_as;
 mod types;
 mod world;
 
+pub use file_tree::{SiteError, SiteWhy};
+pub use headline::{honest_pages, pages_are_received, worked_replays};
 pub use kind::Kind;
-pub use laws::{damage_loses, worked_reports, worked_summaries};
+pub use laws::{
+    abort_and_close_apart, damage_loses, hits_are_counted, honest_replay, load_is_told, only_full,
+    replay_is_told, worked_reports, worked_summaries,
+};
 pub use link::Link;
 pub use link_schedule::{ClientPlan, Event, Line, ReadSchedule, Schedule, Why};
 pub use link_world::{Act, StepFault, Who};
+pub use loading::load;
 pub use playing::play;
+pub use replay_end::ReplayEnd;
+pub use replaying::replay;
 pub use sent::Sent;
 pub use side::Side;
 pub use socket_pair::SocketPair;

@@ -1,11 +1,13 @@
 //! A schedule, line by line.
 
 ghost use Rattle.std.specs.List.{All, list_all};
-ghost use Rattle.std.specs.Prelude.{◌≡◌, ℕ, true, IfOk, List, length, map};
+ghost use Rattle.std.specs.Prelude.{◌≡◌, ℕ, true, IfOk, List, Some, length, map, slice_get};
 ghost use Rattle.app_events.specs.Pages.{IsPaged, IsWord, Pages};
 ghost use Rattle.link_schedule.specs.Answer.{content_at};
 ghost use Rattle.link_schedule.specs.Kept.{event_in_range};
 ghost use Rattle.link_world.specs.Headline.{IsAct, OfLine};
+ghost use Rattle.link_world.specs.History.{IsPlanned, Planned};
+ghost use Rattle.link_replay.specs.Opening.{plan_from};
 ghost use Rattle.uip_node.specs.Laws.{HasBytes};
 ghost use Rattle.link_world.specs.Schedule.{plays as played};
 ghost use Rattle.link_world.specs.World.{World as PlainWorld};
@@ -83,6 +85,8 @@ pub fn play<A: App>(
     shared: A::Shared,
 ) -> Result<World<A>, ReadSchedule>
     ensures kept { IfOk result (λ world. IsKept A.App world) }
+    ensures planned { IfOk result (λ world. (k : ℕ) (p : Planned)
+        → slice_get (plan_from 1 (content_at schedule.now).clients) k ≡ Some p → IsPlanned p) }
     ensures plays { (pages : Pages) → IsPaged (A.meaning (A.kept shared)) pages → HasBytes pages → All IsWord (A.numbers shared)
         → PlaysSchedule (A.meaning (A.kept shared)) A.served (A.numbers shared) (content_at schedule.now) (WorldStands A.App) result }
 {

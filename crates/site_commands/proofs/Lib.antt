@@ -1,4 +1,3 @@
 pub mod EndLaws
-pub mod ReportLaws
 pub mod GatherLaws
 pub mod PageEnds

@@ -14,7 +14,7 @@ use Rattle.site_image.specs.declared.site_error.SiteError.{SiteError}
 use Rattle.site_image.specs.Files.{File}
 use Rattle.site_image.specs.Faults.{read_image}
 use Rattle.web_pages.specs.ZeroPages.{zero_page}
-use Rattle.site_commands.specs.Report.{image_report, bad_line}
+use Rattle.site_report.specs.Report.{image_report, bad_line}
 
 -- the text, and the first fault of the image, if it has one
 pub record Due : Type 0 where

@@ -1,4 +1,3 @@
 pub mod Gathering
-pub mod Report
 pub mod Due
 pub mod Ending

@@ -6,9 +6,9 @@ ghost use Rattle.uip_edge.specs.Telling.{work_told, shelf_told};
 use crate::finish::finish;
 use crate::halt::Halt;
 use crate::outcome::Outcome;
-use crate::report::{bad_line, report};
 use crate::site_end::SiteEnd;
 use file_tree::{LoadFault, Site};
+use site_report::{bad_line, report};
 use std::alloc::Global;
 use uip_edge::{Shelf, Sink};
 

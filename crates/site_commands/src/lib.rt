@@ -12,7 +12,6 @@ mod named_file;
 mod outcome;
 mod packing;
 mod paging;
-mod report;
 mod site_end;
 mod upgrading;
 
@@ -22,6 +21,5 @@ pub use laws::ends_as_due;
 pub use named_file::NamedFile;
 pub use packing::pack;
 pub use paging::page;
-pub use report::{bad_line, why_word};
 pub use site_end::SiteEnd;
 pub use upgrading::upgrade;

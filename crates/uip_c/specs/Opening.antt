@@ -8,7 +8,7 @@ use Rattle.site_image.specs.Faults.{read_image}
 use Rattle.site_image.specs.Grammar.{IsImage}
 use Rattle.file_tree.specs.Site.{IsLoaded, SiteContent, files_of}
 use Rattle.app_events.specs.Pages.{IsByte}
-use Rattle.site_commands.specs.Report.{why_word}
+use Rattle.site_report.specs.Report.{why_word}
 use Rattle.uip_device.specs.WebDevices.{WebDevice}
 use Rattle.uip_c.specs.Handles.{OpensAs}
 

@@ -7,8 +7,8 @@ ghost use Rattle.uip_c.specs.Opening.{IsWordOf, OpensFine, TellsFault};
 
 use crate::handle::{UipDevice, put_in, take_out};
 use crate::status::{BAD_SITE, FINE, HAS_DEVICE, NO_DEVICE, NO_MEMORY};
-use site_commands::why_word;
 use site_image::{SiteError, SiteWhy};
+use site_report::why_word;
 use std::alloc::Global;
 use uip_device::{OpenFault, open_web};
 use uip_wire::Addr;

@@ -9,11 +9,11 @@ use Rattle.site_commands.specs.Due.{Due}
 use Rattle.site_commands.specs.Ending.{Ends}
 use Rattle.site_commands.specs.declared.site_end.SiteEnd.{SiteEnd}
 use Rattle.site_commands.specs.declared.site_end.SiteEnd.TheVariants as sites
-use Rattle.replay_command.specs.Ending.{EndsWith, IsLoadText, IsReplayText, LacksEither}
-use Rattle.replay_command.specs.Laws.{WroteDue}
-use Rattle.replay_command.specs.declared.replay_end.ReplayEnd.{ReplayEnd}
-use Rattle.replay_command.specs.declared.replay_end.ReplayEnd.TheVariants as replays
-use Rattle.replay_command.proofs.Undisturbed.{as_due}
+use Rattle.link_replay.specs.Ending.{EndsWith, IsLoadText, IsReplayText, LacksEither}
+use Rattle.link_replay.specs.Laws.{WroteDue}
+use Rattle.link_replay.specs.declared.replay_end.ReplayEnd.{ReplayEnd}
+use Rattle.link_replay.specs.declared.replay_end.ReplayEnd.TheVariants as replays
+use Rattle.link_replay.proofs.Undisturbed.{as_due}
 use Rattle.uip_edge.specs.Told.{LineTold, LineUnfailed, Outside, WorkTold, WorkUnfailed, line_in, work_in}
 use Rattle.trace.specs.Converting.{Converts}
 use Rattle.trace.specs.Telling.{TellsLine}

@@ -6,8 +6,8 @@ use Rattle.file_tree.specs.declared.load_fault.LoadFault.{LoadFault}
 use Rattle.file_tree.specs.declared.load_fault.LoadFault.TheVariants as loads
 use Rattle.site_commands.specs.declared.site_end.SiteEnd.{SiteEnd}
 use Rattle.site_commands.specs.declared.site_end.SiteEnd.TheVariants as ends
-use Rattle.replay_command.specs.declared.replay_end.ReplayEnd.{ReplayEnd}
-use Rattle.replay_command.specs.declared.replay_end.ReplayEnd.TheVariants as replays
+use Rattle.link_replay.specs.declared.replay_end.ReplayEnd.{ReplayEnd}
+use Rattle.link_replay.specs.declared.replay_end.ReplayEnd.TheVariants as replays
 use Rattle.uipd.specs.SiteServing.{SiteServes}
 use Rattle.uipd.specs.Statuses.{RunsAs, status_of_fault, status_of_replay, status_of_serving, status_of_site}
 use Rattle.uipd.specs.declared.words.ServedLine.{ServedLine}

@@ -6,8 +6,8 @@ use Rattle.site_image.specs.Files.{File}
 use Rattle.site_image.specs.declared.site_error.SiteError.{SiteError}
 use Rattle.site_commands.specs.Due.{Due, check_due, page_due, pack_due, upgrade_due}
 use Rattle.site_commands.specs.Ending.{end_of}
-use Rattle.replay_command.specs.Ending.{IsLoadText, IsReplayText, LacksEither}
-use Rattle.replay_command.specs.declared.replay_end.ReplayEnd.{ReplayEnd}
+use Rattle.link_replay.specs.Ending.{IsLoadText, IsReplayText, LacksEither}
+use Rattle.link_replay.specs.declared.replay_end.ReplayEnd.{ReplayEnd}
 use Rattle.trace.specs.CaptureText.{capture_file}
 use Rattle.trace.specs.Converting.{Converts}
 use Rattle.trace.specs.DumpText.{dump_text}

@@ -2,7 +2,7 @@
 use Rattle.std.specs.Prelude.{◌≡◌, ℕ, List, Option, None, Some}
 use Rattle.site_commands.specs.Due.{check_due, page_due, pack_due, upgrade_due}
 use Rattle.site_commands.specs.Ending.{Ends}
-use Rattle.replay_command.specs.Ending.{LoadEnds, ReplayEnds}
+use Rattle.link_replay.specs.Ending.{LoadEnds, ReplayEnds}
 use Rattle.trace.specs.CaptureText.{capture_file}
 use Rattle.trace.specs.Converting.{Converts}
 use Rattle.trace.specs.DumpText.{dump_text}

@@ -2,7 +2,7 @@
 use crate::harness::{IMAGE, Trial, bad, check_all};
 use crate::site_tests::HITS;
 use crate::status::Status;
-use replay_command::Why;
+use link_replay::Why;
 use site_commands::SiteWhy;
 use std::test::Fail;
 

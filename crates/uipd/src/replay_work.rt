@@ -1,10 +1,10 @@
 ghost use Rattle.std.specs.Prelude.{◌≡◌, ◌≤◌};
-ghost use Rattle.replay_command.specs.Ending.{LoadEnds, ReplayEnds};
+ghost use Rattle.link_replay.specs.Ending.{LoadEnds, ReplayEnds};
 ghost use Rattle.uipd.specs.Statuses.{RunsAs, status_of_replay};
 ghost use Rattle.uip_edge.specs.Telling.{work_told};
 
 use crate::status::Status;
-use replay_command::{load, replay};
+use link_replay::{load, replay};
 use std::alloc::Global;
 use uip_edge::{Shelf, Sink};
 

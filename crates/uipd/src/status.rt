@@ -4,7 +4,7 @@ ghost use Rattle.std.specs.Prelude.{◌≡◌};
 ghost use Rattle.uipd.specs.Statuses.{exit_code_of, status_of_fault, status_of_replay, status_of_serving, status_of_site, status_of_slip};
 
 use file_tree::LoadFault;
-use replay_command::{ReplayEnd, Why};
+use link_replay::{ReplayEnd, Why};
 use site_commands::{SiteEnd, SiteError};
 use trace::{CaptureWhy, SlipEnd};
 use uip_edge::ServeEnd;

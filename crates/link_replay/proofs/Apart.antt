@@ -1,0 +1,272 @@
+-- Giving up and closing never meet at a connection of the web server.
+use Rattle.std.proofs.Common.{◌≡◌, ℕ, zero, suc, ◌+◌, ◌-◌, ◌<◌, Bool, true, false, not, ◌&&◌, List, [], ◌∷◌, ◌++◌, length, length-append, replicate, set, refl, sym, ap, ◌∙◌, subst, arith, eqb, eq-eqb, ltb, Some, slice_get}
+use Rattle.std.specs.Prelude.{decimal, flat_map}
+use Rattle.std.proofs.lemmas.List.{length-replicate}
+use Rattle.std.proofs.Math.Bool.{and-false}
+use Rattle.tcp_segment.specs.Segments.{PlainSegment, has_fin, has_rst}
+use Rattle.rexmit_timer.specs.declared.timer.Beat.{Beat}
+use Rattle.script_lang.specs.declared.function.Function.{Function}
+use Rattle.script_lang.specs.declared.function.Function.TheVariants.{FileStats, TcpConnections, NetStats, Ticks, Unknown}
+use Rattle.app_events.specs.Part.{Part, After, Moment, Meaning}
+use Rattle.app_events.specs.declared.now.Now.{Now}
+use Rattle.app_events.specs.declared.row.Row.{Row}
+use Rattle.app_events.specs.declared.state.State.{State}
+use Rattle.app_events.specs.declared.state.State.TheVariants.{Closed, SynRcvd, Established, CloseWait, FinWait1, FinWait2, Closing, TimeWait, LastAck}
+use Rattle.generators.specs.Text.{counter_line, in_ten_places, row_parts, row_text}
+use Rattle.site_image.specs.Files.{File}
+use Rattle.tcp_machine.specs.Connection.{Connection, Sockets, closed, is_live, rows_from}
+use Rattle.tcp_machine.specs.Ask.{Outcome, after_own_fin, asked, asked_for, closes, does_as_wanted, idles, peer_has_closed, prepared}
+use Rattle.tcp_machine.specs.OnSegment.{accepted, by_state, fin_acked, fin_waits, goes_on, has_text, hears, in_established, is_acked, is_out_of_order, on_segment, peer_closes, rests, with_part}
+use Rattle.tcp_machine.specs.OnTick.{by_beat, on_tick, outstanding}
+use Rattle.tcp_machine.specs.declared.step.Step.{Step}
+use Rattle.uip_node.specs.Events.{Event}
+use Rattle.uip_node.specs.Node.{AbstractNode, moment}
+use Rattle.web_pages.specs.Pages.{hits_of, is_page_whole, made_text, page, page_for, page_text, reach_end, whole_for}
+use Rattle.web_pages.specs.Pieces.{Say, reply_pieces}
+use Rattle.web_pages.specs.Pieces.Say.{Plain, Made}
+use Rattle.web_pages.specs.Requests.{Wanted, wanted}
+use Rattle.web_pages.specs.Requests.Wanted.{NotYet, Refused, Name}
+use Rattle.web_pages.specs.WebMeaning.{is_acknowledged, left_of, waits_for_capture, web_meaning, web_want}
+use Rattle.web_pages.specs.declared.TheConstants.{MOST_POLLS}
+use Rattle.uip_node.proofs.Basics.{and_true, choose, eqb-eq, ltb-zero, not-true}
+use Rattle.uip_node.proofs.Cases.{by_own_fin, on_tick_by}
+use Rattle.link_world.proofs.NodeRuns.{every}
+use Rattle.link_replay.specs.Apart.{AbortAndCloseApart, ClosesInTime, is_at_end}
+
+-- ---- what a capture says is never empty
+
+-- a moment that has a row and a counter
+record IsSeen (now : Now) : Type 0 where
+  rows : 0 < length now.rows
+  net : 0 < length now.net
+
+ten_places : (n : ℕ) → 0 < length (in_ten_places n)
+ten_places n = omega (arith, length-append (replicate (10 - length (decimal n)) 32) (decimal n), length-replicate {A = ℕ} (10 - length (decimal n)) 32)
+
+some_of_many : {X : Type 0} (f : X → List ℕ) (xs : List X) → 0 < length xs → ((x : X) → 0 < length (f x)) → 0 < length (flat_map f xs)
+some_of_many f [] l h = absurd (omega (arith, l))
+some_of_many f (x ∷ xs) l h = omega (arith, h x, length-append (f x) (flat_map f xs))
+
+row_says : (row : Row) → 0 < length (row_text row)
+unfolding row_parts
+row_says row = omega arith
+
+counter_says : (n : ℕ) → 0 < length (counter_line n)
+counter_says n = omega (arith, length-append (in_ten_places n) (10 ∷ []))
+
+not_silent : (x : ℕ) (xs : List ℕ) → ltb 0 (length (x ∷ xs)) ≡ false → ⊥
+not_silent x xs e = absurd (let z : length (x ∷ xs) ≡ 0 = ltb-zero (length (x ∷ xs)) e in omega (arith, z))
+
+-- ---- a capture makes a page longer
+
+module _ (files : List File) where
+  behind : (f : Function) (argument : List ℕ) (more : List (Say Function)) (first : Moment) (later : List Moment) (new : Moment) → length (page_text files more later) < length (page_text files more (later ++ new ∷ []))
+      → length (made_text files f argument first ++ page_text files more later) < length (made_text files f argument first ++ page_text files more (later ++ new ∷ []))
+  behind f argument more first later new l =
+      let said : List ℕ = made_text files f argument first in
+      omega (arith, l, length-append said (page_text files more later), length-append said (page_text files more (later ++ new ∷ [])))
+
+  grows : (pieces : List (Say Function)) (captures : List Moment) (new : Moment) → IsSeen new.now → reach_end pieces captures ≡ false
+      → length (page_text files pieces captures) < length (page_text files pieces (captures ++ new ∷ []))
+  grows [] captures new g h = absurd (cc)
+  grows (Plain text ∷ more) captures new g h =
+      omega (arith, grows more captures new g h, length-append text (page_text files more captures), length-append text (page_text files more (captures ++ new ∷ [])))
+  grows (Made FileStats argument ∷ more) [] new g h =
+      omega (arith, ten_places (hits_of files new.numbers argument), length-append (made_text files FileStats argument new) (page_text files more []))
+  grows (Made TcpConnections argument ∷ more) [] new g h =
+      omega (arith, some_of_many row_text new.now.rows g.rows row_says, length-append (made_text files TcpConnections argument new) (page_text files more []))
+  grows (Made NetStats argument ∷ more) [] new g h =
+      omega (arith, some_of_many counter_line new.now.net g.net counter_says, length-append (made_text files NetStats argument new) (page_text files more []))
+  grows (Made Ticks argument ∷ more) [] new g h =
+      omega (arith, ten_places new.now.ticks, length-append (made_text files Ticks argument new) (page_text files more []))
+  grows (Made Unknown argument ∷ more) [] new g h = grows more [] new g h
+  grows (Made FileStats argument ∷ more) (first ∷ later) new g h = behind FileStats argument more first later new (grows more later new g h)
+  grows (Made TcpConnections argument ∷ more) (first ∷ later) new g h = behind TcpConnections argument more first later new (grows more later new g h)
+  grows (Made NetStats argument ∷ more) (first ∷ later) new g h = behind NetStats argument more first later new (grows more later new g h)
+  grows (Made Ticks argument ∷ more) (first ∷ later) new g h = behind Ticks argument more first later new (grows more later new g h)
+  grows (Made Unknown argument ∷ more) (first ∷ later) new g h = grows more (first ∷ later) new g h
+
+  -- ---- a connection that is not at the end of its page
+
+  abbrev m : Meaning
+  m = web_meaning files
+
+  abbrev Apart : Part → Type 0
+  Apart p = p.polls ≡ MOST_POLLS → is_at_end files p ≡ false
+
+  just_moved : (n : ℕ) → n ≡ 0 → n ≡ MOST_POLLS → ⊥
+  just_moved n z e = let y : ⊥ = omega (arith, z, e) in y
+
+  moved_apart : (p : Part) → p.polls ≡ 0 → Apart p
+  moved_apart p z e = absurd (just_moved p.polls z e)
+
+  below : (a b : ℕ) → a < b → (x : Bool) → eqb a b ≡ x → x ≡ false
+  below a b l true e = absurd (let z : ⊥ = omega (arith, l, eqb-eq a b e) in z)
+  below a b l false e = refl
+
+  longer : (p : Part) (new : Moment) (w : Wanted) → wanted p.heard ≡ w → IsSeen new.now → waits_for_capture files w p ≡ true
+      → length (page_for files w p.captures) < length (page_for files w (p.captures ++ new ∷ []))
+  longer p new NotYet e g h = absurd (cc)
+  longer p new Refused e g h = absurd (cc)
+  longer p new (Name name) e g h =
+      grows (reply_pieces files name) p.captures new g (sym (ap (λ w. whole_for files w p.captures) e) ∙ not-true (is_page_whole files p.heard p.captures) h)
+
+  captured_apart : (p : Part) (new : Moment) → IsSeen new.now → is_acknowledged files p && waits_for_capture files (wanted p.heard) p ≡ true
+      → is_at_end files (record p { captures = p.captures ++ new ∷ [] }) ≡ false
+  captured_apart p new g h =
+      let both = and_true (is_acknowledged files p) (waits_for_capture files (wanted p.heard) p) h in
+      let q : Part = record p { captures = p.captures ++ new ∷ [] } in
+      let here : p.acked ≡ length (page files p.heard p.captures) = eqb-eq p.acked (length (page files p.heard p.captures)) both.0 in
+      let more = longer p new (wanted p.heard) refl g both.1 in
+      let none : is_acknowledged files q ≡ false = below q.acked (length (page files q.heard q.captures)) (omega (arith, here, more)) (is_acknowledged files q) refl in
+      ap (λ b. is_page_whole files q.heard q.captures && b) none ∙ and-false (is_page_whole files q.heard q.captures)
+
+  prepared_apart : (numbers : List ℕ) (p : Part) (now : Now) → IsSeen now → Apart p → Apart (m.prepare numbers p now)
+  prepared_apart numbers p now g h =
+      choose (λ q. Apart q) (is_acknowledged files p && waits_for_capture files (wanted p.heard) p) _ _
+      (λ e q. captured_apart p (record { numbers = numbers; now = now }) g e) (λ e. h)
+
+  never_open : (st : State) → after_own_fin st ≡ Established → ⊥
+  never_open st e = by_own_fin (λ x. x ≡ Established → ⊥) (λ q. (let z : FinWait1 ≡ Established = q in cc)) (λ q. (let z : LastAck ≡ Established = q in cc)) st e
+
+  closes_apart : (c : Connection) → Apart c.part → ClosesInTime files (closes c)
+  closes_apart c h = record { idle = λ s l. absurd (let z : Closed ≡ Established = s in cc); apart = h }
+
+  wanted_apart : (fresh : Bool) (c : Connection) (numbers : List ℕ) → Apart c.part → ClosesInTime files (does_as_wanted (web_want files c.part) fresh c numbers).connection
+  unfolding idles
+  wanted_apart fresh c numbers h =
+      choose (λ w. ClosesInTime files (does_as_wanted w fresh c numbers).connection) (eqb c.part.polls MOST_POLLS) _ _ (λ e. closes_apart c h)
+      (λ e. choose (λ w. ClosesInTime files (does_as_wanted w fresh c numbers).connection) (is_at_end files c.part) _ _
+      (λ f. record { idle = λ s l. absurd (never_open c.state s); apart = λ q. absurd (let z : true ≡ false = sym (eq-eqb c.part.polls MOST_POLLS q) ∙ e in cc) })
+      (λ f. choose (λ w. ClosesInTime files (does_as_wanted w fresh c numbers).connection) (ltb 0 (left_of files c.part)) _ _ (λ g. record { idle = λ s l. f; apart = λ q. f })
+      (λ g. choose (λ (o : Outcome). ClosesInTime files o.connection) (peer_has_closed c.state) _ _ (λ i. closes_apart c h)
+      (λ i. choose (λ (o : Outcome). ClosesInTime files o.connection) fresh _ _ (λ j. record { idle = λ s l. f; apart = λ q. f }) (λ j. record { idle = λ s l. f; apart = λ q. f })))))
+
+  -- ---- what a step leaves: in time, or still to be asked
+
+  record IsAt (at : Connection → Now) : Type 0 where
+    seen : (c : Connection) → is_live c.state ≡ true → IsSeen (at c)
+
+  abbrev Waits : Step → Connection → Type 0
+  Waits Step.Drop c = ClosesInTime files c
+  Waits Step.Ack c = ClosesInTime files c
+  Waits (Step.SynAck again) c = ClosesInTime files c
+  Waits (Step.Text again) c = ClosesInTime files c
+  Waits (Step.Fin again) c = ClosesInTime files c
+  Waits Step.Reset c = ClosesInTime files c
+  Waits (Step.Ask fresh) c = (is_live c.state ≡ true) × Apart c.part
+
+  abbrev Leaves : Outcome → Type 0
+  Leaves o = Waits o.step o.connection
+
+  asked_apart : (at : Connection → Now) → IsAt at → (o : Outcome) (s : Step) → Waits s o.connection → ClosesInTime files (asked_for m at o s).connection
+  asked_apart at g o Step.Drop h = h
+  asked_apart at g o (Step.Ask fresh) h =
+      let now : Now = at o.connection in
+      wanted_apart fresh (prepared m now o.connection o.numbers) o.numbers (prepared_apart o.numbers o.connection.part now (g.seen o.connection h.0) h.1)
+  asked_apart at g o _ h = h
+
+  heard_apart : (numbers : List ℕ) (p : Part) (text : List ℕ) → Apart p → Apart (hears m numbers p text).part
+  heard_apart numbers p [] h = h
+  heard_apart numbers p (x ∷ xs) h = moved_apart (hears m numbers p (x ∷ xs)).part refl
+
+  nothing_heard : (numbers : List ℕ) (p : Part) (text : List ℕ) → ltb 0 (length text) ≡ false → is_at_end files p ≡ false → is_at_end files (hears m numbers p text).part ≡ false
+  nothing_heard numbers p [] e h = h
+  nothing_heard numbers p (x ∷ xs) e h = absurd (not_silent x xs e)
+
+  -- nothing is acknowledged and nothing comes
+  idle_still : (acked text : Bool) → not acked && not text ≡ true → (acked ≡ false) × (text ≡ false)
+  idle_still true text h = absurd (cc)
+  idle_still false true h = absurd (cc)
+  idle_still false false h = (refl, refl)
+
+  established_apart : (acked : Bool) (c : Connection) (numbers : List ℕ) (s : PlainSegment) → c.state ≡ Established → Apart c.part → (acked ≡ false → c.len ≡ 0 → is_at_end files c.part ≡ false)
+      → Leaves (in_established m acked c numbers s)
+  unfolding in_established peer_closes goes_on
+  established_apart acked c numbers s e h i =
+      let heard = heard_apart numbers c.part s.text h in
+      let lives : is_live c.state ≡ true = ap is_live e in
+      choose (λ (o : Outcome). Leaves o) (has_fin s.flags) _ _
+      (λ f. choose (λ (o : Outcome). Leaves o) (ltb 0 c.len) _ _ (λ l. record { idle = λ st z. absurd (let y : CloseWait ≡ Established = st in cc); apart = heard }) (λ l. (refl, heard)))
+      (λ f. choose (λ (o : Outcome). Leaves o) (not acked && not (has_text s)) _ _
+      (λ g. (let both = idle_still acked (has_text s) g in record { idle = λ st z. nothing_heard numbers c.part s.text both.1 (i both.0 z); apart = heard }))
+      (λ g. choose (λ (o : Outcome). Leaves o) (ltb 0 c.len) _ _ (λ l. record { idle = λ st z. absurd (let y : ltb 0 0 ≡ true = subst (λ n. ltb 0 n ≡ true) z l in cc); apart = heard }) (λ l. (lives, heard))))
+
+  state_apart : (st : State) (acked : Bool) (c : Connection) (numbers : List ℕ) (s : PlainSegment) → c.state ≡ st → ClosesInTime files c → Leaves (by_state m st acked c numbers s)
+  unfolding fin_acked fin_waits
+  state_apart SynRcvd true c numbers s e h =
+      let start : After = m.connected numbers c.sockets.own_port.0 in
+      (refl, heard_apart start.numbers start.part s.text (moved_apart start.part refl))
+  state_apart SynRcvd false c numbers s e h = h
+  state_apart Established true c numbers s e h =
+      let told : After = m.acked numbers c.part c.len in
+      established_apart true (with_part told.part (rests c)) told.numbers s e (moved_apart told.part refl) (λ z. absurd (cc))
+  state_apart Established false c numbers s e h = established_apart false c numbers s e h.apart (λ z. h.idle e)
+  state_apart CloseWait true c numbers s e h = (ap is_live e, moved_apart (m.acked numbers c.part c.len).part refl)
+  state_apart CloseWait false c numbers s e h = record { idle = h.idle; apart = h.apart }
+  state_apart FinWait1 true c numbers s e h =
+      choose (λ (o : Outcome). Leaves o) (has_fin s.flags) _ _ (λ f. record { idle = λ st z. absurd (let y : TimeWait ≡ Established = st in cc); apart = h.apart }) (λ f. record { idle = λ st z. absurd (let y : FinWait2 ≡ Established = st in cc); apart = h.apart })
+  state_apart FinWait1 false c numbers s e h =
+      choose (λ (o : Outcome). Leaves o) (has_fin s.flags) _ _ (λ f. record { idle = λ st z. absurd (let y : Closing ≡ Established = st in cc); apart = h.apart })
+      (λ f. choose (λ (o : Outcome). Leaves o) (has_text s) _ _ (λ t. record { idle = h.idle; apart = h.apart }) (λ t. h))
+  state_apart FinWait2 acked c numbers s e h =
+      choose (λ (o : Outcome). Leaves o) (has_fin s.flags) _ _ (λ f. record { idle = λ st z. absurd (let y : TimeWait ≡ Established = st in cc); apart = h.apart })
+      (λ f. choose (λ (o : Outcome). Leaves o) (has_text s) _ _ (λ t. record { idle = h.idle; apart = h.apart }) (λ t. h))
+  state_apart Closing true c numbers s e h = record { idle = λ st z. absurd (let y : TimeWait ≡ Established = st in cc); apart = h.apart }
+  state_apart Closing false c numbers s e h = h
+  state_apart LastAck true c numbers s e h = record { idle = λ st z. absurd (let y : Closed ≡ Established = st in cc); apart = h.apart }
+  state_apart LastAck false c numbers s e h = h
+  state_apart TimeWait acked c numbers s e h = h
+  state_apart Closed acked c numbers s e h = h
+
+  hears_apart : (at : Connection → Now) → IsAt at → (c : Connection) (numbers : List ℕ) (s : PlainSegment) → ClosesInTime files c → ClosesInTime files (asked m at (on_segment m c numbers s)).connection
+  unfolding on_segment
+  hears_apart at g c numbers s h =
+      let o : Outcome = on_segment m c numbers s in
+      asked_apart at g o o.step
+      (choose (λ (x : Outcome). Leaves x) (has_rst s.flags) _ _ (λ r. closes_apart c h.apart)
+      (λ r. choose (λ (x : Outcome). Leaves x) (is_out_of_order c s) _ _ (λ i. h) (λ i. state_apart c.state (is_acked c s) c numbers s refl h)))
+
+  -- ---- a tick
+
+  outstanding_apart : (st : State) (c : Connection) → ClosesInTime files c → Waits (outstanding true st) c
+  outstanding_apart Closed c h = h
+  outstanding_apart _ c h = h
+
+  beat_apart : (b : Beat) (c : Connection) (numbers : List ℕ) → ClosesInTime files c → Leaves (by_beat m b c numbers)
+  beat_apart Beat.Wait c numbers h = record { idle = h.idle; apart = h.apart }
+  beat_apart Beat.Again c numbers h = outstanding_apart c.state (record c { age = c.age + 1 }) (record { idle = h.idle; apart = h.apart })
+  beat_apart Beat.GiveUp c numbers h = closes_apart c h.apart
+
+  tick_apart : (c : Connection) (numbers : List ℕ) → ClosesInTime files c → Leaves (on_tick m c numbers)
+  tick_apart c numbers h = on_tick_by m Leaves c numbers record {
+    none = h;
+    beats = λ r b. beat_apart b c numbers h;
+    rested = λ e. record { idle = h.idle; apart = h.apart };
+    ends = closes_apart c h.apart;
+    polled = λ e l. (ap is_live e, λ q. h.idle e l);
+  }
+
+  ticks_apart : (at : Connection → Now) → IsAt at → (c : Connection) (numbers : List ℕ) → ClosesInTime files c → ClosesInTime files (asked m at (on_tick m c numbers)).connection
+  ticks_apart at g c numbers h = (let o : Outcome = on_tick m c numbers in asked_apart at g o o.step (tick_apart c numbers h))
+
+  -- ---- the moments of a node
+
+  row_there : (k : ℕ) (cs : List Connection) (slot : ℕ) (old c : Connection) → slice_get cs slot ≡ Some old → is_live c.state ≡ true → 0 < length (rows_from k (set cs slot c))
+  row_there k [] slot old c e l = absurd (cc)
+  row_there k (x ∷ cs) zero old c e l = choose (λ (rows : List Row). 0 < length rows) (is_live c.state) _ _ (λ y. omega arith) (λ y. absurd (let z : true ≡ false = sym l ∙ y in cc))
+  row_there k (x ∷ cs) (suc slot) old c e l =
+      choose (λ (rows : List Row). 0 < length rows) (is_live x.state) _ _ (λ y. omega arith) (λ y. row_there (k + 1) cs slot old c e l)
+
+  moments : (n : AbstractNode) (event : Event) (slot : ℕ) (old : Connection) → slice_get n.connections slot ≡ Some old → IsAt (moment n event slot)
+  moments n event slot old e = record { seen = λ c l. record { rows = row_there 0 n.connections slot old c e l; net = omega arith } }
+
+  shut_apart : ClosesInTime files closed
+  shut_apart = record { idle = λ s l. absurd (cc); apart = moved_apart closed.part refl }
+
+  born_apart : (first : ℕ) (sockets : Sockets) (s : PlainSegment) → ClosesInTime files (accepted first sockets s)
+  born_apart first sockets s = record { idle = λ st l. absurd (let z : SynRcvd ≡ Established = st in cc); apart = moved_apart (accepted first sockets s).part refl }
+
+pub abort_and_close_apart : AbortAndCloseApart
+abort_and_close_apart files c r =
+    every (web_meaning files) (ClosesInTime files) (IsAt files) (moments files) (shut_apart files) (born_apart files) (hears_apart files) (ticks_apart files) r.served r.events r.addr r.numbers r.slot c r.there

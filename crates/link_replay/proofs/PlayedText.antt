@@ -1,0 +1,115 @@
+-- What is due for a schedule that was played by the server of a site.
+use Rattle.std.specs.List.{All}
+use Rattle.std.proofs.Common.{◌≡◌, ℕ, List, Result, Ok, Err, map, length, sym, subst, refl, inl, inr, ap, ◌∙◌, Bool, lit<}
+use Rattle.std.proofs.lemmas.List.Elements.{All-replicate}
+use Rattle.app_events.specs.Part.{Meaning}
+use Rattle.app_events.specs.Pages.{IsByte, IsPaged, IsWord, Pages}
+use Rattle.file_tree.specs.Site.{SiteContent, IsLoaded, files_of}
+use Rattle.site_image.specs.Files.{File}
+use Rattle.web_pages.specs.Pages.{pages_of}
+use Rattle.web_pages.specs.WebMeaning.{web_meaning}
+use Rattle.web_pages.proofs.PageLaws.{keeps_page_laws}
+use Rattle.link_schedule.specs.Answer.{ReadsSchedule}
+use Rattle.std.specs.Prelude.{MatchResult, Some, slice_get}
+use Rattle.link_schedule.specs.Reading.{BadText, SchedulePlan, read_text}
+use Rattle.link_schedule.specs.declared.read_schedule.ReadSchedule.{ReadSchedule}
+use Rattle.link_schedule.specs.declared.read_schedule.ReadSchedule.TheVariants.{Bad, NoMemory}
+use Rattle.uip_node.specs.Laws.{HasBytes}
+use Rattle.link_world.specs.Schedule.{BadLine, plays}
+use Rattle.link_world.specs.World.{World}
+use Rattle.link_replay.specs.Opening.{opening_for, plan_from}
+use Rattle.link_replay.specs.Playing.{PlaysSchedule, Reaches, Refuses, event_at}
+use Rattle.link_replay.specs.Reaching.{IsAt}
+use Rattle.link_replay.specs.Outcome.{bad_schedule, outcome}
+use Rattle.web_pages.specs.Serving.{is_served, no_hits}
+use Rattle.link_replay.specs.Due.{WritesDue, IsPlayDue, IsTextDue, TellsFault, told_of}
+use Rattle.link_replay.specs.declared.replay_end.ReplayEnd.{ReplayEnd}
+use Rattle.link_replay.specs.declared.replay_end.ReplayEnd.TheVariants as ends
+use Rattle.link_replay.specs.declared.told_as.Telling.{Telling}
+use Rattle.link_replay.specs.declared.told_as.Telling.TheVariants.{Report}
+use Rattle.link_world.specs.History.{Planned, IsPlanned}
+use Rattle.link_replay.proofs.Honest.{honest_at}
+use Rattle.link_replay.proofs.Kept.{has_bytes, keeps_promises}
+use Rattle.uip_edge.specs.Writing.{WritesEnd}
+use Rattle.uip_edge.specs.Told.{SinkTold}
+
+-- what the lines reach from the opening world on, where the files were asked for so often
+abbrev pub outcome_from : List ℕ → List File → SchedulePlan → Result World BadLine
+outcome_from hits files content = plays (web_meaning files) is_served (map event_at content.lines) (opening_for hits content.clients)
+
+-- what a schedule is played for, given that the server has pages of bytes and counts that are words
+abbrev pub ForPages : List File → List ℕ → Type 0 → Type 0
+ForPages files hits Done = (pages : Pages) → IsPaged (web_meaning files) pages → HasBytes pages → All IsWord hits → Done
+
+-- what holds of a site that was loaded holds of the one that it is
+pub at_site : (P : SiteContent → Type 0) (site given : SiteContent) (hits : List ℕ) → site ≡ given → IsLoaded given → All IsByte given.image → hits ≡ no_hits (files_of given)
+    → (IsLoaded site → All IsByte site.image → hits ≡ no_hits (files_of site) → P site) → P given
+at_site P site given hits same loaded bytes none done =
+    subst P same
+    (done (subst IsLoaded (sym same) loaded) (subst (λ (s : SiteContent). All IsByte s.image) (sym same) bytes) (none ∙ ap (λ (s : SiteContent). no_hits (files_of s)) (sym same)))
+
+module _ (site : SiteContent) (loaded : IsLoaded site) (bytes : All IsByte site.image) (hits : List ℕ) (none : hits ≡ no_hits (files_of site)) where
+  -- a site has pages, and its counts are words before the first request
+  web_has : (Done : Type 0) → ForPages (files_of site) hits Done → Done
+  web_has Done for =
+      for (pages_of (files_of site)) (keeps_page_laws site loaded) (has_bytes site bytes)
+      (subst (All IsWord) (sym none) (All-replicate IsWord (length (files_of site)) 0 (lit< tt)))
+
+  module _ (content : SchedulePlan) (telling : Telling) (old new : SinkTold) (result : ReplayEnd) where
+    -- the schedule was played to its end, and its world told
+    pub played_due : (Now : World → Type 0)
+        → ((k : ℕ) (p : Planned) → slice_get (plan_from 1 content.clients) k ≡ Some p → IsPlanned p)
+        → ForPages (files_of site) hits (Reaches (web_meaning (files_of site)) is_served Now (outcome_from hits (files_of site) content))
+        → ((m : Meaning) (served : ℕ → Bool) (w : World) → Now w → IsAt m served w → WritesEnd ends.Done ends.WriteFault old new (told_of telling w) result)
+        → WritesDue (IsPlayDue (files_of site) content telling) old new result
+    played_due Now are_planned plays_for wrote =
+        let reach = web_has (Reaches (web_meaning (files_of site)) is_served Now (outcome_from hits (files_of site) content)) plays_for in
+        let reached : outcome (files_of site) content ≡ Ok reach.world =
+        ap (λ (h : List ℕ). outcome_from h (files_of site) content) (sym none) ∙ reach.meant_so in
+        let due : IsPlayDue (files_of site) content telling (told_of telling reach.world) ends.Done = record {
+          world = reach.world;
+          plays = reached;
+          told = refl;
+          promises = keeps_promises site loaded bytes is_served reach.world reach.at;
+          honest = honest_at site loaded content are_planned reach.world reached;
+        } in
+        inl (told_of telling reach.world, ends.Done, due, wrote (web_meaning (files_of site)) is_served reach.world reach.now reach.at)
+
+    -- a line of it was refused, and is told
+    pub refused_due : {X : Type 0} (Now : X → World → Type 0) (fault : ReadSchedule)
+        → ForPages (files_of site) hits (PlaysSchedule (web_meaning (files_of site)) is_served hits content Now (Err fault))
+        → TellsFault fault old new result → WritesDue (IsPlayDue (files_of site) content telling) old new result
+    refused_due Now NoMemory plays_for short = inr short
+    refused_due Now (Bad line why) plays_for (inr short) = inr short
+    refused_due Now (Bad line why) plays_for (inl wrote) =
+        let refuses : Refuses content.lines (outcome_from hits (files_of site) content) line why =
+        web_has (PlaysSchedule (web_meaning (files_of site)) is_served hits content Now (Err (Bad line why))) plays_for in
+        let due : IsPlayDue (files_of site) content telling (bad_schedule line why) (ends.BadSchedule line why) =
+        (subst (λ (h : List ℕ). Refuses content.lines (outcome_from h (files_of site) content) line why) none refuses, refl) in
+        inl (bad_schedule line why, ends.BadSchedule line why, due, wrote)
+
+-- what is due where a text reads so
+abbrev ReadDue : List File → Bool → List ℕ → ReplayEnd → Result SchedulePlan BadText → Type 0
+ReadDue files show text end r =
+    MatchResult r (λ content. IsPlayDue files content (Report show) text end) (λ bad. (end ≡ ends.BadSchedule bad.line bad.why) × (text ≡ bad_schedule bad.line bad.why))
+
+pub text_answers : (files : List File) (bytes : List ℕ) (content : SchedulePlan) (show : Bool) → read_text bytes ≡ Ok content
+    → (old new : SinkTold) (result : ReplayEnd) → WritesDue (IsPlayDue files content (Report show)) old new result
+    → WritesDue (IsTextDue files bytes show) old new result
+text_answers files bytes content show reads old new result (inl told) =
+    inl (told.0, told.1, subst (ReadDue files show told.0 told.1) {x = Ok content} (sym reads) told.2, told.3)
+text_answers files bytes content show reads old new result (inr short) = inr short
+
+-- the text does not read, and its first bad line is told
+pub text_refused : (files : List File) (bytes : List ℕ) (show : Bool) (fault : ReadSchedule) → ReadsSchedule (Err fault) (read_text bytes)
+    → (old new : SinkTold) (result : ReplayEnd) → TellsFault fault old new result
+    → WritesDue (IsTextDue files bytes show) old new result
+text_refused files bytes show NoMemory reads old new result short = inr short
+text_refused files bytes show (Bad line why) reads old new result (inr short) = inr short
+text_refused files bytes show (Bad line why) reads old new result (inl wrote) =
+    inl (
+      bad_schedule line why,
+      ends.BadSchedule line why,
+      subst (ReadDue files show (bad_schedule line why) (ends.BadSchedule line why)) {x = Err (record { line = line; why = why })} (sym reads) (refl, refl),
+      wrote,
+    )

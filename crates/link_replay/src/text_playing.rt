@@ -1,0 +1,115 @@
+//! A schedule's text, played by the web server of a site.
+
+ghost use Rattle.std.specs.Prelude.{ℕ, Bool, OnErr, OnOk};
+ghost use Rattle.std.specs.Io.KnownBytes.{Appends};
+ghost use Rattle.uip_edge.specs.Causes.{HasCause};
+ghost use Rattle.uip_edge.specs.Writing.{AppendsPrefix, WritesEnd};
+ghost use Rattle.app_events.specs.Part.{Meaning};
+ghost use Rattle.file_tree.specs.Site.{files_of};
+ghost use Rattle.link_schedule.specs.Answer.{content_at};
+ghost use Rattle.link_world.specs.World.{World as PlainWorld};
+ghost use Rattle.link_replay.specs.Reaching.{IsAt};
+ghost use Rattle.link_replay.specs.Stands.{WorldStands};
+ghost use Rattle.link_replay.specs.Outcome.{bad_schedule as line_of};
+ghost use Rattle.link_replay.specs.Due.{WritesDue, IsPlayDue, IsTextDue, WritesText, TellsFault, told_of};
+ghost use Rattle.uip_edge.specs.Telling.{sink_told};
+ghost use Rattle.link_replay.specs.declared.replay_end.ReplayEnd.TheVariants as ends;
+
+use crate::lines::{bad_schedule, write_text};
+use crate::playing::play;
+use crate::replay_end::ReplayEnd;
+use crate::seeing::see_loaded;
+use crate::told_as::Telling;
+use crate::world::World;
+use app_events::App;
+use file_tree::Site;
+use httpd::{Httpd, Web};
+use link_schedule::{ReadSchedule, Schedule, Why};
+use std::alloc::Global;
+use uip_edge::{Failed, Sink};
+
+/// Plays the text of a schedule by the web server of a site, and writes the report, or the line of the schedule's first fault.
+pub(crate) fn play_text<K: Sink>(
+    alloc: Global,
+    site: Site,
+    text: &[u8],
+    show: bool,
+    out: &mut K,
+) -> ReplayEnd
+    ensures { WritesDue (IsTextDue (files_of site) text.now show) (sink_told K.Sink out.old) (sink_told K.Sink out.new) result }
+{
+    match Schedule::read(alloc, text) {
+        Ok(schedule) => play_schedule(alloc, site, &schedule, Telling::Report { show }, out),
+        Err(fault) => refuse(alloc, fault, out),
+    }
+}
+
+/// Plays a schedule by the web server of a site, and tells the world that it reaches, or writes the line of the first refusal.
+pub(crate) fn play_schedule<K: Sink>(
+    alloc: Global,
+    site: Site,
+    schedule: &Schedule,
+    telling: Telling,
+    out: &mut K,
+) -> ReplayEnd
+    ensures { WritesDue (IsPlayDue (files_of site) (content_at schedule.now) telling)
+        (sink_told K.Sink out.old) (sink_told K.Sink out.new) result }
+{
+    see_loaded(&site);
+    let Ok(web) = Web::new(alloc, site) else {
+        return ReplayEnd::NoMemory;
+    };
+    match play::<Httpd>(alloc, schedule, web) {
+        Ok(world) => tell(&world, telling, out),
+        Err(fault) => refuse(alloc, fault, out),
+    }
+}
+
+/// Tells a world.
+fn tell<A: App, K: Sink>(world: &World<A>, telling: Telling, out: &mut K) -> ReplayEnd
+    ensures { (m : Meaning) (served : ℕ → Bool) (w : PlainWorld) → WorldStands A.App world.now w → IsAt m served w
+        → WritesEnd ends.Done ends.WriteFault (sink_told K.Sink out.old) (sink_told K.Sink out.new) (told_of telling w) result }
+{
+    match write_world(world, telling, out) {
+        Ok(()) => ReplayEnd::Done,
+        Err(_) => ReplayEnd::WriteFault,
+    }
+}
+
+/// Writes what is told of a world.
+fn write_world<A: App, K: Sink>(
+    world: &World<A>,
+    telling: Telling,
+    out: &mut K,
+) -> Result<(), Failed>
+    ensures ok { OnOk result ((m : Meaning) (served : ℕ → Bool) (w : PlainWorld) → WorldStands A.App world.now w → IsAt m served w
+        → Appends (K.written out.old) (K.written out.new) (told_of telling w)) }
+    ensures err { OnErr result ((m : Meaning) (served : ℕ → Bool) (w : PlainWorld) → WorldStands A.App world.now w → IsAt m served w
+        → AppendsPrefix (K.written out.old) (K.written out.new) (told_of telling w)) }
+    ensures cause { HasCause (K.faults out.old) (K.faults out.new) result }
+{
+    match telling {
+        Telling::Report { show } => world.report(show, out),
+        Telling::Summary => world.summary(out),
+    }
+}
+
+/// Writes the line of a bad schedule.
+fn refuse<K: Sink>(alloc: Global, fault: ReadSchedule, out: &mut K) -> ReplayEnd
+    ensures { TellsFault fault (sink_told K.Sink out.old) (sink_told K.Sink out.new) result }
+{
+    match fault {
+        ReadSchedule::Bad { line, why } => refuse_line(alloc, line, why, out),
+        ReadSchedule::NoMemory => ReplayEnd::NoMemory,
+    }
+}
+
+/// Writes the line that tells which line of a schedule is bad, and why.
+fn refuse_line<K: Sink>(alloc: Global, line: u32, why: Why, out: &mut K) -> ReplayEnd
+    ensures { WritesText (line_of line why) (ends.BadSchedule line why) (sink_told K.Sink out.old) (sink_told K.Sink out.new) result }
+{
+    match bad_schedule(alloc, line, why) {
+        Ok(text) => write_text(&text, ReplayEnd::BadSchedule { line, why }, out),
+        Err(_) => ReplayEnd::NoMemory,
+    }
+}

@@ -1,8 +1,0 @@
-use Rattle.std.proofs.Common.{refl, inl, inr}
-use Rattle.replay_command.proofs.playing.tell.Goals as goal
-
-pub returns-in-Ok : goal.returns-in-Ok
-returns-in-Ok g c = λ m served w stands at. inl (refl, record { whole = c.in-Ok.ensures.ok m served w stands at; same = c.in-Ok.ensures.cause.same })
-
-pub returns-in-Err : goal.returns-in-Err
-returns-in-Err g c = λ m served w stands at. inr (refl, record { front = c.in-Err.ensures.err m served w stands at; rose = c.in-Err.ensures.cause.failed })
