@@ -1,7 +1,6 @@
 // A schedule that a number makes is played by the web server of a site of one file, and told in one line, which was worked out apart
 // from this code.
 use file_tree::Site;
-use httpd::{Httpd, Web};
 use link_replay::play;
 use std::test::Fail;
 use uip_edge::MemSink;
@@ -15,10 +14,7 @@ fn a_made_schedule_is_played(rt: HostRuntime) -> Result<(), Fail> {
     let (Ok(site), Ok(schedule)) = (Site::read(alloc, IMAGE), make(alloc, 7, 16)) else {
         return Err("no memory".into());
     };
-    let Ok(web) = Web::new(alloc, site) else {
-        return Err("no memory".into());
-    };
-    let Ok(world) = play::<Httpd>(alloc, &schedule, web) else {
+    let Ok(world) = play(alloc, &schedule, site) else {
         return Err("no memory".into());
     };
     let Ok(mut sink) = MemSink::new(alloc, 4096, Vec::new(alloc)) else {

@@ -1,7 +1,6 @@
 // At full size, so that no answer for want of memory hides a smaller limit: the longest schedule with 64 clients, the largest image,
 // and the longest name.
 use file_tree::{Held, Site, pack};
-use httpd::{Httpd, Web};
 use link_replay::play;
 use link_schedule::Schedule;
 use std::alloc::{AllocError, Global};
@@ -42,10 +41,7 @@ fn plays_the_longest_schedule(rt: HostRuntime) -> Result<(), Fail> {
         return Err("not read".into());
     };
     assert!(rt; schedule.clients.len() == 64);
-    let Ok(web) = Web::new(alloc, Site::empty(alloc)) else {
-        return Err("no memory".into());
-    };
-    let Ok(world) = play::<Httpd>(alloc, &schedule, web) else {
+    let Ok(world) = play(alloc, &schedule, Site::empty(alloc)) else {
         return Err("not played".into());
     };
     assert!(rt; world.link.sides.len() == 64);

@@ -22,7 +22,7 @@ use Rattle.link_replay.specs.Stands.{WorldStands, LinkStands, IsKept, IsLink}
 use Rattle.link_replay.specs.Telling.{AreTo, IsTo}
 use Rattle.link_replay.specs.declared.socket_pair.SocketPair.{SocketPair}
 use Rattle.link_replay.specs.declared.link.Link.{Link}
-use Rattle.link_replay.specs.declared.world.World.{World as CodeWorld}
+use Rattle.link_replay.specs.declared.world.WorldOf.{WorldOf as CodeWorld}
 use Rattle.link_replay.proofs.Pairs.{left_is}
 use Rattle.link_replay.proofs.Replies.{SaidTo, arrived_reply, periodic_reply}
 use Rattle.link_replay.proofs.Staying.{step_addr}

@@ -33,10 +33,6 @@ use Rattle.link_replay.proofs.Kept.{has_bytes, keeps_promises}
 use Rattle.uip_edge.specs.Writing.{WritesEnd}
 use Rattle.uip_edge.specs.Told.{SinkTold}
 
--- what the lines reach from the opening world on, where the files were asked for so often
-abbrev pub outcome_from : List ℕ → List File → SchedulePlan → Result World BadLine
-outcome_from hits files content = plays (web_meaning files) is_served (map event_at content.lines) (opening_for hits content.clients)
-
 -- what a schedule is played for, given that the server has pages of bytes and counts that are words
 abbrev pub ForPages : List File → List ℕ → Type 0 → Type 0
 ForPages files hits Done = (pages : Pages) → IsPaged (web_meaning files) pages → HasBytes pages → All IsWord hits → Done
@@ -48,45 +44,49 @@ at_site P site given hits same loaded bytes none done =
     subst P same
     (done (subst IsLoaded (sym same) loaded) (subst (λ (s : SiteContent). All IsByte s.image) (sym same) bytes) (none ∙ ap (λ (s : SiteContent). no_hits (files_of s)) (sym same)))
 
-module _ (site : SiteContent) (loaded : IsLoaded site) (bytes : All IsByte site.image) (hits : List ℕ) (none : hits ≡ no_hits (files_of site)) where
-  -- a site has pages, and its counts are words before the first request
-  web_has : (Done : Type 0) → ForPages (files_of site) hits Done → Done
-  web_has Done for =
-      for (pages_of (files_of site)) (keeps_page_laws site loaded) (has_bytes site bytes)
-      (subst (All IsWord) (sym none) (All-replicate IsWord (length (files_of site)) 0 (lit< tt)))
+-- a site has pages, and its counts are words before the first request
+web_has : (site : SiteContent) → IsLoaded site → All IsByte site.image → (hits : List ℕ) → hits ≡ no_hits (files_of site)
+    → (Done : Type 0) → ForPages (files_of site) hits Done → Done
+web_has site loaded bytes hits none Done for =
+    for (pages_of (files_of site)) (keeps_page_laws site loaded) (has_bytes site bytes)
+    (subst (All IsWord) (sym none) (All-replicate IsWord (length (files_of site)) 0 (lit< tt)))
 
-  module _ (content : SchedulePlan) (telling : Telling) (old new : SinkTold) (result : ReplayEnd) where
-    -- the schedule was played to its end, and its world told
-    pub played_due : (Now : World → Type 0)
-        → ((k : ℕ) (p : Planned) → slice_get (plan_from 1 content.clients) k ≡ Some p → IsPlanned p)
-        → ForPages (files_of site) hits (Reaches (web_meaning (files_of site)) is_served Now (outcome_from hits (files_of site) content))
-        → ((m : Meaning) (served : ℕ → Bool) (w : World) → Now w → IsAt m served w → WritesEnd ends.Done ends.WriteFault old new (told_of telling w) result)
-        → WritesDue (IsPlayDue (files_of site) content telling) old new result
-    played_due Now are_planned plays_for wrote =
-        let reach = web_has (Reaches (web_meaning (files_of site)) is_served Now (outcome_from hits (files_of site) content)) plays_for in
-        let reached : outcome (files_of site) content ≡ Ok reach.world =
-        ap (λ (h : List ℕ). outcome_from h (files_of site) content) (sym none) ∙ reach.meant_so in
-        let due : IsPlayDue (files_of site) content telling (told_of telling reach.world) ends.Done = record {
-          world = reach.world;
-          plays = reached;
-          told = refl;
-          promises = keeps_promises site loaded bytes is_served reach.world reach.at;
-          honest = honest_at site loaded content are_planned reach.world reached;
-        } in
-        inl (told_of telling reach.world, ends.Done, due, wrote (web_meaning (files_of site)) is_served reach.world reach.now reach.at)
+-- what a schedule is played to by the server of a site
+pub plays_for_site : {X : Type 0} (Now : X → World → Type 0) (content : SchedulePlan) (result : Result X ReadSchedule)
+    (site given : SiteContent) (hits : List ℕ) → site ≡ given → IsLoaded given → All IsByte given.image → hits ≡ no_hits (files_of given)
+    → ForPages (files_of site) hits (PlaysSchedule (web_meaning (files_of site)) is_served hits content Now result)
+    → PlaysSchedule (web_meaning (files_of given)) is_served (no_hits (files_of given)) content Now result
+plays_for_site Now content result site given hits same loaded bytes none plays_for =
+    at_site (λ (s : SiteContent). PlaysSchedule (web_meaning (files_of s)) is_served (no_hits (files_of s)) content Now result) site given hits same loaded bytes none
+    (λ here all_bytes counts. subst (λ (h : List ℕ). PlaysSchedule (web_meaning (files_of site)) is_served h content Now result) counts
+    (web_has site here all_bytes hits counts (PlaysSchedule (web_meaning (files_of site)) is_served hits content Now result) plays_for))
 
-    -- a line of it was refused, and is told
-    pub refused_due : {X : Type 0} (Now : X → World → Type 0) (fault : ReadSchedule)
-        → ForPages (files_of site) hits (PlaysSchedule (web_meaning (files_of site)) is_served hits content Now (Err fault))
-        → TellsFault fault old new result → WritesDue (IsPlayDue (files_of site) content telling) old new result
-    refused_due Now NoMemory plays_for short = inr short
-    refused_due Now (Bad line why) plays_for (inr short) = inr short
-    refused_due Now (Bad line why) plays_for (inl wrote) =
-        let refuses : Refuses content.lines (outcome_from hits (files_of site) content) line why =
-        web_has (PlaysSchedule (web_meaning (files_of site)) is_served hits content Now (Err (Bad line why))) plays_for in
-        let due : IsPlayDue (files_of site) content telling (bad_schedule line why) (ends.BadSchedule line why) =
-        (subst (λ (h : List ℕ). Refuses content.lines (outcome_from h (files_of site) content) line why) none refuses, refl) in
-        inl (bad_schedule line why, ends.BadSchedule line why, due, wrote)
+module _ (site : SiteContent) (loaded : IsLoaded site) (content : SchedulePlan) (telling : Telling) (old new : SinkTold) (result : ReplayEnd) where
+  -- the schedule was played to its end, and its world told
+  pub played_due : All IsByte site.image → (Now : World → Type 0)
+      → ((k : ℕ) (p : Planned) → slice_get (plan_from 1 content.clients) k ≡ Some p → IsPlanned p)
+      → Reaches (web_meaning (files_of site)) is_served Now (outcome (files_of site) content)
+      → ((m : Meaning) (served : ℕ → Bool) (w : World) → Now w → IsAt m served w → WritesEnd ends.Done ends.WriteFault old new (told_of telling w) result)
+      → WritesDue (IsPlayDue (files_of site) content telling) old new result
+  played_due bytes Now are_planned reach wrote =
+      let due : IsPlayDue (files_of site) content telling (told_of telling reach.world) ends.Done = record {
+        world = reach.world;
+        plays = reach.meant_so;
+        told = refl;
+        promises = keeps_promises site loaded bytes is_served reach.world reach.at;
+        honest = honest_at site loaded content are_planned reach.world reach.meant_so;
+      } in
+      inl (told_of telling reach.world, ends.Done, due, wrote (web_meaning (files_of site)) is_served reach.world reach.now reach.at)
+
+  -- a line of it was refused, and is told
+  pub refused_due : {X : Type 0} (Now : X → World → Type 0) (fault : ReadSchedule)
+      → PlaysSchedule (web_meaning (files_of site)) is_served (no_hits (files_of site)) content Now (Err fault)
+      → TellsFault fault old new result → WritesDue (IsPlayDue (files_of site) content telling) old new result
+  refused_due Now NoMemory plays short = inr short
+  refused_due Now (Bad line why) plays (inr short) = inr short
+  refused_due Now (Bad line why) plays (inl wrote) =
+      let refuses : Refuses content.lines (outcome (files_of site) content) line why = plays in
+      inl (bad_schedule line why, ends.BadSchedule line why, (refuses, refl), wrote)
 
 -- what is due where a text reads so
 abbrev ReadDue : List File → Bool → List ℕ → ReplayEnd → Result SchedulePlan BadText → Type 0

@@ -11,7 +11,7 @@ use Rattle.link_replay.specs.Matched.{Matched}
 use Rattle.link_replay.specs.declared.sent.Sent.{Sent as CodeSent}
 use Rattle.link_replay.specs.declared.side.Side.{Side as CodeSide}
 use Rattle.link_replay.specs.declared.link.Link.{Link}
-use Rattle.link_replay.specs.declared.world.World.{World as CodeWorld}
+use Rattle.link_replay.specs.declared.world.WorldOf.{WorldOf as CodeWorld}
 
 -- a client of the code for one over plain data
 pub record SideStands (side : CodeSide) (s : Side) : Type 0 where

@@ -20,14 +20,14 @@ use crate::before::Before;
 use crate::own::Own;
 use crate::socket_pair::SocketPair;
 use crate::telling::tell;
-use crate::world::World;
+use crate::world::WorldOf;
 use app_events::App;
 use link_world::{Act, Who};
 use uip_edge::NoMemory;
 use uip_ipv4::{Proto, put_head};
 use uip_wire::{Addr, LARGEST_DATAGRAM};
 
-impl<A: App> World<A> {
+impl<A: App> WorldOf<A> {
     /// Bytes come to the node. What it answers goes to the client with these sockets, or is an echo reply.
     fn node_hears(&mut self, bytes: &[u8], to: Option<SocketPair>) -> Result<(), NoMemory>
         requires kept { IsKept A.App self.old }

@@ -12,10 +12,12 @@ ghost use Rattle.link_replay.specs.Stands.{IsKept, WorldStands};
 use crate::link::Link;
 use crate::side::Side;
 use crate::types::{is_addr, is_bytes, is_short};
-use crate::world::World;
+use crate::world::{World, WorldOf};
 use app_events::App;
+use file_tree::Site;
+use httpd::Web;
 use link_client::{Client, Setup};
-use link_schedule::ClientPlan;
+use link_schedule::{ClientPlan, Schedule};
 use std::alloc::Global;
 use uip_edge::NoMemory;
 use uip_node::Node;
@@ -89,13 +91,13 @@ fn sides_for(alloc: Global, clients: &[ClientPlan]) -> Result<Vec<Side>, NoMemor
     Ok(sides)
 }
 
-impl<A: App> World<A> {
+impl<A: App> WorldOf<A> {
     /// The opening world: the node at 10.0.0.1, every client idle, and no datagram sent. On NoMemory `shared` is dropped.
-    pub fn new(
+    pub(crate) fn opening(
         alloc: Global,
         clients: &[ClientPlan],
         shared: A::Shared,
-    ) -> Result<World<A>, NoMemory>
+    ) -> Result<WorldOf<A>, NoMemory>
         requires few { length clients.now ≤ 64 }
         requires ranges { list_all client_in_range (map plan_at clients.now) ≡ true }
         ensures kept { IfOk result (λ world. IsKept A.App world) }
@@ -115,11 +117,30 @@ impl<A: App> World<A> {
             area,
             alloc,
         };
-        Ok(World {
+        Ok(WorldOf {
             node,
             link,
             mark: 0,
             spent: false,
         })
+    }
+}
+
+impl World {
+    ghost use Rattle.file_tree.specs.Site.{files_of};
+    ghost use Rattle.httpd.specs.contracts.httpd.HttpdApp.TheImpl.{ghosts};
+    ghost use Rattle.link_schedule.specs.Answer.{content_at};
+    ghost use Rattle.web_pages.specs.Serving.{no_hits};
+
+    /// The opening world of a schedule's clients and the web server of a site: the node at 10.0.0.1, every client idle, and no
+    /// datagram sent. On NoMemory the site is dropped.
+    pub fn new(alloc: Global, schedule: &Schedule, site: Site) -> Result<World, NoMemory>
+        ensures kept { IfOk result (λ world. IsKept ghosts world) }
+        ensures stands { IfOk result (λ world. WorldStands ghosts world
+            (opening_for (no_hits (files_of site)) (content_at schedule.now).clients)) }
+        ensures site { IfOk result (λ world. world.node.shared.site ≡ site) }
+    {
+        let web = Web::new(alloc, site)?;
+        World::opening(alloc, schedule.clients.as_slice(), web)
     }
 }

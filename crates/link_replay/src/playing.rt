@@ -3,6 +3,10 @@
 ghost use Rattle.std.specs.List.{All, list_all};
 ghost use Rattle.std.specs.Prelude.{◌≡◌, ℕ, true, IfOk, List, Some, length, map, slice_get};
 ghost use Rattle.app_events.specs.Pages.{IsPaged, IsWord, Pages};
+ghost use Rattle.file_tree.specs.Site.{files_of};
+ghost use Rattle.httpd.specs.contracts.httpd.HttpdApp.TheImpl.{ghosts};
+ghost use Rattle.web_pages.specs.Serving.{is_served, no_hits};
+ghost use Rattle.web_pages.specs.WebMeaning.{web_meaning};
 ghost use Rattle.link_schedule.specs.Answer.{content_at};
 ghost use Rattle.link_schedule.specs.Kept.{event_in_range};
 ghost use Rattle.link_world.specs.Headline.{IsAct, OfLine};
@@ -15,9 +19,12 @@ ghost use Rattle.link_replay.specs.Playing.{LinesEnd, PlaysSchedule, event_at, r
 ghost use Rattle.link_replay.specs.Reaching.{IsAt};
 ghost use Rattle.link_replay.specs.Stands.{IsKept, WorldStands};
 
+use crate::seeing::see_loaded;
 use crate::types::{is_addr, is_short};
-use crate::world::World;
+use crate::world::{World, WorldOf};
 use app_events::App;
+use file_tree::Site;
+use httpd::{Httpd, Web};
 use link_schedule::{Event, Line, ReadSchedule, Schedule, Why};
 use link_world::StepFault;
 use std::alloc::Global;
@@ -60,7 +67,7 @@ fn refused(line: u32, fault: StepFault) -> ReadSchedule
 }
 
 /// The lines in turn, up to the first that is refused.
-fn play_lines<A: App>(world: &mut World<A>, lines: &[Line]) -> Result<(), ReadSchedule>
+fn play_lines<A: App>(world: &mut WorldOf<A>, lines: &[Line]) -> Result<(), ReadSchedule>
     requires kept { IsKept A.App world.old }
     requires ranges { (clients : ℕ) × (list_all (λ line. event_in_range clients line.event) lines.now ≡ true) }
     ensures kept { IsKept A.App world.new }
@@ -79,20 +86,36 @@ fn play_lines<A: App>(world: &mut World<A>, lines: &[Line]) -> Result<(), ReadSc
 
 /// The world that a schedule's lines reach, or the first line that is refused, with the reason. After a refusal and after NoMemory
 /// `shared` is dropped.
-pub fn play<A: App>(
+pub(crate) fn play_by<A: App>(
     alloc: Global,
     schedule: &Schedule,
     shared: A::Shared,
-) -> Result<World<A>, ReadSchedule>
+) -> Result<WorldOf<A>, ReadSchedule>
     ensures kept { IfOk result (λ world. IsKept A.App world) }
     ensures planned { IfOk result (λ world. (k : ℕ) (p : Planned)
         → slice_get (plan_from 1 (content_at schedule.now).clients) k ≡ Some p → IsPlanned p) }
     ensures plays { (pages : Pages) → IsPaged (A.meaning (A.kept shared)) pages → HasBytes pages → All IsWord (A.numbers shared)
         → PlaysSchedule (A.meaning (A.kept shared)) A.served (A.numbers shared) (content_at schedule.now) (WorldStands A.App) result }
 {
-    let Ok(mut world) = World::new(alloc, schedule.clients.as_slice(), shared) else {
+    let Ok(mut world) = WorldOf::opening(alloc, schedule.clients.as_slice(), shared) else {
         return Err(ReadSchedule::NoMemory);
     };
     play_lines(&mut world, schedule.lines.as_slice())?;
     Ok(world)
+}
+
+/// The world that a schedule's lines reach with the web server of a site, or the first line that is refused, with the reason. After a
+/// refusal and after NoMemory the site is dropped.
+pub fn play(alloc: Global, schedule: &Schedule, site: Site) -> Result<World, ReadSchedule>
+    ensures kept { IfOk result (λ world. IsKept ghosts world) }
+    ensures planned { IfOk result (λ world. (k : ℕ) (p : Planned)
+        → slice_get (plan_from 1 (content_at schedule.now).clients) k ≡ Some p → IsPlanned p) }
+    ensures plays { PlaysSchedule (web_meaning (files_of site)) is_served (no_hits (files_of site)) (content_at schedule.now)
+        (WorldStands ghosts) result }
+{
+    see_loaded(&site);
+    let Ok(web) = Web::new(alloc, site) else {
+        return Err(ReadSchedule::NoMemory);
+    };
+    play_by::<Httpd>(alloc, schedule, web)
 }

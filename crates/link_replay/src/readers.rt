@@ -8,11 +8,11 @@ ghost use Rattle.link_replay.specs.Stands.{SideStands, WorldStands};
 
 use crate::sent::Sent;
 use crate::side::Side;
-use crate::world::World;
+use crate::world::WorldOf;
 use app_events::App;
 use link_client::Client;
 
-impl<A: App> World<A> {
+impl<A: App> WorldOf<A> {
     /// The client with a number, counted from 1, and what is kept of it.
     pub fn side(&self, number: u8) -> &Side
         requires least { 1 ≤ number }

@@ -7,7 +7,7 @@ ghost use Rattle.link_replay.specs.Due.{WritesText};
 ghost use Rattle.uip_edge.specs.Telling.{work_told, sink_told};
 ghost use Rattle.link_replay.specs.declared.replay_end.ReplayEnd.TheVariants as ends;
 
-use crate::lines::write_text;
+use crate::command_lines::write_text;
 use crate::replay_end::ReplayEnd;
 use crate::text_playing::play_text;
 use file_tree::{LoadFault, Site, SiteError, read_file};

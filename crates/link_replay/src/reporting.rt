@@ -16,11 +16,11 @@ use crate::client_lines::last_line;
 use crate::clients::write_clients;
 use crate::datagrams::write_shown;
 use crate::texts::write_word;
-use crate::world::World;
+use crate::world::WorldOf;
 use app_events::App;
 use uip_edge::{Failed, Sink};
 
-impl<A: App> World<A> {
+impl<A: App> WorldOf<A> {
     /// Writes the report of a world, and where all is shown a line for each datagram and the bytes that each client received. No
     /// call in it is given an allocator. A failed call has written a front of the report.
     pub fn report<K: Sink>(&self, show: bool, sink: &mut K) -> Result<(), Failed>
@@ -35,7 +35,7 @@ impl<A: App> World<A> {
 }
 
 /// Writes the report of a world.
-fn write_report<A: App, K: Sink>(world: &World<A>, show: bool, sink: &mut K) -> Result<(), Failed>
+fn write_report<A: App, K: Sink>(world: &WorldOf<A>, show: bool, sink: &mut K) -> Result<(), Failed>
     ensures wrote { (m : Meaning) (served : ℕ → Bool) (w : PlainWorld) → WorldStands A.App world.now w → IsAt m served w
         → Wrote (K.written sink.old) (K.written sink.new) result (report_of show w) }
     ensures cause { HasCause (K.faults sink.old) (K.faults sink.new) result }

@@ -10,11 +10,11 @@ ghost use Rattle.link_replay.specs.Summary.{summary_of, tally_line};
 
 use crate::line::Line;
 use crate::tally::{Tally, count_up};
-use crate::world::World;
+use crate::world::WorldOf;
 use app_events::App;
 use uip_edge::{Failed, Sink};
 
-impl<A: App> World<A> {
+impl<A: App> WorldOf<A> {
     /// Writes in one line what a replay came to. No call in it is given an allocator. A failed call has written a front of the line.
     pub fn summary<K: Sink>(&self, sink: &mut K) -> Result<(), Failed>
         ensures ok { OnOk result ((w : PlainWorld) → WorldStands A.App self.now w

@@ -15,15 +15,14 @@ ghost use Rattle.link_replay.specs.Due.{WritesDue, IsPlayDue, IsTextDue, WritesT
 ghost use Rattle.uip_edge.specs.Telling.{sink_told};
 ghost use Rattle.link_replay.specs.declared.replay_end.ReplayEnd.TheVariants as ends;
 
-use crate::lines::{bad_schedule, write_text};
+use crate::command_lines::{bad_schedule, write_text};
 use crate::playing::play;
 use crate::replay_end::ReplayEnd;
 use crate::seeing::see_loaded;
 use crate::told_as::Telling;
-use crate::world::World;
+use crate::world::WorldOf;
 use app_events::App;
 use file_tree::Site;
-use httpd::{Httpd, Web};
 use link_schedule::{ReadSchedule, Schedule, Why};
 use std::alloc::Global;
 use uip_edge::{Failed, Sink};
@@ -56,17 +55,14 @@ pub(crate) fn play_schedule<K: Sink>(
         (sink_told K.Sink out.old) (sink_told K.Sink out.new) result }
 {
     see_loaded(&site);
-    let Ok(web) = Web::new(alloc, site) else {
-        return ReplayEnd::NoMemory;
-    };
-    match play::<Httpd>(alloc, schedule, web) {
+    match play(alloc, schedule, site) {
         Ok(world) => tell(&world, telling, out),
         Err(fault) => refuse(alloc, fault, out),
     }
 }
 
 /// Tells a world.
-fn tell<A: App, K: Sink>(world: &World<A>, telling: Telling, out: &mut K) -> ReplayEnd
+fn tell<A: App, K: Sink>(world: &WorldOf<A>, telling: Telling, out: &mut K) -> ReplayEnd
     ensures { (m : Meaning) (served : ℕ → Bool) (w : PlainWorld) → WorldStands A.App world.now w → IsAt m served w
         → WritesEnd ends.Done ends.WriteFault (sink_told K.Sink out.old) (sink_told K.Sink out.new) (told_of telling w) result }
 {
@@ -78,7 +74,7 @@ fn tell<A: App, K: Sink>(world: &World<A>, telling: Telling, out: &mut K) -> Rep
 
 /// Writes what is told of a world.
 fn write_world<A: App, K: Sink>(
-    world: &World<A>,
+    world: &WorldOf<A>,
     telling: Telling,
     out: &mut K,
 ) -> Result<(), Failed>

@@ -14,13 +14,14 @@ ghost use Rattle.link_replay.specs.Stands.{IsKept, WorldStands};
 use crate::acts::{acts_of, mark_after};
 use crate::link::Link;
 use app_events::App;
+use httpd::Httpd;
 use link_schedule::Event;
 use link_world::{Act, StepFault};
 use uip_node::Node;
 
-/// The world of a replay.
+/// The world of a replay, over any application.
 #[derive(Drop)]
-pub struct World<A: App> {
+pub struct WorldOf<A: App> {
     pub node: Node<A>,
     pub link: Link,
     /// The highest number that a round has gone past.
@@ -29,7 +30,10 @@ pub struct World<A: App> {
     pub spent: bool,
 }
 
-impl<A: App> World<A> {
+/// The world of a replay by the web server of a site.
+pub type World = WorldOf<Httpd>;
+
+impl<A: App> WorldOf<A> {
     /// One act. After a refusal that is not NoMemory the world is as it was; after NoMemory it is spent, and each later act answers
     /// NoMemory too.
     pub fn step(&mut self, act: &Act) -> Result<(), StepFault>

@@ -1,37 +1,9 @@
-use Rattle.std.specs.List.{list_all}
-use Rattle.std.proofs.Common.{◌≡◌, List, sym, subst, length, map, Ok, Err, true}
 use Rattle.link_schedule.specs.Answer.{content_at}
-use Rattle.link_schedule.specs.Kept.{event_in_range}
-use Rattle.link_schedule.specs.Stands.{plan_at}
-use Rattle.link_schedule.specs.declared.line.Line.{Line}
-use Rattle.link_world.specs.Schedule.{plays}
-use Rattle.link_replay.specs.Opening.{opening_for}
-use Rattle.link_replay.specs.Playing.{PlaysSchedule, event_at}
 use Rattle.link_replay.specs.Stands.{WorldStands}
-use Rattle.link_replay.proofs.Played.{handed_on, same_refusal, whole_schedule}
+use Rattle.link_replay.proofs.PlayedText.{plays_for_site}
 use Rattle.link_replay.proofs.playing.play.Goals as goal
 
-pub play_lines-requires-clause-ranges : goal.play_lines-requires-clause-ranges
-play_lines-requires-clause-ranges g c =
-    let n = length (map plan_at c.args.schedule.now.clients.items) in
-    (n, subst (λ (xs : List Line). list_all (λ (line : Line). event_in_range n line.event) xs ≡ true) (sym c.as_slice-2.ensures.value) c.args.schedule.now.kept.lines_in_range)
-
-pub returns-in_err-play_lines-clause-plays : goal.returns-in_err-play_lines-clause-plays
-returns-in_err-play_lines-clause-plays g c = λ pages lawful bytes words.
-    let a = g.A.App in
-    let m = a.meaning (a.kept c.args.shared) in
-    let lines = c.args.schedule.now.lines.items in
-    let end = plays m a.served (map event_at lines) (opening_for (a.numbers c.args.shared) (map plan_at c.args.schedule.now.clients.items)) in
-    subst (λ r. PlaysSchedule m a.served (a.numbers c.args.shared) (content_at c.args.schedule.now) (WorldStands a) r)
-    (sym (handed_on c.from_residual.result c.in_err-play_lines.field-0.0 c.from_residual.ensures.0 c.from_residual.ensures.1))
-    (same_refusal m a.served (λ (done : Unit {0}). WorldStands a c.play_lines.new.world) (WorldStands a) lines end c.in_err-play_lines.field-0.0
-    (whole_schedule a c.in-Ok.world (WorldStands a c.play_lines.new.world) c.args.shared c.args.schedule.now
-    c.as_slice.result.now c.as_slice-2.result.now (Err c.in_err-play_lines.field-0.0) c.as_slice.ensures.value c.as_slice-2.ensures.value c.in-Ok.ensures.shared
-    c.in-Ok.ensures.planned c.in-Ok.ensures.stands c.in_err-play_lines.ensures.played pages lawful bytes words))
-
 pub returns-clause-plays : goal.returns-clause-plays
-returns-clause-plays g c =
-    let a = g.A.App in
-    whole_schedule a c.in-Ok.world (WorldStands a c.play_lines.new.world) c.args.shared c.args.schedule.now
-    c.as_slice.result.now c.as_slice-2.result.now (Ok c.in_ok-play_lines.field-0) c.as_slice.ensures.value c.as_slice-2.ensures.value c.in-Ok.ensures.shared
-    c.in-Ok.ensures.planned c.in-Ok.ensures.stands c.in_ok-play_lines.ensures.played
+returns-clause-plays c =
+    plays_for_site (WorldStands _) (content_at c.args.schedule.now) c.play_by.result c.in-Ok.web.site _ c.in-Ok.web.hits c.in-Ok.ensures.site
+    c.see_loaded.ensures.loaded c.see_loaded.ensures.bytes c.in-Ok.ensures.hits c.play_by.ensures.plays

@@ -1,6 +1,0 @@
-use Rattle.std.proofs.Common.{ap, ◌∙◌}
-use Rattle.link_client.specs.Client.{AbstractClient}
-use Rattle.link_replay.proofs.world.World.received.Goals as goal
-
-pub returns : goal.returns
-returns g c = λ w s h e. c.as_slice.ensures.value ∙ ap (λ (k : AbstractClient). k.received) (c.side.ensures w s h e).client
