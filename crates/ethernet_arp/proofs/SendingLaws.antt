@@ -14,7 +14,7 @@ use Rattle.uip_node.specs.Edge.{reply_bytes}
 use Rattle.uip_node.specs.Events.{Event, Reply, tick}
 use Rattle.uip_node.specs.Node.{AbstractNode, step}
 use Rattle.line_medium.specs.Ways.{Came, Datagram, Overlong, Own}
-use Rattle.serve_loop.specs.DeedRuns.{Deed, Does, Happens, Station, after_deed, said, said_by_deed, text_behind}
+use Rattle.serve_loop.specs.DeedRuns.{Deed, Does, Happens, Station, after_deed, after_deeds, said, said_by_deed, text_behind}
 use Rattle.serve_loop.specs.LineDeeds.{beat_on, deed_by, deeds_behind, line_deeds, tick_on}
 use Rattle.serve_loop.specs.Pace.{is_beat}
 use Rattle.ethernet_arp.specs.EtherWay.{closed_by, ether_text, ether_way, is_taken, is_whole, open_from}
@@ -142,7 +142,7 @@ pub record IsFrame (acts : List Act) (text frame : List ℕ) : Type 0 where
   pub is : text ≡ framed frame
   pub some : 0 < length frame
   pub most : length frame < 65536
-  pub home : is_datagram (word_at frame 12) ≡ true → (l : Learning) × (last_learning (target_in frame) acts ≡ Some l) × (mac_at frame 0 ≡ l.mac)
+  pub home : is_datagram (word_at frame 12) ≡ true → known acts (target_in frame) ≡ Some (mac_at frame 0)
 
 abbrev Says : List Act → List ℕ → Type 0
 Says acts text = (text ≡ []) ⊎ ((frame : List ℕ) × IsFrame acts text frame)
@@ -191,11 +191,9 @@ module _ (k : Host) (mac6 : length k.mac ≡ 6) (addr4 : length k.addr ≡ 4) wh
         is = refl;
         some = omega (arith, size);
         most = omega (arith, size, most);
-        home = λ t. (
-          it.0,
-          ap (λ l. last_learning (address_at l 16) acts) (payload_of mac k.mac d 2048 six mac6) ∙ it.1,
-          to_of mac k.mac d 2048 six mac6 ∙ sym it.2,
-        );
+        home = λ t.
+            ap (λ l. known acts (address_at l 16)) (payload_of mac k.mac d 2048 six mac6)
+            ∙ e ∙ ap (λ (l : List ℕ). Some l) (sym (to_of mac k.mac d 2048 six mac6));
       }
 
   wrapped_says : (acts : List Act) (d : List ℕ) (o : Option (List ℕ)) → AllSound acts → length d < 65000 → known acts (address_at d 16) ≡ o
@@ -229,34 +227,64 @@ module _ (k : Host) (mac6 : length k.mac ≡ 6) (addr4 : length k.addr ≡ 4) wh
   sound_after m served s (Happens e) sound h = sound
 
   module _ (m : Meaning) (served : ℕ → Bool) (own : Addr) where
-    later_home : (d : Deed Act) (deeds : List (Deed Act)) (s : Station Act) (frame : List ℕ) → GoesHome m served deeds (after_deed m served s d) frame → GoesHome m served (d ∷ deeds) s frame
-    later_home d deeds s frame h = record { done = d ∷ h.done; later = h.later; front = ap (λ l. d ∷ l) h.front; learning = h.learning; last = h.last; to = h.to }
+    abbrev texts : List (Deed Act) → Station Act → List ℕ
+    texts deeds s = said m served (ether_way k) own deeds s
+
+    -- behind a deed at which nothing is said
+    quiet_home : (d : Deed Act) (deeds : List (Deed Act)) (s : Station Act) (frame : List ℕ) (i : ℕ)
+        → said_by_deed m served (ether_way k) own s d ≡ []
+        → GoesHome m served k own deeds (after_deed m served s d) i frame → GoesHome m served k own (d ∷ deeds) s i frame
+    quiet_home d deeds s frame i quiet h = record {
+      done = d ∷ h.done;
+      now = h.now;
+      later = h.later;
+      split = ap (λ l. d ∷ l) h.split;
+      place = ap (λ l. length (frames_from [] (l ++ texts h.done (after_deed m served s d)))) quiet ∙ h.place;
+      sent = h.sent;
+      to = h.to;
+    }
+
+    -- behind a deed at which a frame is said
+    later_home : (d : Deed Act) (deeds : List (Deed Act)) (s : Station Act) (f frame : List ℕ) (i : ℕ)
+        → IsFrame s.acts (said_by_deed m served (ether_way k) own s d) f
+        → GoesHome m served k own deeds (after_deed m served s d) i frame → GoesHome m served k own (d ∷ deeds) s (suc i) frame
+    later_home d deeds s f frame i g h = record {
+      done = d ∷ h.done;
+      now = h.now;
+      later = h.later;
+      split = ap (λ l. d ∷ l) h.split;
+      place = ap (λ l. length (frames_from [] (l ++ texts h.done (after_deed m served s d)))) g.is
+          ∙ ap (λ (l : List (List ℕ)). length l) (first_frame f (texts h.done (after_deed m served s d)) g.some g.most)
+          ∙ ap (λ n. suc n) h.place;
+      sent = h.sent;
+      to = h.to;
+    }
 
     this_or_later : (d : Deed Act) (deeds : List (Deed Act)) (s : Station Act) (f frame : List ℕ) (i : ℕ) → IsFrame s.acts (said_by_deed m served (ether_way k) own s d) f
-        → ((j : ℕ) (g : List ℕ) → slice_get (frames_from [] (said m served (ether_way k) own deeds (after_deed m served s d))) j ≡ Some g → is_datagram (word_at g 12) ≡ true → GoesHome m served deeds (after_deed m served s d) g)
-        → slice_get (f ∷ frames_from [] (said m served (ether_way k) own deeds (after_deed m served s d))) i ≡ Some frame → is_datagram (word_at frame 12) ≡ true → GoesHome m served (d ∷ deeds) s frame
+        → ((j : ℕ) (g : List ℕ) → slice_get (frames_from [] (texts deeds (after_deed m served s d))) j ≡ Some g → is_datagram (word_at g 12) ≡ true → GoesHome m served k own deeds (after_deed m served s d) j g)
+        → slice_get (f ∷ frames_from [] (texts deeds (after_deed m served s d))) i ≡ Some frame → is_datagram (word_at frame 12) ≡ true → GoesHome m served k own (d ∷ deeds) s i frame
     this_or_later d deeds s f frame zero h more at e =
         let same : f ≡ frame = cc at in
-        let it = h.home (ap (λ l. is_datagram (word_at l 12)) same ∙ e) in
         record {
           done = [];
-          later = d ∷ deeds;
-          front = refl;
-          learning = it.0;
-          last = ap (λ l. last_learning (target_in l) s.acts) (sym same) ∙ it.1;
-          to = ap (λ l. mac_at l 0) (sym same) ∙ it.2;
+          now = d;
+          later = deeds;
+          split = refl;
+          place = refl;
+          sent = h.is ∙ ap (λ l. framed l) same;
+          to = subst (λ (l : List ℕ). known s.acts (target_in l) ≡ Some (mac_at l 0)) same (h.home (ap (λ l. is_datagram (word_at l 12)) same ∙ e));
         }
-    this_or_later d deeds s f frame (suc i) h more at e = later_home d deeds s frame (more i frame at e)
+    this_or_later d deeds s f frame (suc i) h more at e = later_home d deeds s f frame i h (more i frame at e)
 
     homes : (deeds : List (Deed Act)) (s : Station Act) → AllSound s.acts → AllDeeds deeds → (i : ℕ) (frame : List ℕ)
-        → slice_get (frames_from [] (said m served (ether_way k) own deeds s)) i ≡ Some frame → is_datagram (word_at frame 12) ≡ true → GoesHome m served deeds s frame
+        → slice_get (frames_from [] (texts deeds s)) i ≡ Some frame → is_datagram (word_at frame 12) ≡ true → GoesHome m served k own deeds s i frame
     homes [] s sound h i frame at e = absurd (cc at)
     homes (d ∷ deeds) s sound h i frame at e =
         let next = after_deed m served s d in
-        let rest = said m served (ether_way k) own deeds next in
+        let rest = texts deeds next in
         let more = homes deeds next (sound_after m served s d sound h.0) h.1 in
         elim (deed_says m served own s d sound h.0) [
-          | inl quiet ↦ later_home d deeds s frame (more i frame (ap (λ l. slice_get (frames_from [] (l ++ rest)) i) (sym quiet) ∙ at) e)
+          | inl quiet ↦ quiet_home d deeds s frame i quiet (more i frame (ap (λ l. slice_get (frames_from [] (l ++ rest)) i) (sym quiet) ∙ at) e)
           | inr said ↦
               let f = said.0 in
               let cut : slice_get (f ∷ frames_from [] rest) i ≡ Some frame =
