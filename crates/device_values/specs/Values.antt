@@ -4,6 +4,10 @@ use Rattle.std.specs.List.{slice_index_or}
 use Rattle.std.specs.Option.{option_map_or}
 use Rattle.uip_wire.specs.Numerals.{numeral}
 
+-- no value was given
+abbrev pub no_values : List ℕ
+no_values = replicate 528 0
+
 -- the bytes of the value of a number
 abbrev pub value_of : List ℕ → ℕ → List ℕ
 value_of own n =

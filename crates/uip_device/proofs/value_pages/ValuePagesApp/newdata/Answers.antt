@@ -2,7 +2,7 @@ use Rattle.std.proofs.Common.{◌++◌, ap, sym, ◌∙◌}
 use Rattle.file_tree.specs.Site.{files_of}
 use Rattle.web_pages.specs.Requests.{wanted}
 use Rattle.web_pages.proofs.OwnState.{hits_by_front}
-use Rattle.value_pages.proofs.value_pages.ValuePagesApp.newdata.Goals as goal
+use Rattle.uip_device.proofs.value_pages.ValuePagesApp.newdata.Goals as goal
 
 pub returns-clause-numbers : goal.returns-clause-numbers
 returns-clause-numbers c = λ p s.
