@@ -1,7 +1,7 @@
 ghost use Rattle.std.specs.List.{position_or_len};
 ghost use Rattle.std.specs.Prelude.{◌≡◌, ◌<◌, ◌++◌, [], ◌∷◌, List, Some, map, option_map};
 ghost use Rattle.ethernet_arp.specs.Learning.{Act, Pair, Ticked, known, taught};
-ghost use Rattle.ethernet_arp.specs.Table.{Knows, aged, host_of, is_of, moved_front};
+ghost use Rattle.ethernet_arp.specs.Table.{Knows, aged, host_of, in_table, is_of, moved_front};
 
 use crate::mac::Mac;
 use crate::sizes::{ARP_ENTRIES, ARP_TICKS};
@@ -96,7 +96,8 @@ impl Arp {
 
     /// The hardware address that is known of an address.
     pub fn known(&self, addr: Addr) -> Option<Mac>
-        ensures { (acts : List Act) → Knows self.now acts → option_map (λ m. m.0) result ≡ known acts addr.0 }
+        ensures table { option_map (λ m. m.0) result ≡ in_table self.now addr.0 }
+        ensures known { (acts : List Act) → Knows self.now acts → option_map (λ m. m.0) result ≡ known acts addr.0 }
     {
         let place = place_of(&self.entries, addr);
         if place < ARP_ENTRIES {
