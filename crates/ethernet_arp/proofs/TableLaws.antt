@@ -1,6 +1,6 @@
 -- A table after one more act.
-use Rattle.std.proofs.Common.{add-one, ◌≡◌, ℕ, zero, suc, ◌+◌, ◌-◌, ◌<◌, ◌≤◌, ◌&&◌, ◌||◌, Bool, true, false, if◌then◌else◌, nat_lt, min, List, [], ◌∷◌, ◌++◌, Option, None, Some, length, map, take, drop, get_or, refl, sym, ap, ◌∙◌, subst, arith, inl, inr, ◌⊎◌}
-use Rattle.std.specs.List.{list_any, position_or_len}
+use Rattle.std.proofs.Common.{add-one, ◌≡◌, ℕ, zero, suc, ◌+◌, ◌-◌, ◌<◌, ◌≤◌, ◌&&◌, ◌||◌, Bool, true, false, if◌then◌else◌, cond, nat_lt, min, List, [], ◌∷◌, ◌++◌, Option, None, Some, length, map, take, drop, get_or, refl, sym, ap, ◌∙◌, subst, arith, inl, inr, ◌⊎◌}
+use Rattle.std.specs.List.{find, list_any, position_or_len}
 use Rattle.std.specs.Prelude.{option_map, slice_get}
 use Rattle.std.specs.Str.{bytes_eq}
 use Rattle.std.proofs.lemmas.Bool.{le-ltb, ltb-false, ltb-true, lt-ltb}
@@ -567,3 +567,11 @@ pub none_in : (arp : Arp) (addr : List ℕ) (n : ℕ) → n ≡ position_or_len 
 none_in arp addr n e over =
     sym (ap (λ (o : Option Entry). option_map (λ x. x.mac.0) o)
     (find_at (λ x. is_of addr x) arp.entries ∙ ap (λ (m : ℕ). slice_get arp.entries m) (sym e) ∙ past_end arp.entries n over))
+
+-- what was learnt stands in front
+pub learnt_is : (es : List Entry) (e : Entry) (place : ℕ) (old : List Entry) → es ≡ moved_front e place old → e.age ≡ 0
+    → option_map (λ (x : Entry). x.mac.0) (find (λ x. is_of e.addr.0 x) es) ≡ Some e.mac.0
+learnt_is es e place old is young =
+    ap (λ (l : List Entry). option_map (λ (x : Entry). x.mac.0) (find (λ x. is_of e.addr.0 x) l)) is
+    ∙ ap (λ (b : Bool). option_map (λ (x : Entry). x.mac.0) (cond b (Some e) (find (λ x. is_of e.addr.0 x) (take place old ++ drop (place + 1) old))))
+    (ap (λ (n : ℕ). nat_lt n 2400 && bytes_eq e.addr.0 e.addr.0) young ∙ same e.addr.0)

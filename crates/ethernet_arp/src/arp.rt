@@ -70,6 +70,7 @@ impl Arp {
     /// Learns the hardware address of an address.
     pub fn learn(&mut self, addr: Addr, mac: Mac)
         ensures host { host_of self.new ≡ host_of self.old }
+        ensures table { in_table self.new addr.0 ≡ Some mac.0 }
         ensures knows { (act : Act) (acts : List Act)
             → taught act ≡ Some (record { addr = addr.0; mac = mac.0 })
             → Knows self.old acts → Knows self.new (acts ++ act ∷ []) }
