@@ -7,3 +7,4 @@ pub mod SendingLaws
 pub mod ServingLaws
 pub mod TableLaws
 pub mod TakenLaws
+pub mod SendableLaws

@@ -1,12 +1,14 @@
 -- A table after one more act.
-use Rattle.std.proofs.Common.{add-one, ◌≡◌, ℕ, suc, ◌+◌, ◌-◌, ◌<◌, ◌≤◌, ◌&&◌, ◌||◌, Bool, true, false, if◌then◌else◌, nat_lt, min, List, [], ◌∷◌, ◌++◌, Option, None, Some, length, map, take, drop, get_or, refl, sym, ap, ◌∙◌, subst, arith, inl, inr, ◌⊎◌}
-use Rattle.std.specs.List.{list_any, position_or_len}
+use Rattle.std.proofs.Common.{add-one, ◌≡◌, ℕ, zero, suc, ◌+◌, ◌-◌, ◌<◌, ◌≤◌, ◌&&◌, ◌||◌, Bool, true, false, if◌then◌else◌, cond, nat_lt, min, List, [], ◌∷◌, ◌++◌, Option, None, Some, length, map, take, drop, get_or, refl, sym, ap, ◌∙◌, subst, arith, inl, inr, ◌⊎◌}
+use Rattle.std.specs.List.{find, list_any, position_or_len}
+use Rattle.std.specs.Prelude.{option_map, slice_get}
 use Rattle.std.specs.Str.{bytes_eq}
 use Rattle.std.proofs.lemmas.Bool.{le-ltb, ltb-false, ltb-true, lt-ltb}
 use Rattle.std.proofs.lemmas.List.{length-map}
+use Rattle.std.proofs.lemmas.List.Folds.{find_at}
 use Rattle.std.proofs.lemmas.List.Recursion.{is_position_or_len}
 use Rattle.ethernet_arp.specs.Learning.{Act, Learning, Pair, Ticked, addresses_of, among, is_fresh, known, last_learning, taught, ticks_in}
-use Rattle.ethernet_arp.specs.Table.{AllRemember, AreOlder, AreOrdered, IsAlike, Knows, Remembers, aged, is_of, moved_front}
+use Rattle.ethernet_arp.specs.Table.{AllRemember, AreOlder, AreOrdered, IsAlike, Knows, Remembers, aged, in_table, is_of, moved_front}
 use Rattle.ethernet_arp.specs.declared.arp.Arp.{Arp}
 use Rattle.ethernet_arp.specs.declared.arp.Entry.{Entry}
 use Rattle.ethernet_arp.proofs.LearningLaws.{addresses-learnt, addresses-tick, is_same, last-learnt, last-other, last-tick, mac_of, not_among, not_both, on_later, or_parts, same, ticks-learnt, ticks-tick}
@@ -543,3 +545,33 @@ knows_same old new acts e k = record {
   order = subst (λ (l : List Entry). AreOrdered l) (sym e) k.order;
   rest = λ x none. k.rest x (ap (λ (l : List Entry). list_any (λ y. is_of x y) l) (sym e) ∙ none);
 }
+
+-- what a table has of an address
+first_at : (es : List Entry) (n : ℕ) (none : Entry) → n < length es → slice_get es n ≡ Some (get_or es n none)
+first_at [] n none h = absurd (omega (arith, h))
+first_at (e ∷ es) zero none h = refl
+first_at (e ∷ es) (suc n) none h = first_at es n none (omega (arith, h))
+
+past_end : (es : List Entry) (n : ℕ) → length es ≤ n → slice_get es n ≡ None
+past_end [] n h = refl
+past_end (e ∷ es) zero h = absurd (omega (arith, h))
+past_end (e ∷ es) (suc n) h = past_end es n (omega (arith, h))
+
+pub found_in : (arp : Arp) (addr : List ℕ) (n : ℕ) (none : Entry) → n ≡ position_or_len (λ e. is_of addr e) arp.entries → n < length arp.entries
+    → Some (get_or arp.entries n none).mac.0 ≡ in_table arp addr
+found_in arp addr n none e below =
+    sym (ap (λ (o : Option Entry). option_map (λ x. x.mac.0) o)
+    (find_at (λ x. is_of addr x) arp.entries ∙ ap (λ (m : ℕ). slice_get arp.entries m) (sym e) ∙ first_at arp.entries n none below))
+
+pub none_in : (arp : Arp) (addr : List ℕ) (n : ℕ) → n ≡ position_or_len (λ e. is_of addr e) arp.entries → length arp.entries ≤ n → None ≡ in_table arp addr
+none_in arp addr n e over =
+    sym (ap (λ (o : Option Entry). option_map (λ x. x.mac.0) o)
+    (find_at (λ x. is_of addr x) arp.entries ∙ ap (λ (m : ℕ). slice_get arp.entries m) (sym e) ∙ past_end arp.entries n over))
+
+-- what was learnt stands in front
+pub learnt_is : (es : List Entry) (e : Entry) (place : ℕ) (old : List Entry) → es ≡ moved_front e place old → e.age ≡ 0
+    → option_map (λ (x : Entry). x.mac.0) (find (λ x. is_of e.addr.0 x) es) ≡ Some e.mac.0
+learnt_is es e place old is young =
+    ap (λ (l : List Entry). option_map (λ (x : Entry). x.mac.0) (find (λ x. is_of e.addr.0 x) l)) is
+    ∙ ap (λ (b : Bool). option_map (λ (x : Entry). x.mac.0) (cond b (Some e) (find (λ x. is_of e.addr.0 x) (take place old ++ drop (place + 1) old))))
+    (ap (λ (n : ℕ). nat_lt n 2400 && bytes_eq e.addr.0 e.addr.0) young ∙ same e.addr.0)

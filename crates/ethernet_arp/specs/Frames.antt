@@ -1,5 +1,5 @@
 -- Ethernet frames (RFC 894) and the ARP packets in them (RFC 826): what a received one brings, and those that are sent.
-use Rattle.std.specs.Prelude.{ℕ, ◌+◌, ◌==◌, ◌&&◌, ◌||◌, nat_le, nat_lt, Bool, if◌then◌else◌, List, [], ◌∷◌, ◌++◌, length, drop, slice_index}
+use Rattle.std.specs.Prelude.{ℕ, ◌+◌, ◌==◌, ◌&&◌, ◌||◌, nat_le, nat_lt, Bool, if◌then◌else◌, List, [], ◌∷◌, ◌++◌, length, drop, slice_index, Option}
 use Rattle.std.specs.Option.{option_map_or}
 use Rattle.std.specs.Str.{bytes_eq}
 use Rattle.uip_wire.specs.Addr.{address_at}
@@ -81,11 +81,13 @@ frame_brings k frame =
     if bytes_eq (mac_at frame 0) k.mac || bytes_eq (mac_at frame 0) broadcast then payload_brings k (word_at frame 12) (drop 14 frame)
     else []
 
--- the frame for a datagram, behind these acts: to the known hardware address of its target, or else the request for that
+-- the frame for a datagram: to this hardware address of its target, or the request for that
+abbrev pub wrapped_to : Host → Option (List ℕ) → List ℕ → List ℕ
+wrapped_to k to datagram = option_map_or (λ mac. frame_with mac k.mac 2048 datagram) to (arp_request k (address_at datagram 16))
+
+-- behind these acts: to the hardware address that is known of its target then
 abbrev pub wrapped : Host → List Act → List ℕ → List ℕ
-wrapped k acts datagram =
-    let target = address_at datagram 16 in
-    option_map_or (λ mac. frame_with mac k.mac 2048 datagram) (known acts target) (arp_request k target)
+wrapped k acts datagram = wrapped_to k (known acts (address_at datagram 16)) datagram
 
 -- a frame behind its length
 abbrev pub framed : List ℕ → List ℕ

@@ -10,3 +10,4 @@ pub mod Words
 pub mod Worked
 pub mod Wrapping
 pub mod ConstantValues
+pub mod Sendable

@@ -1,6 +1,6 @@
 -- What it means that the table of an `Arp` stands for a list of learnings and ticks.
-use Rattle.std.specs.Prelude.{◌≡◌, ◌<◌, ◌≤◌, ◌+◌, ◌&&◌, ℕ, nat_lt, Bool, false, if◌then◌else◌, List, [], ◌∷◌, ◌++◌, length, take, drop, None, Some, ⊤}
-use Rattle.std.specs.List.{list_any}
+use Rattle.std.specs.Prelude.{◌≡◌, ◌<◌, ◌≤◌, ◌+◌, ◌&&◌, ℕ, nat_lt, Bool, false, if◌then◌else◌, List, [], ◌∷◌, ◌++◌, length, take, drop, None, Some, Option, option_map, ⊤}
+use Rattle.std.specs.List.{find, list_any}
 use Rattle.std.specs.Str.{bytes_eq}
 use Rattle.ethernet_arp.specs.Frames.{Host}
 use Rattle.ethernet_arp.specs.Learning.{Act, Learning, addresses_of, among, known, last_learning, ticks_in}
@@ -14,6 +14,10 @@ host_of arp = record { addr = arp.own.0; mac = arp.mac.0 }
 -- an entry of this address that is not forgotten
 abbrev pub is_of : List ℕ → Entry → Bool
 is_of addr e = nat_lt e.age ARP_TICKS && bytes_eq e.addr.0 addr
+
+-- What a table has of an address, whatever it stands for: the hardware address in the first entry of it that is not forgotten.
+abbrev pub in_table : Arp → List ℕ → Option (List ℕ)
+in_table arp addr = option_map (λ e. e.mac.0) (find (λ e. is_of addr e) arp.entries)
 
 -- an entry after a tick
 abbrev pub aged : Entry → Entry

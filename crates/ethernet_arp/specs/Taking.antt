@@ -1,9 +1,11 @@
 -- What `take` answers for a frame.
-use Rattle.std.specs.Prelude.{◌≡◌, ◌+◌, ◌<◌, ◌⊎◌, ℕ, List, [], ◌∷◌, length, drop, ⊤}
+use Rattle.std.specs.Prelude.{◌≡◌, ◌+◌, ◌<◌, ◌⊎◌, ℕ, List, [], ◌∷◌, length, drop, Some, ⊤}
 use Rattle.uip_wire.specs.Fields.{written}
 use Rattle.line_medium.specs.Ways.{Came, Datagram, Own}
 use Rattle.ethernet_arp.specs.Frames.{Host, arp_reply}
-use Rattle.ethernet_arp.specs.Learning.{Act, Asked, Pair, Replied}
+use Rattle.ethernet_arp.specs.Learning.{Act, Asked, Pair, Replied, taught}
+use Rattle.ethernet_arp.specs.Table.{in_table}
+use Rattle.ethernet_arp.specs.declared.arp.Arp.{Arp}
 use Rattle.ethernet_arp.specs.declared.taking.Sorted.{Sorted}
 use Rattle.ethernet_arp.specs.declared.taking.Sorted.TheVariants as sorted
 use Rattle.ethernet_arp.specs.declared.taking.Taken.{Taken}
@@ -26,6 +28,11 @@ SomeBytes (sorted.Replied addr mac) payload = ⊤
 -- it says nothing, and is no datagram
 abbrev pub IsQuiet : List (Came Act) → Type 0
 IsQuiet cs = (cs ≡ []) ⊎ ((pair : Pair) × (cs ≡ Own (Replied pair) ∷ []))
+
+-- what comes with a frame teaches a table that is handed in its pair, or leaves it as it was
+abbrev pub IsTaught : List (Came Act) → Arp → Arp → Type 0
+IsTaught (Own act ∷ cs) old new = (pair : Pair) → taught act ≡ Some pair → in_table new pair.addr ≡ Some pair.mac
+IsTaught cs old new = new ≡ old
 
 -- what an answer tells of a frame, what it brings, and the area before and after
 abbrev pub TellsTaken : Host → List ℕ → Taken → List (Came Act) → List ℕ → List ℕ → Type 0

@@ -1,7 +1,7 @@
 ghost use Rattle.std.specs.List.{position_or_len};
 ghost use Rattle.std.specs.Prelude.{◌≡◌, ◌<◌, ◌++◌, [], ◌∷◌, List, Some, map, option_map};
 ghost use Rattle.ethernet_arp.specs.Learning.{Act, Pair, Ticked, known, taught};
-ghost use Rattle.ethernet_arp.specs.Table.{Knows, aged, host_of, is_of, moved_front};
+ghost use Rattle.ethernet_arp.specs.Table.{Knows, aged, host_of, in_table, is_of, moved_front};
 
 use crate::mac::Mac;
 use crate::sizes::{ARP_ENTRIES, ARP_TICKS};
@@ -70,6 +70,7 @@ impl Arp {
     /// Learns the hardware address of an address.
     pub fn learn(&mut self, addr: Addr, mac: Mac)
         ensures host { host_of self.new ≡ host_of self.old }
+        ensures table { in_table self.new addr.0 ≡ Some mac.0 }
         ensures knows { (act : Act) (acts : List Act)
             → taught act ≡ Some (record { addr = addr.0; mac = mac.0 })
             → Knows self.old acts → Knows self.new (acts ++ act ∷ []) }
@@ -96,7 +97,8 @@ impl Arp {
 
     /// The hardware address that is known of an address.
     pub fn known(&self, addr: Addr) -> Option<Mac>
-        ensures { (acts : List Act) → Knows self.now acts → option_map (λ m. m.0) result ≡ known acts addr.0 }
+        ensures table { option_map (λ m. m.0) result ≡ in_table self.now addr.0 }
+        ensures known { (acts : List Act) → Knows self.now acts → option_map (λ m. m.0) result ≡ known acts addr.0 }
     {
         let place = place_of(&self.entries, addr);
         if place < ARP_ENTRIES {

@@ -1,7 +1,8 @@
 ghost use Rattle.std.specs.Prelude.{◌≡◌, ◌≤◌, List, length};
-ghost use Rattle.ethernet_arp.specs.Frames.{frame_with, arp_request, wrapped};
+ghost use Rattle.uip_wire.specs.Addr.{address_at};
+ghost use Rattle.ethernet_arp.specs.Frames.{frame_with, arp_request, wrapped, wrapped_to};
 ghost use Rattle.ethernet_arp.specs.Learning.{Act};
-ghost use Rattle.ethernet_arp.specs.Table.{Knows, host_of};
+ghost use Rattle.ethernet_arp.specs.Table.{Knows, host_of, in_table};
 ghost use Rattle.ethernet_arp.specs.Wrapping.{Puts};
 
 use crate::arp::Arp;
@@ -17,6 +18,7 @@ pub fn wrap(arp: &Arp, datagram: &[u8], out: &mut [u8]) -> usize
     requires most { length datagram.now ≤ LARGEST_DATAGRAM }
     requires room { LARGEST_FRAME ≤ length out.old }
     ensures within { result ≤ LARGEST_FRAME }
+    ensures table { Puts (wrapped_to (host_of arp.now) (in_table arp.now (address_at datagram.now 16)) datagram.now) result out.old out.new }
     ensures puts { (acts : List Act) → Knows arp.now acts
         → Puts (wrapped (host_of arp.now) acts datagram.now) result out.old out.new }
 {

@@ -7,3 +7,5 @@ pub mod Asking
 pub mod DeskParts
 pub mod TwoApplications
 pub mod TalkLaws
+pub mod ExactLaws
+pub mod SequenceLaws

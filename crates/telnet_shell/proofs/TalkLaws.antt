@@ -150,11 +150,11 @@ either_settled false le true c cs go go' e = inr (refl, refl, e)
 either_settled false le false c cs go go' e = absurd (cc)
 
 -- Every command has its capture, and the text is among the first bytes.
-record IsSaid (cs : List Command) (ks : List Moment) (bytes : ℕ) : Type 0 where
-  told : needed cs ≤ length ks
-  within : length (transcript cs ks) ≤ bytes
+pub record IsSaid (cs : List Command) (ks : List Moment) (bytes : ℕ) : Type 0 where
+  pub told : needed cs ≤ length ks
+  pub within : length (transcript cs ks) ≤ bytes
 
-settled : (cs : List Command) (ks : List Moment) (bytes : ℕ) → unfinished cs ks bytes ≡ [] → IsSaid cs ks bytes
+pub settled : (cs : List Command) (ks : List Moment) (bytes : ℕ) → unfinished cs ks bytes ≡ [] → IsSaid cs ks bytes
 settled [] ks bytes e = record { told = omega arith; within = omega arith }
 settled (c ∷ cs) [] bytes e =
     let size : ℕ = length (said_plainly c) in
@@ -184,7 +184,7 @@ settled (c ∷ cs) (k ∷ ks) bytes e =
           record { told = omega (arith, count, rest.told); within = omega (arith, text, rest.within, fits) })
     ]
 
-none_waits : (cs : List Command) → (length cs == 0) ≡ true → cs ≡ []
+pub none_waits : (cs : List Command) → (length cs == 0) ≡ true → cs ≡ []
 none_waits [] e = refl
 none_waits (c ∷ cs) e = absurd (let z = eqb-true (length (c ∷ cs)) 0 e in omega (arith, z))
 

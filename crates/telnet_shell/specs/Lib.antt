@@ -11,3 +11,5 @@ pub mod DeskPorts
 pub mod Talks
 pub mod Lemmas
 pub mod ConstantValues
+pub mod Exactly
+pub mod Sequences

@@ -4,6 +4,8 @@ ghost use Rattle.telnet_shell.specs.WorkedTalks.{AreWorkedTalks, KeepsLaws};
 ghost use Rattle.telnet_shell.specs.DeskPorts.{IsTwoApplications};
 ghost use Rattle.telnet_shell.specs.Talks.{KeepsTalk};
 ghost use Rattle.telnet_shell.specs.ConstantValues.{ConstantValues};
+ghost use Rattle.telnet_shell.specs.Exactly.{IsExact};
+ghost use Rattle.telnet_shell.specs.Sequences.{ReadsSequences};
 
 /// Talks that were worked by hand go as the definitions say.
 #[tactic(auto, using(crate::proofs::WorkedTalks::worked))]
@@ -26,6 +28,19 @@ pub fn desk_is_two_applications()
 #[tactic(auto, using(crate::proofs::TalkLaws::keeps_talk))]
 pub fn shell_keeps_its_talk()
     ensures { KeepsTalk }
+{}
+
+/// A shell closes exactly where its talk is whole and acknowledged, takes a capture exactly where a command without one comes
+/// next, and is given up exactly where a command comes while 32 are not wholly acknowledged.
+#[tactic(auto, using(crate::proofs::ExactLaws::is_exact))]
+pub fn shell_is_exact()
+    ensures { IsExact }
+{}
+
+/// Each sequence of the protocol is read as its table says, whatever stands behind.
+#[tactic(auto, using(crate::proofs::SequenceLaws::reads_sequences))]
+pub fn sequences_are_read()
+    ensures { ReadsSequences }
 {}
 
 /// The numbers that the definitions name by the code's constants.

@@ -11,7 +11,8 @@ mod shell;
 pub use command::Command;
 pub use desk::Desk;
 pub use laws::{
-    constant_values, desk_is_two_applications, shell_keeps_its_talk, shell_laws, worked_talks,
+    constant_values, desk_is_two_applications, sequences_are_read, shell_is_exact,
+    shell_keeps_its_talk, shell_laws, worked_talks,
 };
 pub use shell::{Shell, TELNET_PORT};
 

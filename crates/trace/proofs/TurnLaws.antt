@@ -155,10 +155,10 @@ is_dry None e = tt
 is_dry (Some all) e = e
 
 -- a file is at fault in its header or in a length
-found_so : (why : CaptureWhy) (old new : LineTold) (items : List Item) (reading : Reading) (number : ℕ) → fault_in reading ≡ Some (number, why) → IsCalm old new → StopsBy old new items reading (ends.Bad number why)
-found_so whys.Head old new items reading number fault calm = (calm, fault)
-found_so whys.Length old new items reading number fault calm = (calm, fault)
-found_so whys.Cut old new items reading number fault calm = absurd (never_cut reading number fault)
+found_so : (why : CaptureWhy) (old new : LineTold) (bytes : List ℕ) (reading : Reading) (number : ℕ) → fault_in reading ≡ Some (number, why) → IsCalm old new → StopsBy old new (map Byte bytes) reading (ends.Bad number why)
+found_so whys.Head old new bytes reading number fault calm = (calm, fault, bytes, refl)
+found_so whys.Length old new bytes reading number fault calm = (calm, fault, bytes, refl)
+found_so whys.Cut old new bytes reading number fault calm = absurd (never_cut reading number fault)
 
 -- the file is at fault
 pub file_fault : (why : CaptureWhy) (start : Option (List ℕ)) (before : List Item) (bytes : List ℕ) (old new : LineTold) (number : ℕ)
@@ -166,7 +166,7 @@ pub file_fault : (why : CaptureWhy) (start : Option (List ℕ)) (before : List I
 file_fault why start before bytes old new number f calm = record {
   reading = f.reading;
   read = subst (λ (l : List ℕ). IsReadAs l f.reading) (bytes_on before bytes) f.read;
-  cause = found_so why old new (map Byte bytes) f.reading number f.fault calm;
+  cause = found_so why old new bytes f.reading number f.fault calm;
   wrote = f.written;
   some = λ is. absurd (cc is);
 }

@@ -1,24 +1,23 @@
 -- What a call that makes a capture file a serial line has taken and written, and how it ends.
-use Rattle.std.specs.Prelude.{◌≡◌, ◌<◌, ◌≤◌, ℕ, List, ◌++◌, Option, Some, None, length}
+use Rattle.std.specs.Prelude.{◌≡◌, ◌<◌, ◌≤◌, ℕ, List, ◌++◌, map, Option, Some, None, length, ⊤}
 use Rattle.std.specs.Io.KnownBytes.{Appends}
 use Rattle.uip_edge.specs.Causes.{Rose}
 use Rattle.uip_edge.specs.Coming.{Consumes, bytes_among, TookAll}
 use Rattle.uip_edge.specs.Writing.{AppendsPrefix}
 use Rattle.uip_edge.specs.declared.item.Item.{Item}
+use Rattle.uip_edge.specs.declared.item.Item.TheVariants.{Byte}
 use Rattle.trace.specs.CaptureReading.{IsReadAs, Reading, cut_in, captured_in, fault_in, lines_of}
-use Rattle.trace.specs.declared.telling.TheConstants.{BLOCK}
 use Rattle.trace.specs.declared.slip_end.CaptureWhy.{CaptureWhy}
 use Rattle.trace.specs.declared.slip_end.CaptureWhy.TheVariants as whys
 use Rattle.trace.specs.declared.slip_end.SlipEnd.{SlipEnd}
 use Rattle.uip_edge.specs.Told.{LineTold, IsCalm}
 use Rattle.trace.specs.declared.slip_end.SlipEnd.TheVariants as ends
 
--- the last call of the link brought the fault: what was taken before has none
+-- the last answer of the link brought the fault: what was taken before has none, and behind it came bytes alone, and no silence
 pub record HasNewFault (taken : List Item) : Type 0 where
   pub front : List Item
-  pub last : List Item
-  pub pieces : taken ≡ front ++ last
-  pub within : length last ≤ BLOCK
+  pub last : List ℕ
+  pub pieces : taken ≡ front ++ map Byte last
   pub reading : Reading
   pub read : IsReadAs (bytes_among front) reading
   pub sound : fault_in reading ≡ None
@@ -52,6 +51,13 @@ pub record Converts (n : ℕ) (old new : LineTold) (result : SlipEnd) : Type 0 w
   pub some : result ≡ ends.WriteFault → 0 < length (lines_of (captured_in reading))
   pub ends : SlipEndsBy n old new taken reading result
   pub wrote : WroteLine result old.sink.written new.sink.written (lines_of (captured_in reading))
+
+-- the fault stands among the last 4,096 items that were taken, as many as are asked of the link at once
+abbrev pub IsFoundSoon : LineTold → LineTold → SlipEnd → Type 0
+IsFoundSoon old new (ends.Bad number whys.Cut) = ⊤
+IsFoundSoon old new (ends.Bad number why) =
+    (taken : List Item) × Consumes old.link.coming new.link.coming taken × (fault : HasNewFault taken) × (length fault.last ≤ 4096)
+IsFoundSoon old new end = ⊤
 
 -- the answer to the end of the link, where the bytes are read so
 abbrev pub end_by_cut : Option ℕ → SlipEnd

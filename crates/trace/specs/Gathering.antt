@@ -1,10 +1,11 @@
 -- What the reader of a capture file knows of the bytes that it took, and what it does in one turn.
-use Rattle.std.specs.Prelude.{◌≡◌, ◌<◌, ◌≤◌, ◌+◌, ℕ, List, [], ◌∷◌, ◌++◌, Option, Some, None, Result, Ok, Err, length}
+use Rattle.std.specs.Prelude.{◌≡◌, ◌<◌, ◌≤◌, ◌+◌, ℕ, List, [], ◌∷◌, ◌++◌, Option, Some, None, Result, Ok, Err, length, map}
 use Rattle.std.specs.Io.KnownBytes.{Appends}
 use Rattle.uip_edge.specs.Causes.{Rose}
 use Rattle.uip_edge.specs.Coming.{Consumes, bytes_among, TookAll}
 use Rattle.uip_edge.specs.Writing.{BreaksOff}
 use Rattle.uip_edge.specs.declared.item.Item.{Item}
+use Rattle.uip_edge.specs.declared.item.Item.TheVariants.{Byte}
 use Rattle.uip_edge.specs.declared.turn.Turn.{Turn}
 use Rattle.uip_edge.specs.declared.turn.Turn.TheVariants as turns
 use Rattle.trace.specs.CaptureReading.{BeginsWith, Captured, IsReadAs, Reading, cut_in, captured_in, fault_in, length_in, lines_of}
@@ -101,8 +102,10 @@ StopsBy old new items reading ends.LinkFault =
 StopsBy old new items reading ends.WriteFault = (new.link.faults ≡ old.link.faults) × Rose old.sink.faults new.sink.faults
 StopsBy old new items reading (ends.Bad number whys.Cut) =
     (items ≡ []) × TookAll old.link.coming [] × IsCalm old new × (fault_in reading ≡ None) × (cut_in reading ≡ Some number)
-StopsBy old new items reading (ends.Bad number whys.Head) = IsCalm old new × (fault_in reading ≡ Some (number, whys.Head))
-StopsBy old new items reading (ends.Bad number whys.Length) = IsCalm old new × (fault_in reading ≡ Some (number, whys.Length))
+StopsBy old new items reading (ends.Bad number whys.Head) =
+    IsCalm old new × (fault_in reading ≡ Some (number, whys.Head)) × (bytes : List ℕ) × (items ≡ map Byte bytes)
+StopsBy old new items reading (ends.Bad number whys.Length) =
+    IsCalm old new × (fault_in reading ≡ Some (number, whys.Length)) × (bytes : List ℕ) × (items ≡ map Byte bytes)
 
 -- the reading stopped in a turn
 pub record EndsIn (start : Option (List ℕ)) (before items : List Item) (old new : LineTold) (end : SlipEnd) : Type 0 where

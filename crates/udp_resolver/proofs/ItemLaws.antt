@@ -32,7 +32,7 @@ calm_frames [] = refl
 calm_frames (b ∷ bytes) =
     elim (leb (length (b ∷ bytes)) 1500) as (λ v. silences (flat_map by_frame (if v then Datagram (b ∷ bytes) ∷ [] else Overlong ∷ [])) ≡ 0) [ true ↦ refl | false ↦ refl ]
 
-calm_byte : (before : List ℕ) (b : ℕ) → silences (flat_map by_frame (completed before b)) ≡ 0
+pub calm_byte : (before : List ℕ) (b : ℕ) → silences (flat_map by_frame (completed before b)) ≡ 0
 calm_byte before b =
     elim (eqb b 192) as (λ v. silences (flat_map by_frame (if v then frame_of (unescaped (open_part before)) else [])) ≡ 0)
     [ true ↦ calm_frames (unescaped (open_part before)) | false ↦ refl ]

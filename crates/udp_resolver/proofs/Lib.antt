@@ -8,3 +8,4 @@ pub mod ResolveLaws
 pub mod RunLaws
 pub mod StepLaws
 pub mod ToldLaws
+pub mod FromLineLaws

@@ -8,3 +8,4 @@ pub mod Steps
 pub mod Streams
 pub mod Told
 pub mod ConstantValues
+pub mod FromLine

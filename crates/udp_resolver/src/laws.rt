@@ -10,6 +10,7 @@ ghost use Rattle.udp_resolver.specs.Resolving.{ResolvesBy, IsOpen, IsSettled};
 ghost use Rattle.udp_resolver.specs.Streams.{Streams, StreamsUnfailed};
 ghost use Rattle.udp_resolver.specs.Told.{AddressesAreFromReplies};
 ghost use Rattle.udp_resolver.specs.ConstantValues.{ConstantValues};
+ghost use Rattle.udp_resolver.specs.FromLine.{EventsAreOfLine};
 
 /// An address is told of a name only where a datagram came that is the reply to the question for this name, and an answer
 /// record of it gives this address.
@@ -33,6 +34,12 @@ pub fn budget_is_told()
     ensures { (asked : List Question) (n : ℕ) (old new : Streams) (taken : List Item) (end : AnyEnd)
         → ResolvesBy asked n old new taken end
         → StreamsUnfailed old new → IsOpen asked taken → length taken ≡ n → end ≡ Budget }
+{}
+
+/// The datagrams that come are those among the frames of the line's bytes, in order, and the silences are the line's.
+#[tactic(auto, using(crate::proofs::FromLineLaws::events_are_of_line))]
+pub fn events_are_of_the_line()
+    ensures { EventsAreOfLine }
 {}
 
 /// The numbers that the definitions name by the code's constants.

@@ -16,7 +16,10 @@ mod tests;
 
 pub use dns_message::{LONGEST_NAME, Name};
 pub use fate::Fate;
-pub use laws::{addresses_are_from_replies, budget_is_told, constant_values, end_is_told};
+pub use laws::{
+    addresses_are_from_replies, budget_is_told, constant_values, end_is_told,
+    events_are_of_the_line,
+};
 pub use resolving::resolve;
 
 /// The most names that are asked for at once.

@@ -45,7 +45,7 @@ split (c ∷ cs) q (k ∷ ks) later e =
     (length ks) (length (k ∷ ks)) (needed cs) (one_longer k ks) e (λ f. split cs q ks later f) (λ f. split cs q (k ∷ ks) later f)
 
 -- a command whose text is among the first bytes is passed
-past_said : (s x : List ℕ) (at : ℕ) (go : ℕ → List Command) (stay : List Command)
+pub past_said : (s x : List ℕ) (at : ℕ) (go : ℕ → List Command) (stay : List Command)
     → behind s (length (s ++ x) + at) go stay ≡ go (length x + at)
 past_said s x at go stay =
     let size : length (s ++ x) ≡ length s + length x = length-append s x in

@@ -1,8 +1,10 @@
-use Rattle.std.proofs.Common.{◌≡◌, ◌++◌, List, length, length-drop, refl, arith, ap, sym, ◌∙◌, subst}
+use Rattle.std.proofs.Common.{◌≡◌, ◌++◌, List, Some, length, length-drop, refl, arith, ap, sym, ◌∙◌, subst}
 use Rattle.line_medium.specs.Ways.{Came, acts_among}
 use Rattle.ethernet_arp.specs.Frames.{Host, arp_reply}
 use Rattle.ethernet_arp.specs.Learning.{Act, Asked, Pair, Replied}
-use Rattle.ethernet_arp.specs.Table.{Knows}
+use Rattle.ethernet_arp.specs.Table.{Knows, in_table}
+use Rattle.ethernet_arp.specs.Taking.{IsTaught}
+use Rattle.ethernet_arp.specs.declared.arp.Arp.{Arp}
 use Rattle.ethernet_arp.proofs.taking.take.Goals as goal
 
 pub returns-in-Datagram-clause-told : goal.returns-in-Datagram-clause-told
@@ -34,3 +36,27 @@ returns-in-Replied-clause-knows c = λ acts k.
     let pair : Pair = record { addr = c.in-Replied.addr.0; mac = c.in-Replied.mac.0 } in
     subst (λ (l : List (Came Act)). Knows c.learn-in-Replied.new.self (acts ++ acts_among l)) (sym (rw c.in-Replied.is at c.sort.ensures.brings))
     (c.learn-in-Replied.ensures.knows (Replied pair) acts refl k)
+
+-- the pair of an act that taught it
+knows_pair : (new : Arp) (told pair : Pair) → in_table new told.addr ≡ Some told.mac → Some told ≡ Some pair → in_table new pair.addr ≡ Some pair.mac
+knows_pair new told pair e is = let same : told ≡ pair = cc in subst (λ (p : Pair). in_table new p.addr ≡ Some p.mac) same e
+
+pub returns-in-Nothing-clause-table : goal.returns-in-Nothing-clause-table
+returns-in-Nothing-clause-table c =
+    subst (λ (l : List (Came Act)). IsTaught l c.args.arp.now c.args.arp.now) (sym (rw c.in-Nothing.is at c.sort.ensures.brings)) refl
+
+pub returns-in-Datagram-clause-table : goal.returns-in-Datagram-clause-table
+returns-in-Datagram-clause-table c =
+    subst (λ (l : List (Came Act)). IsTaught l c.args.arp.now c.args.arp.now) (sym (rw c.in-Datagram.is at c.sort.ensures.brings)) refl
+
+pub returns-in-Asked-clause-table : goal.returns-in-Asked-clause-table
+returns-in-Asked-clause-table c =
+    let told : Pair = record { addr = c.in-Asked.addr.0; mac = c.in-Asked.mac.0 } in
+    subst (λ (l : List (Came Act)). IsTaught l c.args.arp.now c.learn.new.self) (sym (rw c.in-Asked.is at c.sort.ensures.brings))
+    (λ pair is. knows_pair c.learn.new.self told pair c.learn.ensures.table is)
+
+pub returns-in-Replied-clause-table : goal.returns-in-Replied-clause-table
+returns-in-Replied-clause-table c =
+    let told : Pair = record { addr = c.in-Replied.addr.0; mac = c.in-Replied.mac.0 } in
+    subst (λ (l : List (Came Act)). IsTaught l c.args.arp.now c.learn-in-Replied.new.self) (sym (rw c.in-Replied.is at c.sort.ensures.brings))
+    (λ pair is. knows_pair c.learn-in-Replied.new.self told pair c.learn-in-Replied.ensures.table is)

@@ -1,7 +1,7 @@
 use Rattle.std.proofs.Common.{◌++◌, [], refl, arith, ◌∙◌, length-take, length-append}
 use Rattle.uip_edge.proofs.Told.{Consumes-none, Consumes-then}
 use Rattle.uip_edge.proofs.Turns.{calm_then}
-use Rattle.trace.proofs.ConvertLaws.{spent, stopped}
+use Rattle.trace.proofs.ConvertLaws.{spent, stopped, stopped_soon}
 use Rattle.uip_edge.specs.Telling.{line_told}
 use Rattle.trace.proofs.converting.slip.Goals as goal
 
@@ -32,19 +32,29 @@ loop-left-preserved g c =
       calm = calm_then _ _ _ inv.calm turn.by.1;
     }
 
-pub returns-in-Ended : goal.returns-in-Ended
-returns-in-Ended g c =
+pub returns-in-Ended-clause-converts : goal.returns-in-Ended-clause-converts
+returns-in-Ended-clause-converts g c =
     let inv = c.loop-left.invariant in
     let room = length-take c.min-room.result c.loop-left.buf in
     stopped c.args.items inv.taken
     (line_told g.L.Link g.K.Sink c.args.link.now c.args.sink.now)
     (line_told g.L.Link g.K.Sink c.loop-left.link c.loop-left.sink)
     (line_told g.L.Link g.K.Sink c.turn.new.link c.turn.new.sink)
-    _ _ _ _ _ _ _ _ c.in-Ended.end inv.consumed (omega (arith, inv.count)) (omega (arith, inv.count, room)) (omega (arith, room)) inv.calm
+    _ _ _ _ _ _ _ _ c.in-Ended.end inv.consumed (omega (arith, inv.count)) (omega (arith, inv.count, room)) inv.calm
     inv.at inv.«open» (c.in-Ended.ensures.turns _ inv.taken inv.at)
 
-pub returns : goal.returns
-returns g c =
+pub returns-in-Ended-clause-soon : goal.returns-in-Ended-clause-soon
+returns-in-Ended-clause-soon g c =
+    let inv = c.loop-left.invariant in
+    let room = length-take c.min-room.result c.loop-left.buf in
+    stopped_soon inv.taken
+    (line_told g.L.Link g.K.Sink c.args.link.now c.args.sink.now)
+    (line_told g.L.Link g.K.Sink c.loop-left.link c.loop-left.sink)
+    (line_told g.L.Link g.K.Sink c.turn.new.link c.turn.new.sink)
+    _ _ _ _ _ _ _ _ c.in-Ended.end inv.consumed (omega (arith, room)) inv.at inv.«open» (c.in-Ended.ensures.turns _ inv.taken inv.at)
+
+pub returns-clause-converts : goal.returns-clause-converts
+returns-clause-converts g c =
     let inv = c.loop-left.invariant in
     spent c.args.items inv.taken
     (line_told g.L.Link g.K.Sink c.args.link.now c.args.sink.now)
