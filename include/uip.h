@@ -183,7 +183,7 @@ void rattle_dealloc(void *block);
 #define UIP_ROUNDED(len) (((size_t)(len) + 15) / 16 * 16)
 #define UIP_MEMORY(image_len, files) \
     (UIP_ROUNDED(image_len) + UIP_ROUNDED(28 * (size_t)(files)) + UIP_ROUNDED(2 * (size_t)(files)) \
-     + UIP_ROUNDED(4 * (size_t)(files)) + 6096)
+     + UIP_ROUNDED(4 * (size_t)(files)) + 6704)
 
 #if defined(__cplusplus) || (defined(__STDC_VERSION__) && __STDC_VERSION__ >= 199901L)
 

@@ -10,7 +10,7 @@ use Rattle.file_tree.specs.Site.{HasSoundScripts, IsLoaded, SiteContent, files_o
 use Rattle.app_events.specs.Pages.{IsByte}
 use Rattle.site_commands.specs.Report.{why_word}
 use Rattle.device_values.specs.Words.{word_calls}
-use Rattle.uip_device.specs.WebDevices.{IsTooLong, WebDevice}
+use Rattle.uip_device.specs.WebDevices.{IsLongWithValues, WebDevice}
 use Rattle.uip_c.specs.Handles.{OpensAs}
 
 -- the image stands for the files of a site by the grammar and is read as them, the site was loaded, is bytes and has no page that can be
@@ -31,4 +31,4 @@ IsWordOf why word = word ≡ take 8 (why_word why ++ replicate 8 0)
 -- the entry and the word are those of the image's first fault, or of a page that can be too long once scripts show values
 abbrev pub TellsFault : List ℕ → ℕ → List ℕ → Type 0
 TellsFault image entry word =
-    (error : SiteError) × ((read_image image ≡ Err error) ⊎ IsTooLong image error) × (entry ≡ error.entry) × IsWordOf error.why word
+    (error : SiteError) × ((read_image image ≡ Err error) ⊎ IsLongWithValues image error) × (entry ≡ error.entry) × IsWordOf error.why word
