@@ -61,6 +61,7 @@ module _ {A S : Type 0} (g : Ghosts A S) where
   module _ (m : Meaning) (own : Addr) (gives : Writing) where
     -- one move: the device heard its bytes, its node stands behind it, and of what is sent this is handed out
     pub record MovesOn (before : List ℕ) (move : Move) (a b : Device A S) (handed : List ℕ) (n : AbstractNode) : Type 0 where
+      pub kept : g.kept b.node.shared ≡ g.kept a.node.shared
       pub heard : HasHeard (before ++ bytes_of_move move) b
       pub stands : IsNode g m own b.node (run_move m g.served gives own before move n).node
       pub hands : HandsOut (goes_by_datagram move) own (left_text_of a) handed (left_text_of b) (run_move m g.served gives own before move n).sent
@@ -68,9 +69,11 @@ module _ {A S : Type 0} (g : Ghosts A S) where
     pub moves_on : (before : List ℕ) (move : Move) (a b : Device A S) (handed : List ℕ) (n : AbstractNode) → IsNode g m own a.node n → HasHeard before a
         → AnswersMove g gives move a b handed → MovesOn before move a b handed n
     moves_on before (Makes call) a b handed n stands heard answers =
-        let first = (answers.sends before heard).each m own n stands in
-        record { heard = answers.heard before heard; stands = first.0; hands = first.1 }
+        let sends = answers.sends before heard in
+        let first = sends.each m own n stands in
+        record { kept = sends.kept; heard = answers.heard before heard; stands = first.0; hands = first.1 }
     moves_on before (Gives number text) a b handed n stands heard changes = record {
+      kept = changes.0.kept;
       heard = subst (λ (l : List ℕ). HasHeard l b) (sym (append-nil before)) (changes.0.heard before heard);
       stands = changes.0.stands m own n stands;
       hands = append-nil (left_text_of a) ∙ sym changes.0.left ∙ ap (λ l. l ++ left_text_of b) (sym changes.1);
@@ -80,12 +83,14 @@ module _ {A S : Type 0} (g : Ghosts A S) where
       line : left_text_of a ++ line_sent m g.served gives own before (moves_of all) n ≡ line_handed all ++ left_text_of c
       datagrams : datagrams_handed all ≡ datagrams_sent m g.served gives own before (moves_of all) n
       stands : IsNode g m own c.node (node_behind m g.served gives own before (moves_of all) n)
+      kept : g.kept c.node.shared ≡ g.kept a.node.shared
 
     goes : (before : List ℕ) (all : List Answered) (a c : Device A S) (n : AbstractNode) → IsNode g m own a.node n → HasHeard before a → AnswersAll g gives all a c → Goes before all a c n
     goes before [] a c n stands heard same = record {
       line = append-nil (left_text_of a) ∙ ap (λ (d : Device A S). left_text_of d) same;
       datagrams = refl;
       stands = subst (λ (d : Device A S). IsNode g m own d.node n) same stands;
+      kept = ap (λ (d : Device A S). g.kept d.node.shared) (sym same);
     }
     goes before (it ∷ all) a c n stands heard more =
         let b = more.0 in
@@ -99,6 +104,7 @@ module _ {A S : Type 0} (g : Ghosts A S) where
           line = line_step v own replies (left_text_of a) it.handed (left_text_of b) (line_sent m g.served gives own behind (moves_of all) here) (line_handed all) (left_text_of c) first.hands rest.line;
           datagrams = datagram_step v own replies (left_text_of a) it.handed (left_text_of b) (datagrams_handed all) (datagrams_sent m g.served gives own behind (moves_of all) here) first.hands rest.datagrams;
           stands = rest.stands;
+          kept = rest.kept ∙ first.kept;
         }
 
   module _ (m : Meaning) (gives : Writing) (numbers : List ℕ) (own : Addr) (all : List Answered) (old new : Device A S) (fresh : IsFreshDevice g m numbers own old) (answered : AnswersAll g gives all old new) where
@@ -113,6 +119,9 @@ module _ {A S : Type 0} (g : Ghosts A S) where
 
     pub node_stands : IsNode g m own new.node (node_behind m g.served gives own [] (moves_of all) (opening own numbers))
     node_stands = whole.stands
+
+    pub same_kept : g.kept new.node.shared ≡ g.kept old.node.shared
+    same_kept = whole.kept
 
     pub line_served : (pace : ℕ) (items : List Item) → Bring pace items (moves_of all) → new.left ≡ None → line_handed all ≡ output_by slip_way m g.served numbers own pace items
     line_served pace items bring none =

@@ -77,7 +77,7 @@ pub record IsOpened (image : List ℕ) (own : Addr) (d : WebDevice) : Type 0 whe
   pub fresh : IsFreshWebDevice (files_of (site_in d)) own d
 
 -- the image is read as files of which a page can be too long only because a script shows values: that is told of the whole
-pub record IsTooLong (image : List ℕ) (error : SiteError) : Type 0 where
+pub record IsLongWithValues (image : List ℕ) (error : SiteError) : Type 0 where
   pub files : List File
   pub read : read_image image ≡ Ok files
   pub unsound : HasSoundScripts word_calls files → ⊥
@@ -86,7 +86,7 @@ pub record IsTooLong (image : List ℕ) (error : SiteError) : Type 0 where
 -- a device was opened, or the image has this first fault; want of memory is free
 abbrev pub OpensDevice : List ℕ → Addr → Result WebDevice OpenFault → Type 0
 OpensDevice image own (Ok d) = IsOpened image own d
-OpensDevice image own (Err (BadSite error)) = (read_image image ≡ Err error) ⊎ IsTooLong image error
+OpensDevice image own (Err (BadSite error)) = (read_image image ≡ Err error) ⊎ IsLongWithValues image error
 OpensDevice image own (Err NoMemory) = ⊤
 
 -- what the web server of a device writes for the items of a serial line, where no value is given

@@ -22,7 +22,7 @@ use app_events::App;
 
 /// Whatever is called in turn, and whatever values are given between, of a fresh device: what is handed out over the serial line, with
 /// what is left, is the text of what its opening node sends over what the calls there bring; each call over a link that carries
-/// datagrams hands out the datagram that is sent at its event, or none; and the device stands for the node behind the moves.
+/// datagrams hands out the datagram that is sent at its event, or none; the device stands for the node behind the moves, and its application keeps what it keeps, as a site.
 pub fn calls_are_told<A: App>()
     ensures line { (m : Meaning) (gives : Writing) (numbers : List ℕ) (own : Addr) (all : List Answered) (old new : AnyDevice A A.Shared)
         → IsFreshDevice A.App m numbers own old → AnswersAll A.App gives all old new
@@ -33,6 +33,9 @@ pub fn calls_are_told<A: App>()
     ensures stands { (m : Meaning) (gives : Writing) (numbers : List ℕ) (own : Addr) (all : List Answered)
         (old new : AnyDevice A A.Shared) → IsFreshDevice A.App m numbers own old → AnswersAll A.App gives all old new
         → IsNode A.App m own new.node (node_behind m A.served gives own [] (moves_of all) (opening own numbers)) }
+    ensures kept { (m : Meaning) (gives : Writing) (numbers : List ℕ) (own : Addr) (all : List Answered)
+        (old new : AnyDevice A A.Shared) → IsFreshDevice A.App m numbers own old → AnswersAll A.App gives all old new
+        → A.kept new.node.shared ≡ A.kept old.node.shared }
 {}
 
 /// Whatever bytes are heard, whatever else is called in turn and whatever values are given between, of a fresh device with an application
