@@ -1,3 +1,4 @@
+pub mod ByteLaws
 pub mod Bytes
 pub mod LearningLaws
 pub mod LineLaws

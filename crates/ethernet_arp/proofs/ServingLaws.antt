@@ -41,6 +41,7 @@ module _ {A S C : Type 0} (g : Ghosts A S) (w : Way C) (did did' told told' : Li
   pub serves_told : (pace n : ℕ) (old new : LineTold) (end : ServeEnd) → ServesOver g w did did' pace n before after old new end → ServesOver g w told told' pace n before after old new end
   serves_told pace n old new end v = record {
     taken = v.taken;
+    are = v.are;
     consumed = v.consumed;
     ends = v.ends;
     wrote = told_by end _ _ _ _ _ _ v.wrote;

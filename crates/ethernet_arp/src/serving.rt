@@ -2,6 +2,7 @@ ghost use Rattle.std.specs.Prelude.{◌≡◌, [], Bool, List, ℕ, length};
 ghost use Rattle.app_events.specs.Part.{Meaning};
 ghost use Rattle.uip_edge.specs.declared.item.Item.{Item};
 ghost use Rattle.serve_loop.specs.DeedServing.{ServesOver};
+ghost use Rattle.serve_loop.specs.Items.{BringsBytes};
 ghost use Rattle.serve_loop.specs.LineDeeds.{line_deeds};
 ghost use Rattle.uip_node.specs.Node.{AbstractNode, opening};
 ghost use Rattle.uip_node.specs.StandsFor.{IsWhole};
@@ -61,4 +62,9 @@ pub fn datagrams_fit_frames()
     ensures { (m : Meaning) (served : ℕ → Bool) (k : Host) (own : Address) (pace : ℕ) (items : List Item) (numbers : List ℕ)
         → length own.0 ≡ 4
         → AllSendable m served own (line_deeds (ether_way k) own pace items) (record { acts = []; node = opening own numbers }) }
+{}
+
+/// Frames that are fed bytes bring bytes.
+pub fn frames_bring_bytes()
+    ensures { (k : Host) → BringsBytes (ether_way k) }
 {}

@@ -1,37 +1,56 @@
--- What is kept on a serial line (RFC 1055): of the items that came over it and of the text that was written.
+-- What is kept on a line: of what came over it and of the text that was written.
 use Rattle.std.specs.List.{All}
-use Rattle.std.specs.Prelude.{◌≡◌, ℕ, ◌<◌, Bool, List, map}
+use Rattle.std.specs.Prelude.{◌≡◌, ℕ, Bool, List, [], ◌∷◌, ◌++◌, map}
 use Rattle.uip_wire.specs.declared.addr.Addr.{Addr}
 use Rattle.app_events.specs.Part.{Meaning}
 use Rattle.app_events.specs.Pages.{Pages, IsPaged, IsAddr, IsWord}
 use Rattle.uip_edge.specs.declared.item.Item.{Item}
-use Rattle.uip_edge.specs.declared.item.Item.TheVariants.{Byte, Quiet}
+use Rattle.uip_node.specs.Events.{Event}
 use Rattle.uip_node.specs.Laws.{HasBytes}
-use Rattle.node_laws.specs.Talks.{Turn, replies_of}
+use Rattle.node_laws.specs.Talks.{Turn}
 use Rattle.node_laws.specs.KeepsTurns.{KeepsTurns}
 use Rattle.node_laws.specs.Wire.{IsReadByPeer}
-use Rattle.serve_loop.specs.LineEvents.{line_events}
+use Rattle.line_medium.specs.Ways.{Way}
+use Rattle.serve_loop.specs.DeedRuns.{Deed, Does, Happens, text_behind}
+use Rattle.serve_loop.specs.Items.{IsItem}
+use Rattle.serve_loop.specs.LineDeeds.{line_deeds}
 use Rattle.serve_loop.specs.LineOutput.{output_by}
-use Rattle.serve_loop.specs.SlipWay.{slip_way}
-use Rattle.serve_loop.specs.Texts.{text_of}
 
--- a byte is below 256
-abbrev pub IsItem : Item → Type 0
-IsItem (Byte b) = b < 256
-IsItem Quiet = Unit {0}
+-- the events of the node among the deeds of a line
+abbrev pub events_among : {A : Type 0} → List (Deed A) → List Event
+events_among [] = []
+events_among (Does a ∷ deeds) = events_among deeds
+events_among (Happens e ∷ deeds) = e ∷ events_among deeds
 
--- Over these items this was written: it is the text of what was sent in turns of the events that the items bring, the turns keep the
--- promise, and each segment is read by its peer.
-pub record KeepsLine (pages : Pages) (served : ℕ → Bool) (own : Addr) (pace : ℕ) (items : List Item) (output : List ℕ) : Type 0 where
+-- What is written for deeds, behind the acts before: the text of an act of the medium, and at an event that of what was sent in its turn.
+abbrev pub text_in : {A : Type 0} → Way A → Addr → List A → List (Deed A) → List Turn → List ℕ
+text_in w own acts [] turns = []
+text_in w own acts (Does a ∷ deeds) turns = w.says a ++ text_in w own (acts ++ a ∷ []) deeds turns
+text_in w own acts (Happens e ∷ deeds) (t ∷ turns) = text_behind w acts own t.sent ++ text_in w own acts deeds turns
+text_in w own acts (Happens e ∷ deeds) [] = []
+
+-- For these deeds this was written: it is the text of turns of the node, one for each event, and in these turns the node keeps the promise.
+pub record KeepsLine {A : Type 0} (w : Way A) (pages : Pages) (served : ℕ → Bool) (own : Addr) (deeds : List (Deed A)) (output : List ℕ) : Type 0 where
   pub turns : List Turn
-  pub over : map (λ t. t.event) turns ≡ line_events own pace items
-  pub written : text_of own (replies_of turns) ≡ output
+  pub over : map (λ t. t.event) turns ≡ events_among deeds
+  pub written : text_in w own [] deeds turns ≡ output
   pub keeps : KeepsTurns pages served turns
-  pub read : All (IsReadByPeer own) turns
 
--- So it is of every application whose text is a page of bytes, whatever the items are.
-abbrev pub EverySerialLine : Type 0
-EverySerialLine =
+-- And each segment that is sent in these turns is read by its peer as what was meant.
+pub record KeepsLineRead {A : Type 0} (w : Way A) (pages : Pages) (served : ℕ → Bool) (own : Addr) (deeds : List (Deed A)) (output : List ℕ) : Type 0 where
+  pub line : KeepsLine w pages served own deeds output
+  pub read : All (IsReadByPeer own) line.turns
+
+-- So it is of what is written for a line by this way, at every application whose text is a page of bytes, whatever the items are.
+abbrev pub EveryLineBy : {A : Type 0} → Way A → Type 0
+EveryLineBy w =
     (m : Meaning) (pages : Pages) → IsPaged m pages → HasBytes pages → (served : ℕ → Bool) (numbers : List ℕ) → All IsWord numbers
     → (own : Addr) → IsAddr own → (pace : ℕ) (items : List Item) → All IsItem items
-    → KeepsLine pages served own pace items (output_by slip_way m served numbers own pace items)
+    → KeepsLineRead w pages served own (line_deeds w own pace items) (output_by w m served numbers own pace items)
+
+-- Each front of a kept line is a kept line, of which a front was written: at each moment so far the promise holds.
+abbrev pub FrontIsKept : {A : Type 0} → Way A → Type 0
+FrontIsKept {A = A} w =
+    (pages : Pages) (served : ℕ → Bool) (own : Addr) (done later : List (Deed A)) (output : List ℕ)
+    → KeepsLine w pages served own (done ++ later) output
+    → (front : List ℕ) × (rest : List ℕ) × (output ≡ front ++ rest) × KeepsLine w pages served own done front

@@ -3,4 +3,4 @@
 
 mod laws;
 
-pub use laws::every_serial_line;
+pub use laws::{every_front, every_line, every_serial_line};

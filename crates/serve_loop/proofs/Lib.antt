@@ -1,4 +1,5 @@
 pub mod AddrLaws
+pub mod ByteLaws
 pub mod EventLaws
 pub mod FrontLaws
 pub mod NodeLaws

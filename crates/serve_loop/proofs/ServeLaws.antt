@@ -1,5 +1,7 @@
 -- The turns of a serving, put together.
-use Rattle.std.proofs.Common.{refl, sym, ◌≡◌, ℕ, ◌+◌, ◌<◌, ◌≤◌, Bool, List, [], ◌++◌, Option, Some, length, ◌∙◌, arith, length-append}
+use Rattle.std.proofs.Common.{refl, sym, ◌≡◌, ℕ, ◌+◌, ◌<◌, ◌≤◌, Bool, List, [], ◌++◌, Option, Some, length, arith}
+use Rattle.std.specs.List.{All}
+use Rattle.std.proofs.lemmas.List.Elements.{All-append}
 use Rattle.uip_wire.specs.declared.addr.Addr.{Addr}
 use Rattle.app_events.specs.Part.{Meaning}
 use Rattle.app_events.specs.declared.app.App.{Ghosts}
@@ -13,6 +15,7 @@ use Rattle.uip_edge.proofs.Turns.{ends_by}
 use Rattle.uip_node.specs.declared.node.Node.{Node}
 use Rattle.line_medium.specs.declared.medium.Medium.{Ghosts as MediumGhosts}
 use Rattle.serve_loop.specs.declared.pacer.Pacer.{Pacer}
+use Rattle.serve_loop.specs.Items.{IsItem}
 use Rattle.serve_loop.specs.LineDeeds.{deeds_behind, line_deeds}
 use Rattle.serve_loop.specs.DeedRuns.{Deed, Station, AllSaid}
 use Rattle.line_medium.specs.Ways.{Way}
@@ -79,11 +82,12 @@ module _ {A S : Type 0} (g : Ghosts A S) {C : Type 0} (w : Way C) where
 
   -- a serving that took all that it might
   pub spent : (did did1 : List C → Type 0) (pace n : ℕ) (taken : List Item) (start node : Node A S) (old new : LineTold)
-      → Consumes old.link.coming new.link.coming taken → length taken ≡ n → IsCalm old new
+      → All IsItem taken → Consumes old.link.coming new.link.coming taken → length taken ≡ n → IsCalm old new
       → ((m : Meaning) (own : Addr) → AllSaid m g.served w own (line_deeds w own pace taken) (At did m own start) (At did1 m own node) old.sink.written new.sink.written)
       → ServesOver g w did did1 pace n start node old new ends.Budget
-  spent did did1 pace n taken start node old new c all calm v = record {
+  spent did did1 pace n taken start node old new is c all calm v = record {
     taken = taken;
+    are = is;
     consumed = c;
     ends = (all, calm.link, calm.sink);
     wrote = public_wrote did did1 ends.Budget _ start node _ _ (v (g.meaning (g.kept start.shared)) start.addr);
@@ -98,15 +102,16 @@ module _ {A S M : Type 0} (g : Ghosts A S) (h : MediumGhosts M) (k : h.Set) (med
   Here x m own node s = IsHere g (h.did x k) m own node s
 
   pub stopped : (pace n : ℕ) (taken : List Item) (start node node' : Node A S) (old mid new : LineTold) (pacer : Pacer) (room : ℕ) (end : ServeEnd)
-      → Consumes old.link.coming mid.link.coming taken → length taken < n → room + length taken ≤ n → IsCalm old mid
+      → All IsItem taken → Consumes old.link.coming mid.link.coming taken → length taken < n → room + length taken ≤ n → IsCalm old mid
       → ((m : Meaning) (own : Addr) → AllSaid m g.served w own (line_deeds w own pace taken) (Here medium0 m own start) (Here medium m own node) old.sink.written mid.sink.written)
       → Turns g h k pace (bytes_among taken) medium medium' node node' mid new pacer room (Ended end)
       → ServesOver g w (h.did medium0 k) (h.did medium' k) pace n start node' old new end
-  stopped pace n taken start node node' old mid new pacer room end c below fits calm v t =
+  stopped pace n taken start node node' old mid new pacer room end is c below fits calm v t =
       let m = g.meaning (g.kept start.shared) in
       let own = start.addr in
       record {
         taken = taken ++ t.items;
+        are = All-append IsItem taken t.items is t.are;
         consumed = Consumes-then _ _ _ taken t.items c t.consumed;
         ends = ends_by n taken t.items old mid new end c below (let within = t.within in omega arith) calm t.cause;
         wrote = public_wrote g w (h.did medium0 k) (h.did medium' k) end _ start node' _ _

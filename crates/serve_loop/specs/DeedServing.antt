@@ -1,4 +1,5 @@
 -- What serving a line over a medium does to the outside, to the medium and to the node, and how it ends.
+use Rattle.std.specs.List.{All}
 use Rattle.std.specs.Prelude.{ℕ, Bool, List, Option}
 use Rattle.uip_wire.specs.declared.addr.Addr.{Addr}
 use Rattle.app_events.specs.Part.{Meaning}
@@ -11,6 +12,7 @@ use Rattle.uip_node.specs.declared.node.Node.{Node}
 use Rattle.uip_node.specs.StandsFor.{Stands}
 use Rattle.line_medium.specs.Ways.{Way}
 use Rattle.serve_loop.specs.DeedRuns.{AllSaid, Deed, FrontSaid, Station}
+use Rattle.serve_loop.specs.Items.{IsItem}
 use Rattle.serve_loop.specs.LineDeeds.{line_deeds}
 use Rattle.uip_edge.specs.Told.{LineTold}
 use Rattle.uip_edge.specs.Ending.{EndsBy}
@@ -32,6 +34,7 @@ pub record IsStationed {A S C : Type 0} (g : Ghosts A S) (did : List C → Type 
 pub record ServesOver {A S C : Type 0} (g : Ghosts A S) (w : Way C) (did did' : List C → Type 0) (pace n : ℕ)
     (before after : Node A S) (old new : LineTold) (result : ServeEnd) : Type 0 where
   pub taken : List Item
+  pub are : All IsItem taken
   pub consumed : Consumes old.link.coming new.link.coming taken
   pub ends : EndsBy n old new taken result
   pub wrote : SaidBy result (g.meaning (g.kept before.shared)) g.served w before.addr (line_deeds w before.addr pace taken)

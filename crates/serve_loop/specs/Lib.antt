@@ -1,5 +1,6 @@
 pub mod DeedRuns
 pub mod DeedServing
+pub mod Items
 pub mod LineDeeds
 pub mod LineEvents
 pub mod LineOutput

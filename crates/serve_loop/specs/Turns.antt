@@ -1,4 +1,5 @@
 -- What a server does in one turn, told of all bytes that it took before.
+use Rattle.std.specs.List.{All}
 use Rattle.std.specs.Prelude.{◌≡◌, ◌≤◌, ℕ, Bool, List, ◌++◌, Option, length}
 use Rattle.uip_wire.specs.declared.addr.Addr.{Addr}
 use Rattle.app_events.specs.Part.{Meaning}
@@ -17,6 +18,7 @@ use Rattle.line_medium.specs.declared.medium.Medium.{Ghosts as MediumGhosts}
 use Rattle.serve_loop.specs.declared.pacer.Pacer.{Pacer}
 use Rattle.serve_loop.specs.DeedRuns.{AllSaid, Deed, FrontSaid, Station}
 use Rattle.serve_loop.specs.DeedServing.{SaidBy}
+use Rattle.serve_loop.specs.Items.{IsItem}
 use Rattle.serve_loop.specs.LineDeeds.{deeds_behind}
 use Rattle.serve_loop.specs.Pace.{HasPassed}
 use Rattle.uip_edge.specs.Told.{LineTold}
@@ -72,6 +74,7 @@ WritesOn (turns.Ended end) m served w own deeds Before After old new = SaidBy en
 pub record Turns {A S M : Type 0} (g : Ghosts A S) (h : MediumGhosts M) (k : h.Set) (pace : ℕ) (before : List ℕ) (medium medium' : M)
     (node node' : Node A S) (old new : LineTold) (pacer : Pacer) (room : ℕ) (turn : Turn ServeEnd) : Type 0 where
   pub items : List Item
+  pub are : All IsItem items
   pub consumed : Consumes old.link.coming new.link.coming items
   pub within : length items ≤ room
   pub cause : TurnsBy old new items turn

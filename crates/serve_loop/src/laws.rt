@@ -7,6 +7,7 @@ ghost use Rattle.uip_node.specs.Events.{Event};
 ghost use Rattle.uip_node.specs.Node.{run};
 ghost use Rattle.uip_wire.specs.declared.addr.Addr.{Addr as Address};
 ghost use Rattle.serve_loop.specs.DeedRuns.{Happens, Station, after_deeds, said};
+ghost use Rattle.serve_loop.specs.Items.{BringsBytes};
 ghost use Rattle.serve_loop.specs.LineDeeds.{line_deeds};
 ghost use Rattle.serve_loop.specs.LineEvents.{line_events};
 ghost use Rattle.serve_loop.specs.SlipWay.{NoAct, slip_way};
@@ -21,4 +22,9 @@ pub fn serial_deeds_are_events()
         → (after_deeds m served (map Happens events) s).node ≡ (run m served events s.node).node }
     ensures said { (m : Meaning) (served : ℕ → Bool) (own : Address) (events : List Event) (s : Station NoAct)
         → said m served slip_way own (map Happens events) s ≡ text_of own (run m served events s.node).sent }
+{}
+
+/// A serial line that is fed bytes brings bytes.
+pub fn serial_lines_bring_bytes()
+    ensures { BringsBytes slip_way }
 {}

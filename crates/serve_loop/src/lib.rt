@@ -10,6 +10,8 @@ mod pacer;
 mod serving;
 mod slip;
 
-pub use laws::serial_deeds_are_events;
+pub use laws::{serial_deeds_are_events, serial_lines_bring_bytes};
+pub use line::take_turn;
+pub use pacer::Pacer;
 pub use serving::{budget_is_told, end_is_told, serve, serve_over};
 pub use slip::Slip;

@@ -1,5 +1,7 @@
 ghost use Rattle.std.specs.Prelude.{◌≡◌, ◌<◌, ◌≤◌, ◌++◌, [], List, ℕ, length, map, take, OnOk, OnErr, IfOk};
 ghost use Rattle.std.specs.Io.KnownBytes.{Appends};
+ghost use Rattle.std.specs.List.{All};
+ghost use Rattle.app_events.specs.Pages.{IsByte};
 ghost use Rattle.uip_edge.specs.declared.item.Item.TheVariants.{Byte};
 ghost use Rattle.uip_edge.specs.Causes.{HasCause};
 ghost use Rattle.uip_edge.specs.Turns.{TurnFits};
@@ -17,8 +19,9 @@ use line_medium::{Brought, Medium};
 use uip_edge::{Failed, Got, Link, ServeEnd, Sink, Turn};
 use uip_node::Node;
 
-/// Hands to the node what the link gives next, and writes what the node sends.
-pub(crate) fn take_turn<A: App, M: Medium, L: Link, K: Sink>(
+/// One turn at a line: the link is asked for what comes next, that is handed to the node, and all that is due for it is written
+/// before this returns. A link that fails has given nothing, so that none is asked a second time in a turn.
+pub fn take_turn<A: App, M: Medium, L: Link, K: Sink>(
     medium: &mut M,
     pacer: &mut Pacer,
     node: &mut Node<A>,
@@ -61,6 +64,7 @@ fn take_bytes<A: App, M: Medium, K: Sink>(
     requires whole { IsWhole A.App node.old }
     ensures whole { IsWhole A.App node.new }
     ensures same { A.kept node.new.shared ≡ A.kept node.old.shared }
+    ensures are { All IsByte bytes.now }
     ensures taken { OnOk result ((k : M.Set) (pace : ℕ) (before : List ℕ)
         → HasTaken pace before (M.fed medium.old k) pacer.old
         → HasTaken pace (before ++ bytes.now) (M.fed medium.new k) pacer.new) }

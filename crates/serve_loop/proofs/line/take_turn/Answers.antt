@@ -1,7 +1,9 @@
 use Rattle.std.proofs.Common.{◌≡◌, take, length, map, arith}
+use Rattle.std.proofs.lemmas.List.Elements.{All-map}
 use Rattle.uip_edge.specs.declared.item.Item.TheVariants.{Byte}
 use Rattle.uip_edge.proofs.Turns.{counted}
 use Rattle.uip_edge.proofs.Told.{bytes_among-map}
+use Rattle.serve_loop.specs.Items.{IsItem}
 use Rattle.serve_loop.proofs.line.take_turn.Goals as goal
 
 pub returns-in-Ok-take_bytes-clause-turns : goal.returns-in-Ok-take_bytes-clause-turns
@@ -13,9 +15,26 @@ returns-in-Ok-take_bytes-clause-turns g c = λ k pace before h.
     let count : length (map Byte (take n buf)) ≡ n = counted n buf told.count.1 in
     record {
       items = map Byte (take n buf);
+      are = All-map IsItem Byte (take n buf) done.are;
       consumed = told.items;
       within = omega (arith, count, told.count.1, c.next.auto.buf);
       cause = (count, record { link = told.cause.same; sink = done.cause.same });
       on = rw bytes_among-map (done.taken k pace before h);
       wrote = done.ok k pace before h;
+    }
+
+pub returns-in-Err-take_bytes-clause-turns : goal.returns-in-Err-take_bytes-clause-turns
+returns-in-Err-take_bytes-clause-turns g c = λ k pace before h.
+    let told = rw c.in-Ok-Bytes.field-0-is at c.in-Ok-Bytes.ensures in
+    let done = c.in-Err-take_bytes.ensures in
+    let n = c.in-Ok-Bytes.count in
+    let buf = c.next.new.buf in
+    record {
+      items = map Byte (take n buf);
+      are = All-map IsItem Byte (take n buf) done.are;
+      consumed = told.items;
+      within = (let count : length (map Byte (take n buf)) ≡ n = counted n buf told.count.1 in omega (arith, count, told.count.1, c.next.auto.buf));
+      cause = (told.cause.same, done.cause.failed);
+      on = tt;
+      wrote = done.err k pace before h;
     }

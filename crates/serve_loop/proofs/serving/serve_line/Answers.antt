@@ -1,8 +1,10 @@
 use Rattle.std.proofs.Common.{◌++◌, [], refl, arith, ◌∙◌, length-take, length-append}
+use Rattle.std.proofs.lemmas.List.Elements.{All-append, All-nil}
 use Rattle.uip_edge.proofs.Told.{Consumes-none, Consumes-then, bytes_among-append}
 use Rattle.uip_edge.proofs.Turns.{calm_then}
 use Rattle.serve_loop.proofs.RunLaws.{wrote_none}
 use Rattle.serve_loop.proofs.ServeLaws.{on_wrote, spent, stopped}
+use Rattle.serve_loop.specs.Items.{IsItem}
 use Rattle.uip_edge.specs.Coming.{bytes_among}
 use Rattle.uip_edge.specs.Telling.{line_told}
 use Rattle.serve_loop.proofs.serving.serve_line.Goals as goal
@@ -13,6 +15,7 @@ loop-left-init g c = record {
   same = refl;
   served = λ k pace h. record {
     taken = [];
+    are = All-nil IsItem;
     consumed = Consumes-none _;
     number = omega arith;
     at = h;
@@ -31,6 +34,7 @@ loop-left-preserved g c = record {
       let room = length-take c.min-room.result c.loop-left.buf in
       record {
         taken = inv.taken ++ turn.items;
+        are = All-append IsItem inv.taken turn.items inv.are turn.are;
         consumed = Consumes-then (g.L.Link.coming c.args.link.now) (g.L.Link.coming c.loop-left.link) (g.L.Link.coming c.take_turn.new.link) inv.taken turn.items inv.consumed turn.consumed;
         number = omega (arith, length-append inv.taken turn.items, turn.cause.0, inv.number, c.in-Took.ensures.fits.1, room);
         at = rw bytes_among-append turn.on;
@@ -48,7 +52,7 @@ returns-in-Ended-clause-serves g c = λ k pace h.
     (line_told g.L.Link g.K.Sink c.args.link.now c.args.sink.now)
     (line_told g.L.Link g.K.Sink c.loop-left.link c.loop-left.sink)
     (line_told g.L.Link g.K.Sink c.take_turn.new.link c.take_turn.new.sink)
-    _ _ c.in-Ended.end inv.consumed (omega arith) (omega (arith, inv.number, room)) inv.calm inv.wrote
+    _ _ c.in-Ended.end inv.are inv.consumed (omega arith) (omega (arith, inv.number, room)) inv.calm inv.wrote
     (c.in-Ended.ensures.turns k pace (bytes_among inv.taken) inv.at)
 
 pub returns-clause-serves : goal.returns-clause-serves
@@ -57,4 +61,4 @@ returns-clause-serves g c = λ k pace h.
     spent g.A.App (g.M.Medium.way k) (g.M.Medium.did c.args.medium.now k) (g.M.Medium.did c.loop-left.medium k) pace c.args.items inv.taken c.args.node.now c.loop-left.node
     (line_told g.L.Link g.K.Sink c.args.link.now c.args.sink.now)
     (line_told g.L.Link g.K.Sink c.loop-left.link c.loop-left.sink)
-    inv.consumed (omega (arith, inv.number, c.loop-left-test.false)) inv.calm inv.wrote
+    inv.are inv.consumed (omega (arith, inv.number, c.loop-left-test.false)) inv.calm inv.wrote

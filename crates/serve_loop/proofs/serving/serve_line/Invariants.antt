@@ -1,3 +1,4 @@
+use Rattle.std.specs.List.{All}
 use Rattle.std.proofs.Common.{◌≡◌, ◌+◌, [], List, ℕ, length}
 use Rattle.app_events.specs.Part.{Meaning}
 use Rattle.uip_edge.specs.declared.item.Item.{Item}
@@ -6,6 +7,7 @@ use Rattle.uip_edge.specs.Telling.{line_told}
 use Rattle.uip_edge.specs.Told.{IsCalm}
 use Rattle.uip_wire.specs.declared.addr.Addr.{Addr}
 use Rattle.uip_node.specs.StandsFor.{IsWhole}
+use Rattle.serve_loop.specs.Items.{IsItem}
 use Rattle.serve_loop.specs.LineDeeds.{line_deeds}
 use Rattle.serve_loop.specs.DeedRuns.{AllSaid}
 use Rattle.serve_loop.specs.Turns.{HasTaken, IsHere}
@@ -17,6 +19,7 @@ invariant-loop-left g l = record {
   same : g.A.App.kept l.node.shared ≡ g.A.App.kept l.fn.node.shared;
   served : (k : g.M.Medium.Set) (pace : ℕ) → HasTaken pace [] (g.M.Medium.fed l.fn.medium k) l.fn.pacer → record {
     taken : List Item;
+    are : All IsItem taken;
     consumed : Consumes (g.L.Link.coming l.fn.link) (g.L.Link.coming l.link) taken;
     number : length taken + l.left ≡ l.items;
     at : HasTaken pace (bytes_among taken) (g.M.Medium.fed l.medium k) l.pacer;
