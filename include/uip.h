@@ -123,8 +123,8 @@ uip_done uip_call(uip_device *device, size_t slot, unsigned char *out, size_t ro
 
 /*
  * Writes what is left of a text, as far as there is room, and nothing where none is left. While `left` of the last call is 1 no
- * other call but this one, uip_value, uip_ticks, uip_counter, uip_hits and uip_close does anything: the text is in the one packet
- * that the node has.
+ * other call but this one, uip_value, uip_close and those that read a number does anything: the text is in the one packet that the
+ * node has.
  */
 uip_done uip_more(uip_device *device, unsigned char *out, size_t room);
 
@@ -139,6 +139,12 @@ uip_done uip_call_datagram(uip_device *device, size_t slot, unsigned char *out, 
 /* How many ticks there were, and the counter of a number from 1 to 20 (uip_counted), each modulo 2^32. */
 uip_number uip_ticks(uip_device *device);
 uip_number uip_counter(uip_device *device, size_t number);
+
+/*
+ * 1 where no connection is open, else 0. Then a tick does nothing but count: the processor may sleep until the next byte or datagram
+ * comes, and ticks that are left out are not made up for.
+ */
+uip_number uip_is_idle(uip_device *device);
 
 /*
  * The device's own state in its pages. A script of the site calls `%! value 3`, and its text is the value of that number as it was

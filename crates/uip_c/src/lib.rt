@@ -22,5 +22,5 @@ pub use laws::{
     calls_from_c_are_told, calls_from_c_keep_the_promise, constant_values, line_from_c_is_served,
 };
 pub use opening::{UipOpened, uip_close, uip_open};
-pub use reading::{UipNumber, uip_counter, uip_hits, uip_ticks};
+pub use reading::{UipNumber, uip_counter, uip_hits, uip_is_idle, uip_ticks};
 pub use status::{BAD_CALL, BAD_SITE, FINE, HAS_DEVICE, NO_DEVICE, NO_MEMORY, TEXT_LEFT, UipDone};

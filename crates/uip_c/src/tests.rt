@@ -7,7 +7,7 @@ use crate::giving::uip_value;
 use crate::handle::UipDevice;
 use crate::held::Held;
 use crate::opening::{UipOpened, uip_close, uip_open};
-use crate::reading::{uip_counter, uip_hits, uip_ticks};
+use crate::reading::{uip_counter, uip_hits, uip_is_idle, uip_ticks};
 use crate::status::{BAD_CALL, BAD_SITE, FINE, HAS_DEVICE, NO_DEVICE, TEXT_LEFT, UipDone};
 use std::alloc::Global;
 use std::process::Abort;
@@ -173,6 +173,7 @@ fn a_call_without_a_device_says_so(rt: HostRuntime) {
     assert_eq!(rt; called, answer(BAD_CALL));
     assert_eq!(rt; uip_counter(alloc, &mut device, 0).status, BAD_CALL);
     assert_eq!(rt; uip_hits(alloc, &mut device, b"/v.shtml").status, NO_DEVICE);
+    assert_eq!(rt; uip_is_idle(alloc, &mut device).status, NO_DEVICE);
     assert_eq!(rt; uip_value(alloc, &mut device, 15, b"7"), NO_DEVICE);
     assert_eq!(rt; uip_value(alloc, &mut device, 16, b"7"), BAD_CALL);
     assert_eq!(rt; uip_value(alloc, &mut device, 0, &[b'7'; 33]), BAD_CALL);
@@ -242,6 +243,7 @@ fn a_value_is_sent_again_as_it_was(rt: HostRuntime) {
     let mut first = [0; LARGEST_TEXT];
     let mut again = [0; LARGEST_TEXT];
     assert_eq!(rt; uip_value(alloc, &mut device, 3, b"4 & 5"), FINE);
+    assert_eq!(rt; uip_is_idle(alloc, &mut device).number, 1);
     let rows: [(&[u8], usize); 3] = [(SYN, 44), (GET, 122), (HEAD_ACK, 46)];
     for (datagram, wrote) in rows {
         let heard = uip_hear_datagram(alloc, &mut device, datagram, &mut first);
@@ -258,6 +260,7 @@ fn a_value_is_sent_again_as_it_was(rt: HostRuntime) {
     assert_eq!(rt; called, made(0, 46));
     assert!(rt; again[20..46] == first[20..46]);
 
+    assert_eq!(rt; uip_is_idle(alloc, &mut device).number, 0);
     assert_eq!(rt; uip_hits(alloc, &mut device, b"/v.shtml").number, 1);
     assert_eq!(rt; uip_hits(alloc, &mut device, b"/w.shtml").number, 0);
     assert_eq!(rt; uip_close(alloc, &mut device), FINE);

@@ -1,9 +1,10 @@
 -- A device, and what it hands out at each call.
-use Rattle.std.specs.Prelude.{◌≡◌, ◌≤◌, ℕ, List, [], ◌∷◌, ◌++◌, None, IfSome, if◌then◌else◌, length, map}
+use Rattle.std.specs.Prelude.{◌≡◌, ◌≤◌, ◌==◌, ℕ, Bool, List, [], ◌∷◌, ◌++◌, None, IfSome, if◌then◌else◌, length, map}
 use Rattle.std.specs.List.{flat_map}
 use Rattle.app_events.specs.Part.{Meaning}
 use Rattle.app_events.specs.declared.app.App.{Ghosts}
 use Rattle.packet_buffer.specs.Buffer.{datagram_in}
+use Rattle.tcp_machine.specs.Connection.{rows_from}
 use Rattle.uip_node.specs.Node.{AbstractNode, opening}
 use Rattle.uip_node.specs.StandsFor.{IsWhole}
 use Rattle.uip_wire.specs.declared.addr.Addr.{Addr}
@@ -35,6 +36,10 @@ pub record IsFreshDevice {A S : Type 0} (g : Ghosts A S) (m : Meaning) (numbers 
   pub heard : HasHeard [] d
   pub none : d.left ≡ None
   pub stands : IsNode g m own d.node (opening own numbers)
+
+-- no connection is open: none has a row in the table of connections
+abbrev pub is_node_idle : AbstractNode → Bool
+is_node_idle n = length (rows_from 0 n.connections) == 0
 
 -- A call was answered by these bytes: whatever bytes the device had heard, it has heard these and those of the call; and its
 -- node goes on over what the call brings, of which this is handed out.
