@@ -37,7 +37,7 @@ use Rattle.uipd.specs.declared.status.Status.{Status}
 use Rattle.uipd.specs.declared.status.Status.TheVariants as status
 
 -- a count that stays below its end value did not rise
-stayed : (before now : ℕ) → now ≡ before → before < 2 ^ 64 - 1 → Rose before now → ⊥
+pub stayed : (before now : ℕ) → now ≡ before → before < 2 ^ 64 - 1 → Rose before now → ⊥
 stayed before now e below rose = omega (arith, e, below, rose)
 
 calm : (old new : Outside) → IsUndisturbed old new → WorkUnfailed (work_in old) (work_in new)

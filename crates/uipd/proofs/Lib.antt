@@ -4,3 +4,4 @@ pub mod PartLaws
 pub mod ServeLaws
 pub mod SiteLaws
 pub mod WordLaws
+pub mod ToldCompleting

@@ -10,3 +10,4 @@ pub mod Statuses
 pub mod Telling
 pub mod ToldRunning
 pub mod Words
+pub mod ToldCompleteness

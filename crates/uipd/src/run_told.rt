@@ -1,6 +1,7 @@
 ghost use Rattle.std.specs.Prelude.{◌≡◌, None, map, string_bytes};
 ghost use Rattle.udp_resolver.specs.Streams.{streams};
 ghost use Rattle.uipd.specs.ResolveWords.{resolving_of};
+ghost use Rattle.uipd.specs.ToldCompleteness.{ToldIsComplete};
 ghost use Rattle.uipd.specs.ToldRunning.{ResolveRuns, ToldRuns};
 ghost use Rattle.uipd.specs.declared.status.Status.TheVariants.{BadWords};
 ghost use Rattle.uip_edge.specs.Telling.{outside};
@@ -67,3 +68,9 @@ fn resolve_names<L: Link, K: Sink, T: Sink>(
         Err(_) => Status::NoMemory,
     }
 }
+
+/// Where no count rose and no file is missing, what is due for the words was done, those of `resolve` among them, or memory was
+/// short.
+pub fn run_told_is_complete()
+    ensures { ToldIsComplete }
+{}

@@ -1,0 +1,35 @@
+-- What a run that may tell something comes to where nothing outside disturbs it, `resolve` among the words.
+use Rattle.std.specs.Prelude.{◌≡◌, ℕ, List, Option, None, Some}
+use Rattle.udp_resolver.specs.Resolving.{WroteAll}
+use Rattle.udp_resolver.specs.Streams.{Streams, StreamsUnfailed}
+use Rattle.uip_edge.specs.Coming.{Consumes}
+use Rattle.uip_edge.specs.Told.{Outside}
+use Rattle.uip_edge.specs.declared.item.Item.{Item}
+use Rattle.uip_edge.specs.declared.serve_end.ServeEnd.{ServeEnd}
+use Rattle.uipd.specs.Completeness.{Completes, LacksFor, OrShort}
+use Rattle.uipd.specs.ResolveWords.{Resolving, resolving_of}
+use Rattle.uipd.specs.SiteServing.{IsUndisturbed}
+use Rattle.uipd.specs.Statuses.{status_of_serving}
+use Rattle.uipd.specs.ToldRunning.{ToldRuns, questions_of}
+use Rattle.uipd.specs.Words.{task_of}
+use Rattle.uipd.specs.declared.status.Status.{Status}
+
+-- The names were asked for, until all were settled, the line ended or so many items were taken, and what became of each was told.
+pub record ResolvingDone (r : Resolving) (old new : Streams) (result : Status) : Type 0 where
+  pub taken : List Item
+  pub consumed : Consumes old.line.link.coming new.line.link.coming taken
+  pub end : ServeEnd
+  pub wrote : WroteAll (questions_of r) r.items old new taken end
+  pub answer : result ≡ status_of_serving end
+
+-- what is due for the words was done
+abbrev pub ToldCompletes : Option Resolving → List (List ℕ) → Outside → Outside → Streams → Streams → Status → Type 0
+ToldCompletes None words old new before after result = Completes (task_of words) old new result
+ToldCompletes (Some r) words old new before after result = OrShort result (ResolvingDone r before after result)
+
+-- A run is complete whatever its words ask for: where no count rose and no file is missing, what is due was done.
+abbrev pub ToldIsComplete : Type 0
+ToldIsComplete =
+    (words : List (List ℕ)) (old new : Outside) (before after : Streams) (result : Status)
+    → ToldRuns words old new before after result → IsUndisturbed old new → StreamsUnfailed before after
+    → ¬ (LacksFor (task_of words) old.shelf.held) → ToldCompletes (resolving_of words) words old new before after result
