@@ -30,14 +30,16 @@ text_in w own acts (Happens e ∷ deeds) (t ∷ turns) = text_behind w acts own 
 text_in w own acts (Happens e ∷ deeds) [] = []
 
 -- For these deeds this was written: it is the text of turns of the node, one for each event, and in these turns the node keeps the promise.
-pub record KeepsLine {A : Type 0} (w : Way A) (pages : Pages) (served : ℕ → Bool) (own : Addr) (deeds : List (Deed A)) (output : List ℕ) : Type 0 where
+pub record KeepsLine {A : Type 0} (w : Way A) (pages : Pages) (served : ℕ → Bool) (own : Addr)
+    (deeds : List (Deed A)) (output : List ℕ) : Type 0 where
   pub turns : List Turn
   pub over : map (λ t. t.event) turns ≡ events_among deeds
   pub written : text_in w own [] deeds turns ≡ output
   pub keeps : KeepsTurns pages served turns
 
 -- And each segment that is sent in these turns is read by its peer as what was meant.
-pub record KeepsLineRead {A : Type 0} (w : Way A) (pages : Pages) (served : ℕ → Bool) (own : Addr) (deeds : List (Deed A)) (output : List ℕ) : Type 0 where
+pub record KeepsLineRead {A : Type 0} (w : Way A) (pages : Pages) (served : ℕ → Bool) (own : Addr)
+    (deeds : List (Deed A)) (output : List ℕ) : Type 0 where
   pub line : KeepsLine w pages served own deeds output
   pub read : All (IsReadByPeer own) line.turns
 

@@ -68,7 +68,7 @@ no_site site line old new result loads.NoMemory u there told same = inl told
 serving : (site : List ℕ) (line : ServedLine) (old new : Outside) (result : Status) → SiteServes site line old new result → IsUndisturbed old new → ¬ (LacksFile (site_read site) old.shelf.held) → OrShort result (ServingDone site line old new result)
 serving site line old new result (inl has) u there =
     elim has.done [
-      | inl run ↦ inr (inl (has.files, has.read, served has.files line (line_in old) (line_in new) result run.0 u.line run.1 run.2))
+      | inl run ↦ inr (inl (has.files, has.read, served has.files line (line_in old) (line_in new) result run.0 u.line run.1 run.2.serves))
       | inr short ↦ inl short.0
     ]
 serving site line old new result (inr none) u there = no_site site line old new result none.fault u there none.told none.fails

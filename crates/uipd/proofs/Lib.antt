@@ -1,6 +1,7 @@
 pub mod Completing
 pub mod NeverLaws
 pub mod PartLaws
+pub mod PromiseLaws
 pub mod ServeLaws
 pub mod SiteLaws
 pub mod WordLaws

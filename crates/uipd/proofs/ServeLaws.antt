@@ -73,7 +73,7 @@ line_run {S = S} {C = C} g shared line kind w before after did did' old new end 
     let two = subst (λ (o : Addr). SaidBy end m g.served w o (deeds o) P Q old.sink.written new.sink.written) st.addr one in
     let out = subst (PutsOut end old.sink.written new.sink.written) (sym (same m numbers it.taken))
     (puts_out m g.served line.own w (deeds line.own) (opening_at line.own numbers) P Q old.sink.written new.sink.written (record { stands = st; acted = began }) end two) in
-    inl (end, refl, record { taken = it.taken; consumed = it.consumed; ends = it.ends; written = out.written; some = out.some })
+    inl (end, refl, record { taken = it.taken; are = it.are; consumed = it.consumed; ends = it.ends; written = out.written; some = out.some })
 
 -- so over Ethernet frames, by a host that is that of the line
 pub ether_run : {A S : Type 0} (g : Ghosts A S) (shared : S) (line : ServedLine) (mac : Mac) (before after : Node A S) (h : Host) (did did' : List Act → Type 0) (old new : LineTold) (end : ServeEnd)

@@ -1,7 +1,9 @@
 //! The commands that serve a line.
 
+ghost use Rattle.std.specs.List.{All};
 ghost use Rattle.std.specs.Prelude.{◌≡◌};
-ghost use Rattle.file_tree.specs.Site.{files_of};
+ghost use Rattle.app_events.specs.Pages.{IsAddr, IsByte};
+ghost use Rattle.file_tree.specs.Site.{IsLoaded, files_of};
 ghost use Rattle.web_pages.specs.Serving.{no_hits};
 ghost use Rattle.uipd.specs.Serving.{RunsBy, ServeRuns};
 ghost use Rattle.uipd.specs.SiteServing.{SiteServes};
@@ -18,6 +20,7 @@ use std::alloc::Global;
 use telnet_shell::Desk;
 use uip_edge::{Link, Shelf, Sink};
 use uip_node::Node;
+use uip_wire::Addr;
 
 /// Serves the line by the application that it names, with the site that the shelf holds under the name; `-` is the site without
 /// files. Memory is taken before the first item alone.
@@ -51,10 +54,31 @@ fn serve_site<L: Link, K: Sink>(
     ensures { ServeRuns (files_of site) line (line_told L.Link K.Sink link.old out.old)
         (line_told L.Link K.Sink link.new out.new) result }
 {
+    see_loaded(&site);
     match Web::new(alloc, site) {
         Ok(web) => serve_web(alloc, web, line, link, out),
         Err(_) => Status::NoMemory,
     }
+}
+
+/// What is kept by every site.
+fn see_loaded(site: &Site)
+    ensures loaded { IsLoaded site.now }
+    ensures bytes { All IsByte site.now.image }
+{
+    see_bytes(&site.image);
+}
+
+/// A text is bytes.
+fn see_bytes(text: &[u8])
+    ensures { All IsByte text.now }
+{}
+
+/// An address is four bytes.
+fn see_addr(addr: Addr)
+    ensures { IsAddr addr }
+{
+    let [_first, _second, _third, _fourth] = addr.0;
 }
 
 /// Serves the line with a site of which no file was asked for.
@@ -65,10 +89,13 @@ fn serve_web<L: Link, K: Sink>(
     link: &mut L,
     out: &mut K,
 ) -> Status
-    requires { web.hits ≡ no_hits (files_of web.site) }
+    requires hits { web.hits ≡ no_hits (files_of web.site) }
+    requires loaded { IsLoaded web.site }
+    requires bytes { All IsByte web.site.image }
     ensures { ServeRuns (files_of web.site) line (line_told L.Link K.Sink link.old out.old)
         (line_told L.Link K.Sink link.new out.new) result }
 {
+    see_addr(line.own);
     match line.application {
         Application::Web => serve_by::<Httpd, L, K>(alloc, web, line, link, out),
         Application::Desk => serve_by::<Desk, L, K>(alloc, web, line, link, out),
