@@ -1,8 +1,8 @@
 -- Whatever a node answers on a line of Ethernet has 20 to 1500 bytes.
-use Rattle.std.proofs.Common.{◌≡◌, ℕ, zero, suc, ◌+◌, ◌*◌, ◌-◌, ◌%◌, ◌<◌, ◌≤◌, ◌&&◌, ◌||◌, ◌==◌, Bool, true, false, not, if◌then◌else◌, nat_le, nat_lt, eqb, ltb, List, [], ◌∷◌, ◌++◌, Option, None, Some, Result, Ok, Err, length, set, take, drop, map, replicate, position, bytes_eq, slice_index, slice_get, slice_index_or, refl, sym, ap, ◌∙◌, subst, arith, inl, inr, ◌⊎◌, length-append, length-take, length-drop}
+use Rattle.std.proofs.Common.{◌≡◌, ℕ, zero, suc, ◌+◌, ◌*◌, ◌-◌, ◌%◌, ◌≤◌, ◌&&◌, ◌||◌, ◌==◌, Bool, true, false, not, if◌then◌else◌, nat_le, nat_lt, eqb, ltb, List, [], ◌∷◌, ◌++◌, Option, None, Some, Result, Ok, Err, length, set, take, drop, map, replicate, position, bytes_eq, slice_index, slice_get, slice_index_or, refl, sym, ap, ◌∙◌, subst, arith, inl, inr, ◌⊎◌, length-append, length-take, length-drop}
 use Rattle.std.specs.Prelude.{⊤, option_map, slice_range}
 use Rattle.std.specs.Option.{option_map_or}
-use Rattle.std.proofs.lemmas.Bool.{leb-true, le-leb, ltb-false, and_from, and_parts, or_parts, not-true}
+use Rattle.std.proofs.lemmas.Bool.{leb-true, le-leb, ltb-false, and_from, and_parts, or_parts}
 use Rattle.app_events.specs.Part.{Meaning}
 use Rattle.uip_edge.specs.declared.item.Item.{Item}
 use Rattle.uip_edge.specs.declared.item.Item.TheVariants.{Byte, Quiet}
@@ -23,15 +23,15 @@ use Rattle.tcp_segment.specs.Received.{segment_or_fate}
 use Rattle.tcp_segment.specs.Segments.{Datagram as Segmented, PlainSegment, datagram_bytes, fixed_words, has_rst, option_words, segment_bytes, segment_sum}
 use Rattle.tcp_segment.specs.declared.fate.TcpFate.{TcpFate}
 use Rattle.tcp_segment.specs.declared.segment.Segment.{Segment}
-use Rattle.tcp_machine.specs.Ask.{Outcome, asked}
-use Rattle.tcp_machine.specs.Connection.{Connection, Sockets, closed, is_live, serves}
+use Rattle.tcp_machine.specs.Ask.{Outcome}
+use Rattle.tcp_machine.specs.Connection.{Connection, Sockets, closed, serves}
 use Rattle.tcp_machine.specs.OnSegment.{accept, on_segment}
 use Rattle.tcp_machine.specs.OnTick.{on_tick}
 use Rattle.tcp_machine.specs.Segments.{bare_ack, fin_of, is_plain_syn, reset_of, reset_to_none, segment_of, syn_ack, text_segment}
 use Rattle.tcp_machine.specs.declared.step.Step.{Step}
-use Rattle.uip_node.specs.Counters.{ident_of, initial_number}
+use Rattle.uip_node.specs.Counters.{initial_number}
 use Rattle.uip_node.specs.Edge.{by_head, by_proto, by_segment, datagram_to, event_of, reply_bytes}
-use Rattle.uip_node.specs.Events.{Event, Reply, tick}
+use Rattle.uip_node.specs.Events.{Event, Reply}
 use Rattle.uip_node.specs.Events.Event.{IpRefused, IcmpRefused, TcpRefused, EchoAsked, Arrived, Overlong, Periodic}
 use Rattle.uip_node.specs.Events.Reply.{Echo as EchoSent, Tcp as TcpSent}
 use Rattle.uip_node.specs.Node.{AbstractNode, NodeStep, arrives_at, connection_in, from_stranger, happened, moment, opening, opens, opens_in, slot_for_syn, step}
@@ -45,8 +45,8 @@ use Rattle.serve_loop.specs.DeedRuns.{Deed, Does, Happens, Station, after_deed, 
 use Rattle.serve_loop.specs.LineDeeds.{beat_on, deed_by, deeds_behind, line_deeds, tick_on}
 use Rattle.serve_loop.specs.Pace.{is_beat}
 use Rattle.ethernet_arp.specs.EtherWay.{closed_by, ether_way, is_taken, is_whole, open_from}
-use Rattle.ethernet_arp.specs.Frames.{Host, arp_brings, broadcast, frame_brings, is_arp, is_arp_for, is_datagram, is_sendable, mac_at, payload_brings, sender_of}
-use Rattle.ethernet_arp.specs.Learning.{Act, Asked, Replied}
+use Rattle.ethernet_arp.specs.Frames.{Host, broadcast, frame_brings, is_arp, is_arp_for, is_datagram, is_sendable, mac_at}
+use Rattle.ethernet_arp.specs.Learning.{Act}
 use Rattle.ethernet_arp.specs.Sendable.{AllSendable}
 
 within : (d : List ℕ) → 20 ≤ length d → length d ≤ 1500 → is_sendable d ≡ true

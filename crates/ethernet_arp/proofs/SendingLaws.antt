@@ -14,7 +14,7 @@ use Rattle.uip_node.specs.Edge.{reply_bytes}
 use Rattle.uip_node.specs.Events.{Event, Reply, tick}
 use Rattle.uip_node.specs.Node.{AbstractNode, step}
 use Rattle.line_medium.specs.Ways.{Came, Datagram, Overlong, Own}
-use Rattle.serve_loop.specs.DeedRuns.{Deed, Does, Happens, Station, after_deed, after_deeds, said, said_by_deed, text_behind}
+use Rattle.serve_loop.specs.DeedRuns.{Deed, Does, Happens, Station, after_deed, said, said_by_deed, text_behind}
 use Rattle.serve_loop.specs.LineDeeds.{beat_on, deed_by, deeds_behind, line_deeds, tick_on}
 use Rattle.serve_loop.specs.Pace.{is_beat}
 use Rattle.ethernet_arp.specs.EtherWay.{closed_by, ether_text, ether_way, is_taken, is_whole, open_from}

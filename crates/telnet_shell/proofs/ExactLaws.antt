@@ -1,20 +1,18 @@
 -- What a shell wants, when it takes a capture and when it is given up, as its talk tells it.
-use Rattle.std.proofs.Common.{◌≡◌, ℕ, ◌+◌, ◌-◌, ◌≤◌, ◌<◌, ◌==◌, min, Bool, true, false, ◌&&◌, ◌||◌, not, nat_le, nat_lt, List, [], ◌∷◌, ◌++◌, codes, length, refl, sym, ap, ◌∙◌, arith, append-nil, length-append, if◌then◌else◌}
+use Rattle.std.proofs.Common.{◌≡◌, ℕ, ◌+◌, ◌-◌, ◌≤◌, ◌<◌, ◌==◌, min, Bool, true, false, ◌&&◌, not, nat_le, nat_lt, List, [], ◌∷◌, ◌++◌, codes, length, refl, sym, ap, ◌∙◌, arith, append-nil, length-append, if◌then◌else◌}
 use Rattle.std.specs.Str.{bytes_eq}
-use Rattle.std.proofs.lemmas.Bool.{leb-true, le-leb, lt-leb, lt-ltb, le-ltb, ltb-true, eqb-true, eq-eqb, ne_eqb, and_parts, and_from, false_from_ne_true}
+use Rattle.std.proofs.lemmas.Bool.{leb-true, le-leb, lt-leb, lt-ltb, ltb-true, eqb-true, eq-eqb, and_parts, and_from, false_from_ne_true}
 use Rattle.std.proofs.lemmas.Slice.Eq.{bytes_eq-Decides}
 use Rattle.app_events.specs.Part.{Part, Moment}
 use Rattle.app_events.specs.declared.now.Now.{Now}
-use Rattle.app_events.specs.declared.want.Want.{Want}
 use Rattle.app_events.specs.declared.want.Want.TheVariants.{Nothing, Send, Close, Abort}
 use Rattle.telnet_shell.specs.declared.command.Command.{Command}
 use Rattle.telnet_shell.specs.declared.command.Command.TheVariants.{Help, Stats, Conns, Ticks, Quit, Blank, Other}
-use Rattle.telnet_shell.specs.Reading.{Awaits, Token, tokens, told, refusal, awaits_after, commands, command_of, line_after, all_commands, commands_in, has_quit, is_quit, until_quit}
+use Rattle.telnet_shell.specs.Reading.{Awaits, Token, tokens, told, awaits_after, commands, command_of, line_after, all_commands, commands_in, has_quit, is_quit, until_quit}
 use Rattle.telnet_shell.specs.Reading.Awaits.{Text, Second, Choice}
 use Rattle.telnet_shell.specs.Reading.Token.{Byte, Answer}
 use Rattle.telnet_shell.specs.Transcript.{behind, needs_capture, said_plainly, said_at, transcript, unfinished}
 use Rattle.telnet_shell.specs.Saying.{needed}
-use Rattle.telnet_shell.specs.Sequences.{ReadsSequences}
 use Rattle.telnet_shell.specs.Lemmas.Growing.{commands_grow, further}
 use Rattle.telnet_shell.specs.Lemmas.Speaking.{past_said, said_some}
 use Rattle.telnet_shell.specs.ShellMeaning.{shell_meaning, talk, waiting, with_byte, hear_byte, is_settled, is_stopped, talk_has_ended, left_of_talk, take_capture}

@@ -1,7 +1,7 @@
 -- The table of the protocol's sequences.
-use Rattle.std.proofs.Common.{◌≡◌, ℕ, ◌<◌, ◌==◌, ◌&&◌, ◌++◌, Bool, true, false, nat_le, List, [], ◌∷◌, refl, ap, ◌∙◌, arith, if◌then◌else◌}
+use Rattle.std.proofs.Common.{◌≡◌, ℕ, ◌<◌, ◌&&◌, ◌++◌, Bool, nat_le, List, [], ◌∷◌, refl, ap, ◌∙◌, arith, if◌then◌else◌}
 use Rattle.std.proofs.lemmas.Bool.{ne_eqb, lt-leb}
-use Rattle.telnet_shell.specs.Reading.{Awaits, Token, tokens}
+use Rattle.telnet_shell.specs.Reading.{tokens}
 use Rattle.telnet_shell.specs.Reading.Awaits.{Text, Second, Choice}
 use Rattle.telnet_shell.specs.Reading.Token.{Byte}
 use Rattle.telnet_shell.specs.Sequences.{ReadsSequences}
