@@ -18,7 +18,8 @@ pub fn wrap(arp: &Arp, datagram: &[u8], out: &mut [u8]) -> usize
     requires most { length datagram.now ≤ LARGEST_DATAGRAM }
     requires room { LARGEST_FRAME ≤ length out.old }
     ensures within { result ≤ LARGEST_FRAME }
-    ensures table { Puts (wrapped_to (host_of arp.now) (in_table arp.now (address_at datagram.now 16)) datagram.now) result out.old out.new }
+    ensures table { Puts (wrapped_to (host_of arp.now) (in_table arp.now (address_at datagram.now 16)) datagram.now)
+        result out.old out.new }
     ensures puts { (acts : List Act) → Knows arp.now acts
         → Puts (wrapped (host_of arp.now) acts datagram.now) result out.old out.new }
 {
