@@ -20,7 +20,7 @@ use uip_edge::{Failed, Got, Link, ServeEnd, Sink, Turn};
 use uip_node::Node;
 
 /// One turn at a line: the link is asked for what comes next, that is handed to the node, and all that is due for it is written
-/// before this returns. A link that fails has given nothing, so that none is asked a second time in a turn.
+/// before this returns. A turn in which the link fails has taken nothing, so that it is not asked again behind what it gave.
 pub fn take_turn<A: App, M: Medium, L: Link, K: Sink>(
     medium: &mut M,
     pacer: &mut Pacer,
