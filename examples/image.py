@@ -1,6 +1,6 @@
 #!/usr/bin/env python3
-"""Builds the image of the example site from its files, apart from the program, and compares it with examples/site.img, which
-the program packed, and with the copy that a test of crates/cross_tests reads.
+"""Builds the images of the example sites from their files, apart from the program, and compares them with examples/site.img and
+examples/state.img, which the program packed, and the first with the copy that a test of crates/cross_tests reads.
 
     python3 examples/image.py            # compares
     python3 examples/image.py literal    # writes the copy anew from examples/site.img
@@ -11,6 +11,8 @@ import sys
 HERE = os.path.dirname(os.path.abspath(__file__))
 COPY = os.path.join(HERE, "..", "crates", "cross_tests", "src", "example_image.rt")
 NAMES = ["index.html", "stats.shtml", "footer.html", "style.css", "logo.png", "404.html"]
+STATE_NAMES = ["index.html", "state.shtml", "now.shtml", "lamp-on.html", "lamp-off.html", "style.css"]
+STATE_TYPES = ["text/html", "application/json", "text/html", "text/html", "text/html", "text/css"]
 
 
 def read(*path):
@@ -18,11 +20,15 @@ def read(*path):
         return f.read()
 
 
-def built():
-    image = b"UIPSITE1" + len(NAMES).to_bytes(2, "big")
-    for name in NAMES:
-        content = read("site", name)
-        image += bytes([len(name) + 1]) + b"/" + name.encode() + len(content).to_bytes(4, "big") + content
+def part(text, length_bytes):
+    return len(text).to_bytes(length_bytes, "big") + text
+
+
+def built(folder, names, types=()):
+    """The image of a folder's files, of version 2 where their content types are told."""
+    image = b"UIPSITE%d" % (2 if types else 1) + len(names).to_bytes(2, "big")
+    for place, name in enumerate(names):
+        image += part(f"/{name}".encode(), 1) + (part(types[place].encode(), 1) if types else b"") + part(read(folder, name), 4)
     return image
 
 
@@ -58,12 +64,14 @@ def main():
         with open(COPY, "w") as f:
             f.write(literal(image))
         return
-    if image != built():
+    if image != built("site", NAMES):
         sys.exit("examples/site.img is not the image of examples/site: run examples/pack.sh")
     with open(COPY) as f:
         if f.read() != literal(image):
             sys.exit("the copy in crates/cross_tests is not examples/site.img: run examples/image.py literal")
-    print("the example image is that of its files, and so is the copy that is tested")
+    if read("state.img") != built("state", STATE_NAMES, STATE_TYPES):
+        sys.exit("examples/state.img is not the image of examples/state: run examples/pack.sh")
+    print("the example images are those of their files, and so is the copy that is tested")
 
 
 main()
