@@ -63,7 +63,9 @@ def main():
     sys.exit(1 if wrong else 0)
 
 
-try:
-    main()
-except OSError as error:
-    sys.exit(f"fetch.py: no server answers at {SERVER[0]}, port {SERVER[1]}: {error.strerror or error}; run it through examples/browse.py")
+if __name__ == "__main__":
+    try:
+        main()
+    except OSError as error:
+        sys.exit(f"fetch.py: no server answers at {SERVER[0]}, port {SERVER[1]}: {error.strerror or error}; "
+                 "run it through examples/browse.py")

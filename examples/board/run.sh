@@ -10,15 +10,17 @@
 #     sh examples/board/run.sh early           lets bytes come before the port is open
 #     sh examples/board/run.sh line            two clients at once over a line of 19,200 bits a second that waits for nobody
 #     sh examples/board/run.sh stack           fetches every file, and says how far the stack pointer went
+#     sh examples/board/run.sh state [..]      the same with the firmware of a device with a state (state.c), and its site
 #
 # It wants qemu-system-aarch64 (Debian: qemu-system-arm), python3, `ip` and /dev/net/tun, and clang and ld.lld, which the kit of rt
 # has: CLANG, LLD and QEMU name others. The library is built by rt where it is not there; LIBRARY names another.
-case "$1" in -h|--help) sed -n '2,17s/^# \{0,1\}//p' "$0"; exit 0;; esac
+case "$1" in -h|--help) sed -n '2,18s/^# \{0,1\}//p' "$0"; exit 0;; esac
 here=$(cd "$(dirname "$0")" && pwd)
 top=$(cd "$here/../.." && pwd)
 out=$here/out
 library=${LIBRARY:-$out/libuip_c.a}
-site=${SITE:-$top/examples/site.img}
+if [ "$1" = state ]; then shift; name=state main=state pages=$top/examples/state; else name=board main=main pages=$top/examples/site; fi
+site=${SITE:-$pages.img}
 kit=${KIT:-/opt/rattle}/toolchain/bin
 fail() { echo "board: $1" >&2; exit 1; }
 # The first of these programs that is there.
@@ -45,18 +47,18 @@ compile() {
         -I"$top/include" -I"$here" -idirafter "$here/fallback" -c "$@" || fail "clang failed"
 }
 compile "$here/start.S" -o "$out/start.o"
-compile "$here/main.c" -o "$out/main.o"
+compile "$here/$main.c" -o "$out/$main.o"
 compile -mgeneral-regs-only "$here/board.c" -o "$out/board.o"
 compile "$heap" "$top/examples/heap.c" -o "$out/heap.o"
 compile -DSITE="\"$site\"" "$here/site.S" -o "$out/site.o"
 # A firmware by its name, of the object files that it has of its own.
 link() {
-    name=$1; shift
+    to=$out/$1; shift
     set -- -T "$here/link.ld" --gc-sections "$out/start.o" "$@" "$out/heap.o" "$out/site.o" "$library"
-    "$lld" -Map="$out/$name.map" -o "$out/$name.elf" "$@" && "$lld" --oformat binary -o "$out/$name.bin" "$@" || fail "ld.lld failed"
+    "$lld" -Map="$to.map" -o "$to.elf" "$@" && "$lld" --oformat binary -o "$to.bin" "$@" || fail "ld.lld failed"
 }
-link board "$out/board.o" "$out/main.o"
-python3 "$here/usage.py" "$out" || exit 1
+link $name "$out/board.o" "$out/$main.o"
+python3 "$here/usage.py" "$out/$name" || exit 1
 [ "$1" = build ] && exit 0
 
 qemu=${QEMU:-qemu-system-aarch64}
@@ -64,23 +66,23 @@ command -v "$qemu" >/dev/null || fail "no $qemu here: qemu-system-aarch64 is in 
 browse() { python3 "$top/examples/browse.py" --board "$@"; }
 case "$1" in
 usage)
-    browse "$out/board.bin" --memory "$out/memory" -- python3 "$top/examples/fetch.py" || exit 1
-    exec python3 "$here/usage.py" "$out" "$out/memory";;
+    browse "$out/$name.bin" --memory "$out/memory" -- python3 "$top/examples/fetch.py" "$pages" || exit 1
+    exec python3 "$here/usage.py" "$out/$name" "$out/memory";;
 map)
     compile "$here/map_test.c" -o "$out/map_test.o"
     link map_test "$out/board.o" "$out/map_test.o"
     exec python3 "$here/map.py" "$out" "$qemu";;
 early)
-    exec python3 "$here/early.py" "$out/board.bin";;
+    exec python3 "$here/early.py" "$out/$name.bin";;
 line)
     compile -mgeneral-regs-only -DLINE_RATE=1920 "$here/board.c" -o "$out/slow_board.o"
-    link slow "$out/slow_board.o" "$out/main.o"
-    fetch="python3 $top/examples/fetch.py"
+    link slow "$out/slow_board.o" "$out/$main.o"
+    fetch="python3 $top/examples/fetch.py $pages"
     browse "$out/slow.bin" --baud 19200 -- sh -c "$fetch & one=\$!; $fetch && wait \$one" >"$out/line.txt"; status=$?
     cat "$out/line.txt"
     grep -q '^the line lost 0 of' "$out/line.txt" || fail "bytes were lost while a text went out"
     exit $status;;
 stack)
-    exec python3 "$here/stack.py" "$out" "$qemu" python3 "$top/examples/fetch.py";;
+    exec python3 "$here/stack.py" "$out/$name" "$qemu" python3 "$top/examples/fetch.py" "$pages";;
 esac
-exec python3 "$top/examples/browse.py" --board "$out/board.bin" "$@"
+exec python3 "$top/examples/browse.py" --board "$out/$name.bin" "$@"

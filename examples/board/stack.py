@@ -1,10 +1,10 @@
 #!/usr/bin/env python3
 """Tells how far the stack pointer of the firmware went: the least in qemu's log of the processor, which has an entry for each instruction.
 
-    python3 examples/board/stack.py FOLDER QEMU COMMAND ARG ..
+    python3 examples/board/stack.py FIRMWARE QEMU COMMAND ARG ..
 
-FOLDER has board.bin and board.map, and COMMAND is run beside the board. The paint that usage.py looks for can tell too little, since a
-frame need not be written to its end; the stack pointer cannot.
+FIRMWARE.bin and FIRMWARE.map are what the linker wrote, and COMMAND is run beside the board. The paint that usage.py looks for can
+tell too little, since a frame need not be written to its end; the stack pointer cannot.
 """
 import os
 import re
@@ -14,8 +14,8 @@ import sys
 HERE = os.path.dirname(os.path.abspath(__file__))
 
 
-def symbol(folder, name):
-    with open(os.path.join(folder, "board.map")) as file:
+def symbol(firmware, name):
+    with open(firmware + ".map") as file:
         return next(int(line.split()[0], 16) for line in file if name in line.split())
 
 
@@ -33,17 +33,17 @@ def least(path, low, top):
 def main():
     if len(sys.argv) < 4:
         sys.exit(__doc__)
-    folder, qemu, *command = sys.argv[1:]
+    firmware, qemu, *command = sys.argv[1:]
     version = subprocess.run([qemu, "--version"], capture_output=True, text=True, check=True).stdout
     is_old = int(re.search(r"version (\d+)", version)[1]) < 9
-    log = os.path.join(folder, "processor.log")
+    log = firmware + ".log"
     if os.path.exists(log):
         os.remove(log)
     os.mkfifo(log)
     step = "-singlestep" if is_old else "-accel tcg,one-insn-per-tb=on"
-    words = [sys.executable, os.path.join(HERE, "../browse.py"), "--board", os.path.join(folder, "board.bin")]
+    words = [sys.executable, os.path.join(HERE, "../browse.py"), "--board", firmware + ".bin"]
     run = subprocess.Popen([*words, "--qemu", f"{step} -d cpu,nochain -D {log}", "--", *command], env={**os.environ, "QEMU": qemu})
-    low, top = symbol(folder, "__stack_low"), symbol(folder, "__stack_top")
+    low, top = symbol(firmware, "__stack_low"), symbol(firmware, "__stack_top")
     found, count = least(log, low, top)
     os.remove(log)
     print(f"stack in this run: {top - found} bytes by the stack pointer, over {count} instructions")

@@ -1,13 +1,13 @@
 #!/usr/bin/env python3
 """Tells what flash and memory the firmware needs, and what a run of it used.
 
-    python3 examples/board/usage.py FOLDER [MEMORY]
+    python3 examples/board/usage.py FIRMWARE [MEMORY]
 
-FOLDER has what the linker wrote, board.elf and board.map, and MEMORY is the board's memory behind a run. The stack was painted at
-reset, so its greatest depth is where the paint ends: that is what this run used (stack.py looks at the stack pointer itself). Where llvm-objdump is there, the greatest depth
-of all is told too, by the frames of the functions and who calls whom, as the linked code has them: no proof speaks of the stack.
+FIRMWARE.elf and FIRMWARE.map are what the linker wrote, and MEMORY is the board's memory behind a run. The stack was painted at
+reset, so its greatest depth is where the paint ends: that is what this run used (stack.py looks at the stack pointer itself). Where
+llvm-objdump is there, the greatest depth of all is told too, by the frames of the functions and who calls whom, as the linked code
+has them: no proof speaks of the stack.
 """
-import os
 import re
 import shutil
 import subprocess
@@ -57,15 +57,15 @@ def depth(name, frames, calls, above=()):
 def main():
     if len(sys.argv) not in (2, 3):
         sys.exit(__doc__)
-    folder = sys.argv[1]
-    at = read_map(os.path.join(folder, "board.map"))
+    firmware = sys.argv[1]
+    at = read_map(firmware + ".map")
     image = at["site_image_end"] - at["site_image"]
     start = at["__stack_low"]
     static = at["__bss_end"] - at["__bss_start"]
     print(f"flash: {at['__flash_end'] - image} bytes, and {image} of the site's image")
     print(f"static memory: {static} bytes")
     if shutil.which("llvm-objdump"):
-        frames, calls = read_code(os.path.join(folder, "board.elf"))
+        frames, calls = read_code(firmware + ".elf")
         own, further = depth("main", frames, calls), depth("vector_interrupt", frames, calls)
         print(f"stack: {own} bytes at most, by the frames of the code, and {further} of an interrupt")
     if len(sys.argv) == 2:

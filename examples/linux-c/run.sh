@@ -1,13 +1,14 @@
 #!/bin/sh
 # Builds C programs over the library on this machine, makes each call of the library once, from C and from C++, and compares what a
-# program writes for recorded lines with what uipd writes, with a heap over malloc and with one over an array that just holds it.
+# program writes for recorded lines with what uipd writes, with a heap over malloc and with one over an array that just holds it. It
+# builds a program that shows this machine's load in its pages, too.
 #
 #     sh examples/linux-c/run.sh
 #
 # It wants a C compiler, and the library and the program as they are built by `rt lib` in crates/uip_c and `rt run` in crates/uipd;
 # what is not built there is built first where rt is on the path, which takes some minutes. CC and CXX name other compilers, LIBRARY
 # and UIPD another library and another program.
-case "$1" in -h|--help) sed -n '2,10s/^# \{0,1\}//p' "$0"; exit 0;; esac
+case "$1" in -h|--help) sed -n '2,11s/^# \{0,1\}//p' "$0"; exit 0;; esac
 here=$(cd "$(dirname "$0")" && pwd)
 top=$(cd "$here/../.." && pwd)
 library=${LIBRARY:-$top/crates/uip_c/out/libuip_c.a}
@@ -29,6 +30,7 @@ done
 # A program by its name, its heap and what the heap's compiler is told.
 build() { "$cc" -O2 -Wall -Wextra -I"$top/include" $4 "$here/$1.c" "$2" "$library" -o "$here/out/$3" || fail "no $3 was built"; }
 build serve "$here/heap.c" uip_serve
+build state "$here/heap.c" uip_state
 build each_call "$here/heap.c" uip_each_call
 build each_call "$top/examples/heap.c" uip_each_call_array "-DUIP_HEAP_SIZE=UIP_MEMORY(12,1)"
 "$here/out/uip_each_call" || fail "not each call answers as it should"
@@ -68,3 +70,4 @@ compare "$top/examples/fetch.slip"
 compare "$top/examples/fetch.slip" pace 97
 compare "$top/examples/fetch.slip" pace 1
 echo "The site by the C program: python3 examples/browse.py examples/linux-c/out/uip_serve -- python3 examples/fetch.py"
+echo "This machine's load in a page: python3 examples/browse.py examples/linux-c/out/uip_state examples/state.img"

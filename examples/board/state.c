@@ -1,0 +1,89 @@
+// The firmware of a device with a state: it serves as main.c does, and before each tick it gives its state as values, which the pages of
+// examples/state show. Its level stands for a sensor. Its lamp goes on and off where a page of the lamp was asked for: a link that is
+// followed twice does no more than once.
+#include "board.h"
+#include "uip.h"
+
+extern const unsigned char site_image[], site_image_end[];
+
+enum { NAME, SECONDS, LEVEL, NOTE, LAMP };    // the numbers of the values
+
+typedef struct { char bytes[UIP_LONGEST_VALUE]; size_t len; } text;
+
+static uip_device device = UIP_INIT;
+static unsigned char out[32];
+static unsigned asked_on, asked_off;          // how often the pages of the lamp were asked for
+static unsigned lamp_is_on;
+
+static void send(void *to, const unsigned char *bytes, size_t len) {
+    (void)to;
+    for (size_t at = 0; at < len; at++) port_put(bytes[at]);
+}
+
+static void add(text *value, const char *words) {
+    for (; *words && value->len < sizeof value->bytes; words++) value->bytes[value->len++] = *words;
+}
+
+static void add_number(text *value, unsigned number) {
+    char digits[11];
+    size_t at = sizeof digits - 1;
+    digits[at] = 0;
+    do digits[--at] = (char)('0' + number % 10); while (number /= 10);
+    add(value, digits + at);
+}
+
+static unsigned give(size_t number, const text *value) { return uip_value(&device, number, value->bytes, value->len); }
+
+static unsigned give_words(size_t number, const char *words) {
+    text value = {{0}, 0};
+    add(&value, words);
+    return give(number, &value);
+}
+
+// The seconds since the start, and a level that goes from 0 to 100 and back in fifty ticks.
+static unsigned give_state(unsigned ticks) {
+    unsigned place = ticks % 50, is_rising = place < 25, level = is_rising ? 4 * place : 4 * (50 - place);
+    text seconds = {{0}, 0}, number = {{0}, 0};
+    add_number(&seconds, ticks / 2);
+    add(&seconds, ticks % 2 ? ".5" : ".0");
+    add_number(&number, level);
+    text note = number;
+    add(&note, is_rising ? " of 100, rising" : " of 100, falling");
+    unsigned status = give(SECONDS, &seconds);
+    if (status == UIP_FINE) status = give(LEVEL, &number);
+    if (status == UIP_FINE) status = give(NOTE, &note);
+    return status;
+}
+
+static unsigned give_lamp(void) {
+    static const char on[] = "/lamp-on.html", off[] = "/lamp-off.html";
+    unsigned now_on = uip_hits(&device, on, sizeof on - 1).number, now_off = uip_hits(&device, off, sizeof off - 1).number;
+    if (now_on != asked_on) lamp_is_on = 1;
+    if (now_off != asked_off) lamp_is_on = 0;
+    asked_on = now_on;
+    asked_off = now_off;
+    return give_words(LAMP, lamp_is_on ? "on" : "off");
+}
+
+static unsigned give_all(unsigned ticks) {
+    unsigned status = give_state(ticks);
+    return status == UIP_FINE ? give_lamp() : status;
+}
+
+int main(void) {
+    static const unsigned char own[4] = {10, 0, 0, 1};
+    board_start();
+    unsigned status = uip_open(&device, site_image, (size_t)(site_image_end - site_image), own).status;
+    if (status == UIP_FINE) status = give_words(NAME, "Lamp & level of the \"virt\" board");
+    if (status == UIP_FINE) status = give_all(0);
+    for (unsigned ticks = 0; status == UIP_FINE; board_sleep(ticks)) {
+        const unsigned char *bytes;
+        size_t len = port_waiting(&bytes);
+        status = uip_hear_all(&device, bytes, len, out, sizeof out, send, 0);
+        port_taken(len);
+        if (status != UIP_FINE || ticks == clock_ticks()) continue;
+        status = give_all(++ticks);
+        if (status == UIP_FINE) status = uip_tick_all(&device, out, sizeof out, send, 0);
+    }
+    return (int)status;
+}
