@@ -6,8 +6,8 @@
 
 PAGES are how many pages of the state are asked for, 1000 where no number is named. The device gives its values anew before each tick,
 by a rule that is known here: the board's level goes up and down with the ticks, and the C program tells the load of this machine.
-Each value of a page is of a tick from that of the page's seconds on, up to that of the next page's. After every 50th page the lamp's
-page is asked for, and then the lamp has to be switched, once. It ends with 0 where all was as it should be, else with 1.
+Each value of a page is of a tick from that of the page's seconds on, up to that of the next page's. After every 50th page the lamp is
+switched by its link, which is asked for twice. It ends with 0 where all was as it should be, else with 1.
 """
 import html
 import json
@@ -22,7 +22,6 @@ from fetch import fetch
 
 BETWEEN_SWITCHES = 50
 PATIENCE = 10
-LAMP = ("off", "on")
 
 
 class Board:
@@ -54,11 +53,15 @@ class Linux:
             self.loads.add(os.getloadavg())
             time.sleep(0.1)
 
+    def seen(self):
+        self.loads.add(os.getloadavg())
+        return list(self.loads)
+
     def levels(self, *_):
-        return {str(min(100, int(load[0] / self.processors * 100))) for load in list(self.loads)}
+        return {str(min(100, int(load[0] / self.processors * 100))) for load in self.seen()}
 
     def notes(self, *_):
-        return {"load {:.2f}, {:.2f}, {:.2f} of {}".format(*load, self.processors)[:32] for load in list(self.loads)}
+        return {"load {:.2f}, {:.2f}, {:.2f} of {}".format(*load, self.processors)[:32] for load in self.seen()}
 
 
 class Page:
@@ -69,8 +72,7 @@ class Page:
         if not head.startswith(b"HTTP/1.0 200 OK\r\n") or not head.endswith(b"\r\nContent-type: application/json"):
             raise ValueError(f"the head of a page is {head!r}")
         state = json.loads(body, parse_int=str, parse_float=str)
-        self.name, self.seconds, self.level, self.note, self.lamp, self.switched = (
-            state[name] for name in ("name", "seconds", "level", "note", "lamp", "switched"))
+        self.name, self.seconds, self.level, self.note, self.lamp = (state[name] for name in ("name", "seconds", "level", "note", "lamp"))
         if not re.fullmatch(r"(0|[1-9]\d*)\.[05]", self.seconds):
             raise ValueError(f"the seconds of a page are {self.seconds}")
         self.tick = round(2 * float(self.seconds))
@@ -86,7 +88,7 @@ class Visit:
         self.rule = linux if self.page.name == linux.name else Board()
         self.pages = self.later = self.switches = self.wrong = 0
         self.ticks = set()
-        self.asked, self.is_switched = int(self.page.switched), False
+        self.wanted, self.is_switched = self.page.lamp, True
 
     def see(self, is_good, text):
         if not is_good:
@@ -103,12 +105,11 @@ class Visit:
         self.ticks.add(page.tick)
 
     def see_lamp(self, page):
-        """The lamp is switched once for each time that its page was asked for, and stays so."""
-        self.see(page.switched == str(self.asked), f"switched {page.switched} times, not {self.asked}")
-        if page.lamp == LAMP[self.asked % 2]:
+        """Behind its link the lamp is switched at a tick, and stays so."""
+        if page.lamp == self.wanted:
             self.is_switched = True
         else:
-            self.see(page.lamp in LAMP and not self.is_switched, f"the lamp is {page.lamp} after {self.asked} times")
+            self.see(page.lamp in ("off", "on") and not self.is_switched, f"the lamp is {page.lamp} and not {self.wanted}")
 
     def look(self):
         page = Page()
@@ -118,8 +119,9 @@ class Visit:
         self.pages += 1
 
     def switch(self):
-        fetch("/lamp.html")
-        self.asked, self.is_switched = self.asked + 1, False
+        self.wanted, self.is_switched = "off" if self.wanted == "on" else "on", False
+        fetch(f"/lamp-{self.wanted}.html")
+        fetch(f"/lamp-{self.wanted}.html")
         end = time.monotonic() + PATIENCE
         while not self.is_switched and time.monotonic() < end:
             self.look()

@@ -1,5 +1,6 @@
 // The firmware of a device with a state: it serves as main.c does, and before each tick it gives its state as values, which the pages of
-// examples/state show. Its level stands for a sensor; its lamp is switched whenever the lamp's page was asked for.
+// examples/state show. Its level stands for a sensor. Its lamp goes on and off where a page of the lamp was asked for: a link that is
+// followed twice does no more than once.
 #include "board.h"
 #include "uip.h"
 
@@ -11,7 +12,8 @@ typedef struct { char bytes[UIP_LONGEST_VALUE]; size_t len; } text;
 
 static uip_device device = UIP_INIT;
 static unsigned char out[32];
-static unsigned switched, lamp_is_on;         // how often the lamp was switched, and whether it is on
+static unsigned asked_on, asked_off;          // how often the pages of the lamp were asked for
+static unsigned lamp_is_on;
 
 static void send(void *to, const unsigned char *bytes, size_t len) {
     (void)to;
@@ -54,10 +56,12 @@ static unsigned give_state(unsigned ticks) {
 }
 
 static unsigned give_lamp(void) {
-    static const char page[] = "/lamp.html";
-    uip_number hits = uip_hits(&device, page, sizeof page - 1);
-    if (hits.status != UIP_FINE) return hits.status;
-    for (; switched != hits.number; switched++) lamp_is_on = !lamp_is_on;
+    static const char on[] = "/lamp-on.html", off[] = "/lamp-off.html";
+    unsigned now_on = uip_hits(&device, on, sizeof on - 1).number, now_off = uip_hits(&device, off, sizeof off - 1).number;
+    if (now_on != asked_on) lamp_is_on = 1;
+    if (now_off != asked_off) lamp_is_on = 0;
+    asked_on = now_on;
+    asked_off = now_off;
     return give_words(LAMP, lamp_is_on ? "on" : "off");
 }
 

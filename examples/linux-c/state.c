@@ -1,5 +1,5 @@
-// Serves a serial line on standard input and output as a device with a state: the load of this machine, and a lamp that is switched
-// whenever its page was asked for. Before each tick it gives them as values, which the pages of examples/state show.
+// Serves a serial line on standard input and output as a device with a state: the load of this machine, and a lamp that goes on and
+// off where a page of the lamp was asked for. Before each tick it gives them as values, which the pages of examples/state show.
 //     uip_state serve SITE ADDRESS
 // Further words are passed over: a tick is half a second of this machine's clock.
 #include <fcntl.h>
@@ -58,10 +58,8 @@ static void give_name(void) {
     give(NAME, value);
 }
 
-// The seconds since the start; the load of the last minute, in hundredths of what the processors can do; all three loads; the lamp.
-static void give_state(unsigned ticks) {
-    static const char page[] = "/lamp.html";
-    static unsigned switched, lamp_is_on;
+// The seconds since the start; the load of the last minute, in hundredths of what the processors can do; all three loads.
+static void give_load(unsigned ticks) {
     char value[100];
     double load[3] = {0, 0, 0}, processors = (double)sysconf(_SC_NPROCESSORS_ONLN);
     getloadavg(load, 3);
@@ -72,10 +70,29 @@ static void give_state(unsigned ticks) {
     give(LEVEL, value);
     snprintf(value, sizeof value, "load %.2f, %.2f, %.2f of %.0f", load[0], load[1], load[2], processors);
     give(NOTE, value);
-    uip_number hits = uip_hits(&device, page, sizeof page - 1);
-    need(hits.status);
-    for (; switched != hits.number; switched++) lamp_is_on = !lamp_is_on;
-    give(LAMP, lamp_is_on ? "on" : "off");
+}
+
+// How often a file was asked for.
+static unsigned hits(const char *name) {
+    uip_number number = uip_hits(&device, name, strlen(name));
+    need(number.status);
+    return number.number;
+}
+
+static void give_lamp(void) {
+    static unsigned asked_on, asked_off;
+    static int is_on;
+    unsigned now_on = hits("/lamp-on.html"), now_off = hits("/lamp-off.html");
+    if (now_on != asked_on) is_on = 1;
+    if (now_off != asked_off) is_on = 0;
+    asked_on = now_on;
+    asked_off = now_off;
+    give(LAMP, is_on ? "on" : "off");
+}
+
+static void give_state(unsigned ticks) {
+    give_load(ticks);
+    give_lamp();
 }
 
 // Opens the device with the site of a file at an address. The library keeps a copy of the image.
