@@ -45,7 +45,7 @@ typedef char uip_wants_64_bits[sizeof(size_t) == 8 && sizeof(void *) == 8 ? 1 : 
 enum uip_status {
     UIP_FINE = 0,
     UIP_NO_DEVICE = 1,    /* the handle has no device */
-    UIP_BAD_CALL = 2,     /* `out` has less room than the call asks for, no bytes came or too many, no such slot or counter */
+    UIP_BAD_CALL = 2,     /* `out` has less room than the call asks for, no bytes came or too many, no such slot, counter or value */
     UIP_HAS_DEVICE = 3,   /* uip_open alone: the handle has a device already */
     UIP_BAD_SITE = 4,     /* uip_open alone: the image is bad */
     UIP_NO_MEMORY = 5,    /* uip_open alone; it may be told of a bad image too, whose copy found no room */
@@ -57,7 +57,9 @@ enum {
     UIP_LEAST_ROOM = 2,          /* the room that uip_hear, uip_call and uip_more ask for */
     UIP_DATAGRAM_ROOM = 1500,    /* that of uip_hear_datagram and uip_call_datagram, and the longest datagram */
     UIP_SLOTS = 10,
-    UIP_COUNTERS = 20
+    UIP_COUNTERS = 20,
+    UIP_VALUES = 16,             /* the values of a device: the numbers 0 to 15 */
+    UIP_LONGEST_VALUE = 32       /* in bytes */
 };
 
 /* The counters, by the numbers that uip_counter takes. Each counts modulo 2^32. */
@@ -121,7 +123,8 @@ uip_done uip_call(uip_device *device, size_t slot, unsigned char *out, size_t ro
 
 /*
  * Writes what is left of a text, as far as there is room, and nothing where none is left. While `left` of the last call is 1 no
- * other call but this one, uip_ticks, uip_counter and uip_close does anything: the text is in the one packet that the node has.
+ * other call but this one, uip_value, uip_close and those that read a number does anything: the text is in the one packet that the
+ * node has.
  */
 uip_done uip_more(uip_device *device, unsigned char *out, size_t room);
 
@@ -136,6 +139,30 @@ uip_done uip_call_datagram(uip_device *device, size_t slot, unsigned char *out, 
 /* How many ticks there were, and the counter of a number from 1 to 20 (uip_counted), each modulo 2^32. */
 uip_number uip_ticks(uip_device *device);
 uip_number uip_counter(uip_device *device, size_t number);
+
+/*
+ * 1 where no connection is open, else 0. Then a tick does nothing but count: the processor may sleep until the next byte or datagram
+ * comes, and ticks that are left out are not made up for.
+ */
+uip_number uip_is_idle(uip_device *device);
+
+/*
+ * The device's own state in its pages. A script of the site calls `%! value 3`, and its text is the value of that number as it was
+ * when the call came next; sent again, it is the same. `%! value-json 3` has it for a string of JSON, `%! value-html 3` for HTML.
+ *
+ * uip_value gives the value of a number from 0 to 15: these bytes, at most 32, which are copied, from now on. A value that was never
+ * given is empty. Give them whenever they change, between any two calls:
+ *
+ *     char text[UIP_LONGEST_VALUE];
+ *     int len = sprintf(text, "%d", read_level());
+ *     uip_value(&device, 3, text, (size_t)len);
+ *     if (uip_hits(&device, "/lamp-on.html", 13).number != seen_on) seen_on++, switch_lamp(1);
+ *
+ * uip_hits tells how often the file of a name was asked for, modulo 2^32; 0 where no file has the name. So a link to a file is a
+ * button, although the server changes nothing.
+ */
+unsigned uip_value(uip_device *device, size_t number, const void *text, size_t len);
+uip_number uip_hits(uip_device *device, const void *name, size_t len);
 
 /* Closes the device and gives back its memory. The handle may be opened again. */
 unsigned uip_close(uip_device *device);
@@ -162,7 +189,7 @@ void rattle_dealloc(void *block);
 #define UIP_ROUNDED(len) (((size_t)(len) + 15) / 16 * 16)
 #define UIP_MEMORY(image_len, files) \
     (UIP_ROUNDED(image_len) + UIP_ROUNDED(28 * (size_t)(files)) + UIP_ROUNDED(2 * (size_t)(files)) \
-     + UIP_ROUNDED(4 * (size_t)(files)) + 6096)
+     + UIP_ROUNDED(4 * (size_t)(files)) + 6704)
 
 #if defined(__cplusplus) || (defined(__STDC_VERSION__) && __STDC_VERSION__ >= 199901L)
 

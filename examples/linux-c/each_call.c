@@ -46,6 +46,9 @@ static void without_a_device(void) {
     expect(is(uip_more(&device, out, sizeof out), UIP_NO_DEVICE, 0, 0), "uip_more without a device");
     expect(uip_ticks(&device).status == UIP_NO_DEVICE, "uip_ticks without a device");
     expect(uip_counter(&device, UIP_DATAGRAMS_IN).status == UIP_NO_DEVICE, "uip_counter without a device");
+    expect(uip_hits(&device, "/", 1).status == UIP_NO_DEVICE, "uip_hits without a device");
+    expect(uip_is_idle(&device).status == UIP_NO_DEVICE, "uip_is_idle without a device");
+    expect(uip_value(&device, 0, "7", 1) == UIP_NO_DEVICE, "uip_value without a device");
     expect(uip_close(&device) == UIP_NO_DEVICE, "uip_close without a device");
     expect(uip_hear_all(&device, request_text, 34, out, sizeof out, keep, out) == UIP_NO_DEVICE, "uip_hear_all without a device");
     expect(uip_tick_all(&device, out, sizeof out, keep, out) == UIP_NO_DEVICE, "uip_tick_all without a device");
@@ -68,6 +71,8 @@ static void bad_calls(void) {
     expect(is(uip_hear_datagram(&device, request, UIP_DATAGRAM_ROOM + 1, out, sizeof out), UIP_BAD_CALL, 0, 0), "uip_hear_datagram, long");
     expect(is(uip_call_datagram(&device, 0, out, UIP_DATAGRAM_ROOM - 1), UIP_BAD_CALL, 0, 0), "uip_call_datagram with too little room");
     expect(uip_counter(&device, 0).status == UIP_BAD_CALL && uip_counter(&device, 21).status == UIP_BAD_CALL, "uip_counter of none");
+    expect(uip_value(&device, UIP_VALUES, "7", 1) == UIP_BAD_CALL, "uip_value of no number");
+    expect(uip_value(&device, 0, out, UIP_LONGEST_VALUE + 1) == UIP_BAD_CALL, "uip_value, long");
     expect(uip_hear_all(&device, request_text, 34, out, 1, keep, out) == UIP_BAD_CALL, "uip_hear_all with too little room");
 }
 
@@ -81,11 +86,17 @@ static void fine_calls(void) {
     expect(part.status == UIP_FINE && part.left == 1 && part.taken == 34 && part.wrote == 19, "uip_hear with little room");
     expect(is(uip_hear(&device, request_text, 34, out + 19, 15), UIP_TEXT_LEFT, 0, 0), "uip_hear while a text is left");
     expect(is(uip_call(&device, 0, out + 19, 15), UIP_TEXT_LEFT, 0, 0), "uip_call while a text is left");
+    expect(uip_value(&device, UIP_VALUES - 1, out, UIP_LONGEST_VALUE) == UIP_FINE, "uip_value while a text is left");
+    expect(uip_value(&device, 0, "", 0) == UIP_FINE, "uip_value, empty");
     part = uip_more(&device, out + 19, 15);
     expect(is(part, UIP_FINE, 0, 15) && part.left == 0 && !memcmp(out, reply_text, 34), "uip_more");
     uip_number ticks = uip_ticks(&device), replies = uip_counter(&device, UIP_ECHO_REPLIES_OUT);
     expect(ticks.status == UIP_FINE && ticks.number == 2, "uip_ticks");
     expect(replies.status == UIP_FINE && replies.number == 3, "uip_counter");
+    uip_number idle = uip_is_idle(&device);
+    expect(idle.status == UIP_FINE && idle.number == 1, "uip_is_idle");
+    uip_number hits = uip_hits(&device, "/lamp-on.html", 13);
+    expect(hits.status == UIP_FINE && hits.number == 0, "uip_hits of no file");
 }
 
 // Two requests behind each other on the line, in the least room.

@@ -1,8 +1,13 @@
 -- The values of a device, as numbers: 33 for each of 16, its length first, and then its bytes in front.
-use Rattle.std.specs.Prelude.{ℕ, ◌+◌, ◌-◌, ◌*◌, ◌%◌, List, [], ◌∷◌, ◌++◌, drop, length, map, min, nat_lt, replicate, slice_range, take, if◌then◌else◌}
-use Rattle.std.specs.List.{slice_index_or}
+use Rattle.std.specs.Prelude.{◌≡◌, ◌<◌, ◌≤◌, ℕ, ◌+◌, ◌-◌, ◌*◌, ◌%◌, List, [], ◌∷◌, ◌++◌, drop, length, map, min, nat_lt, replicate, slice_range, take, if◌then◌else◌}
+use Rattle.std.specs.List.{All, slice_index_or}
 use Rattle.std.specs.Option.{option_map_or}
+use Rattle.app_events.specs.Pages.{IsByte}
 use Rattle.uip_wire.specs.Numerals.{numeral}
+
+-- no value was given
+abbrev pub no_values : List ℕ
+no_values = replicate 528 0
 
 -- the bytes of the value of a number
 abbrev pub value_of : List ℕ → ℕ → List ℕ
@@ -17,3 +22,13 @@ value_named own argument = option_map_or (λ n. if nat_lt n 16 then value_of own
 abbrev pub value_given : ℕ → List ℕ → List ℕ → List ℕ
 value_given n text own =
     take (33 * n) own ++ (length text ∷ text ++ replicate (32 - length text) 0) ++ drop (33 * n + 33) own
+
+-- a text that is given for the value of a number is that value then, and each other value is what it was
+pub record IsGiven (n : ℕ) (text own : List ℕ) : Type 0 where
+  pub long : length (value_given n text own) ≡ 528
+  pub shown : value_of (value_given n text own) n ≡ text
+  pub others : (other : ℕ) → (other ≡ n → ⊥) → value_of (value_given n text own) other ≡ value_of own other
+
+abbrev pub GivenIsShown : Type 0
+GivenIsShown = (n : ℕ) → n < 16 → (text : List ℕ) → length text ≤ 32 → All IsByte text → (own : List ℕ) → length own ≡ 528
+    → IsGiven n text own

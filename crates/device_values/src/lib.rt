@@ -2,12 +2,14 @@
 #![tactic(auto)]
 
 mod kept;
+mod laws;
 mod record;
 mod spelling;
 mod values;
 mod word;
 
 pub use kept::Kept;
+pub use laws::given_is_shown;
 pub use record::ValueCapture;
 pub use spelling::Spelling;
 pub use values::{LONGEST_VALUE, MOST_VALUES, Values};

@@ -1,9 +1,9 @@
 //! The values of a device.
 
-ghost use Rattle.std.specs.Prelude.{◌≡◌, ◌<◌, take};
+ghost use Rattle.std.specs.Prelude.{◌≡◌, ◌<◌, ◌≤◌, ◌-◌, ◌∷◌, ◌++◌, length, replicate, take};
 ghost use Rattle.std.specs.List.{All};
 ghost use Rattle.app_events.specs.Pages.{IsByte};
-ghost use Rattle.device_values.specs.Values.{value_named, value_of};
+ghost use Rattle.device_values.specs.Values.{no_values, value_given, value_named, value_of};
 
 use crate::kept::Kept;
 use uip_wire::numeral;
@@ -22,9 +22,32 @@ pub struct Values {
 
 impl Values {
     /// No value is given.
-    pub const fn new() -> Values {
+    pub fn new() -> Values
+        ensures { result.bytes ≡ no_values }
+    {
         Values { bytes: [0; 528] }
     }
+
+    /// The value of a number is this text from now on, whatever it was before. The others stay.
+    pub fn give(&mut self, number: usize, text: &[u8])
+        requires number { number < 16 }
+        requires short { length text.now ≤ 32 }
+        ensures { self.new.bytes ≡ value_given number text.now self.old.bytes }
+    {
+        let from = 33 * number;
+        self.bytes[from..from + 33].copy_from_slice(&row_of(text));
+    }
+}
+
+/// A value as it is kept: its length, its bytes, and zeros.
+fn row_of(text: &[u8]) -> [u8; 33]
+    requires { length text.now ≤ 32 }
+    ensures { result ≡ length text.now ∷ text.now ++ replicate (32 - length text.now) 0 }
+{
+    let mut row = [0; 33];
+    row[0] = text.len() as u8;
+    row[1..text.len() + 1].copy_from_slice(text);
+    row
 }
 
 /// The bytes of the value whose number the argument is. There are none where it is no number of a value.

@@ -1,9 +1,11 @@
 -- All turns of a node.
 use Rattle.std.specs.List.{All}
 use Rattle.std.specs.Prelude.{option_map}
-use Rattle.std.proofs.Common.{◌≡◌, ℕ, Bool, ◌&&◌, List, [], ◌∷◌, map, position, refl, ap, Option, Some, None}
+use Rattle.std.proofs.Common.{◌≡◌, ℕ, Bool, ◌&&◌, List, [], ◌∷◌, map, position, refl, ap, subst, Option, Some, None}
 use Rattle.tcp_segment.specs.Segments.{PlainSegment, has_rst}
+use Rattle.app_events.specs.Pages.{IsAddr, IsPaged, IsWord, Pages}
 use Rattle.app_events.specs.Part.{Meaning}
+use Rattle.uip_wire.specs.declared.addr.Addr.{Addr}
 use Rattle.tcp_machine.specs.Connection.{Sockets, Connection, serves}
 use Rattle.tcp_machine.specs.Segments.{is_again, is_plain_syn, segment_of}
 use Rattle.tcp_machine.specs.Ask.{Outcome}
@@ -14,13 +16,14 @@ use Rattle.uip_node.specs.Events.Reply.{Echo, Tcp}
 use Rattle.uip_node.specs.Node.{AbstractNode, NodeStep, arrives_at, from_stranger, happened, opening, opens as opens_at, opens_in, slot_for_syn, step}
 use Rattle.uip_node.proofs.Basics.{choose}
 use Rattle.uip_node.proofs.Fits.{all_nil, all_cons}
-use Rattle.uip_node.specs.Laws.{IsEvent}
-use Rattle.node_laws.specs.Turns.{turns_of}
+use Rattle.uip_node.specs.Laws.{HasBytes}
 use Rattle.node_laws.specs.Asked.{IsEchoed}
-use Rattle.node_laws.specs.KeepsTurns.{EveryTurn}
+use Rattle.node_laws.specs.KeepsTurns.{EveryTurn, KeepsTurns}
+use Rattle.node_laws.specs.Talks.{Turn}
+use Rattle.node_laws.specs.Wire.{IsReadByPeer}
 use Rattle.node_laws.proofs.Whole.{talk_ends}
 use Rattle.node_laws.proofs.PeerReads.{every_peer_reads}
-use Rattle.node_laws.proofs.Wire.{events_fit}
+use Rattle.node_laws.proofs.Steps.{LineStep, Happens, Changes, IsStep, all_happen, changed, turns_happen, turns_over}
 
 -- no echo reply
 abbrev NoEcho : NodeStep → Type 0
@@ -59,14 +62,24 @@ module _ (m : Meaning) (served : ℕ → Bool) where
   echoed n (TcpRefused fate) request e = absurd (cc)
   echoed n Overlong request e = absurd (cc)
 
-  all_echoed : (events : List Event) (n : AbstractNode) → All IsEchoed (turns_of m served events n)
+  all_echoed : (steps : List LineStep) (n : AbstractNode) → All IsEchoed (turns_over m served steps n)
   all_echoed [] n = all_nil IsEchoed
-  all_echoed (e ∷ es) n = all_cons IsEchoed _ _ (echoed n e) (all_echoed es (step m served n e).node)
+  all_echoed (Happens e ∷ steps) n = all_cons IsEchoed _ _ (echoed n e) (all_echoed steps (step m served n e).node)
+  all_echoed (Changes change ∷ steps) n = all_echoed steps (changed change n)
+
+-- over any steps of a line
+abbrev pub KeepsAll : Pages → (ℕ → Bool) → Addr → List Turn → Type 0
+KeepsAll pages served own turns = KeepsTurns pages served turns × All (IsReadByPeer own) turns
+
+pub every_step : (m : Meaning) (pages : Pages) → IsPaged m pages → HasBytes pages → (served : ℕ → Bool) (own : Addr) → IsAddr own → (numbers : List ℕ) → All IsWord numbers
+    → (steps : List LineStep) → All (IsStep own) steps → KeepsAll pages served own (turns_over m served steps (opening own numbers))
+every_step m pages lawful page served own a numbers w steps are =
+    let ends = λ (p : Sockets). talk_ends m pages lawful served own numbers w steps are p in (
+      record { lives = λ p life l. (ends p).lives life l; asked = λ p. (ends p).asked; ports = λ p. (ends p).ports; echoes = all_echoed m served steps (opening own numbers) },
+      every_peer_reads m pages lawful page served own a numbers w steps are,
+    )
 
 pub every_turn : EveryTurn
 every_turn m pages lawful page served own a numbers w events of =
-    let are : All IsEvent events = events_fit own events of in
-    let ends = λ (p : Sockets). talk_ends m pages lawful served own numbers w events are p in (
-      record { lives = λ p life l. (ends p).lives life l; asked = λ p. (ends p).asked; ports = λ p. (ends p).ports; echoes = all_echoed m served events (opening own numbers) },
-      every_peer_reads m pages lawful page served own a numbers w events of,
-    )
+    subst (λ (l : List Turn). KeepsAll pages served own l) (turns_happen m served events (opening own numbers))
+    (every_step m pages lawful page served own a numbers w (map Happens events) (all_happen own events of))

@@ -11,3 +11,4 @@ pub mod TurnRuns
 pub mod EveryTurn
 pub mod Rows
 pub mod WrongLives
+pub mod Steps

@@ -2,6 +2,7 @@
 use Rattle.std.specs.List.{All}
 use Rattle.std.specs.Prelude.{option_map}
 use Rattle.std.proofs.Common.{◌≡◌, ℕ, suc, ◌<◌, Bool, true, false, ◌&&◌, inr, List, [], ◌∷◌, position, replicate, refl, sym, ap, ◌∙◌, subst, arith, Option, Some, None, if◌then◌else◌}
+use Rattle.std.proofs.lemmas.List.Elements.{All-head, All-tail}
 use Rattle.uip_wire.specs.declared.addr.Addr.{Addr}
 use Rattle.tcp_segment.specs.ReadBack.{IsReadBack, head_of}
 use Rattle.tcp_segment.specs.Segments.{PlainSegment, Datagram, datagram_bytes, has_rst}
@@ -29,10 +30,10 @@ use Rattle.uip_node.proofs.SoundSegments.{closed_lens, Lens, accepted_lens, aske
 use Rattle.uip_node.proofs.Steadiness.{steady_of}
 use Rattle.uip_node.proofs.DatagramsBack.{IsPlace, datagram_back, datagram_short}
 use Rattle.node_laws.specs.Talks.{Exchange, came_from, exchange, said_to}
-use Rattle.node_laws.specs.Turns.{turns_of}
 use Rattle.node_laws.specs.Wire.{IsOfLine, IsReadByPeer, IsReadThere, seen_from_peer}
 use Rattle.node_laws.proofs.Lines.{Does, Comes, comes, left_of}
 use Rattle.node_laws.proofs.Lines.Does.{passes_by, evicted, unanswered, refused, born, hears, ticks}
+use Rattle.node_laws.proofs.Steps.{LineStep, Happens, Changes, IsStep, changed, turns_over}
 use Rattle.node_laws.proofs.Wire.{IsWire, line_wire, wire_event}
 
 -- sockets whose numbers fit their types
@@ -190,16 +191,20 @@ module _ (m : Meaning) (pages : Pages) (lawful : IsPaged m pages) (page : HasByt
               read_there own p id again t is_own k.fits (step_low m served n event p id again t e) k.segment),
         )
 
-    all_read : (events : List Event) (n : AbstractNode) → All (IsOfLine own) events → SoundAll n → All (IsReadByPeer own) (turns_of m served events n)
+    all_read : (steps : List LineStep) (n : AbstractNode) → All (IsStep own) steps → SoundAll n → All (IsReadByPeer own) (turns_over m served steps n)
     all_read [] n a g = all_nil (IsReadByPeer own)
-    all_read (e ∷ es) n a g =
-        let x = step_all n e (a 0 e (omega arith)) g in
-        all_cons (IsReadByPeer own) _ _ x.1 (all_read es (step m served n e).node (λ k d q. a (suc k) d (omega (arith, q))) x.0)
+    all_read (Happens e ∷ steps) n a g =
+        let x = step_all n e (All-head (IsStep own) (Happens e) steps a) g in
+        all_cons (IsReadByPeer own) _ _ x.1 (all_read steps (step m served n e).node (All-tail (IsStep own) (Happens e) steps a) x.0)
+    all_read (Changes change ∷ steps) n a g =
+        let words = All-head (IsStep own) (Changes change) steps a in
+        let fit : FitNode (changed change n) = record { size = g.fit.size; conns = g.fit.conns; numbers = words n.numbers g.fit.numbers } in
+        all_read steps (changed change n) (All-tail (IsStep own) (Changes change) steps a) (record { single = g.single; fit = fit; each = g.each })
 
 pub every_peer_reads : (m : Meaning) (pages : Pages) → IsPaged m pages → HasBytes pages → (served : ℕ → Bool) (own : Addr) → IsAddr own → (numbers : List ℕ) → All IsWord numbers
-    → (events : List Event) → All (IsOfLine own) events → All (IsReadByPeer own) (turns_of m served events (opening own numbers))
-every_peer_reads m pages lawful page served own a numbers w events of =
-    all_read m pages lawful page served own a events (opening own numbers) of record {
+    → (steps : List LineStep) → All (IsStep own) steps → All (IsReadByPeer own) (turns_over m served steps (opening own numbers))
+every_peer_reads m pages lawful page served own a numbers w steps of =
+    all_read m pages lawful page served own a steps (opening own numbers) of record {
       single = λ q i j x y a b u v. absurd (let z = none_serves 10 q i x a in cc);
       fit = record { size = omega arith; conns = λ i x y. subst FitConn (all_closed 10 i x y) closed_fits; numbers = w };
       each = λ p l. absurd (let z : is_live (serving p (replicate 10 closed)).state ≡ false = ap (λ c. is_live c.state) (serving_free (replicate 10 closed) p (none_serves 10 p)) in cc);

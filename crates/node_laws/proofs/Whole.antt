@@ -2,6 +2,7 @@
 use Rattle.std.specs.List.{All}
 use Rattle.std.specs.Option.{option_map_or}
 use Rattle.std.proofs.Common.{◌≡◌, ℕ, zero, suc, ◌<◌, length, drop, Bool, true, false, inl, inr, List, [], ◌∷◌, ◌++◌, replicate, refl, sym, ap, ◌∙◌, subst, arith, Option, Some, None, if◌then◌else◌}
+use Rattle.std.proofs.lemmas.List.Elements.{All-head, All-tail}
 use Rattle.uip_wire.specs.declared.addr.Addr.{Addr}
 use Rattle.app_events.specs.Part.{Meaning}
 use Rattle.app_events.specs.Pages.{Pages, IsPaged, IsWord}
@@ -21,9 +22,10 @@ use Rattle.uip_node.proofs.Fits.{FitConn, all_nil, all_cons}
 use Rattle.uip_node.proofs.Connections.{none_serves, all_closed, Single, serving_free}
 use Rattle.uip_node.proofs.Steadiness.{steady_of}
 use Rattle.node_laws.specs.Talks.{Exchange, exchange, talk_behind, talk_of, is_opening, is_empty, is_life, IsLifeIn}
-use Rattle.node_laws.specs.Turns.{turns_of}
 use Rattle.node_laws.specs.Promise.{Account, KeepsAccount, KeepsLife, GrowsInto}
 use Rattle.node_laws.specs.Asked.{HasNoReset, LivesOn, IsAskedFor, NothingUnasked, OpensServed}
+use Rattle.node_laws.proofs.Steps.{LineStep, Happens, Changes, IsStep, changed, turns_over}
+use Rattle.node_laws.proofs.Wire.{line_wire, wire_event}
 use Rattle.node_laws.proofs.Replying.{answer_no_syn, rst_silent, rst_ends, reset_ends, tick_reset_ends}
 use Rattle.node_laws.proofs.Lines.{Does, Comes, comes, met, left_of}
 use Rattle.node_laws.proofs.Lines.Does.{passes_by, evicted, unanswered, refused, born, hears, ticks}
@@ -228,10 +230,27 @@ module _ (m : Meaning) (pages : Pages) (lawful : IsPaged m pages) (served : ℕ 
     pub asked : NothingUnasked so_far
     pub ports : OpensServed served p so_far
 
-  run_inv : (events : List Event) (n : AbstractNode) (so_far : List Exchange) → All IsEvent events → Inv n so_far → Ends (talk_behind p (turns_of m served events n) so_far)
-  run_inv [] n so_far a i = record { lives = λ life l. i.ever l.later life l.before l.split l.is; asked = i.asked; ports = i.ports }
-  run_inv (e ∷ es) n so_far a i =
-      run_inv es (step m served n e).node (exchange p e (step m served n e).sent ∷ so_far) (λ k d q. a (suc k) d (omega (arith, q))) (step_inv n so_far e (a 0 e (omega arith)) i)
+  -- the numbers of the application were changed
+  changed_inv : (n : AbstractNode) (so_far : List Exchange) (change : List ℕ → List ℕ) → ((numbers : List ℕ) → All IsWord numbers → All IsWord (change numbers))
+      → Inv n so_far → Inv (changed change n) so_far
+  changed_inv n so_far change words i = record {
+    single = i.single;
+    fit = record { size = i.fit.size; conns = i.fit.conns; numbers = words n.numbers i.fit.numbers };
+    current = i.current;
+    ever = i.ever;
+    lives = i.lives;
+    asked = i.asked;
+    ports = i.ports;
+  }
+
+  run_inv : (own : Addr) (steps : List LineStep) (n : AbstractNode) (so_far : List Exchange) → All (IsStep own) steps → Inv n so_far → Ends (talk_behind p (turns_over m served steps n) so_far)
+  run_inv own [] n so_far a i = record { lives = λ life l. i.ever l.later life l.before l.split l.is; asked = i.asked; ports = i.ports }
+  run_inv own (Happens e ∷ steps) n so_far a i =
+      run_inv own steps (step m served n e).node (exchange p e (step m served n e).sent ∷ so_far) (All-tail (IsStep own) (Happens e) steps a)
+      (step_inv n so_far e (wire_event e (line_wire own e (All-head (IsStep own) (Happens e) steps a))) i)
+  run_inv own (Changes change ∷ steps) n so_far a i =
+      run_inv own steps (changed change n) so_far (All-tail (IsStep own) (Changes change) steps a)
+      (changed_inv n so_far change (All-head (IsStep own) (Changes change) steps a) i)
 
   no_life : (life before : List Exchange) → [] ≡ life ++ before → is_life life ≡ true → ⊥
   no_life [] before e l = absurd (cc)
@@ -256,6 +275,6 @@ module _ (m : Meaning) (pages : Pages) (lawful : IsPaged m pages) (served : ℕ 
     ports = λ later x before e o. absurd (no_exchange later x before e);
   }
 
-pub talk_ends : (m : Meaning) (pages : Pages) (lawful : IsPaged m pages) (served : ℕ → Bool) (addr : Addr) (numbers : List ℕ) → All IsWord numbers → (events : List Event) → All IsEvent events → (p : Sockets)
-    → Ends m pages lawful served p (talk_of p (turns_of m served events (opening addr numbers)))
-talk_ends m pages lawful served addr numbers w events a p = run_inv m pages lawful served p events (opening addr numbers) [] a (opening_inv m pages lawful served p addr numbers w)
+pub talk_ends : (m : Meaning) (pages : Pages) (lawful : IsPaged m pages) (served : ℕ → Bool) (own : Addr) (numbers : List ℕ) → All IsWord numbers → (steps : List LineStep) → All (IsStep own) steps → (p : Sockets)
+    → Ends m pages lawful served p (talk_of p (turns_over m served steps (opening own numbers)))
+talk_ends m pages lawful served own numbers w steps a p = run_inv m pages lawful served p own steps (opening own numbers) [] a (opening_inv m pages lawful served p own numbers w)

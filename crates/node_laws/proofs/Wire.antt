@@ -111,7 +111,3 @@ wire_event (TcpRefused fate) h = tt
 wire_event (EchoAsked datagram) h = tt
 wire_event Overlong h = tt
 wire_event (Periodic slot) h = tt
-
-pub events_fit : (own : Addr) (events : List Event) → All (IsOfLine own) events → All IsEvent events
-events_fit own [] h = all_nil IsEvent
-events_fit own (e ∷ es) h = all_cons IsEvent e es (wire_event e (line_wire own e (h 0 e (omega arith)))) (events_fit own es (λ i d l. h (suc i) d (omega (arith, l))))

@@ -1,66 +1,75 @@
--- Calls in turn on a handle are calls in turn of its device.
+-- Moves in turn on a handle are moves in turn of its device.
 use Rattle.std.specs.List.{All}
 use Rattle.std.proofs.Common.{◌≡◌, ℕ, List, [], ◌∷◌, ◌++◌, None as NothingLeft, length, refl, sym, ap, ◌∙◌, subst, lit<}
-use Rattle.std.proofs.lemmas.List.Elements.{All-replicate}
 use Rattle.std.proofs.lemmas.Option.{same_Some}
 use Rattle.std.specs.declared.option.Option.{Option}
 use Rattle.std.specs.declared.option.Option.TheVariants.{Some}
 use Rattle.app_events.specs.Pages.{IsAddr, IsByte, IsWord}
 use Rattle.site_image.specs.Files.{File}
-use Rattle.file_tree.specs.Site.{IsLoaded, SiteContent, files_of}
-use Rattle.web_pages.specs.Pages.{pages_of}
-use Rattle.web_pages.specs.Serving.{is_served, no_hits}
-use Rattle.web_pages.specs.WebMeaning.{web_meaning}
-use Rattle.web_pages.proofs.ByteLaws.{made_of_bytes}
-use Rattle.web_pages.proofs.PageLaws.{keeps_page_laws}
-use Rattle.httpd.specs.contracts.httpd.HttpdApp.TheImpl.{ghosts}
+use Rattle.file_tree.specs.Site.{HasSoundScripts, IsLoaded, SiteContent, files_of}
+use Rattle.web_pages.specs.Serving.{is_served}
+use Rattle.web_pages.proofs.ByteLaws.{made_of_bytes_by}
+use Rattle.web_pages.proofs.PageLaws.{keeps_page_laws_by}
+use Rattle.device_values.specs.Words.{word_calls, words}
+use Rattle.device_values.specs.Lemmas.Laws.{words_bytes, words_short}
+use Rattle.uip_device.specs.contracts.value_pages.ValuePagesApp.TheImpl.{ghosts}
 use Rattle.uip_edge.specs.declared.item.Item.{Item}
 use Rattle.uip_wire.specs.declared.addr.Addr.{Addr}
-use Rattle.uip_device.specs.Calls.{Bring, Call, Calls, CallsByDatagram, DoesNothing, HandsOn, Hears, HearsDatagram}
-use Rattle.uip_device.specs.Devices.{Answered, Answers, AnswersAll, calls_of, datagrams_handed, left_text_of, lefts_of, line_handed}
+use Rattle.uip_device.specs.Calls.{Call, Calls, CallsByDatagram, DoesNothing, HandsOn, Hears, HearsDatagram}
+use Rattle.uip_device.specs.Devices.{Answered, Answers, AnswersAll, AnswersMove, Changes, datagrams_handed, left_text_of, lefts_of, line_handed, moves_of}
 use Rattle.uip_device.specs.Keeping.{IsOfBytes, KeepsCalls}
-use Rattle.uip_device.specs.WebDevices.{WebDevice, web_datagrams_sent, web_line_sent, web_output}
-use Rattle.uip_device.proofs.AnswerLaws.{answers_nothing, datagrams_told, line_served, line_told}
+use Rattle.uip_device.specs.Moves.{Bring, Gives, Makes, Move}
+use Rattle.uip_device.specs.WebDevices.{StandsFor, WebDevice, first_numbers, value_meaning, value_pages, web_datagrams_sent, web_line_sent, web_node_behind, web_output, write_value}
+use Rattle.uip_device.proofs.AnswerLaws.{answers_nothing, datagrams_told, line_served, line_told, node_stands, same_kept}
 use Rattle.uip_device.proofs.KeepLaws.{keeps_calls}
-use Rattle.uip_c.specs.Handles.{Did, DidAll, HandleAnswers, IsOf, OpensAs, left_text_in, lefts_in}
+use Rattle.uip_device.proofs.WebLaws.{first_words, written_words}
+use Rattle.uip_c.specs.Handles.{Did, DidAll, HandleAnswers, HandleGives, IsOf, OpensAs, left_text_in, lefts_in}
 
--- a call on a handle is one of the device that it has
-record OnDevice (call : Call) (d : WebDevice) (b : Option WebDevice) (handed : List ℕ) : Type 0 where
+-- a move on a handle is one of the device that it has
+record OnDevice (move : Move) (d : WebDevice) (b : Option WebDevice) (handed : List ℕ) : Type 0 where
   after : WebDevice
   is : b ≡ Some after
-  answers : Answers ghosts call d after handed
+  answers : AnswersMove ghosts write_value move d after handed
 
-on_device : (call : Call) (d : WebDevice) (a b : Option WebDevice) (handed : List ℕ) → a ≡ Some d → HandleAnswers call a b handed → OnDevice call d b handed
+on_device : (call : Call) (d : WebDevice) (a b : Option WebDevice) (handed : List ℕ) → a ≡ Some d → HandleAnswers call a b handed → OnDevice (Makes call) d b handed
 on_device call d a b handed is it = record {
   after = it.after;
   is = it.is;
   answers = subst (λ (x : WebDevice). Answers ghosts call x it.after handed) (same_Some it.before d (sym it.was ∙ is)) it.answers;
 }
 
-did_device : (call : Call) (d : WebDevice) (a b : Option WebDevice) (handed : List ℕ) → a ≡ Some d → Did call a b handed → OnDevice call d b handed
-did_device (Hears bytes) d a b handed is it = on_device (Hears bytes) d a b handed is it
-did_device (Calls slot) d a b handed is it = on_device (Calls slot) d a b handed is it
-did_device HandsOn d a b handed is it = on_device HandsOn d a b handed is it
-did_device (HearsDatagram datagram) d a b handed is it = on_device (HearsDatagram datagram) d a b handed is it
-did_device (CallsByDatagram slot) d a b handed is it = on_device (CallsByDatagram slot) d a b handed is it
-did_device DoesNothing d a b handed is it = record {
+did_device : (move : Move) (d : WebDevice) (a b : Option WebDevice) (handed : List ℕ) → a ≡ Some d → Did move a b handed → OnDevice move d b handed
+did_device (Makes (Hears bytes)) d a b handed is it = on_device (Hears bytes) d a b handed is it
+did_device (Makes (Calls slot)) d a b handed is it = on_device (Calls slot) d a b handed is it
+did_device (Makes HandsOn) d a b handed is it = on_device HandsOn d a b handed is it
+did_device (Makes (HearsDatagram datagram)) d a b handed is it = on_device (HearsDatagram datagram) d a b handed is it
+did_device (Makes (CallsByDatagram slot)) d a b handed is it = on_device (CallsByDatagram slot) d a b handed is it
+did_device (Makes DoesNothing) d a b handed is it = record {
   after = d;
   is = it.0 ∙ is;
   answers = subst (λ (l : List ℕ). Answers ghosts DoesNothing d d l) (sym it.1) (answers_nothing ghosts d);
 }
+did_device (Gives number text) d a b handed is it =
+    let gives : HandleGives number text a b = it.0 in
+    let same : gives.before ≡ d = same_Some gives.before d (sym gives.was ∙ is) in
+    record {
+      after = gives.after;
+      is = gives.is;
+      answers = (subst (λ (x : WebDevice). Changes ghosts (write_value number text) x gives.after) same gives.gives, it.1);
+    }
 
--- and so for calls in turn, behind each of which the same is left
+-- and so for moves in turn, behind each of which the same is left
 record OnDevices (all : List Answered) (d : WebDevice) (a c : Option WebDevice) (did : DidAll all a c) : Type 0 where
   last : WebDevice
   is : c ≡ Some last
-  answers : AnswersAll ghosts all d last
-  lefts : lefts_of ghosts all d last answers ≡ lefts_in all a c did
+  answers : AnswersAll ghosts write_value all d last
+  lefts : lefts_of ghosts write_value all d last answers ≡ lefts_in all a c did
 
 on_devices : (all : List Answered) (d : WebDevice) (a c : Option WebDevice) → a ≡ Some d → (did : DidAll all a c) → OnDevices all d a c did
 on_devices [] d a c is same = record { last = d; is = sym same ∙ is; answers = refl; lefts = refl }
 on_devices (it ∷ all) d a c is more =
     let b : Option WebDevice = more.0 in
-    let first = did_device it.call d a b it.handed is more.1 in
+    let first = did_device it.move d a b it.handed is more.1 in
     let later = on_devices all first.after b c first.is more.2 in
     record {
       last = later.last;
@@ -70,27 +79,44 @@ on_devices (it ∷ all) d a c is more =
     }
 
 module _ (files : List File) (own : Addr) (all : List Answered) (closed old new : Option WebDevice) (opens : OpensAs files own closed old) (answered : DidAll all old new) where
-  devices : OnDevices all opens.1.0 old new answered
-  devices = on_devices all opens.1.0 old new opens.1.1 answered
+  abbrev opened : WebDevice
+  opened = opens.1.0
 
-  pub c_line : IsOf (λ d. line_handed all ++ left_text_of d ≡ web_line_sent files own (calls_of all)) new
-  c_line = (devices.last, devices.is, line_told ghosts (web_meaning files) (no_hits files) own all opens.1.0 devices.last opens.1.2 devices.answers)
+  devices : OnDevices all opened old new answered
+  devices = on_devices all opened old new opens.1.1 answered
 
-  pub c_datagrams : datagrams_handed all ≡ web_datagrams_sent files own (calls_of all)
-  c_datagrams = datagrams_told ghosts (web_meaning files) (no_hits files) own all opens.1.0 devices.last opens.1.2 devices.answers
+  pub c_line : IsOf (λ d. line_handed all ++ left_text_of d ≡ web_line_sent files own (moves_of all)) new
+  c_line = (devices.last, devices.is, line_told ghosts (value_meaning files) write_value (first_numbers files) own all opened devices.last opens.1.2.fresh devices.answers)
 
-  pub c_served : (pace : ℕ) (items : List Item) → Bring pace items (calls_of all) → IsOf (λ d. d.left ≡ NothingLeft) new → line_handed all ≡ web_output files own pace items
+  pub c_datagrams : datagrams_handed all ≡ web_datagrams_sent files own (moves_of all)
+  c_datagrams = datagrams_told ghosts (value_meaning files) write_value (first_numbers files) own all opened devices.last opens.1.2.fresh devices.answers
+
+  pub c_stands : IsOf (λ d. StandsFor files own d (web_node_behind files own (moves_of all))) new
+  c_stands =
+      let last : WebDevice = devices.last in
+      let fresh = opens.1.2 in
+      let kept = same_kept ghosts (value_meaning files) write_value (first_numbers files) own all opened last fresh.fresh devices.answers in (
+        last,
+        devices.is,
+        record {
+          files_are = ap (λ (site : SiteContent). files_of site) kept ∙ fresh.files_are;
+          node = node_stands ghosts (value_meaning files) write_value (first_numbers files) own all opened last fresh.fresh devices.answers;
+        },
+      )
+
+  pub c_served : (pace : ℕ) (items : List Item) → Bring pace items (moves_of all) → IsOf (λ d. d.left ≡ NothingLeft) new → line_handed all ≡ web_output files own pace items
   c_served pace items bring handed =
       let last : handed.0 ≡ devices.last = same_Some handed.0 devices.last (sym handed.1 ∙ devices.is) in
-      line_served ghosts (web_meaning files) (no_hits files) own all opens.1.0 devices.last opens.1.2 devices.answers pace items bring
+      line_served ghosts (value_meaning files) write_value (first_numbers files) own all opened devices.last opens.1.2.fresh devices.answers pace items bring
       (subst (λ (d : WebDevice). d.left ≡ NothingLeft) last handed.2)
 
-module _ (site : SiteContent) (loaded : IsLoaded site) (image : All IsByte site.image) (own : Addr) (is : IsAddr own) where
-  pub c_keeps : (all : List Answered) → All IsOfBytes (calls_of all) → (closed old new : Option WebDevice) → OpensAs (files_of site) own closed old
-      → (did : DidAll all old new) → KeepsCalls (pages_of (files_of site)) is_served own all (lefts_in all old new did)
+module _ (site : SiteContent) (loaded : IsLoaded site) (image : All IsByte site.image) (sound : HasSoundScripts word_calls (files_of site)) (own : Addr) (is : IsAddr own) where
+  pub c_keeps : (all : List Answered) → All IsOfBytes (moves_of all) → (closed old new : Option WebDevice) → OpensAs (files_of site) own closed old
+      → (did : DidAll all old new) → KeepsCalls (value_pages (files_of site)) is_served own all (lefts_in all old new did)
   c_keeps all bytes closed old new opens did =
       let files : List File = files_of site in
       let on : OnDevices all opens.1.0 old new did = on_devices all opens.1.0 old new opens.1.1 did in
-      subst (λ (l : List (List ℕ)). KeepsCalls (pages_of files) is_served own all l) on.lefts
-      (keeps_calls ghosts (web_meaning files) (pages_of files) (keeps_page_laws site loaded) (λ heard captures are. made_of_bytes site image heard captures are)
-      (no_hits files) (All-replicate IsWord (length files) 0 (lit< tt)) own is all bytes opens.1.0 on.last opens.1.2 on.answers)
+      subst (λ (l : List (List ℕ)). KeepsCalls (value_pages files) is_served own all l) on.lefts
+      (keeps_calls ghosts (value_meaning files) (value_pages files) (keeps_page_laws_by words words_short site loaded sound)
+      (λ heard captures are. made_of_bytes_by words words_bytes site image heard captures are)
+      write_value written_words (first_numbers files) (first_words files) own is all bytes opens.1.0 on.last opens.1.2.fresh on.answers)

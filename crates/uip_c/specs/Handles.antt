@@ -4,11 +4,12 @@ use Rattle.std.specs.Option.{is_some}
 use Rattle.std.specs.declared.option.Option.{Option}
 use Rattle.std.specs.declared.option.Option.TheVariants.{None, Some}
 use Rattle.site_image.specs.Files.{File}
-use Rattle.httpd.specs.contracts.httpd.HttpdApp.TheImpl.{ghosts}
+use Rattle.uip_device.specs.contracts.value_pages.ValuePagesApp.TheImpl.{ghosts}
 use Rattle.uip_wire.specs.declared.addr.Addr.{Addr}
 use Rattle.uip_device.specs.Calls.{Call, DoesNothing}
-use Rattle.uip_device.specs.Devices.{Answered, Answers, left_text_of}
-use Rattle.uip_device.specs.WebDevices.{IsFreshWebDevice, WebDevice}
+use Rattle.uip_device.specs.Devices.{Answered, Answers, Changes, left_text_of}
+use Rattle.uip_device.specs.Moves.{Move, Gives, Makes}
+use Rattle.uip_device.specs.WebDevices.{IsFreshWebDevice, WebDevice, write_value}
 use Rattle.uip_c.specs.declared.status.UipDone.{UipDone}
 use Rattle.uip_c.specs.declared.status.TheConstants.{BAD_CALL, FINE, NO_DEVICE, TEXT_LEFT}
 
@@ -28,22 +29,32 @@ pub record HandleAnswers (call : Call) (old new : Option WebDevice) (handed : Li
   pub is : new ≡ Some after
   pub answers : Answers ghosts call before after handed
 
--- What a call did, by its clauses: one that was refused, or that read a count, left the handle as it was and handed out nothing.
-abbrev pub Did : Call → Option WebDevice → Option WebDevice → List ℕ → Type 0
-Did DoesNothing old new handed = (new ≡ old) × (handed ≡ [])
-Did call old new handed = HandleAnswers call old new handed
+-- there was a device and there is one, and the value of a number is this text now
+pub record HandleGives (number : ℕ) (text : List ℕ) (old new : Option WebDevice) : Type 0 where
+  pub before : WebDevice
+  pub after : WebDevice
+  pub was : old ≡ Some before
+  pub is : new ≡ Some after
+  pub gives : Changes ghosts (write_value number text) before after
 
--- calls in turn on a handle that nothing else touches
+-- What a move did, by the clauses of its call: one that was refused, or that read a number, left the handle as it was and handed out
+-- nothing, and one that gave a value handed out nothing.
+abbrev pub Did : Move → Option WebDevice → Option WebDevice → List ℕ → Type 0
+Did (Makes DoesNothing) old new handed = (new ≡ old) × (handed ≡ [])
+Did (Makes call) old new handed = HandleAnswers call old new handed
+Did (Gives number text) old new handed = HandleGives number text old new × (handed ≡ [])
+
+-- moves in turn on a handle that nothing else touches
 abbrev pub DidAll : List Answered → Option WebDevice → Option WebDevice → Type 0
 DidAll [] a c = a ≡ c
-DidAll (it ∷ all) a c = (b : Option WebDevice) × Did it.call a b it.handed × DidAll all b c
+DidAll (it ∷ all) a c = (b : Option WebDevice) × Did it.move a b it.handed × DidAll all b c
 
 -- the text that is left to be handed out of the device of a handle
 abbrev pub left_text_in : Option WebDevice → List ℕ
 left_text_in None = []
 left_text_in (Some d) = left_text_of d
 
--- what was left of a text behind each of these calls
+-- what was left of a text behind each of these moves
 abbrev pub lefts_in : (all : List Answered) (a c : Option WebDevice) → DidAll all a c → List (List ℕ)
 lefts_in [] a c same = []
 lefts_in (it ∷ all) a c more = left_text_in more.0 ∷ lefts_in all more.0 c more.2

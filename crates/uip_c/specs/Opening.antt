@@ -1,23 +1,25 @@
 -- What opening a handle comes to.
 use Rattle.std.specs.List.{All}
-use Rattle.std.specs.Prelude.{◌≡◌, ℕ, List, ◌++◌, replicate, take, Ok, Err}
+use Rattle.std.specs.Prelude.{◌≡◌, ◌⊎◌, ℕ, List, ◌++◌, replicate, take, Ok, Err}
 use Rattle.std.specs.declared.option.Option.{Option}
 use Rattle.site_image.specs.declared.site_error.SiteError.{SiteError}
 use Rattle.site_image.specs.declared.site_error.SiteWhy.{SiteWhy}
 use Rattle.site_image.specs.Faults.{read_image}
 use Rattle.site_image.specs.Grammar.{IsImage}
-use Rattle.file_tree.specs.Site.{IsLoaded, SiteContent, files_of}
+use Rattle.file_tree.specs.Site.{HasSoundScripts, IsLoaded, SiteContent, files_of}
 use Rattle.app_events.specs.Pages.{IsByte}
 use Rattle.site_report.specs.Report.{why_word}
-use Rattle.uip_device.specs.WebDevices.{WebDevice}
+use Rattle.device_values.specs.Words.{word_calls}
+use Rattle.uip_device.specs.WebDevices.{IsLongWithValues, WebDevice}
 use Rattle.uip_c.specs.Handles.{OpensAs}
 
--- the image stands for the files of a site by the grammar and is read as them, the site was loaded and is bytes, and a device was opened
--- with the files at this address
+-- the image stands for the files of a site by the grammar and is read as them, the site was loaded, is bytes and has no page that can be
+-- too long, whatever its scripts call, and a device was opened with the files at this address
 pub record OpensFine (image own : List ℕ) (old new : Option WebDevice) : Type 0 where
   pub site : SiteContent
   pub loaded : IsLoaded site
   pub bytes : All IsByte site.image
+  pub sound : HasSoundScripts word_calls (files_of site)
   pub read : read_image image ≡ Ok (files_of site)
   pub spelled : IsImage image (files_of site)
   pub opened : OpensAs (files_of site) (record { 0 = own }) old new
@@ -26,6 +28,7 @@ pub record OpensFine (image own : List ℕ) (old new : Option WebDevice) : Type 
 abbrev pub IsWordOf : SiteWhy → List ℕ → Type 0
 IsWordOf why word = word ≡ take 8 (why_word why ++ replicate 8 0)
 
--- the entry and the word are those of the image's first fault
+-- the entry and the word are those of the image's first fault, or of a page that can be too long once scripts show values
 abbrev pub TellsFault : List ℕ → ℕ → List ℕ → Type 0
-TellsFault image entry word = (error : SiteError) × (read_image image ≡ Err error) × (entry ≡ error.entry) × IsWordOf error.why word
+TellsFault image entry word =
+    (error : SiteError) × ((read_image image ≡ Err error) ⊎ IsLongWithValues image error) × (entry ≡ error.entry) × IsWordOf error.why word

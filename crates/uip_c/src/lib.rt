@@ -3,6 +3,7 @@
 
 mod calls;
 mod datagram_calls;
+mod giving;
 mod handle;
 mod held;
 mod laws;
@@ -14,11 +15,12 @@ mod tests;
 
 pub use calls::{LEAST_ROOM, uip_call, uip_hear, uip_more};
 pub use datagram_calls::{uip_call_datagram, uip_hear_datagram};
+pub use giving::uip_value;
 pub use handle::UipDevice;
 pub use held::Held;
 pub use laws::{
     calls_from_c_are_told, calls_from_c_keep_the_promise, constant_values, line_from_c_is_served,
 };
 pub use opening::{UipOpened, uip_close, uip_open};
-pub use reading::{UipNumber, uip_counter, uip_ticks};
+pub use reading::{UipNumber, uip_counter, uip_hits, uip_is_idle, uip_ticks};
 pub use status::{BAD_CALL, BAD_SITE, FINE, HAS_DEVICE, NO_DEVICE, NO_MEMORY, TEXT_LEFT, UipDone};

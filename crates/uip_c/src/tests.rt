@@ -3,10 +3,11 @@ ghost use Rattle.std.specs.declared.option.Option.TheVariants.{None};
 
 use crate::calls::{uip_call, uip_hear, uip_more};
 use crate::datagram_calls::{uip_call_datagram, uip_hear_datagram};
+use crate::giving::uip_value;
 use crate::handle::UipDevice;
 use crate::held::Held;
 use crate::opening::{UipOpened, uip_close, uip_open};
-use crate::reading::{uip_counter, uip_ticks};
+use crate::reading::{uip_counter, uip_hits, uip_is_idle, uip_ticks};
 use crate::status::{BAD_CALL, BAD_SITE, FINE, HAS_DEVICE, NO_DEVICE, TEXT_LEFT, UipDone};
 use std::alloc::Global;
 use std::process::Abort;
@@ -50,6 +51,28 @@ const SECOND_PIECE: &[u8; 2] = &[219, 220];
 
 const LAST_PIECE: &[u8; 3] = &[219, 221, 192];
 
+/// An image with a script that shows value 3.
+const VALUE_IMAGE: &[u8] = b"UIPSITE1\0\x01\x08/v.shtml\0\0\0\x0ea=%! value 3\n!";
+
+/// A SYN from 10.0.0.2 to the port of the web (RFC 793).
+const SYN: &[u8; 40] = &[
+    69, 0, 0, 40, 0, 1, 0, 0, 64, 6, 102, 205, 10, 0, 0, 2, 10, 0, 0, 1, 4, 1, 0, 80, 0, 0, 3, 232,
+    0, 0, 0, 0, 80, 2, 32, 0, 115, 167, 0, 0,
+];
+
+/// Its request for the page, which acknowledges the SYN of the node.
+const GET: &[u8; 65] = &[
+    69, 0, 0, 65, 0, 1, 0, 0, 64, 6, 102, 180, 10, 0, 0, 2, 10, 0, 0, 1, 4, 1, 0, 80, 0, 0, 3, 233,
+    0, 0, 0, 1, 80, 24, 32, 0, 106, 50, 0, 0, 71, 69, 84, 32, 47, 118, 46, 115, 104, 116, 109, 108,
+    32, 72, 84, 84, 80, 47, 49, 46, 48, 13, 10, 13, 10,
+];
+
+/// It acknowledges the front of the page, up to the value.
+const HEAD_ACK: &[u8; 40] = &[
+    69, 0, 0, 40, 0, 1, 0, 0, 64, 6, 102, 205, 10, 0, 0, 2, 10, 0, 0, 1, 4, 1, 0, 80, 0, 0, 4, 2,
+    0, 0, 0, 83, 80, 16, 32, 0, 115, 44, 0, 0,
+];
+
 fn no_device(alloc: Global) -> UipDevice {
     UipDevice {
         is_open: 0,
@@ -57,11 +80,16 @@ fn no_device(alloc: Global) -> UipDevice {
     }
 }
 
-/// A device of the image.
-fn opened(rt: &impl Abort, alloc: Global) -> UipDevice {
+/// A device of an image.
+fn opened_with(rt: &impl Abort, alloc: Global, image: &[u8]) -> UipDevice {
     let mut device = no_device(alloc);
-    assert_eq!(rt; uip_open(alloc, &mut device, IMAGE, OWN).status, FINE);
+    assert_eq!(rt; uip_open(alloc, &mut device, image, OWN).status, FINE);
     device
+}
+
+/// A device of the image without files.
+fn opened(rt: &impl Abort, alloc: Global) -> UipDevice {
+    opened_with(rt, alloc, IMAGE)
 }
 
 /// A handle without a device is let go.
@@ -144,6 +172,11 @@ fn a_call_without_a_device_says_so(rt: HostRuntime) {
     let called = uip_call(alloc, &mut device, 10, &mut out);
     assert_eq!(rt; called, answer(BAD_CALL));
     assert_eq!(rt; uip_counter(alloc, &mut device, 0).status, BAD_CALL);
+    assert_eq!(rt; uip_hits(alloc, &mut device, b"/v.shtml").status, NO_DEVICE);
+    assert_eq!(rt; uip_is_idle(alloc, &mut device).status, NO_DEVICE);
+    assert_eq!(rt; uip_value(alloc, &mut device, 15, b"7"), NO_DEVICE);
+    assert_eq!(rt; uip_value(alloc, &mut device, 16, b"7"), BAD_CALL);
+    assert_eq!(rt; uip_value(alloc, &mut device, 0, &[b'7'; 33]), BAD_CALL);
     assert_eq!(rt; uip_close(alloc, &mut device), NO_DEVICE);
     let_go(device);
 }
@@ -198,6 +231,38 @@ fn a_text_is_handed_on(rt: HostRuntime) {
     assert_eq!(rt; more, made(0, 3));
     assert!(rt; out.starts_with(LAST_PIECE));
     assert_eq!(rt; uip_more(alloc, &mut device, &mut out), answer(FINE));
+    assert_eq!(rt; uip_close(alloc, &mut device), FINE);
+    let_go(device);
+}
+
+/// A value changes between the first sending of its segment and the second, which has the first bytes.
+#[test]
+fn a_value_is_sent_again_as_it_was(rt: HostRuntime) {
+    let alloc = rt.alloc();
+    let mut device = opened_with(&rt, alloc, VALUE_IMAGE);
+    let mut first = [0; LARGEST_TEXT];
+    let mut again = [0; LARGEST_TEXT];
+    assert_eq!(rt; uip_value(alloc, &mut device, 3, b"4 & 5"), FINE);
+    assert_eq!(rt; uip_is_idle(alloc, &mut device).number, 1);
+    let rows: [(&[u8], usize); 3] = [(SYN, 44), (GET, 122), (HEAD_ACK, 46)];
+    for (datagram, wrote) in rows {
+        let heard = uip_hear_datagram(alloc, &mut device, datagram, &mut first);
+        assert_eq!(rt; heard, made(datagram.len(), wrote));
+    }
+    assert!(rt; first[40..].starts_with(b"4 & 5!"));
+
+    assert_eq!(rt; uip_value(alloc, &mut device, 3, b"changed"), FINE);
+    for _ in 0..3 {
+        let called = uip_call_datagram(alloc, &mut device, 0, &mut again);
+        assert_eq!(rt; called, answer(FINE));
+    }
+    let called = uip_call_datagram(alloc, &mut device, 0, &mut again);
+    assert_eq!(rt; called, made(0, 46));
+    assert!(rt; again[20..46] == first[20..46]);
+
+    assert_eq!(rt; uip_is_idle(alloc, &mut device).number, 0);
+    assert_eq!(rt; uip_hits(alloc, &mut device, b"/v.shtml").number, 1);
+    assert_eq!(rt; uip_hits(alloc, &mut device, b"/w.shtml").number, 0);
     assert_eq!(rt; uip_close(alloc, &mut device), FINE);
     let_go(device);
 }

@@ -1,4 +1,4 @@
--- What calls in turn hand out.
+-- What moves in turn hand out.
 use Rattle.std.proofs.Common.{◌≡◌, ℕ, Bool, true, false, List, [], ◌∷◌, ◌++◌, Option, None, if◌then◌else◌, map, refl, sym, ap, ◌∙◌, append-nil, append_assoc, subst}
 use Rattle.app_events.specs.Part.{Meaning}
 use Rattle.app_events.specs.declared.app.App.{Ghosts}
@@ -13,10 +13,11 @@ use Rattle.serve_loop.specs.SlipWay.{slip_way}
 use Rattle.serve_loop.specs.Texts.{text_of}
 use Rattle.serve_loop.specs.Turns.{IsNode}
 use Rattle.serve_loop.proofs.SlipServeLaws.{said_on_line}
-use Rattle.uip_device.specs.Calls.{Bring, Call, DoesNothing, HandsOn, bytes_of_call, events_by, is_by_datagram}
-use Rattle.uip_device.specs.Devices.{Answered, Answers, AnswersAll, HasHeard, IsFreshDevice, calls_of, datagrams_handed, left_text_of, line_handed}
+use Rattle.uip_device.specs.Calls.{Call, DoesNothing, HandsOn}
+use Rattle.uip_device.specs.Devices.{Answered, Answers, AnswersAll, AnswersMove, Changes, HasHeard, IsFreshDevice, datagrams_handed, left_text_of, line_handed, moves_of}
 use Rattle.uip_device.specs.Handing.{text_to_come}
-use Rattle.uip_device.specs.Output.{datagrams_sent, line_sent}
+use Rattle.uip_device.specs.Moves.{Bring, Gives, Makes, Move, Writing, bytes_of_move, events_of_move, goes_by_datagram, run_move}
+use Rattle.uip_device.specs.Output.{datagrams_sent, line_sent, node_behind}
 use Rattle.uip_device.specs.Sending.{HandsOut, datagram_sent}
 use Rattle.uip_device.specs.declared.device.Device.{Device}
 use Rattle.uip_device.proofs.CallLaws.{line_text}
@@ -57,40 +58,74 @@ module _ {A S : Type 0} (g : Ghosts A S) where
         (λ own. refl) (λ own. append-nil (left_text_of d) ∙ e);
   }
 
-  module _ (m : Meaning) (own : Addr) where
-    record Goes (before : List ℕ) (all : List Answered) (a c : Device A S) (n : AbstractNode) : Type 0 where
-      line : left_text_of a ++ line_sent m g.served own before (calls_of all) n ≡ line_handed all ++ left_text_of c
-      datagrams : datagrams_handed all ≡ datagrams_sent m g.served own before (calls_of all) n
+  module _ (m : Meaning) (own : Addr) (gives : Writing) where
+    -- one move: the device heard its bytes, its node stands behind it, and of what is sent this is handed out
+    pub record MovesOn (before : List ℕ) (move : Move) (a b : Device A S) (handed : List ℕ) (n : AbstractNode) : Type 0 where
+      pub kept : g.kept b.node.shared ≡ g.kept a.node.shared
+      pub heard : HasHeard (before ++ bytes_of_move move) b
+      pub stands : IsNode g m own b.node (run_move m g.served gives own before move n).node
+      pub hands : HandsOut (goes_by_datagram move) own (left_text_of a) handed (left_text_of b) (run_move m g.served gives own before move n).sent
 
-    goes : (before : List ℕ) (all : List Answered) (a c : Device A S) (n : AbstractNode) → IsNode g m own a.node n → HasHeard before a → AnswersAll g all a c → Goes before all a c n
-    goes before [] a c n stands heard same =
-        record { line = append-nil (left_text_of a) ∙ ap (λ (d : Device A S). left_text_of d) same; datagrams = refl }
+    pub moves_on : (before : List ℕ) (move : Move) (a b : Device A S) (handed : List ℕ) (n : AbstractNode) → IsNode g m own a.node n → HasHeard before a
+        → AnswersMove g gives move a b handed → MovesOn before move a b handed n
+    moves_on before (Makes call) a b handed n stands heard answers =
+        let sends = answers.sends before heard in
+        let first = sends.each m own n stands in
+        record { kept = sends.kept; heard = answers.heard before heard; stands = first.0; hands = first.1 }
+    moves_on before (Gives number text) a b handed n stands heard changes = record {
+      kept = changes.0.kept;
+      heard = subst (λ (l : List ℕ). HasHeard l b) (sym (append-nil before)) (changes.0.heard before heard);
+      stands = changes.0.stands m own n stands;
+      hands = append-nil (left_text_of a) ∙ sym changes.0.left ∙ ap (λ l. l ++ left_text_of b) (sym changes.1);
+    }
+
+    record Goes (before : List ℕ) (all : List Answered) (a c : Device A S) (n : AbstractNode) : Type 0 where
+      line : left_text_of a ++ line_sent m g.served gives own before (moves_of all) n ≡ line_handed all ++ left_text_of c
+      datagrams : datagrams_handed all ≡ datagrams_sent m g.served gives own before (moves_of all) n
+      stands : IsNode g m own c.node (node_behind m g.served gives own before (moves_of all) n)
+      kept : g.kept c.node.shared ≡ g.kept a.node.shared
+
+    goes : (before : List ℕ) (all : List Answered) (a c : Device A S) (n : AbstractNode) → IsNode g m own a.node n → HasHeard before a → AnswersAll g gives all a c → Goes before all a c n
+    goes before [] a c n stands heard same = record {
+      line = append-nil (left_text_of a) ∙ ap (λ (d : Device A S). left_text_of d) same;
+      datagrams = refl;
+      stands = subst (λ (d : Device A S). IsNode g m own d.node n) same stands;
+      kept = ap (λ (d : Device A S). g.kept d.node.shared) (sym same);
+    }
     goes before (it ∷ all) a c n stands heard more =
         let b = more.0 in
-        let answered : Answers g it.call a b it.handed = more.1 in
-        let v = is_by_datagram it.call in
-        let first = (answered.sends before heard).each m own n stands in
-        let behind = before ++ bytes_of_call it.call in
-        let here : AbstractNode = (run m g.served (events_by before it.call own) n).node in
-        let replies = (run m g.served (events_by before it.call own) n).sent in
-        let rest = goes behind all b c here first.0 (answered.heard before heard) more.2 in
+        let v = goes_by_datagram it.move in
+        let first : MovesOn before it.move a b it.handed n = moves_on before it.move a b it.handed n stands heard more.1 in
+        let behind = before ++ bytes_of_move it.move in
+        let here : AbstractNode = (run_move m g.served gives own before it.move n).node in
+        let replies = (run_move m g.served gives own before it.move n).sent in
+        let rest = goes behind all b c here first.stands first.heard more.2 in
         record {
-          line = line_step v own replies (left_text_of a) it.handed (left_text_of b) (line_sent m g.served own behind (calls_of all) here) (line_handed all) (left_text_of c) first.1 rest.line;
-          datagrams = datagram_step v own replies (left_text_of a) it.handed (left_text_of b) (datagrams_handed all) (datagrams_sent m g.served own behind (calls_of all) here) first.1 rest.datagrams;
+          line = line_step v own replies (left_text_of a) it.handed (left_text_of b) (line_sent m g.served gives own behind (moves_of all) here) (line_handed all) (left_text_of c) first.hands rest.line;
+          datagrams = datagram_step v own replies (left_text_of a) it.handed (left_text_of b) (datagrams_handed all) (datagrams_sent m g.served gives own behind (moves_of all) here) first.hands rest.datagrams;
+          stands = rest.stands;
+          kept = rest.kept ∙ first.kept;
         }
 
-  module _ (m : Meaning) (numbers : List ℕ) (own : Addr) (all : List Answered) (old new : Device A S) (fresh : IsFreshDevice g m numbers own old) (answered : AnswersAll g all old new) where
-    pub line_told : line_handed all ++ left_text_of new ≡ line_sent m g.served own [] (calls_of all) (opening own numbers)
-    line_told =
-        sym (goes m own [] all old new (opening own numbers) fresh.stands fresh.heard answered).line
-        ∙ ap (λ l. l ++ line_sent m g.served own [] (calls_of all) (opening own numbers)) (none_left old fresh.none)
+  module _ (m : Meaning) (gives : Writing) (numbers : List ℕ) (own : Addr) (all : List Answered) (old new : Device A S) (fresh : IsFreshDevice g m numbers own old) (answered : AnswersAll g gives all old new) where
+    whole : Goes m own gives [] all old new (opening own numbers)
+    whole = goes m own gives [] all old new (opening own numbers) fresh.stands fresh.heard answered
 
-    pub datagrams_told : datagrams_handed all ≡ datagrams_sent m g.served own [] (calls_of all) (opening own numbers)
-    datagrams_told = (goes m own [] all old new (opening own numbers) fresh.stands fresh.heard answered).datagrams
+    pub line_told : line_handed all ++ left_text_of new ≡ line_sent m g.served gives own [] (moves_of all) (opening own numbers)
+    line_told = sym whole.line ∙ ap (λ l. l ++ line_sent m g.served gives own [] (moves_of all) (opening own numbers)) (none_left old fresh.none)
 
-    pub line_served : (pace : ℕ) (items : List Item) → Bring pace items (calls_of all) → new.left ≡ None → line_handed all ≡ output_by slip_way m g.served numbers own pace items
+    pub datagrams_told : datagrams_handed all ≡ datagrams_sent m g.served gives own [] (moves_of all) (opening own numbers)
+    datagrams_told = whole.datagrams
+
+    pub node_stands : IsNode g m own new.node (node_behind m g.served gives own [] (moves_of all) (opening own numbers))
+    node_stands = whole.stands
+
+    pub same_kept : g.kept new.node.shared ≡ g.kept old.node.shared
+    same_kept = whole.kept
+
+    pub line_served : (pace : ℕ) (items : List Item) → Bring pace items (moves_of all) → new.left ≡ None → line_handed all ≡ output_by slip_way m g.served numbers own pace items
     line_served pace items bring none =
         sym (append-nil (line_handed all)) ∙ ap (λ l. line_handed all ++ l) (sym (none_left new none))
         ∙ line_told
-        ∙ line_text m g.served own pace items (calls_of all) (opening own numbers) bring
+        ∙ line_text m g.served gives own pace items (moves_of all) (opening own numbers) bring
         ∙ sym (said_on_line m g.served own pace items (opening_at own numbers))

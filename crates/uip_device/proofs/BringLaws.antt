@@ -1,4 +1,4 @@
--- What calls of bytes bring is of a line: datagrams of bytes, frames that are too long and calls of slots.
+-- What moves of bytes bring is of a line: datagrams of bytes, frames that are too long and calls of slots.
 use Rattle.std.specs.List.{All}
 use Rattle.std.proofs.Common.{ℕ, suc, ◌+◌, ◌<◌, List, [], ◌∷◌, ◌++◌, length, map, refl, sym, subst, arith, eqb, nat_le, append-nil, append_assoc}
 use Rattle.std.proofs.lemmas.List.Elements.{All-append}
@@ -17,8 +17,10 @@ use Rattle.serve_loop.specs.LineEvents.{beat, event_by, events_behind}
 use Rattle.serve_loop.specs.Pace.{is_beat}
 use Rattle.node_laws.specs.Wire.{IsOfLine}
 use Rattle.node_laws.specs.Wire.IsOfLine.{of_bytes, of_overlong, of_call}
-use Rattle.uip_device.specs.Calls.{Call, Calls, CallsByDatagram, DoesNothing, HandsOn, Hears, HearsDatagram, bytes_of_call, events_by, events_of_calls}
-use Rattle.uip_device.specs.Keeping.{IsOfBytes}
+use Rattle.node_laws.proofs.Steps.{LineStep, Happens, Changes as ChangesNumbers, IsStep, all_happen}
+use Rattle.uip_device.specs.Calls.{Call, Calls, CallsByDatagram, DoesNothing, HandsOn, Hears, HearsDatagram, events_by}
+use Rattle.uip_device.specs.Keeping.{IsOfBytes, KeepsWords}
+use Rattle.uip_device.specs.Moves.{Gives, Makes, Move, Writing, bytes_of_move}
 
 head_all : {X : Type 0} (P : X → Type 0) (x : X) (xs : List X) → All P (x ∷ xs) → P x
 head_all P x xs h = h 0 x (omega arith)
@@ -50,13 +52,14 @@ opens_low before (b ∷ bytes) are h =
     subst (λ l. All IsByte (open_part l)) (append_assoc before (b ∷ []) bytes)
     (opens_low (before ++ b ∷ []) bytes (tail_all IsByte b bytes are) (open_low before b (head_all IsByte b bytes are) h))
 
-call_low : (before : List ℕ) (call : Call) → IsOfBytes call → All IsByte (open_part before) → All IsByte (open_part (before ++ bytes_of_call call))
-call_low before (Hears bytes) is h = opens_low before bytes is h
-call_low before (Calls slot) is h = opens_low before [] (all_nil IsByte) h
-call_low before HandsOn is h = opens_low before [] (all_nil IsByte) h
-call_low before (HearsDatagram datagram) is h = opens_low before [] (all_nil IsByte) h
-call_low before (CallsByDatagram slot) is h = opens_low before [] (all_nil IsByte) h
-call_low before DoesNothing is h = opens_low before [] (all_nil IsByte) h
+move_low : (before : List ℕ) (move : Move) → IsOfBytes move → All IsByte (open_part before) → All IsByte (open_part (before ++ bytes_of_move move))
+move_low before (Makes (Hears bytes)) is h = opens_low before bytes is h
+move_low before (Makes (Calls slot)) is h = opens_low before [] (all_nil IsByte) h
+move_low before (Makes HandsOn) is h = opens_low before [] (all_nil IsByte) h
+move_low before (Makes (HearsDatagram datagram)) is h = opens_low before [] (all_nil IsByte) h
+move_low before (Makes (CallsByDatagram slot)) is h = opens_low before [] (all_nil IsByte) h
+move_low before (Makes DoesNothing) is h = opens_low before [] (all_nil IsByte) h
+move_low before (Gives number text) is h = opens_low before [] (all_nil IsByte) h
 
 module _ (own : Addr) where
   abbrev AllOf : List Event → Type 0
@@ -95,7 +98,16 @@ module _ (own : Addr) where
   one_brings : (event : Event) → IsOfLine own event → AllOf (event ∷ [])
   one_brings event is = all_cons (IsOfLine own) event [] is (all_nil (IsOfLine own))
 
-  call_brings : (before : List ℕ) (call : Call) → IsOfBytes call → All IsByte (open_part before) → AllOf (events_by before call own)
+  -- a move is these steps: the events that it brings, or a change of the numbers
+  abbrev pub steps_of_move : Writing → List ℕ → Move → List LineStep
+  steps_of_move gives before (Makes call) = map Happens (events_by before call own)
+  steps_of_move gives before (Gives number text) = ChangesNumbers (gives number text) ∷ []
+
+  abbrev pub steps_of : Writing → List ℕ → List Move → List LineStep
+  steps_of gives before [] = []
+  steps_of gives before (move ∷ moves) = steps_of_move gives before move ++ steps_of gives (before ++ bytes_of_move move) moves
+
+  call_brings : (before : List ℕ) (call : Call) → IsOfBytes (Makes call) → All IsByte (open_part before) → AllOf (events_by before call own)
   call_brings before (Hears bytes) is h = bytes_bring 0 before bytes h is
   call_brings before (Calls slot) is h = one_brings (Periodic slot) (of_call slot refl)
   call_brings before HandsOn is h = all_nil (IsOfLine own)
@@ -103,13 +115,17 @@ module _ (own : Addr) where
   call_brings before (CallsByDatagram slot) is h = one_brings (Periodic slot) (of_call slot refl)
   call_brings before DoesNothing is h = all_nil (IsOfLine own)
 
-  calls_behind_bring : (before : List ℕ) (calls : List Call) → All IsByte (open_part before) → All IsOfBytes calls → AllOf (events_of_calls before calls own)
-  calls_behind_bring before [] h are = all_nil (IsOfLine own)
-  calls_behind_bring before (call ∷ calls) h are =
-      let is : IsOfBytes call = head_all IsOfBytes call calls are in
-      let behind : List ℕ = before ++ bytes_of_call call in
-      All-append (IsOfLine own) (events_by before call own) (events_of_calls behind calls own)
-      (call_brings before call is h) (calls_behind_bring behind calls (call_low before call is h) (tail_all IsOfBytes call calls are))
+  move_steps : (gives : Writing) → KeepsWords gives → (before : List ℕ) (move : Move) → IsOfBytes move → All IsByte (open_part before) → All (IsStep own) (steps_of_move gives before move)
+  move_steps gives words before (Makes call) is h = all_happen own (events_by before call own) (call_brings before call is h)
+  move_steps gives words before (Gives number text) is h = all_cons (IsStep own) (ChangesNumbers (gives number text)) [] (λ numbers are. words number text numbers is are) (all_nil (IsStep own))
 
-  pub calls_bring : (calls : List Call) → All IsOfBytes calls → AllOf (events_of_calls [] calls own)
-  calls_bring calls are = calls_behind_bring [] calls (all_nil IsByte) are
+  steps_behind : (gives : Writing) → KeepsWords gives → (before : List ℕ) (moves : List Move) → All IsByte (open_part before) → All IsOfBytes moves → All (IsStep own) (steps_of gives before moves)
+  steps_behind gives words before [] h are = all_nil (IsStep own)
+  steps_behind gives words before (move ∷ moves) h are =
+      let is : IsOfBytes move = head_all IsOfBytes move moves are in
+      let behind : List ℕ = before ++ bytes_of_move move in
+      All-append (IsStep own) (steps_of_move gives before move) (steps_of gives behind moves)
+      (move_steps gives words before move is h) (steps_behind gives words behind moves (move_low before move is h) (tail_all IsOfBytes move moves are))
+
+  pub steps_are : (gives : Writing) → KeepsWords gives → (moves : List Move) → All IsOfBytes moves → All (IsStep own) (steps_of gives [] moves)
+  steps_are gives words moves are = steps_behind gives words [] moves (all_nil IsByte) are

@@ -15,7 +15,8 @@ use Rattle.serve_loop.specs.LineEvents.{beat, event_by, events_behind, line_even
 use Rattle.serve_loop.specs.Pace.{is_beat}
 use Rattle.serve_loop.specs.Texts.{text_of}
 use Rattle.serve_loop.proofs.RunLaws.{run-text-append}
-use Rattle.uip_device.specs.Calls.{Bring, Call, Calls, CallsByDatagram, DoesNothing, HandsOn, Hears, HearsDatagram, byte_calls, bytes_of_call, calls_behind, events_by, events_of_calls, is_by_datagram, tick_calls}
+use Rattle.uip_device.specs.Calls.{Call, Calls, CallsByDatagram, DoesNothing, HandsOn, Hears, HearsDatagram, byte_calls, bytes_of_call, calls_behind, events_by, events_of_calls, is_by_datagram, tick_calls}
+use Rattle.uip_device.specs.Moves.{Bring, Makes, Move, Writing}
 use Rattle.uip_device.specs.Output.{line_sent}
 
 module _ (own : Addr) where
@@ -75,8 +76,8 @@ module _ (own : Addr) where
   item_events pace count before (Quiet ∷ items) same =
       tick_events before (calls_behind pace count items) ∙ ap (λ l. tick ++ l) (item_events pace count before items same)
 
-  line_brought : (pace : ℕ) (items : List Item) (calls : List Call) → Bring pace items calls → events_of_calls [] calls own ≡ line_events own pace items
-  line_brought pace items calls bring = sym (cut_events [] calls) ∙ ap (λ l. events_of_calls [] l own) bring.cut ∙ item_events pace 0 [] items refl
+  line_brought : (pace : ℕ) (items : List Item) (moves : List Move) (bring : Bring pace items moves) → events_of_calls [] bring.calls own ≡ line_events own pace items
+  line_brought pace items moves bring = sym (cut_events [] bring.calls) ∙ ap (λ l. events_of_calls [] l own) bring.cut ∙ item_events pace 0 [] items refl
 
 -- no call is over a link that carries datagrams
 abbrev pub AllOnLine : List Call → Type 0
@@ -112,21 +113,22 @@ cut_on_line (CallsByDatagram slot ∷ calls) on = absurd (cc on.0)
 cut_on_line (DoesNothing ∷ calls) on = (refl, cut_on_line calls on)
 
 -- what is sent at such calls is what is sent over all that they bring
-sent_on_line : (m : Meaning) (served : ℕ → Bool) (own : Addr) (before : List ℕ) (calls : List Call) (n : AbstractNode) → AllOnLine calls
-    → line_sent m served own before calls n ≡ text_of own (run m served (events_of_calls before calls own) n).sent
-sent_on_line m served own before [] n on = refl
-sent_on_line m served own before (call ∷ calls) n on =
+sent_on_line : (m : Meaning) (served : ℕ → Bool) (gives : Writing) (own : Addr) (before : List ℕ) (calls : List Call) (n : AbstractNode) → AllOnLine calls
+    → line_sent m served gives own before (map Makes calls) n ≡ text_of own (run m served (events_of_calls before calls own) n).sent
+sent_on_line m served gives own before [] n on = refl
+sent_on_line m served gives own before (call ∷ calls) n on =
     let events = events_by before call own in
     let behind = before ++ bytes_of_call call in
     let here : AbstractNode = (run m served events n).node in
     let text = text_of own (run m served events n).sent in
-    ap (λ v. (if v then [] else text) ++ line_sent m served own behind calls here) on.0
-    ∙ ap (λ l. text ++ l) (sent_on_line m served own behind calls here on.1)
+    ap (λ v. (if v then [] else text) ++ line_sent m served gives own behind (map Makes calls) here) on.0
+    ∙ ap (λ l. text ++ l) (sent_on_line m served gives own behind calls here on.1)
     ∙ sym (run-text-append m served own events (events_of_calls behind calls own) n)
 
 -- and so it is what is sent over the events of a line whose items they bring
-pub line_text : (m : Meaning) (served : ℕ → Bool) (own : Addr) (pace : ℕ) (items : List Item) (calls : List Call) (n : AbstractNode) → Bring pace items calls
-    → line_sent m served own [] calls n ≡ text_of own (run m served (line_events own pace items) n).sent
-line_text m served own pace items calls n bring =
-    sent_on_line m served own [] calls n (cut_on_line calls (subst (λ (l : List Call). AllOnLine l) (sym bring.cut) (items_on_line pace 0 items)))
-    ∙ ap (λ l. text_of own (run m served l n).sent) (line_brought own pace items calls bring)
+pub line_text : (m : Meaning) (served : ℕ → Bool) (gives : Writing) (own : Addr) (pace : ℕ) (items : List Item) (moves : List Move) (n : AbstractNode) → Bring pace items moves
+    → line_sent m served gives own [] moves n ≡ text_of own (run m served (line_events own pace items) n).sent
+line_text m served gives own pace items moves n bring =
+    ap (λ (l : List Move). line_sent m served gives own [] l n) bring.made
+    ∙ sent_on_line m served gives own [] bring.calls n (cut_on_line bring.calls (subst (λ (l : List Call). AllOnLine l) (sym bring.cut) (items_on_line pace 0 items)))
+    ∙ ap (λ l. text_of own (run m served l n).sent) (line_brought own pace items moves bring)

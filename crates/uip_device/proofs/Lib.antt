@@ -5,3 +5,4 @@ pub mod FrameLaws
 pub mod HandLaws
 pub mod KeepLaws
 pub mod SendLaws
+pub mod WebLaws

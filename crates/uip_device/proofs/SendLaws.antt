@@ -1,5 +1,5 @@
 -- What a node sends at its steps.
-use Rattle.std.proofs.Common.{◌≡◌, ℕ, List, [], ◌∷◌, ◌++◌, Option, true, false, sym, ap, ◌∙◌, append-nil, subst}
+use Rattle.std.proofs.Common.{◌≡◌, ℕ, List, [], ◌∷◌, ◌++◌, Option, true, false, refl, sym, ap, ◌∙◌, append-nil, subst}
 use Rattle.app_events.specs.Part.{Meaning}
 use Rattle.app_events.specs.declared.app.App.{Ghosts}
 use Rattle.uip_wire.specs.declared.addr.Addr.{Addr}
@@ -22,6 +22,7 @@ module _ {A S : Type 0} (g : Ghosts A S) where
   pub sends_none : (events : Addr → List Event) (a : Node A S) (P : Addr → List Reply → Type 0) → ((own : Addr) → events own ≡ []) → ((own : Addr) → P own [])
       → SendsOver g events a a P
   sends_none events a P none q = record {
+    kept = refl;
     each = λ m own n p. (
       subst (λ (l : List Event). IsNode g m own a (run m g.served l n).node) (sym (none own)) p,
       subst (λ (l : List Event). P own (run m g.served l n).sent) (sym (none own)) (q own),
@@ -31,6 +32,7 @@ module _ {A S : Type 0} (g : Ghosts A S) where
   pub sends_by : (events others : Addr → List Event) (a b : Node A S) (P : Addr → List Reply → Type 0) → ((own : Addr) → others own ≡ events own)
       → SendsOver g events a b P → SendsOver g others a b P
   sends_by events others a b P same v = record {
+    kept = v.kept;
     each = λ m own n p. (
       subst (λ (l : List Event). IsNode g m own b (run m g.served l n).node) (sym (same own)) (v.each m own n p).0,
       subst (λ (l : List Event). P own (run m g.served l n).sent) (sym (same own)) (v.each m own n p).1,
@@ -40,6 +42,7 @@ module _ {A S : Type 0} (g : Ghosts A S) where
   pub sends_so : (events : Addr → List Event) (a b : Node A S) (P Q : Addr → List Reply → Type 0) → ((own : Addr) (replies : List Reply) → P own replies → Q own replies)
       → SendsOver g events a b P → SendsOver g events a b Q
   sends_so events a b P Q on v = record {
+    kept = v.kept;
     each = λ m own n p. ((v.each m own n p).0, on own (run m g.served (events own) n).sent (v.each m own n p).1);
   }
 
@@ -47,7 +50,7 @@ module _ {A S : Type 0} (g : Ghosts A S) where
   pub sends_overlong : (a b : Node A S) (P : Addr → List Reply → Type 0) → g.kept b.shared ≡ g.kept a.shared
       → ((n : AbstractNode) → Stands g a n n.past → Stands g b (step (g.meaning (g.kept a.shared)) g.served n Overlong).node (seen Overlong n.past))
       → ((own : Addr) → P own []) → SendsOver g (λ own. Overlong ∷ []) a b P
-  sends_overlong a b P same steps q = record { each = λ m own n p. (node_on g m own a b Overlong n same (steps n p.stands) p, q own) }
+  sends_overlong a b P same steps q = record { kept = same; each = λ m own n p. (node_on g m own a b Overlong n same (steps n p.stands) p, q own) }
 
   -- one event
   sends_one : (event : Addr → Event) (a b : Node A S) (result : Option ℕ) (P : Addr → List Reply → Type 0) → g.kept b.shared ≡ g.kept a.shared
@@ -55,6 +58,7 @@ module _ {A S : Type 0} (g : Ghosts A S) where
       → ((own : Addr) (reply : Option Reply) → IsSent own reply result b.packet → P own (joined reply []))
       → SendsOver g (λ own. event own ∷ []) a b P
   sends_one event a b result P same steps sent = record {
+    kept = same;
     each = λ m own n p.
         let both = node_step g m own a b result (event own) n same (steps own n p.address p.stands) p in
         (both.0, sent own (step m g.served n (event own)).sent both.1);

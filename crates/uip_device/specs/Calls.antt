@@ -1,5 +1,5 @@
 -- What a caller does to a device, and what that brings to its node.
-use Rattle.std.specs.Prelude.{◌≡◌, ℕ, Bool, true, false, ◌+◌, List, [], ◌∷◌, ◌++◌, map, if◌then◌else◌}
+use Rattle.std.specs.Prelude.{ℕ, Bool, true, false, ◌+◌, List, [], ◌∷◌, ◌++◌, map, if◌then◌else◌}
 use Rattle.std.specs.List.{flat_map}
 use Rattle.uip_wire.specs.declared.addr.Addr.{Addr}
 use Rattle.uip_edge.specs.declared.item.Item.{Item}
@@ -66,7 +66,3 @@ byte_calls HandsOn = []
 byte_calls (HearsDatagram datagram) = HearsDatagram datagram ∷ []
 byte_calls (CallsByDatagram slot) = CallsByDatagram slot ∷ []
 byte_calls DoesNothing = []
-
--- The calls bring the items of a line at a pace, in order, however its bytes are cut among the calls.
-pub record Bring (pace : ℕ) (items : List Item) (calls : List Call) : Type 0 where
-  pub cut : flat_map byte_calls calls ≡ calls_behind pace 0 items

@@ -12,9 +12,10 @@ use Rattle.serve_loop.specs.Texts.{text_of}
 use Rattle.serve_loop.specs.Turns.{IsNode}
 
 -- Over these events, which its address may tell, a node went on: whatever abstract node it stood for, it stands where the run over
--- the events leads, and this holds of what the run sends.
+-- the events leads, and this holds of what the run sends. What its application keeps, as a site, stays.
 pub record SendsOver {A S : Type 0} (g : Ghosts A S) (events : Addr → List Event) (old new : Node A S)
     (P : Addr → List Reply → Type 0) : Type 0 where
+  pub kept : g.kept new.shared ≡ g.kept old.shared
   pub each : (m : Meaning) (own : Addr) (n : AbstractNode) → IsNode g m own old n
       → IsNode g m own new (run m g.served (events own) n).node × P own (run m g.served (events own) n).sent
 

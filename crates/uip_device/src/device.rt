@@ -98,7 +98,7 @@ impl<A: App> Device<A> {
     ghost use Rattle.uip_node.specs.Node.{AbstractNode};
     ghost use Rattle.uip_node.specs.StandsFor.{Stands};
     ghost use Rattle.uip_device.specs.Calls.{Calls, CallsByDatagram, HandsOn, Hears, HearsDatagram};
-    ghost use Rattle.uip_device.specs.Devices.{Answers, IsFreshDevice, IsSoundDevice};
+    ghost use Rattle.uip_device.specs.Devices.{Answers, IsFreshDevice, IsSoundDevice, is_node_idle};
 
     /// A device at an address whose application's connections share a value. After this no call of it takes memory.
     pub fn new(alloc: Global, own: Addr, shared: A::Shared) -> Result<Device<A>, NoMemory>
@@ -210,6 +210,13 @@ impl<A: App> Device<A> {
         ensures { (n : AbstractNode) → Stands A.App self.now.node n n.past → result ≡ ticks_of n.past }
     {
         self.node.counts.ticks
+    }
+
+    /// Whether no connection is open. Then a tick does nothing but count.
+    pub fn is_idle(&self) -> bool
+        ensures { (n : AbstractNode) → Stands A.App self.now.node n n.past → result ≡ is_node_idle n }
+    {
+        self.node.now().rows.list.is_empty()
     }
 
     /// The counter in a place below 20, modulo 2^32.

@@ -1,32 +1,36 @@
 //! A device with the web server of a site is opened.
 
+ghost use Rattle.std.specs.Prelude.{◌≡◌, ◌++◌, IfOk};
 ghost use Rattle.std.specs.List.{All};
 ghost use Rattle.app_events.specs.Pages.{IsByte};
-ghost use Rattle.file_tree.specs.Site.{IsLoaded};
-ghost use Rattle.uip_device.specs.WebDevices.{OpensDevice};
+ghost use Rattle.file_tree.specs.Site.{IsLoaded, files_of};
+ghost use Rattle.site_image.specs.Faults.{fault};
+ghost use Rattle.site_image.specs.declared.site_error.SiteWhy.TheVariants.{PageTooLong};
+ghost use Rattle.uip_device.specs.WebDevices.{OpensDevice, first_numbers};
 
 use crate::device::Device;
+use crate::device_web::DeviceWeb;
+use crate::value_pages::ValuePages;
+use crate::web_device::WebDevice;
+use device_values::{Values, Word};
 use file_tree::{LoadFault, Site};
-use httpd::{Httpd, Web};
-use site_image::SiteError;
+use httpd::Web;
+use site_image::{SiteError, SiteWhy};
 use std::alloc::Global;
 use uip_edge::NoMemory;
 use uip_wire::Addr;
 
-/// A device with the web server of a site.
-pub type WebDevice = Device<Httpd>;
-
 /// Why a device was not opened.
 #[derive(Clone, Copy, Debug, PartialEq, Eq)]
 pub enum OpenFault {
-    /// The image has this first fault.
+    /// The image has this first fault, or a page of it can be too long once scripts show values.
     BadSite(SiteError),
     /// There was not enough memory.
     NoMemory,
 }
 
 /// What is kept by every site.
-fn see_loaded(site: &Site)
+pub(crate) fn see_loaded(site: &Site)
     ensures loaded { IsLoaded site.now }
     ensures bytes { All IsByte site.now.image }
 {
@@ -38,6 +42,28 @@ fn see_bytes(text: &[u8])
     ensures { All IsByte text.now }
 {}
 
+/// A page can have 2^30 bytes or more, which is told of the whole image.
+fn too_long() -> SiteError
+    ensures { result ≡ fault PageTooLong 0 }
+{
+    SiteError {
+        why: SiteWhy::PageTooLong,
+        entry: 0,
+    }
+}
+
+/// What the connections of the web server of a site share at first.
+fn web_of(alloc: Global, site: Site) -> Result<DeviceWeb, NoMemory>
+    ensures site { IfOk result (λ shared. shared.web.site ≡ site) }
+    ensures numbers { IfOk result (λ shared. shared.web.hits ++ shared.values.bytes ≡ first_numbers (files_of site)) }
+{
+    let web = Web::new(alloc, site)?;
+    Ok(DeviceWeb {
+        web,
+        values: Values::new(),
+    })
+}
+
 /// A device at an address with the site of an image, which is copied. After this no call of it takes memory.
 pub fn open_web(alloc: Global, image: &[u8], own: Addr) -> Result<WebDevice, OpenFault>
     ensures { OpensDevice image.now own result }
@@ -47,11 +73,14 @@ pub fn open_web(alloc: Global, image: &[u8], own: Addr) -> Result<WebDevice, Ope
         Err(LoadFault::Bad(error)) => return Err(OpenFault::BadSite(error)),
         Err(_) => return Err(OpenFault::NoMemory),
     };
+    if !site.are_scripts_sound::<Word>() {
+        return Err(OpenFault::BadSite(too_long()));
+    }
     see_loaded(&site);
-    let Ok(web) = Web::new(alloc, site) else {
+    let Ok(shared) = web_of(alloc, site) else {
         return Err(OpenFault::NoMemory);
     };
-    match Device::<Httpd>::new(alloc, own, web) {
+    match Device::<ValuePages>::new(alloc, own, shared) {
         Ok(device) => Ok(device),
         Err(NoMemory) => Err(OpenFault::NoMemory),
     }

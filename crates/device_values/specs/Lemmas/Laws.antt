@@ -1,21 +1,19 @@
 -- What a word of a device's script gives is short, and bytes.
 use Rattle.std.specs.List.{All}
-use Rattle.std.proofs.Common.{◌≡◌, ℕ, ◌+◌, ◌*◌, ◌/◌, ◌%◌, ◌<◌, ◌≤◌, ◌==◌, Bool, true, false, List, [], ◌∷◌, ◌++◌, length, map, min, take, flat_map, refl, ap, arith, length-append, length-take, if◌then◌else◌, Option, Some, None, lit<, lit≤}
+use Rattle.std.proofs.Common.{◌≡◌, ℕ, ◌+◌, ◌*◌, ◌/◌, ◌%◌, ◌<◌, ◌≤◌, ◌==◌, Bool, true, false, List, [], ◌∷◌, ◌++◌, length, map, min, take, flat_map, refl, arith, length-append, length-take, if◌then◌else◌, Option, Some, None, lit≤}
 use Rattle.std.specs.Prelude.{codes, nat_lt, slice_range}
 use Rattle.std.specs.List.{slice_index_or}
 use Rattle.std.specs.Option.{option_map_or}
 use Rattle.std.proofs.lemmas.List.{length-map}
 use Rattle.std.proofs.lemmas.Bool.{ltb-true}
 use Rattle.std.proofs.lemmas.List.Elements.{All-nil, All-cons, All-append, All-head, All-tail}
-use Rattle.app_events.specs.Pages.{IsByte, IsNow, IsWord}
-use Rattle.app_events.specs.declared.now.Now.{Now}
+use Rattle.app_events.specs.Pages.{IsByte}
 use Rattle.uip_wire.specs.Numerals.{numeral}
 use Rattle.generators.specs.Giving.{AreBytes, AreShort}
 use Rattle.generators.specs.Lemmas.Bytes.{literal_bytes, either_bytes, texts_bytes}
 use Rattle.generators.specs.Lemmas.Lengths.{texts_short}
 use Rattle.device_values.specs.declared.spelling.Spelling.{Spelling}
 use Rattle.device_values.specs.declared.spelling.Spelling.TheVariants.{Plain, Json, Html}
-use Rattle.device_values.specs.declared.word.Word.{Word}
 use Rattle.device_values.specs.declared.word.Word.TheVariants as word
 use Rattle.device_values.specs.Spellings.{hex_digit, html_byte, json_byte, spelled}
 use Rattle.device_values.specs.Values.{value_named, value_of}

@@ -1,4 +1,0 @@
-use Rattle.value_pages.proofs.value_pages.ValuePagesApp.connected.Goals as goal
-
-pub returns-clause-part : goal.returns-clause-part
-returns-clause-part c = c.fresh-self.ensures c.args._shared.now.web.site c.args._port.0
