@@ -5,6 +5,7 @@
 
 mod entry_place;
 mod file_id;
+mod flash_site;
 mod index;
 mod kind_word;
 mod load_fault;
@@ -14,15 +15,18 @@ mod pages;
 mod reading;
 mod site;
 mod table;
+mod tree;
 mod upgrading;
 mod writing;
 
 pub use file_id::FileId;
+pub use flash_site::FlashSite;
 pub use kind_word::KindWord;
 pub use load_fault::LoadFault;
 pub use loading::read_file;
 pub use packing::pack;
 pub use site::Site;
 pub use site_image::{LONGEST_IMAGE, Place, SiteError, SiteWhy, content_kind};
+pub use tree::Tree;
 pub use uip_edge::Held;
 pub use upgrading::upgrade;

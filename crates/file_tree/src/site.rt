@@ -10,12 +10,11 @@ ghost use Rattle.file_tree.specs.Opening.{Opens};
 ghost use Rattle.file_tree.specs.Site.{HasSoundScripts, files_of};
 
 use crate::file_id::FileId;
-use crate::index::find_id;
 use crate::load_fault::LoadFault;
 use crate::loading::read_file;
-use crate::pages::{are_scripts_sound, bytes_at, page_kind};
 use crate::reading::read_table;
 use crate::table::Table;
+use crate::tree::Tree;
 use script_lang::Calls;
 use site_image::{LONGEST_IMAGE, Place};
 use std::alloc::Global;
@@ -103,12 +102,19 @@ impl Site {
 
 /// What a site holds.
 impl Site {
+    /// The site as it is read.
+    pub fn tree(&self) -> Tree<'_>
+        ensures { result ≡ self.now }
+    {
+        Tree::of(&self.image, &self.files, &self.order)
+    }
+
     /// How many files there are.
     pub fn count(&self) -> usize
         ensures count { result ≡ length (files_of self.now) }
         ensures few { result ≤ MOST_FILES }
     {
-        self.files.len()
+        self.tree().count()
     }
 
     /// The file of that name, and `None` exactly where no file has it.
@@ -118,7 +124,7 @@ impl Site {
         ensures there { is_some result ≡ has_name (files_of self.now) name.now }
         ensures file { option_and_then (λ id. slice_get (files_of self.now) id.0) result ≡ file_named (files_of self.now) name.now }
     {
-        find_id(&self.image, &self.files, &self.order, name)
+        self.tree().find(name)
     }
 
     /// The name of a file.
@@ -126,8 +132,7 @@ impl Site {
         requires { id.0 < length (files_of self.now) }
         ensures { option_map (λ file. file.name) (slice_get (files_of self.now) id.0) ≡ Some result.now }
     {
-        let place = &self.files[id.0 as usize];
-        bytes_at(&self.image, place.name_at, place.name_len)
+        self.tree().name(id)
     }
 
     /// The bytes of a file.
@@ -135,8 +140,7 @@ impl Site {
         requires { id.0 < length (files_of self.now) }
         ensures { option_map (λ file. file.content) (slice_get (files_of self.now) id.0) ≡ Some result.now }
     {
-        let place = &self.files[id.0 as usize];
-        bytes_at(&self.image, place.at, place.len)
+        self.tree().bytes(id)
     }
 
     /// The content type of a file's page.
@@ -144,9 +148,7 @@ impl Site {
         requires { id.0 < length (files_of self.now) }
         ensures { option_map kind_of (slice_get (files_of self.now) id.0) ≡ Some result.now }
     {
-        let place = &self.files[id.0 as usize];
-        let name = bytes_at(&self.image, place.name_at, place.name_len);
-        page_kind(name, bytes_at(&self.image, place.kind_at, place.kind_len))
+        self.tree().kind(id)
     }
 
     /// The greatest length of a file's page.
@@ -154,7 +156,7 @@ impl Site {
         requires { id.0 < length (files_of self.now) }
         ensures { option_map (page_length (files_of self.now)) (slice_get (files_of self.now) id.0) ≡ Some result }
     {
-        self.files[id.0 as usize].greatest as usize
+        self.tree().greatest_page(id)
     }
 
     /// Whether no script has a fault where scripts call these functions: each include names a file, and no page can be
@@ -162,6 +164,6 @@ impl Site {
     pub fn are_scripts_sound<F: Calls>(&self) -> bool
         ensures { IsTrue result ↔ HasSoundScripts F.calling (files_of self.now) }
     {
-        are_scripts_sound::<F>(&self.image, &self.files, &self.order)
+        self.tree().are_scripts_sound::<F>()
     }
 }

@@ -74,14 +74,6 @@ reply_fits g text a site found e has =
 pub reply_found : {F R : Type 0} (g : Giving F) (text : R → List ℕ) (a : Pages R) (site : SiteContent) (found : Option FileId) → a.stage ≡ stage.Reply found → HasPart (PagesStand g text) a site → IsFound (files_of site) found
 reply_found g text a site found e has = found_told (files_of site) found (∥∥₁_map has (λ c. (replying g text a site c.0 found e c.1).1.there))
 
--- the same of the site that a web is seen to hold
-pub found_inside : {F R : Type 0} (g : Giving F) (text : R → List ℕ) (a : Pages R) (site inside : SiteContent) (found : Option FileId) → inside ≡ site → a.stage ≡ stage.Reply found → HasPart (PagesStand g text) a site → IsFound (files_of inside) found
-found_inside g text a site inside found same e has = subst (λ (s : SiteContent). IsFound (files_of s) found) (sym same) (reply_found g text a site found e has)
-
-pub fits_inside : {F R : Type 0} (g : Giving F) (text : R → List ℕ) (a : Pages R) (site inside : SiteContent) (found : Option FileId) → inside ≡ site → a.stage ≡ stage.Reply found → HasPart (PagesStand g text) a site
-    → Fits (reply_by g text inside found a.capture) a.thread
-fits_inside g text a site inside found same e has = subst (λ (s : SiteContent). Fits (reply_by g text s found a.capture) a.thread) (sym same) (reply_fits g text a site found e has)
-
 pub some_part : {F R : Type 0} (g : Giving F) (text : R → List ℕ) (a : Pages R) (site : SiteContent) (n : ℕ) → CanSay (means g) (PagesStand g text) a site n → HasPart (PagesStand g text) a site
 some_part g text a site n can = ∥∥₁_map can (λ c. (c.0, c.1))
 

@@ -14,11 +14,12 @@ ghost use Rattle.web_pages.specs.WebMeaning.{hits_by};
 ghost use Rattle.httpd.specs.Hearing.{HearsMethod, HearsTarget, HearsTo, IsDecided};
 ghost use Rattle.httpd.specs.Places.{IsFound};
 ghost use Rattle.httpd.specs.Reply.{found_file};
+ghost use Rattle.httpd.specs.Web.{IsCounted};
 
 use crate::stage::Stage;
 use crate::texts::see_loaded;
-use crate::web::{Web, hit, place_in};
-use file_tree::{FileId, Site};
+use crate::web::{hit, place_in};
+use file_tree::{FileId, Tree};
 use protosocket::{LineIn, Stops};
 use protothread::Hears;
 
@@ -102,7 +103,7 @@ fn name_asked(line: &LineIn) -> &[u8]
 }
 
 /// The file of the name that the line holds. No file has a name that is longer than what a line keeps.
-pub(crate) fn file_asked(site: &Site, line: &LineIn) -> Option<FileId>
+pub(crate) fn file_asked(site: &Tree<'_>, line: &LineIn) -> Option<FileId>
     ensures place { (bytes : List ℕ) → line.now ≡ heard SpaceOrLine bytes
         → option_map (λ id. id.0) result ≡ place_of (files_of site.now) (name_in (word_of SpaceOrLine bytes)) }
     ensures found { IsFound (files_of site.now) result }
@@ -117,19 +118,19 @@ pub(crate) fn file_asked(site: &Site, line: &LineIn) -> Option<FileId>
 }
 
 /// The stage that a request has come to. Where it asks for a file, that file is hit.
-pub(crate) fn decide(web: &mut Web, line: &LineIn, heard: Heard) -> Stage
-    ensures site { web.new.site ≡ web.old.site }
-    ensures stage { (request : List ℕ) → HearsTo heard line.now request → IsDecided (files_of web.old.site) line.now request result }
+pub(crate) fn decide(site: &Tree<'_>, hits: &mut [u32], line: &LineIn, heard: Heard) -> Stage
+    requires counted { IsCounted site.now hits.old }
+    ensures stage { (request : List ℕ) → HearsTo heard line.now request → IsDecided (files_of site.now) line.now request result }
     ensures hits { (request : List ℕ) → HearsTo heard line.now request
-        → web.new.hits ≡ hits_by (files_of web.old.site) web.old.hits NotYet (wanted request) }
+        → hits.new ≡ hits_by (files_of site.now) hits.old NotYet (wanted request) }
 {
     match heard {
         Heard::Method => Stage::Method,
         Heard::Target => Stage::Target,
         Heard::Refused => Stage::Refused,
         Heard::Named => {
-            let found = file_asked(&web.site, line);
-            hit(&mut web.hits, found);
+            let found = file_asked(site, line);
+            hit(hits, found);
             Stage::Reply { found }
         }
     }

@@ -8,6 +8,7 @@ ghost use Rattle.web_pages.specs.Requests.{wanted};
 ghost use Rattle.web_pages.specs.WebMeaning.{hits_by, web_meaning_by, web_want_by};
 ghost use Rattle.web_pages.specs.declared.TheConstants.{MOST_POLLS};
 ghost use Rattle.httpd.specs.HttpdStands.{PagesStand};
+ghost use Rattle.httpd.specs.Web.{IsCounted};
 
 use crate::hearing::{decide, hear_method, hear_target};
 use crate::saying::{acked_reply, due_call, fill_reply, want_reply};
@@ -15,6 +16,7 @@ use crate::stage::Stage;
 use crate::thread::Thread;
 use crate::web::{Web, hits_of};
 use app_events::{App, Ending, Now, Want};
+use file_tree::Tree;
 use generators::{Capture, Record};
 use protosocket::{LineIn, Stops};
 use uip_wire::{Port, WEB_PORT};
@@ -54,25 +56,25 @@ impl<R: Record> Pages<R> {
     }
 
     /// The next bytes from the peer. A file that they ask for is hit.
-    pub fn hear(&mut self, web: &mut Web, piece: &[u8])
-        ensures site { web.new.site ≡ web.old.site }
+    pub fn hear(&mut self, site: &Tree<'_>, hits: &mut [u32], piece: &[u8])
+        requires counted { IsCounted site.now hits.old }
         ensures part { let stands = PagesStand (gives R.Function.calling R.said) R.text in
-            (p : Part) → stands self.old web.old.site p
-            → stands self.new web.old.site (record p { heard = p.heard ++ piece.now; polls = 0 }) }
+            (p : Part) → stands self.old site.now p
+            → stands self.new site.now (record p { heard = p.heard ++ piece.now; polls = 0 }) }
         ensures hits { let stands = PagesStand (gives R.Function.calling R.said) R.text in
-            (p : Part) → stands self.old web.old.site p
-            → web.new.hits ≡ hits_by (files_of web.old.site) web.old.hits (wanted p.heard) (wanted (p.heard ++ piece.now)) }
+            (p : Part) → stands self.old site.now p
+            → hits.new ≡ hits_by (files_of site.now) hits.old (wanted p.heard) (wanted (p.heard ++ piece.now)) }
     {
         self.polls = 0;
         match self.stage {
             Stage::Method => {
                 let heard = hear_method(&mut self.line, piece);
-                self.stage = decide(web, &self.line, heard);
+                self.stage = decide(site, hits, &self.line, heard);
                 self.thread = Thread::Head { at: 0 };
             }
             Stage::Target => {
                 let heard = hear_target(&mut self.line, piece);
-                self.stage = decide(web, &self.line, heard);
+                self.stage = decide(site, hits, &self.line, heard);
                 self.thread = Thread::Head { at: 0 };
             }
             Stage::Reply { .. } => {}
@@ -81,27 +83,28 @@ impl<R: Record> Pages<R> {
     }
 
     /// Takes a capture, where the text that comes next needs one.
-    pub fn prepare_at(&mut self, web: &Web, own: &R::Own, now: &Now)
-        requires { HasPart (PagesStand (gives R.Function.calling R.said) R.text) self.old web.now.site }
+    pub fn prepare_at(&mut self, site: &Tree<'_>, hits: &[u32], own: &R::Own, now: &Now)
+        requires counted { IsCounted site.now hits.now }
+        requires part { HasPart (PagesStand (gives R.Function.calling R.said) R.text) self.old site.now }
         ensures { let g = gives R.Function.calling R.said in
-            (p : Part) → PagesStand g R.text self.old web.now.site p → PagesStand g R.text self.new web.now.site
-            ((web_meaning_by g (files_of web.now.site)).prepare (web.now.hits ++ R.own_numbers own.now) p now.now) }
+            (p : Part) → PagesStand g R.text self.old site.now p → PagesStand g R.text self.new site.now
+            ((web_meaning_by g (files_of site.now)).prepare (hits.now ++ R.own_numbers own.now) p now.now) }
     {
         if let Stage::Reply { found } = self.stage {
-            if let Some(due) = due_call(&web.site, found, &self.capture, self.thread) {
-                let hits = hits_of(&web.site, &web.hits, due.argument);
+            if let Some(due) = due_call(site, found, &self.capture, self.thread) {
+                let count = hits_of(site, hits, due.argument);
                 let thread = due.next;
-                self.capture = R::take(due.function, due.argument, hits, own, now);
+                self.capture = R::take(due.function, due.argument, count, own, now);
                 self.thread = thread;
             }
         }
     }
 
     /// What is wanted next. Nothing is outstanding.
-    pub fn want_of(&self, web: &Web) -> Want
-        requires { HasPart (PagesStand (gives R.Function.calling R.said) R.text) self.now web.now.site }
+    pub fn want_of(&self, site: &Tree<'_>) -> Want
+        requires { HasPart (PagesStand (gives R.Function.calling R.said) R.text) self.now site.now }
         ensures { let g = gives R.Function.calling R.said in
-            (p : Part) → PagesStand g R.text self.now web.now.site p → result ≡ web_want_by g (files_of web.now.site) p }
+            (p : Part) → PagesStand g R.text self.now site.now p → result ≡ web_want_by g (files_of site.now) p }
     {
         if self.polls == MOST_POLLS {
             return Want::Abort;
@@ -109,35 +112,35 @@ impl<R: Record> Pages<R> {
         match self.stage {
             Stage::Method | Stage::Target => Want::Nothing,
             Stage::Refused => Want::Close,
-            Stage::Reply { found } => want_reply(&web.site, found, &self.capture, self.thread),
+            Stage::Reply { found } => want_reply(site, found, &self.capture, self.thread),
         }
     }
 
     /// Writes the text from the acknowledged offset on, as much as `out` holds.
-    pub fn fill_from(&self, web: &Web, out: &mut [u8])
+    pub fn fill_from(&self, site: &Tree<'_>, out: &mut [u8])
         requires { let g = gives R.Function.calling R.said in
-            CanSay (λ site. web_meaning_by g (files_of site)) (PagesStand g R.text) self.now web.now.site (length out.old) }
+            CanSay (λ site. web_meaning_by g (files_of site)) (PagesStand g R.text) self.now site.now (length out.old) }
         ensures { let g = gives R.Function.calling R.said in
-            (p : Part) → PagesStand g R.text self.now web.now.site p
-            → out.new ≡ take (length out.old) (text_left (web_meaning_by g (files_of web.now.site)) p) }
+            (p : Part) → PagesStand g R.text self.now site.now p
+            → out.new ≡ take (length out.old) (text_left (web_meaning_by g (files_of site.now)) p) }
     {
         if let Stage::Reply { found } = self.stage {
-            fill_reply(&web.site, found, &self.capture, self.thread, out);
+            fill_reply(site, found, &self.capture, self.thread, out);
         }
     }
 
     /// So many bytes of the text are acknowledged.
-    pub fn pass(&mut self, web: &Web, count: usize)
+    pub fn pass(&mut self, site: &Tree<'_>, count: usize)
         requires { let g = gives R.Function.calling R.said in
-            CanSay (λ site. web_meaning_by g (files_of site)) (PagesStand g R.text) self.old web.now.site count }
+            CanSay (λ site. web_meaning_by g (files_of site)) (PagesStand g R.text) self.old site.now count }
         ensures { let stands = PagesStand (gives R.Function.calling R.said) R.text in
-            (p : Part) → stands self.old web.now.site p
-            → stands self.new web.now.site (record p { acked = p.acked + count; polls = 0 }) }
+            (p : Part) → stands self.old site.now p
+            → stands self.new site.now (record p { acked = p.acked + count; polls = 0 }) }
     {
         self.polls = 0;
         match self.stage {
             Stage::Reply { found } => {
-                self.thread = acked_reply(&web.site, found, &self.capture, self.thread, count);
+                self.thread = acked_reply(site, found, &self.capture, self.thread, count);
             }
             _ => {}
         }
@@ -188,23 +191,23 @@ impl App for Httpd {
     }
 
     fn newdata(&mut self, shared: &mut Web, piece: &[u8]) {
-        self.hear(shared, piece);
+        self.hear(&shared.site.tree(), &mut shared.hits, piece);
     }
 
     fn prepare(&mut self, shared: &Web, now: &Now) {
-        self.prepare_at(shared, &(), now);
+        self.prepare_at(&shared.tree(), &shared.hits, &(), now);
     }
 
     fn want(&self, shared: &Web) -> Want {
-        self.want_of(shared)
+        self.want_of(&shared.tree())
     }
 
     fn fill(&self, shared: &Web, out: &mut [u8]) {
-        self.fill_from(shared, out);
+        self.fill_from(&shared.tree(), out);
     }
 
     fn acked(&mut self, shared: &mut Web, count: usize) {
-        self.pass(shared, count);
+        self.pass(&shared.tree(), count);
     }
 
     fn polled(&mut self, _shared: &mut Web) {

@@ -17,7 +17,7 @@ use crate::span::{Look, Span};
 use crate::texts::{body_of, bytes_at, head_of, is_scripted, kind_of};
 use crate::thread::Thread;
 use crate::web::place_in;
-use file_tree::{FileId, Site};
+use file_tree::{FileId, Tree};
 use generators::Record;
 use protosocket::SendOut;
 use protothread::Run;
@@ -27,12 +27,12 @@ use web_pages::LARGEST_SEGMENT;
 /// What the thread sees.
 #[inline(always)]
 #[tactic(auto, using(crate::proofs::Seeing::keeps_same))]
-pub(crate) fn look<'a, R: Record>(
-    site: &'a Site,
+pub(crate) fn look<'s, 'c, R: Record>(
+    site: &Tree<'s>,
     found: Option<FileId>,
-    capture: &'a R,
+    capture: &'c R,
     thread: Thread,
-) -> Look<'a, R, R::Function>
+) -> Look<'s, 'c, R, R::Function>
     requires found { IsFound (files_of site.now) found }
     requires fits { Fits (reply_by (gives R.Function.calling R.said) R.text site.now found capture.now) thread }
     ensures sees { let reply = reply_by (gives R.Function.calling R.said) R.text site.now found capture.now in
@@ -54,7 +54,7 @@ pub(crate) fn look<'a, R: Record>(
 
 /// What is left of the bytes from a place on.
 #[inline(always)]
-fn rest_of<R: Record>(world: &[u8], at: u32) -> Span<'_, R, R::Function>
+fn rest_of<'s, 'c, R: Record>(world: &'s [u8], at: u32) -> Span<'s, 'c, R, R::Function>
     requires within { at ≤ length world.now }
     requires short { length world.now ≤ LONGEST_IMAGE }
     ensures { IsSpan R.text result (drop at world.now) }
@@ -64,7 +64,7 @@ fn rest_of<R: Record>(world: &[u8], at: u32) -> Span<'_, R, R::Function>
 
 /// A part of the bytes.
 #[inline(always)]
-fn part_of<R: Record>(world: &[u8], at: u32, end: u32) -> Span<'_, R, R::Function>
+fn part_of<'s, 'c, R: Record>(world: &'s [u8], at: u32, end: u32) -> Span<'s, 'c, R, R::Function>
     requires ordered { at ≤ end }
     requires within { end ≤ length world.now }
     requires short { length world.now ≤ LONGEST_IMAGE }
@@ -79,12 +79,12 @@ fn part_of<R: Record>(world: &[u8], at: u32, end: u32) -> Span<'_, R, R::Functio
 
 /// In the head.
 #[inline(always)]
-fn look_head<'a, R: Record>(
-    site: &'a Site,
+fn look_head<'s, 'c, R: Record>(
+    site: &Tree<'s>,
     found: Option<FileId>,
-    capture: &'a R,
+    capture: &'c R,
     at: u32,
-) -> Look<'a, R, R::Function>
+) -> Look<'s, 'c, R, R::Function>
     requires found { IsFound (files_of site.now) found }
     requires fits { Fits (reply_by (gives R.Function.calling R.said) R.text site.now found capture.now) (Thread.Head at) }
     ensures sees { let reply = reply_by (gives R.Function.calling R.said) R.text site.now found capture.now in
@@ -100,12 +100,12 @@ fn look_head<'a, R: Record>(
 
 /// In the line of the content type.
 #[inline(always)]
-fn look_kind<'a, R: Record>(
-    site: &'a Site,
+fn look_kind<'s, 'c, R: Record>(
+    site: &Tree<'s>,
     found: Option<FileId>,
-    capture: &'a R,
+    capture: &'c R,
     at: u32,
-) -> Look<'a, R, R::Function>
+) -> Look<'s, 'c, R, R::Function>
     requires found { IsFound (files_of site.now) found }
     requires fits { Fits (reply_by (gives R.Function.calling R.said) R.text site.now found capture.now) (Thread.Kind at) }
     ensures sees { let reply = reply_by (gives R.Function.calling R.said) R.text site.now found capture.now in
@@ -123,12 +123,12 @@ fn look_kind<'a, R: Record>(
 }
 
 /// In the body.
-fn look_body<'a, R: Record>(
-    site: &'a Site,
+fn look_body<'s, 'c, R: Record>(
+    site: &Tree<'s>,
     found: Option<FileId>,
-    capture: &'a R,
+    capture: &'c R,
     at: u32,
-) -> Look<'a, R, R::Function>
+) -> Look<'s, 'c, R, R::Function>
     requires found { IsFound (files_of site.now) found }
     requires fits { Fits (reply_by (gives R.Function.calling R.said) R.text site.now found capture.now) (Thread.Body at) }
     ensures sees { let reply = reply_by (gives R.Function.calling R.said) R.text site.now found capture.now in
@@ -146,12 +146,12 @@ fn look_body<'a, R: Record>(
 }
 
 /// In a script.
-fn look_script<'a, R: Record>(
-    site: &'a Site,
+fn look_script<'s, 'c, R: Record>(
+    site: &Tree<'s>,
     found: Option<FileId>,
-    capture: &'a R,
+    capture: &'c R,
     at: u32,
-) -> Look<'a, R, R::Function>
+) -> Look<'s, 'c, R, R::Function>
     requires found { IsFound (files_of site.now) found }
     requires script { is_scripted (found_file (files_of site.now) found) ≡ true }
     requires fits { IsBodyPlace (reply_by (gives R.Function.calling R.said) R.text site.now found capture.now) at }
@@ -170,12 +170,12 @@ fn look_script<'a, R: Record>(
 /// In a text run of a script that is longer than a segment: as much of it as a segment takes. So no look is dearer than that, however long
 /// a run is.
 #[inline(always)]
-fn look_run<'a, R: Record>(
-    site: &'a Site,
+fn look_run<'s, 'c, R: Record>(
+    site: &Tree<'s>,
     found: Option<FileId>,
-    capture: &'a R,
+    capture: &'c R,
     at: u32,
-) -> Look<'a, R, R::Function>
+) -> Look<'s, 'c, R, R::Function>
     requires found { IsFound (files_of site.now) found }
     requires script { is_scripted (found_file (files_of site.now) found) ≡ true }
     requires fits { IsBodyPlace (reply_by (gives R.Function.calling R.said) R.text site.now found capture.now) at }
@@ -195,12 +195,12 @@ fn look_run<'a, R: Record>(
 }
 
 /// At a piece of a script.
-fn look_piece<'a, R: Record>(
-    site: &'a Site,
+fn look_piece<'s, 'c, R: Record>(
+    site: &Tree<'s>,
     found: Option<FileId>,
-    capture: &'a R,
+    capture: &'c R,
     at: u32,
-) -> Look<'a, R, R::Function>
+) -> Look<'s, 'c, R, R::Function>
     requires found { IsFound (files_of site.now) found }
     requires script { is_scripted (found_file (files_of site.now) found) ≡ true }
     requires fits { IsBodyPlace (reply_by (gives R.Function.calling R.said) R.text site.now found capture.now) at }
@@ -238,13 +238,13 @@ fn look_piece<'a, R: Record>(
 }
 
 /// At an include.
-fn look_include<'a, R: Record>(
-    site: &'a Site,
+fn look_include<'s, 'c, R: Record>(
+    site: &Tree<'s>,
     found: Option<FileId>,
-    capture: &'a R,
+    capture: &'c R,
     next: u32,
     name: &[u8],
-) -> Look<'a, R, R::Function>
+) -> Look<'s, 'c, R, R::Function>
     requires found { IsFound (files_of site.now) found }
     requires inner { IsInner (reply_by (gives R.Function.calling R.said) R.text site.now found capture.now) next }
     requires directive { EndsInclude (reply_by (gives R.Function.calling R.said) R.text site.now found capture.now) next name.now }
@@ -259,27 +259,31 @@ fn look_include<'a, R: Record>(
 }
 
 /// At a piece that says nothing.
-fn look_nothing<'a, R: Record>(next: u32) -> Look<'a, R, R::Function>
+fn look_nothing<'s, 'c, R: Record>(next: u32) -> Look<'s, 'c, R, R::Function>
     ensures nothing { IsSpan R.text result.span [] }
     ensures here { result.here ≡ Thread.Body next }
     ensures next { result.next ≡ Thread.Body next }
 {
+    let run = Run { at: 0, end: 0 };
     Look {
-        span: rest_of(b"", 0),
+        span: Span::Bytes {
+            world: b"",
+            send: SendOut { run },
+        },
         here: Thread::Body { at: next },
         next: Thread::Body { at: next },
     }
 }
 
 /// In the bytes of an included file.
-fn look_inside<'a, R: Record>(
-    site: &'a Site,
+fn look_inside<'s, 'c, R: Record>(
+    site: &Tree<'s>,
     found: Option<FileId>,
-    capture: &'a R,
+    capture: &'c R,
     next: u32,
     file: FileId,
     at: u32,
-) -> Look<'a, R, R::Function>
+) -> Look<'s, 'c, R, R::Function>
     requires found { IsFound (files_of site.now) found }
     requires fits { let reply = reply_by (gives R.Function.calling R.said) R.text site.now found capture.now in
         Fits reply (Thread.Inside next file at) }
@@ -295,14 +299,14 @@ fn look_inside<'a, R: Record>(
 }
 
 /// At a call.
-fn look_call<'a, R: Record>(
-    site: &'a Site,
+fn look_call<'s, 'c, R: Record>(
+    site: &Tree<'s>,
     found: Option<FileId>,
-    capture: &'a R,
+    capture: &'c R,
     next: u32,
     function: R::Function,
-    argument: &'a [u8],
-) -> Look<'a, R, R::Function>
+    argument: &'s [u8],
+) -> Look<'s, 'c, R, R::Function>
     requires inner { IsInner (reply_by (gives R.Function.calling R.said) R.text site.now found capture.now) next }
     requires directive { EndsCall (reply_by (gives R.Function.calling R.said) R.text site.now found capture.now) next function argument.now }
     ensures sees { let reply = reply_by (gives R.Function.calling R.said) R.text site.now found capture.now in
@@ -320,13 +324,13 @@ fn look_call<'a, R: Record>(
 }
 
 /// In the text of a record.
-fn look_making<'a, R: Record>(
-    site: &'a Site,
+fn look_making<'s, 'c, R: Record>(
+    site: &Tree<'s>,
     found: Option<FileId>,
-    capture: &'a R,
+    capture: &'c R,
     next: u32,
     at: u32,
-) -> Look<'a, R, R::Function>
+) -> Look<'s, 'c, R, R::Function>
     requires { Fits (reply_by (gives R.Function.calling R.said) R.text site.now found capture.now) (Thread.Making next at) }
     ensures sees { let reply = reply_by (gives R.Function.calling R.said) R.text site.now found capture.now in
         Sees R.text reply (left_from reply (Thread.Making next at)) result }
@@ -342,7 +346,7 @@ fn look_making<'a, R: Record>(
 
 /// At the end.
 #[inline(always)]
-fn look_end<'a, R: Record>() -> Look<'a, R, R::Function>
+fn look_end<'s, 'c, R: Record>() -> Look<'s, 'c, R, R::Function>
     ensures span { result.span ≡ Span.End }
     ensures here { result.here ≡ Thread.End }
 {

@@ -13,13 +13,13 @@ use crate::looking::look;
 use crate::span::{Span, span_len, write_at};
 use crate::thread::{Thread, moved};
 use app_events::Want;
-use file_tree::{FileId, Site};
+use file_tree::{FileId, Tree};
 use generators::Record;
 use web_pages::LARGEST_SEGMENT;
 
 /// Writes the front of the text that is left, as much as `out` holds.
 pub(crate) fn fill_reply<R: Record>(
-    site: &Site,
+    site: &Tree<'_>,
     found: Option<FileId>,
     capture: &R,
     thread: Thread,
@@ -45,7 +45,7 @@ pub(crate) fn fill_reply<R: Record>(
 
 /// The thread after so many bytes of the text that is left.
 pub(crate) fn acked_reply<R: Record>(
-    site: &Site,
+    site: &Tree<'_>,
     found: Option<FileId>,
     capture: &R,
     thread: Thread,
@@ -76,7 +76,7 @@ pub(crate) fn acked_reply<R: Record>(
 
 /// What is wanted, by the text that is left and whether it ends the page.
 pub(crate) fn want_reply<R: Record>(
-    site: &Site,
+    site: &Tree<'_>,
     found: Option<FileId>,
     capture: &R,
     thread: Thread,
@@ -110,20 +110,20 @@ fn sent_or(other: Want, ready: usize) -> Want
 
 /// A call that is due: its record is to be taken.
 #[derive(Clone, Copy)]
-pub(crate) struct Due<'a, F> {
+pub(crate) struct Due<'s, F> {
     pub function: F,
-    pub argument: &'a [u8],
+    pub argument: &'s [u8],
     /// The front of the text of its record.
     pub next: Thread,
 }
 
 /// The call before which no text is left.
-pub(crate) fn due_call<'a, R: Record>(
-    site: &'a Site,
+pub(crate) fn due_call<'s, R: Record>(
+    site: &Tree<'s>,
     found: Option<FileId>,
-    capture: &'a R,
+    capture: &R,
     thread: Thread,
-) -> Option<Due<'a, R::Function>>
+) -> Option<Due<'s, R::Function>>
     requires found { IsFound (files_of site.now) found }
     requires fits { Fits (reply_by (gives R.Function.calling R.said) R.text site.now found capture.now) thread }
     ensures { let reply = reply_by (gives R.Function.calling R.said) R.text site.now found capture.now in

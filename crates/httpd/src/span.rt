@@ -14,20 +14,20 @@ use site_image::KIND_LINE_LEN;
 
 /// What is left of a piece.
 #[derive(Drop)]
-pub(crate) enum Span<'a, R, F> {
+pub(crate) enum Span<'s, 'c, R, F> {
     /// Bytes of the site, or of a fixed text.
     Bytes {
-        world: &'a [u8],
+        world: &'s [u8],
         send: SendOut,
     },
     /// The line of a content type, from place `at` on.
     Line {
-        kind: &'a [u8],
+        kind: &'s [u8],
         at: u32,
     },
     /// The text of a record, from place `at` on.
     Made {
-        capture: &'a R,
+        capture: &'c R,
         at: u32,
         /// The text's length.
         end: u32,
@@ -35,7 +35,7 @@ pub(crate) enum Span<'a, R, F> {
     /// A call whose record is not taken yet.
     Call {
         function: F,
-        argument: &'a [u8],
+        argument: &'s [u8],
     },
     /// All is said.
     End,
@@ -43,8 +43,8 @@ pub(crate) enum Span<'a, R, F> {
 
 /// What a thread sees where it stands.
 #[derive(Drop)]
-pub(crate) struct Look<'a, R, F> {
-    pub span: Span<'a, R, F>,
+pub(crate) struct Look<'s, 'c, R, F> {
+    pub span: Span<'s, 'c, R, F>,
     /// The same place, as one inside the piece, where it is a piece of text.
     pub here: Thread,
     /// Where the next piece begins. Behind a call it is the front of the text of its record.

@@ -9,7 +9,7 @@ ghost use Rattle.httpd.specs.Reply.{body_bytes, found_file, head_text, is_script
 ghost use Rattle.httpd.specs.Places.{IsFound};
 
 use arrayvec::ArrayVec;
-use file_tree::{FileId, Site};
+use file_tree::{FileId, Tree};
 use site_image::{KIND_LINE_LEN, LONGEST_KIND};
 
 /// The most bytes of the line of a content type.
@@ -19,7 +19,7 @@ const LONGEST_LINE: usize = LONGEST_KIND + KIND_LINE_LEN;
 pub(crate) const LONGEST_TEXT: usize = 4200;
 
 /// The head of a reply.
-pub(crate) fn head_of(site: &Site, found: Option<FileId>) -> &'static [u8]
+pub(crate) fn head_of(site: &Tree<'_>, found: Option<FileId>) -> &'static [u8]
     requires { IsFound (files_of site.now) found }
     ensures text { result.now ≡ head_text (found_file (files_of site.now) found) }
     ensures short { length result.now ≤ 60 }
@@ -31,14 +31,14 @@ pub(crate) fn head_of(site: &Site, found: Option<FileId>) -> &'static [u8]
 }
 
 /// What is kept by every site.
-pub(crate) fn see_loaded(site: &Site)
+pub(crate) fn see_loaded(site: &Tree<'_>)
     ensures { IsLoaded site.now }
 {
     let _ = &site.files;
 }
 
 /// The content type of a file.
-fn kind_at(site: &Site, id: FileId) -> &[u8]
+fn kind_at<'a>(site: &Tree<'a>, id: FileId) -> &'a [u8]
     requires { id.0 < length (files_of site.now) }
     ensures text { Some result.now ≡ option_map kind_of (slice_get (files_of site.now) id.0) }
     ensures short { length result.now ≤ LONGEST_KIND }
@@ -48,7 +48,7 @@ fn kind_at(site: &Site, id: FileId) -> &[u8]
 }
 
 /// The bytes of a file.
-pub(crate) fn bytes_at(site: &Site, id: FileId) -> &[u8]
+pub(crate) fn bytes_at<'a>(site: &Tree<'a>, id: FileId) -> &'a [u8]
     requires { id.0 < length (files_of site.now) }
     ensures text { result.now ≡ bytes_or [] (slice_get (files_of site.now) id.0) }
     ensures short { length result.now ≤ LONGEST_IMAGE }
@@ -58,7 +58,7 @@ pub(crate) fn bytes_at(site: &Site, id: FileId) -> &[u8]
 }
 
 /// The content type of a reply.
-pub(crate) fn kind_of(site: &Site, found: Option<FileId>) -> &[u8]
+pub(crate) fn kind_of<'a>(site: &Tree<'a>, found: Option<FileId>) -> &'a [u8]
     requires { IsFound (files_of site.now) found }
     ensures text { result.now ≡ kind_text (found_file (files_of site.now) found) }
     ensures short { length result.now ≤ LONGEST_KIND }
@@ -84,7 +84,7 @@ pub(crate) fn line_of(kind: &[u8]) -> ArrayVec<u8, LONGEST_LINE>
 }
 
 /// The bytes from which the body is said.
-pub(crate) fn body_of(site: &Site, found: Option<FileId>) -> &[u8]
+pub(crate) fn body_of<'a>(site: &Tree<'a>, found: Option<FileId>) -> &'a [u8]
     requires { IsFound (files_of site.now) found }
     ensures text { result.now ≡ body_bytes (files_of site.now) (found_file (files_of site.now) found) }
     ensures short { length result.now ≤ LONGEST_IMAGE }
@@ -96,7 +96,7 @@ pub(crate) fn body_of(site: &Site, found: Option<FileId>) -> &[u8]
 }
 
 /// The body where no file has the name.
-fn missing_body(site: &Site) -> &[u8]
+fn missing_body<'a>(site: &Tree<'a>) -> &'a [u8]
     ensures text { result.now ≡ body_bytes (files_of site.now) None }
     ensures short { length result.now ≤ LONGEST_IMAGE }
 {
@@ -108,7 +108,7 @@ fn missing_body(site: &Site) -> &[u8]
 }
 
 /// Whether the body is that of a script.
-pub(crate) fn is_scripted(site: &Site, found: Option<FileId>) -> bool
+pub(crate) fn is_scripted(site: &Tree<'_>, found: Option<FileId>) -> bool
     requires { IsFound (files_of site.now) found }
     ensures { result ≡ is_scripted (found_file (files_of site.now) found) }
 {

@@ -10,7 +10,7 @@ ghost use Rattle.httpd.specs.Places.{IsFound};
 ghost use Rattle.web_pages.specs.WebMeaning.{hit_at};
 
 use crate::texts::see_loaded;
-use file_tree::{FileId, Site};
+use file_tree::{FileId, Site, Tree};
 use std::alloc::{AllocError, Global};
 use std::marker::Model;
 use uip_edge::NoMemory;
@@ -49,10 +49,17 @@ impl Web {
         let hits = zeros(alloc, site.count())?;
         Ok(Web { site, hits })
     }
+
+    /// The site as it is read.
+    pub fn tree(&self) -> Tree<'_>
+        ensures { result ≡ self.now.site }
+    {
+        self.site.tree()
+    }
 }
 
 /// The hit count of the file of that name, 0 where no file has it.
-pub(crate) fn hits_of(site: &Site, hits: &[u32], name: &[u8]) -> u32
+pub(crate) fn hits_of(site: &Tree<'_>, hits: &[u32], name: &[u8]) -> u32
     requires { length hits.now ≡ length (files_of site.now) }
     ensures { result ≡ hits_of (files_of site.now) hits.now name.now }
 {
@@ -63,7 +70,7 @@ pub(crate) fn hits_of(site: &Site, hits: &[u32], name: &[u8]) -> u32
 }
 
 /// The file of that name, by its place among the files.
-pub(crate) fn place_in(site: &Site, name: &[u8]) -> Option<FileId>
+pub(crate) fn place_in(site: &Tree<'_>, name: &[u8]) -> Option<FileId>
     ensures place { option_map (λ id. id.0) result ≡ place_of (files_of site.now) name.now }
     ensures found { IsFound (files_of site.now) result }
     ensures file { found_file (files_of site.now) result ≡ file_named (files_of site.now) name.now }

@@ -20,7 +20,7 @@ use crate::texts::LONGEST_TEXT;
 use crate::thread::Thread;
 use app_events::{Now, RowList};
 use arrayvec::ArrayVec;
-use file_tree::{FileId, Site};
+use file_tree::{FileId, Site, Tree};
 use generators::{Capture, take};
 use protosocket::{LineIn, Stops};
 use script_lang::Function;
@@ -31,14 +31,15 @@ use uip_edge::{Failed, Sink};
 pub fn page_zero<K: Sink>(site: &Site, target: &[u8], sink: &mut K) -> Result<(), Failed>
     ensures { Writes (sink_told K.Sink sink.old) (sink_told K.Sink sink.new) result (zero_page (files_of site.now) target.now) }
 {
-    match asked(site, target) {
-        Some(found) => write_reply(site, found, sink),
+    let tree = site.tree();
+    match asked(&tree, target) {
+        Some(found) => write_reply(&tree, found, sink),
         None => say(sink, b""),
     }
 }
 
 /// The file that the request for a target asks for, where it asks for one.
-fn asked(site: &Site, target: &[u8]) -> Option<Option<FileId>>
+fn asked(site: &Tree<'_>, target: &[u8]) -> Option<Option<FileId>>
     ensures { IsAsked (files_of site.now) (wanted (request_for target.now)) result }
 {
     let mut line = LineIn::new(Stops::SpaceOrLine);
@@ -51,7 +52,7 @@ fn asked(site: &Site, target: &[u8]) -> Option<Option<FileId>>
 }
 
 /// The same where the target ends with the line.
-fn ended(site: &Site, mut line: LineIn) -> Option<Option<FileId>>
+fn ended(site: &Tree<'_>, mut line: LineIn) -> Option<Option<FileId>>
     ensures { (request : List ℕ) → HearsTarget line request → IsAsked (files_of site.now) (wanted (request ++ codes "\n")) result }
 {
     match hear_target(&mut line, b"\n") {
@@ -68,7 +69,7 @@ fn say<K: Sink>(sink: &mut K, piece: &[u8]) -> Result<(), Failed>
 }
 
 /// Writes the reply of a file that was found, or of none, as its thread says it.
-fn write_reply<K: Sink>(site: &Site, found: Option<FileId>, sink: &mut K) -> Result<(), Failed>
+fn write_reply<K: Sink>(site: &Tree<'_>, found: Option<FileId>, sink: &mut K) -> Result<(), Failed>
     requires { IsFound (files_of site.now) found }
     ensures { Writes (sink_told K.Sink sink.old) (sink_told K.Sink sink.new) result
         (zero_reply (files_of site.now) (found_file (files_of site.now) found)) }

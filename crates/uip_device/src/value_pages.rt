@@ -1,15 +1,36 @@
 //! The web server of a device on one connection.
 
+ghost use Rattle.std.specs.Prelude.{◌≡◌, ◌++◌};
+ghost use Rattle.app_events.specs.Part.{Part};
+ghost use Rattle.device_values.specs.Words.{record_text, words};
+ghost use Rattle.file_tree.specs.Site.{files_of};
+ghost use Rattle.httpd.specs.HttpdStands.{PagesStand};
+ghost use Rattle.web_pages.specs.Requests.{wanted};
+ghost use Rattle.web_pages.specs.WebMeaning.{hits_by};
+
 use crate::device_web::{DeviceWeb, see_counted};
 use app_events::{App, Ending, Now, Want};
 use device_values::ValueCapture;
-use httpd::Pages;
+use httpd::{Pages, Web};
 use uip_wire::{Port, WEB_PORT};
 
 /// The pages of a device on one connection.
 #[derive(Drop)]
 pub struct ValuePages {
     pub pages: Pages<ValueCapture>,
+}
+
+/// The next bytes from the peer. A file that they ask for is hit.
+fn hear(pages: &mut Pages<ValueCapture>, web: &mut Web, piece: &[u8])
+    ensures site { web.new.site ≡ web.old.site }
+    ensures part { let stands = PagesStand words record_text in
+        (p : Part) → stands pages.old web.old.site p
+        → stands pages.new web.old.site (record p { heard = p.heard ++ piece.now; polls = 0 }) }
+    ensures hits { let stands = PagesStand words record_text in
+        (p : Part) → stands pages.old web.old.site p
+        → web.new.hits ≡ hits_by (files_of web.old.site) web.old.hits (wanted p.heard) (wanted (p.heard ++ piece.now)) }
+{
+    pages.hear(&web.site.tree(), &mut web.hits, piece);
 }
 
 impl App for ValuePages {
@@ -53,23 +74,25 @@ impl App for ValuePages {
 
     fn newdata(&mut self, shared: &mut DeviceWeb, piece: &[u8]) {
         see_counted(&shared.web);
-        self.pages.hear(&mut shared.web, piece);
+        hear(&mut self.pages, &mut shared.web, piece);
     }
 
     fn prepare(&mut self, shared: &DeviceWeb, now: &Now) {
-        self.pages.prepare_at(&shared.web, &shared.values, now);
+        let web = &shared.web;
+        self.pages
+            .prepare_at(&web.tree(), &web.hits, &shared.values, now);
     }
 
     fn want(&self, shared: &DeviceWeb) -> Want {
-        self.pages.want_of(&shared.web)
+        self.pages.want_of(&shared.web.tree())
     }
 
     fn fill(&self, shared: &DeviceWeb, out: &mut [u8]) {
-        self.pages.fill_from(&shared.web, out);
+        self.pages.fill_from(&shared.web.tree(), out);
     }
 
     fn acked(&mut self, shared: &mut DeviceWeb, count: usize) {
-        self.pages.pass(&shared.web, count);
+        self.pages.pass(&shared.web.tree(), count);
     }
 
     fn polled(&mut self, _shared: &mut DeviceWeb) {

@@ -1,23 +1,20 @@
 use Rattle.std.proofs.Common.{◌≡◌, ◌≤◌, ℕ, List, [], ◌∷◌, length, take, sym, ap, subst, ◌∙◌, arith}
 use Rattle.generators.specs.Giving.{gives}
-use Rattle.httpd.specs.Web.{WebContent}
-use Rattle.httpd.specs.Lemmas.SameLeft.{left_in}
 use Rattle.httpd.specs.declared.stage.Stage.TheVariants as stage
-use Rattle.httpd.proofs.Standing.{can_say, quiet_zero, fits_inside, found_inside, some_part}
+use Rattle.httpd.proofs.Standing.{can_say, quiet_zero, reply_fits, reply_found, some_part}
 use Rattle.httpd.proofs.httpd.Pages.fill_from.Goals as goal
 
 pub fill_reply-requires-clause-found : goal.fill_reply-requires-clause-found
 fill_reply-requires-clause-found g c =
-    found_inside (gives g.R.Function.Calls.calling g.R.Record.said) g.R.Record.text c.args.self.now c.args.web.now.site _ c.in-Reply.found (ap (λ (w : WebContent). w.site) c.web.view_is) c.in-Reply.is (some_part (gives g.R.Function.Calls.calling g.R.Record.said) g.R.Record.text c.args.self.now c.args.web.now.site (length c.args.out.now) c.requires)
+    reply_found (gives g.R.Function.Calls.calling g.R.Record.said) g.R.Record.text c.args.self.now c.args.site.now c.in-Reply.found c.in-Reply.is (some_part (gives g.R.Function.Calls.calling g.R.Record.said) g.R.Record.text c.args.self.now c.args.site.now (length c.args.out.now) c.requires)
 
 pub fill_reply-requires-clause-fits : goal.fill_reply-requires-clause-fits
 fill_reply-requires-clause-fits g c =
-    fits_inside (gives g.R.Function.Calls.calling g.R.Record.said) g.R.Record.text c.args.self.now c.args.web.now.site _ c.in-Reply.found (ap (λ (w : WebContent). w.site) c.web.view_is) c.in-Reply.is (some_part (gives g.R.Function.Calls.calling g.R.Record.said) g.R.Record.text c.args.self.now c.args.web.now.site (length c.args.out.now) c.requires)
+    reply_fits (gives g.R.Function.Calls.calling g.R.Record.said) g.R.Record.text c.args.self.now c.args.site.now c.in-Reply.found c.in-Reply.is (some_part (gives g.R.Function.Calls.calling g.R.Record.said) g.R.Record.text c.args.self.now c.args.site.now (length c.args.out.now) c.requires)
 
 pub fill_reply-requires-clause-enough : goal.fill_reply-requires-clause-enough
 fill_reply-requires-clause-enough g c =
-    subst (λ site. length c.args.out.now ≤ length (left_in (gives g.R.Function.Calls.calling g.R.Record.said) g.R.Record.text c.args.self.now site (stage.Reply c.in-Reply.found))) (sym (ap (λ (w : WebContent). w.site) c.web.view_is))
-    (can_say (gives g.R.Function.Calls.calling g.R.Record.said) g.R.Record.text c.args.self.now c.args.web.now.site (length c.args.out.now) (stage.Reply c.in-Reply.found) c.in-Reply.is c.requires)
+    can_say (gives g.R.Function.Calls.calling g.R.Record.said) g.R.Record.text c.args.self.now c.args.site.now (length c.args.out.now) (stage.Reply c.in-Reply.found) c.in-Reply.is c.requires
 
 none_taken : (n : ℕ) (out text : List ℕ) → n ≡ 0 → n ≡ length out → out ≡ take n text
 none_taken n [] text e f = ap (λ k. take k text) (sym e)
@@ -25,4 +22,4 @@ none_taken n (x ∷ xs) text e f = absurd (omega (arith, e, f))
 
 pub returns-in_default : goal.returns-in_default
 returns-in_default g c = λ p s.
-    none_taken (length c.args.out.now) c.args.out.now _ (quiet_zero (gives g.R.Function.Calls.calling g.R.Record.said) g.R.Record.text c.args.self.now c.args.web.now.site (length c.args.out.now) c.in_default.not-Reply c.requires) Rattle.std.proofs.Common.refl
+    none_taken (length c.args.out.now) c.args.out.now _ (quiet_zero (gives g.R.Function.Calls.calling g.R.Record.said) g.R.Record.text c.args.self.now c.args.site.now (length c.args.out.now) c.in_default.not-Reply c.requires) Rattle.std.proofs.Common.refl
