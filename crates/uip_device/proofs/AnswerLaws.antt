@@ -1,22 +1,22 @@
 -- What moves in turn hand out.
-use Rattle.std.proofs.Common.{◌≡◌, ℕ, Bool, true, false, List, [], ◌∷◌, ◌++◌, Option, None, if◌then◌else◌, map, refl, sym, ap, ◌∙◌, append-nil, append_assoc, subst}
+use Rattle.std.proofs.Common.{◌≡◌, ℕ, Bool, true, false, List, [], ◌∷◌, ◌++◌, Option, None, if◌then◌else◌, refl, sym, ap, ◌∙◌, append-nil, append_assoc, subst}
 use Rattle.app_events.specs.Part.{Meaning}
 use Rattle.app_events.specs.declared.app.App.{Ghosts}
 use Rattle.packet_buffer.specs.Buffer.{datagram_in}
 use Rattle.uip_edge.specs.declared.item.Item.{Item}
 use Rattle.uip_slip.specs.Decoding.{WasFed}
 use Rattle.uip_node.specs.Events.{Reply}
-use Rattle.uip_node.specs.Node.{AbstractNode, opening, run}
+use Rattle.uip_node.specs.Node.{AbstractNode, opening}
 use Rattle.uip_wire.specs.declared.addr.Addr.{Addr}
 use Rattle.serve_loop.specs.LineOutput.{opening_at, output_by}
 use Rattle.serve_loop.specs.SlipWay.{slip_way}
 use Rattle.serve_loop.specs.Texts.{text_of}
 use Rattle.serve_loop.specs.Turns.{IsNode}
 use Rattle.serve_loop.proofs.SlipServeLaws.{said_on_line}
-use Rattle.uip_device.specs.Calls.{Call, DoesNothing, HandsOn}
-use Rattle.uip_device.specs.Devices.{Answered, Answers, AnswersAll, AnswersMove, Changes, HasHeard, IsFreshDevice, datagrams_handed, left_text_of, line_handed, moves_of}
+use Rattle.uip_device.specs.Calls.{DoesNothing, HandsOn}
+use Rattle.uip_device.specs.Devices.{Answered, Answers, AnswersAll, AnswersMove, HasHeard, IsFreshDevice, datagrams_handed, left_text_of, line_handed, moves_of}
 use Rattle.uip_device.specs.Handing.{text_to_come}
-use Rattle.uip_device.specs.Moves.{Bring, Gives, Makes, Move, Writing, bytes_of_move, events_of_move, goes_by_datagram, run_move}
+use Rattle.uip_device.specs.Moves.{Bring, Gives, Makes, Move, Writing, bytes_of_move, goes_by_datagram, run_move}
 use Rattle.uip_device.specs.Output.{datagrams_sent, line_sent, node_behind}
 use Rattle.uip_device.specs.Sending.{HandsOut, datagram_sent}
 use Rattle.uip_device.specs.declared.device.Device.{Device}

@@ -1,6 +1,5 @@
 -- What a node sends at its steps.
 use Rattle.std.proofs.Common.{◌≡◌, ℕ, List, [], ◌∷◌, ◌++◌, Option, true, false, refl, sym, ap, ◌∙◌, append-nil, subst}
-use Rattle.app_events.specs.Part.{Meaning}
 use Rattle.app_events.specs.declared.app.App.{Ghosts}
 use Rattle.uip_wire.specs.declared.addr.Addr.{Addr}
 use Rattle.uip_node.specs.declared.node.Node.{Node}

@@ -1,6 +1,5 @@
 -- What a caller does to a device, and what that brings to its node.
 use Rattle.std.specs.Prelude.{ℕ, Bool, true, false, ◌+◌, List, [], ◌∷◌, ◌++◌, map, if◌then◌else◌}
-use Rattle.std.specs.List.{flat_map}
 use Rattle.uip_wire.specs.declared.addr.Addr.{Addr}
 use Rattle.uip_edge.specs.declared.item.Item.{Item}
 use Rattle.uip_edge.specs.declared.item.Item.TheVariants.{Byte, Quiet}

@@ -1,5 +1,5 @@
 -- What a caller does to a device, one after another: calls, and between them values that are given.
-use Rattle.std.specs.Prelude.{◌≡◌, ℕ, Bool, false, List, [], ◌∷◌, map}
+use Rattle.std.specs.Prelude.{◌≡◌, ℕ, Bool, false, List, [], map}
 use Rattle.std.specs.List.{flat_map}
 use Rattle.uip_wire.specs.declared.addr.Addr.{Addr}
 use Rattle.uip_edge.specs.declared.item.Item.{Item}

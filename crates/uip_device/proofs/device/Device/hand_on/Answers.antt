@@ -1,4 +1,4 @@
-use Rattle.std.proofs.Common.{None, ◌∙◌, ap, sym, refl, take, []}
+use Rattle.std.proofs.Common.{◌∙◌, ap, sym, refl, take, []}
 use Rattle.packet_buffer.specs.Buffer.{datagram_in}
 use Rattle.uip_device.specs.Handing.{text_to_come}
 use Rattle.uip_device.proofs.AnswerLaws.{answers_on}
