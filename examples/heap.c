@@ -3,7 +3,7 @@
 #include "uip.h"
 
 #ifndef UIP_HEAP_SIZE
-#define UIP_HEAP_SIZE UIP_MEMORY(65536, 64)
+#define UIP_HEAP_SIZE UIP_MEMORY(64)
 #endif
 
 static _Alignas(16) unsigned char area[UIP_HEAP_SIZE];

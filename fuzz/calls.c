@@ -108,14 +108,17 @@ uip_done call_slot_datagram(tested *t, unsigned slot, text *to) {
     return done;
 }
 
-// Opens with an image, of which the first fault is foretold, and with an allocation refused, which is foretold by the heap.
+// Opens with an image, of which the first fault is foretold, and with an allocation refused, which is foretold by the heap. The image of
+// an open device stays as it is, so each handle has an area for its own, and a call on an open one brings another.
 void call_open(tested *t, const byte *image, size_t len, const byte *own) {
     unsigned entry;
     const char *word = site_fault(image, len, &entry);
     size_t blocks = heap_blocks;
     (void)begin(t, 0);
     heap_refused = 0;
-    uip_opened opened = uip_open(&t->handle, put_input(&image_in, image, len), len, put_input(&datagram_in, own, 4));
+    if (!t->image.len) t->image = area_new(1 << 20, 1);
+    const byte *at = put_input(t->is_open ? &image_in : &t->image, image, len);
+    uip_opened opened = uip_open(&t->handle, at, len, put_input(&datagram_in, own, 4));
     heap_refuses = 0;
     counts.opens++, counts.calls++;
     unsigned wanted = t->is_open ? UIP_HAS_DEVICE : heap_refused ? UIP_NO_MEMORY : word ? UIP_BAD_SITE : UIP_FINE;

@@ -81,7 +81,7 @@ void record_begin(const char *folder, const site *s, const byte *own, unsigned p
 void record_end(void);
 
 // calls.c: single calls of the device under test, fine and refused, each as it was foretold.
-typedef struct { uip_device handle; int is_open, has_left; } tested;
+typedef struct { uip_device handle; int is_open, has_left; area image; } tested;    // the image stays while the device is open
 typedef struct { byte *bytes; size_t len; } text;
 uip_done call_hear(tested *t, const byte *bytes, size_t len, size_t room, text *to);
 uip_done call_slot(tested *t, unsigned slot, size_t room, text *to);

@@ -20,6 +20,7 @@
  *     interrupt that may come while a call runs. There may be any number of devices, each with its handle.
  *   - An area is a pointer, never null, and how many bytes there are behind it, which C may read; `out` may be written, and
  *     shares no byte with the other areas or the handle.
+ *   - The image with which a device is open stays where it is, as it is, until uip_close: each call may read it, and nothing writes it.
  *   - The program has memcpy, memmove and memset, and a heap: rattle_alloc, rattle_realloc, rattle_dealloc (below).
  *   - There is enough stack. How much is measured and not proved: see README.md.
  * Whatever else is wrong is told by the status, and then nothing was done: the device, `out` and the counts are as they were.
@@ -38,7 +39,7 @@ extern "C" {
 #endif
 
 /* Rises whenever a program that keeps to an older header may have to change. */
-#define UIP_VERSION 1
+#define UIP_VERSION 2
 
 typedef char uip_wants_64_bits[sizeof(size_t) == 8 && sizeof(void *) == 8 ? 1 : -1];
 
@@ -48,7 +49,7 @@ enum uip_status {
     UIP_BAD_CALL = 2,     /* `out` has less room than the call asks for, no bytes came or too many, no such slot, counter or value */
     UIP_HAS_DEVICE = 3,   /* uip_open alone: the handle has a device already */
     UIP_BAD_SITE = 4,     /* uip_open alone: the image is bad */
-    UIP_NO_MEMORY = 5,    /* uip_open alone; it may be told of a bad image too, whose copy found no room */
+    UIP_NO_MEMORY = 5,    /* uip_open alone; it may be told of a bad image too, whose tables found no room */
     UIP_TEXT_LEFT = 6     /* a text is left that uip_more is to hand out first */
 };
 
@@ -103,8 +104,9 @@ typedef struct { unsigned status, left; size_t taken, wrote; } uip_done;
 typedef struct { unsigned status; unsigned number; } uip_number;
 
 /*
- * Opens a device at an address with the site of an image, which is copied: the image is not read after the call. An image comes
- * from `uipd pack`. All memory is taken here and by no later call; that was counted, and no proof says it.
+ * Opens a device at an address with the site of an image, which comes from `uipd pack`. The image is not copied: it is read where it
+ * lies, as in flash, by each call until uip_close, and until then it stays as it is. Where the device is not opened the image is not
+ * read after the call. All memory is taken here and by no later call; that was counted, and no proof says it.
  */
 uip_opened uip_open(uip_device *device, const unsigned char *image, size_t len, const unsigned char own[4]);
 
@@ -183,13 +185,12 @@ uip_block rattle_realloc(void *block, size_t kept, size_t len, size_t align);
 void rattle_dealloc(void *block);
 
 /*
- * The memory of a device with an image of so many bytes that has so many files: its blocks, each rounded up to a multiple of 16.
- * It was counted, and no proof says it.
+ * The memory of a device with a site of so many files, beside its image: its blocks, each rounded up to a multiple of 16. It was
+ * counted, and no proof says it.
  */
 #define UIP_ROUNDED(len) (((size_t)(len) + 15) / 16 * 16)
-#define UIP_MEMORY(image_len, files) \
-    (UIP_ROUNDED(image_len) + UIP_ROUNDED(28 * (size_t)(files)) + UIP_ROUNDED(2 * (size_t)(files)) \
-     + UIP_ROUNDED(4 * (size_t)(files)) + 6704)
+#define UIP_MEMORY(files) \
+    (UIP_ROUNDED(28 * (size_t)(files)) + UIP_ROUNDED(2 * (size_t)(files)) + UIP_ROUNDED(4 * (size_t)(files)) + 6704)
 
 #if defined(__cplusplus) || (defined(__STDC_VERSION__) && __STDC_VERSION__ >= 199901L)
 

@@ -40,8 +40,8 @@ if [ -z "$LIBRARY" ] && { [ ! -f "$library" ] || [ -n "$(find "$top/crates" -nam
     mv "$built" "$library" && put_back
 fi
 
-# The heap is an array of just the memory that a device with this site needs.
-heap="-DUIP_HEAP_SIZE=UIP_MEMORY($(wc -c <"$site"),$(od -An -j8 -N2 -tu1 "$site" | awk '{ print $1 * 256 + $2 }'))"
+# The heap is an array of just the memory that a device with so many files needs; the image stays in flash.
+heap="-DUIP_HEAP_SIZE=UIP_MEMORY($(od -An -j8 -N2 -tu1 "$site" | awk '{ print $1 * 256 + $2 }'))"
 compile() {
     "$clang" --target=aarch64-none-elf -ffreestanding -fno-builtin -Os -Wall -Wextra -ffunction-sections -fdata-sections \
         -I"$top/include" -I"$here" -idirafter "$here/fallback" -c "$@" || fail "clang failed"

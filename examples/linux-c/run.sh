@@ -32,7 +32,7 @@ build() { "$cc" -O2 -Wall -Wextra -I"$top/include" $4 "$here/$1.c" "$2" "$librar
 build serve "$here/heap.c" uip_serve
 build state "$here/heap.c" uip_state
 build each_call "$here/heap.c" uip_each_call
-build each_call "$top/examples/heap.c" uip_each_call_array "-DUIP_HEAP_SIZE=UIP_MEMORY(12,1)"
+build each_call "$top/examples/heap.c" uip_each_call_array "-DUIP_HEAP_SIZE=UIP_MEMORY(1)"
 "$here/out/uip_each_call" || fail "not each call answers as it should"
 "$here/out/uip_each_call_array" || fail "not each call answers as it should over a heap of one array"
 if command -v "$cxx" >/dev/null; then
@@ -43,11 +43,10 @@ if command -v "$cxx" >/dev/null; then
 else
     echo "skipped: nothing was built by a C++ compiler, since $cxx is not here"
 fi
-# The site's image over an array of just the memory that the header tells, and of one block less.
-bytes=$(wc -c <"$site")
+# The site over an array of just the memory that the header tells, and of one block less.
 files=$(od -An -j8 -N2 -tu1 "$site" | awk '{ print $1 * 256 + $2 }')
-build serve "$top/examples/heap.c" uip_serve_array "-DUIP_HEAP_SIZE=UIP_MEMORY($bytes,$files)"
-build serve "$top/examples/heap.c" uip_serve_short "-DUIP_HEAP_SIZE=UIP_MEMORY($bytes,$files)-64"
+build serve "$top/examples/heap.c" uip_serve_array "-DUIP_HEAP_SIZE=UIP_MEMORY($files)"
+build serve "$top/examples/heap.c" uip_serve_short "-DUIP_HEAP_SIZE=UIP_MEMORY($files)-64"
 "$here/out/uip_serve_short" serve "$site" 10.0.0.1 </dev/null 2>"$here/out/short" && fail "a device was opened in less memory than the header tells"
 
 if [ ! -x "$uipd" ]; then

@@ -17,9 +17,12 @@ static unsigned calls;
 
 uip_opened __wrap_uip_open(uip_device *d, const byte *image, size_t len, const byte *own) {
     static byte copy[1 << 21];
-    memcpy(copy, image, len);
-    if (PLANT == 1 && len > 200) copy[len - 1] ^= 1;                              // a byte of the site is another
-    uip_opened opened = __real_uip_open(d, copy, len, own);
+    if (PLANT == 1 && len > 200) {                                                // a byte of the site is another
+        memcpy(copy, image, len);
+        copy[len - 1] ^= 1;
+        image = copy;
+    }
+    uip_opened opened = __real_uip_open(d, image, len, own);
     if (PLANT == 2 && opened.status == UIP_BAD_SITE && opened.entry) opened.entry--;
     if (PLANT == 3 && opened.status == UIP_BAD_SITE) rattle_alloc(1, 1);          // a block is kept
     return opened;

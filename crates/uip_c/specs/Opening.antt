@@ -13,10 +13,11 @@ use Rattle.device_values.specs.Words.{word_calls}
 use Rattle.uip_device.specs.WebDevices.{IsLongWithValues, WebDevice}
 use Rattle.uip_c.specs.Handles.{OpensAs}
 
--- the image stands for the files of a site by the grammar and is read as them, the site was loaded, is bytes and has no page that can be
--- too long, whatever its scripts call, and a device was opened with the files at this address
+-- the image stands for the files of a site by the grammar and is read as them, the site is of this very image, was loaded, is bytes and has
+-- no page that can be too long, whatever its scripts call, and a device was opened with the files at this address
 pub record OpensFine (image own : List ℕ) (old new : Option WebDevice) : Type 0 where
   pub site : SiteContent
+  pub image_is : site.image ≡ image
   pub loaded : IsLoaded site
   pub bytes : All IsByte site.image
   pub sound : HasSoundScripts word_calls (files_of site)

@@ -55,12 +55,12 @@ fn bad_site(error: SiteError) -> UipOpened
     }
 }
 
-/// Opens a device at an address with the site of an image, which is copied. After this no call takes memory.
+/// Opens a device at an address with the site of an image, which is read where it lies. After this no call takes memory.
 #[unsafe(no_mangle)]
 pub extern "C" fn uip_open(
     alloc: Global,
     device: &mut UipDevice,
-    image: &[u8],
+    image: &'static [u8],
     own: &[u8; 4],
 ) -> UipOpened
     ensures known { (result.status ≡ FINE) ⊎ (result.status ≡ HAS_DEVICE) ⊎ (result.status ≡ BAD_SITE) ⊎ (result.status ≡ NO_MEMORY) }

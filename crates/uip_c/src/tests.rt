@@ -81,7 +81,7 @@ fn no_device(alloc: Global) -> UipDevice {
 }
 
 /// A device of an image.
-fn opened_with(rt: &impl Abort, alloc: Global, image: &[u8]) -> UipDevice {
+fn opened_with(rt: &impl Abort, alloc: Global, image: &'static [u8]) -> UipDevice {
     let mut device = no_device(alloc);
     assert_eq!(rt; uip_open(alloc, &mut device, image, OWN).status, FINE);
     device
@@ -186,7 +186,7 @@ fn a_call_without_a_device_says_so(rt: HostRuntime) {
 fn a_bad_image_is_told(rt: HostRuntime) {
     let alloc = rt.alloc();
     let mut device = no_device(alloc);
-    let rows: [(&[u8], u32, [u8; 8]); 2] = [
+    let rows: [(&'static [u8], u32, [u8; 8]); 2] = [
         (b"UIPSITE3\0\0", 0, *b"magic\0\0\0"),
         (b"UIPSITE1\0\x01\x02/", 1, *b"cut\0\0\0\0\0"),
     ];

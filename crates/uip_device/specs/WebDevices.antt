@@ -66,9 +66,10 @@ pub record IsFreshWebDevice (files : List File) (own : Addr) (d : WebDevice) : T
   pub files_are : files_of (site_in d) ≡ files
   pub fresh : IsFreshDevice ghosts (value_meaning files) (first_numbers files) own d
 
--- a fresh device at this address with the files for which the image stands by the grammar; its site was loaded, is bytes, and has no page
--- that can be too long, whatever its scripts call
+-- a fresh device at this address with the files for which the image stands by the grammar; its site is of this very image, was loaded, is
+-- bytes, and has no page that can be too long, whatever its scripts call
 pub record IsOpened (image : List ℕ) (own : Addr) (d : WebDevice) : Type 0 where
+  pub image_is : (site_in d).image ≡ image
   pub loaded : IsLoaded (site_in d)
   pub bytes : All IsByte (site_in d).image
   pub sound : HasSoundScripts word_calls (files_of (site_in d))

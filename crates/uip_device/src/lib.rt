@@ -12,7 +12,7 @@ mod value_pages;
 mod web_device;
 
 pub use device::{Device, Heard};
-pub use device_web::DeviceWeb;
+pub use device_web::{DeviceWeb, FlashWeb};
 pub use handing::LARGEST_TEXT;
 pub use laws::{calls_are_told, calls_keep_the_promise, line_is_served};
 pub use opening::{OpenFault, open_web};

@@ -1,20 +1,20 @@
 //! A device with the web server of a site is opened.
 
-ghost use Rattle.std.specs.Prelude.{◌≡◌, ◌++◌, IfOk};
+ghost use Rattle.std.specs.Prelude.{◌≡◌, ◌++◌, ◌↔◌, IfOk, IsTrue};
 ghost use Rattle.std.specs.List.{All};
 ghost use Rattle.app_events.specs.Pages.{IsByte};
-ghost use Rattle.file_tree.specs.Site.{IsLoaded, files_of};
+ghost use Rattle.device_values.specs.Words.{word_calls};
+ghost use Rattle.file_tree.specs.Site.{HasSoundScripts, IsLoaded, files_of};
 ghost use Rattle.site_image.specs.Faults.{fault};
 ghost use Rattle.site_image.specs.declared.site_error.SiteWhy.TheVariants.{PageTooLong};
 ghost use Rattle.uip_device.specs.WebDevices.{OpensDevice, first_numbers};
 
 use crate::device::Device;
-use crate::device_web::DeviceWeb;
+use crate::device_web::{DeviceWeb, FlashWeb};
 use crate::value_pages::ValuePages;
 use crate::web_device::WebDevice;
 use device_values::{Values, Word};
-use file_tree::{LoadFault, Site};
-use httpd::Web;
+use file_tree::{FlashSite, LoadFault};
 use site_image::{SiteError, SiteWhy};
 use std::alloc::Global;
 use uip_edge::NoMemory;
@@ -30,17 +30,24 @@ pub enum OpenFault {
 }
 
 /// What is kept by every site.
-pub(crate) fn see_loaded(site: &Site)
+pub(crate) fn see_loaded(site: &FlashSite)
     ensures loaded { IsLoaded site.now }
     ensures bytes { All IsByte site.now.image }
 {
-    see_bytes(&site.image);
+    see_bytes(site.image);
 }
 
 /// A text is bytes.
 fn see_bytes(text: &[u8])
     ensures { All IsByte text.now }
 {}
+
+/// Whether no page can be too long, whatever its scripts call.
+fn is_sound(site: &FlashSite) -> bool
+    ensures { IsTrue result ↔ HasSoundScripts word_calls (files_of site.now) }
+{
+    site.tree().are_scripts_sound::<Word>()
+}
 
 /// A page can have 2^30 bytes or more, which is told of the whole image.
 fn too_long() -> SiteError
@@ -53,27 +60,27 @@ fn too_long() -> SiteError
 }
 
 /// What the connections of the web server of a site share at first.
-fn web_of(alloc: Global, site: Site) -> Result<DeviceWeb, NoMemory>
+fn web_of(alloc: Global, site: FlashSite) -> Result<DeviceWeb, NoMemory>
     ensures site { IfOk result (λ shared. shared.web.site ≡ site) }
     ensures numbers { IfOk result (λ shared. shared.web.hits ++ shared.values.bytes ≡ first_numbers (files_of site)) }
 {
-    let web = Web::new(alloc, site)?;
+    let web = FlashWeb::new(alloc, site)?;
     Ok(DeviceWeb {
         web,
         values: Values::new(),
     })
 }
 
-/// A device at an address with the site of an image, which is copied. After this no call of it takes memory.
-pub fn open_web(alloc: Global, image: &[u8], own: Addr) -> Result<WebDevice, OpenFault>
+/// A device at an address with the site of an image, which is read where it lies. After this no call of it takes memory.
+pub fn open_web(alloc: Global, image: &'static [u8], own: Addr) -> Result<WebDevice, OpenFault>
     ensures { OpensDevice image.now own result }
 {
-    let site = match Site::read(alloc, image) {
+    let site = match FlashSite::read(alloc, image) {
         Ok(site) => site,
         Err(LoadFault::Bad(error)) => return Err(OpenFault::BadSite(error)),
         Err(_) => return Err(OpenFault::NoMemory),
     };
-    if !site.are_scripts_sound::<Word>() {
+    if !is_sound(&site) {
         return Err(OpenFault::BadSite(too_long()));
     }
     see_loaded(&site);

@@ -8,10 +8,10 @@ ghost use Rattle.httpd.specs.HttpdStands.{PagesStand};
 ghost use Rattle.web_pages.specs.Requests.{wanted};
 ghost use Rattle.web_pages.specs.WebMeaning.{hits_by};
 
-use crate::device_web::{DeviceWeb, see_counted};
+use crate::device_web::{DeviceWeb, FlashWeb, see_counted};
 use app_events::{App, Ending, Now, Want};
 use device_values::ValueCapture;
-use httpd::{Pages, Web};
+use httpd::Pages;
 use uip_wire::{Port, WEB_PORT};
 
 /// The pages of a device on one connection.
@@ -21,7 +21,7 @@ pub struct ValuePages {
 }
 
 /// The next bytes from the peer. A file that they ask for is hit.
-fn hear(pages: &mut Pages<ValueCapture>, web: &mut Web, piece: &[u8])
+fn hear(pages: &mut Pages<ValueCapture>, web: &mut FlashWeb, piece: &[u8])
     ensures site { web.new.site ≡ web.old.site }
     ensures part { let stands = PagesStand words record_text in
         (p : Part) → stands pages.old web.old.site p

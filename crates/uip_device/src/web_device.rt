@@ -43,7 +43,7 @@ pub fn hits_in(device: &WebDevice, name: &[u8]) -> u32
 {
     let web = &device.node.shared.web;
     see_loaded(&web.site);
-    match web.site.find(name) {
+    match web.site.tree().find(name) {
         Some(id) => web.hits[id.0 as usize],
         None => 0,
     }
