@@ -87,6 +87,12 @@ enum uip_counted {
     UIP_NO_SLOT = 20              /* SYNs to a served port that found no slot */
 };
 
+/* The states of a connection (RFC 793), by the numbers that uip_connection tells. */
+enum uip_state {
+    UIP_CLOSED = 0, UIP_SYN_RCVD = 1, UIP_ESTABLISHED = 2, UIP_CLOSE_WAIT = 3, UIP_FIN_WAIT_1 = 4, UIP_FIN_WAIT_2 = 5,
+    UIP_CLOSING = 6, UIP_TIME_WAIT = 7, UIP_LAST_ACK = 8
+};
+
 /* A device, or none. */
 typedef struct { unsigned is_open; void *at; } uip_device;
 #define UIP_INIT {0, 0}
@@ -102,6 +108,12 @@ typedef struct { unsigned status, left; size_t taken, wrote; } uip_done;
 
 /* A number that was read. */
 typedef struct { unsigned status; unsigned number; } uip_number;
+
+/*
+ * A connection, as a row of the pages has it: its state; its peer; how often what is outstanding was sent again; the ticks left until
+ * the timer acts; and whether (1) or not (0) something is outstanding. Of a slot that is CLOSED the state alone means something.
+ */
+typedef struct { unsigned status, state; unsigned char peer[4]; unsigned port, tries, count, waiting; } uip_row;
 
 /*
  * Opens a device at an address with the site of an image, which comes from `uipd pack`. The image is not copied: it is read where it
@@ -147,6 +159,9 @@ uip_number uip_counter(uip_device *device, size_t number);
  * comes, and ticks that are left out are not made up for.
  */
 uip_number uip_is_idle(uip_device *device);
+
+/* The connection in a slot from 0 to 9. */
+uip_row uip_connection(uip_device *device, size_t slot);
 
 /*
  * The device's own state in its pages. A script of the site calls `%! value 3`, and its text is the value of that number as it was

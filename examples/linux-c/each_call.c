@@ -48,6 +48,7 @@ static void without_a_device(void) {
     expect(uip_counter(&device, UIP_DATAGRAMS_IN).status == UIP_NO_DEVICE, "uip_counter without a device");
     expect(uip_hits(&device, "/", 1).status == UIP_NO_DEVICE, "uip_hits without a device");
     expect(uip_is_idle(&device).status == UIP_NO_DEVICE, "uip_is_idle without a device");
+    expect(uip_connection(&device, 0).status == UIP_NO_DEVICE, "uip_connection without a device");
     expect(uip_value(&device, 0, "7", 1) == UIP_NO_DEVICE, "uip_value without a device");
     expect(uip_close(&device) == UIP_NO_DEVICE, "uip_close without a device");
     expect(uip_hear_all(&device, request_text, 34, out, sizeof out, keep, out) == UIP_NO_DEVICE, "uip_hear_all without a device");
@@ -71,6 +72,7 @@ static void bad_calls(void) {
     expect(is(uip_hear_datagram(&device, request, UIP_DATAGRAM_ROOM + 1, out, sizeof out), UIP_BAD_CALL, 0, 0), "uip_hear_datagram, long");
     expect(is(uip_call_datagram(&device, 0, out, UIP_DATAGRAM_ROOM - 1), UIP_BAD_CALL, 0, 0), "uip_call_datagram with too little room");
     expect(uip_counter(&device, 0).status == UIP_BAD_CALL && uip_counter(&device, 21).status == UIP_BAD_CALL, "uip_counter of none");
+    expect(uip_connection(&device, UIP_SLOTS).status == UIP_BAD_CALL, "uip_connection of slot 10");
     expect(uip_value(&device, UIP_VALUES, "7", 1) == UIP_BAD_CALL, "uip_value of no number");
     expect(uip_value(&device, 0, out, UIP_LONGEST_VALUE + 1) == UIP_BAD_CALL, "uip_value, long");
     expect(uip_hear_all(&device, request_text, 34, out, 1, keep, out) == UIP_BAD_CALL, "uip_hear_all with too little room");
@@ -95,6 +97,8 @@ static void fine_calls(void) {
     expect(replies.status == UIP_FINE && replies.number == 3, "uip_counter");
     uip_number idle = uip_is_idle(&device);
     expect(idle.status == UIP_FINE && idle.number == 1, "uip_is_idle");
+    uip_row row = uip_connection(&device, UIP_SLOTS - 1);
+    expect(row.status == UIP_FINE && row.state == UIP_CLOSED, "uip_connection");
     uip_number hits = uip_hits(&device, "/lamp-on.html", 13);
     expect(hits.status == UIP_FINE && hits.number == 0, "uip_hits of no file");
 }

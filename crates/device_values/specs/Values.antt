@@ -1,5 +1,6 @@
 -- The values of a device, as numbers: 33 for each of 16, its length first, and then its bytes in front.
-use Rattle.std.specs.Prelude.{◌≡◌, ◌<◌, ◌≤◌, ℕ, ◌+◌, ◌-◌, ◌*◌, ◌%◌, List, [], ◌∷◌, ◌++◌, drop, length, map, min, nat_lt, replicate, slice_range, take, if◌then◌else◌}
+use Rattle.std.specs.Prelude.{◌≡◌, ◌<◌, ◌≤◌, ℕ, ◌+◌, ◌-◌, ◌*◌, ◌%◌, List, [], ◌∷◌, ◌++◌, drop, length, map, min, nat_lt}
+use Rattle.std.specs.Prelude.{if◌then◌else◌, replicate, slice_range, take}
 use Rattle.std.specs.List.{All, slice_index_or}
 use Rattle.std.specs.Option.{option_map_or}
 use Rattle.app_events.specs.Pages.{IsByte}

@@ -1,7 +1,7 @@
 -- All turns of a node.
 use Rattle.std.specs.List.{All}
 use Rattle.std.specs.Prelude.{option_map}
-use Rattle.std.proofs.Common.{◌≡◌, ℕ, Bool, ◌&&◌, List, [], ◌∷◌, map, position, refl, ap, subst, Option, Some, None}
+use Rattle.std.proofs.Common.{◌≡◌, ℕ, Bool, ◌&&◌, List, [], ◌∷◌, map, position, ap, subst, Option, Some, None}
 use Rattle.tcp_segment.specs.Segments.{PlainSegment, has_rst}
 use Rattle.app_events.specs.Pages.{IsAddr, IsPaged, IsWord, Pages}
 use Rattle.app_events.specs.Part.{Meaning}

@@ -1,5 +1,5 @@
 -- The turns of a node beside its run.
-use Rattle.std.proofs.Common.{◌≡◌, ℕ, Bool, List, [], ◌∷◌, ◌++◌, map, refl, ap, ◌∙◌, Option, Some, None}
+use Rattle.std.proofs.Common.{◌≡◌, ℕ, Bool, List, [], ◌∷◌, map, refl, ap, ◌∙◌, Option, Some, None}
 use Rattle.app_events.specs.Part.{Meaning}
 use Rattle.uip_node.specs.Events.{Event, Reply}
 use Rattle.uip_node.specs.Node.{AbstractNode, joined, run, step}
@@ -20,8 +20,3 @@ module _ (m : Meaning) (served : ℕ → Bool) where
   pub sends : (events : List Event) (n : AbstractNode) → replies_of (turns_of m served events n) ≡ (run m served events n).sent
   sends [] n = refl
   sends (e ∷ es) n = same_first (step m served n e).sent _ ∙ ap (λ l. joined (step m served n e).sent l) (sends es (step m served n e).node)
-
-  -- the turns of events that follow others
-  pub turns_join : (events more : List Event) (n : AbstractNode) → turns_of m served (events ++ more) n ≡ turns_of m served events n ++ turns_of m served more (run m served events n).node
-  turns_join [] more n = refl
-  turns_join (e ∷ es) more n = ap (λ l. record { event = e; sent = (step m served n e).sent } ∷ l) (turns_join es more (step m served n e).node)

@@ -1,14 +1,13 @@
 -- Wrong lives are refused by the promise alone.
-use Rattle.std.proofs.Common.{◌≡◌, ◌+◌, ◌≤◌, ℕ, zero, suc, Bool, true, false, List, [], ◌∷◌, ◌++◌, length, take, refl, sym, ap, ◌∙◌, arith, inl, inr, Some, None, if◌then◌else◌}
+use Rattle.std.proofs.Common.{◌≡◌, ◌+◌, ◌≤◌, ℕ, zero, suc, Bool, true, false, List, [], ◌∷◌, ◌++◌, length, take, refl, sym, ap, ◌∙◌, arith, inl, inr, Some, if◌then◌else◌}
 use Rattle.uip_wire.specs.Numbers.{wrap}
-use Rattle.tcp_segment.specs.Segments.{PlainSegment, has_fin}
+use Rattle.tcp_segment.specs.Segments.{PlainSegment}
 use Rattle.app_events.specs.FixedMeaning.{hello, fixed_text, some_heard}
-use Rattle.uip_node.specs.Laws.{Alike}
 use Rattle.uip_node.specs.Events.Event.{EchoAsked}
 use Rattle.uip_node.proofs.Basics.{only_some}
 use Rattle.node_laws.specs.Talks.{came_at}
 use Rattle.node_laws.specs.Asked.{IsEchoed}
-use Rattle.node_laws.specs.Promise.{Account, Opening, IsTaken, Takes, KeepsAccount, KeepsLife, IsAtPlace, IsAcknowledged, Acknowledges}
+use Rattle.node_laws.specs.Promise.{Account, Opening, IsTaken, KeepsAccount, KeepsLife, IsAcknowledged}
 use Rattle.node_laws.specs.WrongLives.{hello_pages, mirror_pages, opened, segment, cut_again, ends_early, repeats_byte, acknowledges_refused, two_under_way, tells_another, echoes_before, WrongLivesFall}
 
 -- where the life begins

@@ -1,6 +1,6 @@
 -- What wrong nodes would do, as worked lives that the promise refuses. The peer's SYN has the number 1000 and the node's 0, and the page
 -- is `hello` and a line feed once a byte was heard.
-use Rattle.std.specs.Prelude.{◌≡◌, ◌+◌, ℕ, List, [], ◌∷◌, ◌++◌, Option, Some, None, take, drop, false}
+use Rattle.std.specs.Prelude.{◌+◌, ℕ, List, [], ◌∷◌, ◌++◌, Option, Some, None, take, drop, false}
 use Rattle.tcp_segment.specs.Segments.{PlainSegment}
 use Rattle.tcp_segment.specs.declared.flags.TheConstants.{FIN, SYN, PSH, ACK}
 use Rattle.app_events.specs.FixedMeaning.{hello, fixed_text, some_heard}

@@ -1,10 +1,10 @@
 -- Moves in turn on a handle are moves in turn of its device.
 use Rattle.std.specs.List.{All}
-use Rattle.std.proofs.Common.{◌≡◌, ℕ, List, [], ◌∷◌, ◌++◌, None as NothingLeft, length, refl, sym, ap, ◌∙◌, subst, lit<}
+use Rattle.std.proofs.Common.{◌≡◌, ℕ, List, [], ◌∷◌, ◌++◌, None as NothingLeft, refl, sym, ap, ◌∙◌, subst}
 use Rattle.std.proofs.lemmas.Option.{same_Some}
 use Rattle.std.specs.declared.option.Option.{Option}
 use Rattle.std.specs.declared.option.Option.TheVariants.{Some}
-use Rattle.app_events.specs.Pages.{IsAddr, IsByte, IsWord}
+use Rattle.app_events.specs.Pages.{IsAddr, IsByte}
 use Rattle.site_image.specs.Files.{File}
 use Rattle.file_tree.specs.Site.{HasSoundScripts, IsLoaded, SiteContent, files_of}
 use Rattle.web_pages.specs.Serving.{is_served}

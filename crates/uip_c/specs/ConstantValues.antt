@@ -1,5 +1,5 @@
 -- The constants of the code that definitions cite, with their values: a definition that names one says this number.
-use Rattle.std.specs.Prelude.{◌≡◌, ℕ}
+use Rattle.std.specs.Prelude.{◌≡◌}
 use Rattle.uip_c.specs.declared.status.TheConstants.{FINE, NO_DEVICE, BAD_CALL, TEXT_LEFT}
 
 pub record ConstantValues : Type 0 where

@@ -9,6 +9,7 @@ mod held;
 mod laws;
 mod opening;
 mod reading;
+mod rows;
 mod status;
 #[cfg(test)]
 mod tests;
@@ -23,4 +24,5 @@ pub use laws::{
 };
 pub use opening::{UipOpened, uip_close, uip_open};
 pub use reading::{UipNumber, uip_counter, uip_hits, uip_is_idle, uip_ticks};
+pub use rows::{UipRow, uip_connection};
 pub use status::{BAD_CALL, BAD_SITE, FINE, HAS_DEVICE, NO_DEVICE, NO_MEMORY, TEXT_LEFT, UipDone};

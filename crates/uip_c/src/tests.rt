@@ -8,6 +8,7 @@ use crate::handle::UipDevice;
 use crate::held::Held;
 use crate::opening::{UipOpened, uip_close, uip_open};
 use crate::reading::{uip_counter, uip_hits, uip_is_idle, uip_ticks};
+use crate::rows::{UipRow, uip_connection};
 use crate::status::{BAD_CALL, BAD_SITE, FINE, HAS_DEVICE, NO_DEVICE, TEXT_LEFT, UipDone};
 use std::alloc::Global;
 use std::process::Abort;
@@ -174,6 +175,8 @@ fn a_call_without_a_device_says_so(rt: HostRuntime) {
     assert_eq!(rt; uip_counter(alloc, &mut device, 0).status, BAD_CALL);
     assert_eq!(rt; uip_hits(alloc, &mut device, b"/v.shtml").status, NO_DEVICE);
     assert_eq!(rt; uip_is_idle(alloc, &mut device).status, NO_DEVICE);
+    assert_eq!(rt; uip_connection(alloc, &mut device, 9).status, NO_DEVICE);
+    assert_eq!(rt; uip_connection(alloc, &mut device, 10).status, BAD_CALL);
     assert_eq!(rt; uip_value(alloc, &mut device, 15, b"7"), NO_DEVICE);
     assert_eq!(rt; uip_value(alloc, &mut device, 16, b"7"), BAD_CALL);
     assert_eq!(rt; uip_value(alloc, &mut device, 0, &[b'7'; 33]), BAD_CALL);
@@ -261,6 +264,17 @@ fn a_value_is_sent_again_as_it_was(rt: HostRuntime) {
     assert!(rt; again[20..46] == first[20..46]);
 
     assert_eq!(rt; uip_is_idle(alloc, &mut device).number, 0);
+    let row = UipRow {
+        status: FINE,
+        state: 2,
+        peer: [10, 0, 0, 2],
+        port: 1025,
+        tries: 1,
+        count: 3,
+        waiting: 1,
+    };
+    assert_eq!(rt; uip_connection(alloc, &mut device, 0), row);
+    assert_eq!(rt; uip_connection(alloc, &mut device, 1).state, 0);
     assert_eq!(rt; uip_hits(alloc, &mut device, b"/v.shtml").number, 1);
     assert_eq!(rt; uip_hits(alloc, &mut device, b"/w.shtml").number, 0);
     assert_eq!(rt; uip_close(alloc, &mut device), FINE);

@@ -1,8 +1,9 @@
 -- A device, and what it hands out at each call.
-use Rattle.std.specs.Prelude.{◌≡◌, ◌≤◌, ◌==◌, ℕ, Bool, List, [], ◌∷◌, ◌++◌, None, IfSome, if◌then◌else◌, length, map}
+use Rattle.std.specs.Prelude.{◌≡◌, ◌≤◌, ◌==◌, ℕ, Bool, List, [], ◌∷◌, ◌++◌, Option, None, Some, IfSome, if◌then◌else◌, length, map}
 use Rattle.std.specs.List.{flat_map}
 use Rattle.app_events.specs.Part.{Meaning}
 use Rattle.app_events.specs.declared.app.App.{Ghosts}
+use Rattle.app_events.specs.declared.row.Row.{Row}
 use Rattle.packet_buffer.specs.Buffer.{datagram_in}
 use Rattle.tcp_machine.specs.Connection.{rows_from}
 use Rattle.uip_node.specs.Node.{AbstractNode, opening}
@@ -40,6 +41,14 @@ pub record IsFreshDevice {A S : Type 0} (g : Ghosts A S) (m : Meaning) (numbers 
 -- no connection is open: none has a row in the table of connections
 abbrev pub is_node_idle : AbstractNode → Bool
 is_node_idle n = length (rows_from 0 n.connections) == 0
+
+-- the row of a slot among those of the open connections; none where it is CLOSED
+abbrev pub row_in : ℕ → List Row → Option Row
+row_in slot [] = None
+row_in slot (row ∷ rows) = if row.slot == slot then Some row else row_in slot rows
+
+abbrev pub connection_row : ℕ → AbstractNode → Option Row
+connection_row slot n = row_in slot (rows_from 0 n.connections)
 
 -- A call was answered by these bytes: whatever bytes the device had heard, it has heard these and those of the call; and its
 -- node goes on over what the call brings, of which this is handed out.

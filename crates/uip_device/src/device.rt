@@ -8,12 +8,13 @@ ghost use Rattle.uip_node.specs.Edge.{event_of};
 ghost use Rattle.uip_node.specs.StandsFor.{IsWhole};
 ghost use Rattle.serve_loop.specs.LineEvents.{events_behind};
 ghost use Rattle.serve_loop.specs.Texts.{text_of};
+ghost use Rattle.uip_device.specs.Devices.{row_in};
 ghost use Rattle.uip_device.specs.Handing.{text_to_come};
 ghost use Rattle.uip_device.specs.Sending.{SendsOver};
 
 use crate::datagrams::copy_sent;
 use crate::handing::{LARGEST_TEXT, Written, hand_on, write_text};
-use app_events::App;
+use app_events::{App, Row};
 use std::alloc::Global;
 use uip_edge::NoMemory;
 use uip_node::Node;
@@ -51,6 +52,22 @@ fn answer<A: App>(node: &mut Node<A>, datagram: &[u8], out: &mut [u8]) -> Writte
 {
     let sent = node.input(datagram);
     write_text(node, sent, out)
+}
+
+/// The row of a slot.
+fn row_in(rows: &[Row], slot: usize) -> Option<Row>
+    ensures { result ≡ row_in slot rows.now }
+{
+    match rows {
+        [] => None,
+        [row, rest @ ..] => {
+            if row.slot as usize == slot {
+                Some(*row)
+            } else {
+                row_in(rest, slot)
+            }
+        }
+    }
 }
 
 /// So many bytes were taken, and this was written.
@@ -98,7 +115,7 @@ impl<A: App> Device<A> {
     ghost use Rattle.uip_node.specs.Node.{AbstractNode};
     ghost use Rattle.uip_node.specs.StandsFor.{Stands};
     ghost use Rattle.uip_device.specs.Calls.{Calls, CallsByDatagram, HandsOn, Hears, HearsDatagram};
-    ghost use Rattle.uip_device.specs.Devices.{Answers, IsFreshDevice, IsSoundDevice, is_node_idle};
+    ghost use Rattle.uip_device.specs.Devices.{Answers, IsFreshDevice, IsSoundDevice, connection_row, is_node_idle};
 
     /// A device at an address whose application's connections share a value. After this no call of it takes memory.
     pub fn new(alloc: Global, own: Addr, shared: A::Shared) -> Result<Device<A>, NoMemory>
@@ -217,6 +234,14 @@ impl<A: App> Device<A> {
         ensures { (n : AbstractNode) → Stands A.App self.now.node n n.past → result ≡ is_node_idle n }
     {
         self.node.now().rows.list.is_empty()
+    }
+
+    /// The row of the connection in a slot, as pages show it; none where it is CLOSED.
+    pub fn row(&self, slot: usize) -> Option<Row>
+        ensures { (n : AbstractNode) → Stands A.App self.now.node n n.past → result ≡ connection_row slot n }
+    {
+        let now = self.node.now();
+        row_in(now.rows.list.as_slice(), slot)
     }
 
     /// The counter in a place below 20, modulo 2^32.

@@ -22,7 +22,8 @@ use app_events::App;
 
 /// Whatever is called in turn, and whatever values are given between, of a fresh device: what is handed out over the serial line, with
 /// what is left, is the text of what its opening node sends over what the calls there bring; each call over a link that carries
-/// datagrams hands out the datagram that is sent at its event, or none; the device stands for the node behind the moves, and its application keeps what it keeps, as a site.
+/// datagrams hands out the datagram that is sent at its event, or none; the device stands for the node behind the moves, and its
+/// application keeps what it keeps, as a site.
 pub fn calls_are_told<A: App>()
     ensures line { (m : Meaning) (gives : Writing) (numbers : List ℕ) (own : Addr) (all : List Answered) (old new : AnyDevice A A.Shared)
         → IsFreshDevice A.App m numbers own old → AnswersAll A.App gives all old new

@@ -1,4 +1,4 @@
-use Rattle.std.proofs.Common.{List, ℕ, ◌∙◌, ap, sym}
+use Rattle.std.proofs.Common.{List, ◌∙◌, ap, sym}
 use Rattle.site_image.specs.Files.{File}
 use Rattle.web_pages.specs.Pages.{hits_of}
 use Rattle.uip_c.proofs.reading.uip_hits.Goals as goal

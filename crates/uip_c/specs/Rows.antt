@@ -1,0 +1,33 @@
+-- How C is told the row of a connection.
+use Rattle.std.specs.Prelude.{◌≡◌, ℕ, Bool, Option, None, Some, if◌then◌else◌}
+use Rattle.app_events.specs.declared.row.Row.{Row}
+use Rattle.app_events.specs.declared.state.State.{State}
+use Rattle.app_events.specs.declared.state.State.TheVariants.{Closed, SynRcvd, Established, CloseWait, FinWait1, FinWait2}
+use Rattle.app_events.specs.declared.state.State.TheVariants.{Closing, TimeWait, LastAck}
+use Rattle.uip_c.specs.declared.rows.UipRow.{UipRow}
+
+-- the states by their numbers in the header
+abbrev pub state_number : State → ℕ
+state_number Closed = 0
+state_number SynRcvd = 1
+state_number Established = 2
+state_number CloseWait = 3
+state_number FinWait1 = 4
+state_number FinWait2 = 5
+state_number Closing = 6
+state_number TimeWait = 7
+state_number LastAck = 8
+
+-- what C is told is what stands in the row
+pub record IsToldRow (row : Row) (told : UipRow) : Type 0 where
+  pub state : told.state ≡ state_number row.state
+  pub peer : told.peer ≡ row.peer.0
+  pub port : told.port ≡ row.port.0
+  pub tries : told.tries ≡ row.tries
+  pub count : told.count ≡ row.count
+  pub waiting : told.waiting ≡ (if row.waiting then 1 else 0)
+
+-- where the slot is CLOSED, only that is told
+abbrev pub TellsRow : Option Row → UipRow → Type 0
+TellsRow None told = told.state ≡ 0
+TellsRow (Some row) told = IsToldRow row told
