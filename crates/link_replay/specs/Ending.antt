@@ -48,8 +48,8 @@ abbrev pub IsReplayText : List ℕ → List ℕ → Bool → Option Files → Li
 IsReplayText site schedule show held text (ends.BadSite error) =
     FindsInFiles (site_read site) held (Err error) × HoldsFile held schedule (λ bytes. ⊤) × (text ≡ bad_line error)
 IsReplayText site schedule show held text end =
-    (files : List File) × (bytes : List ℕ) × FindsInFiles (site_read site) held (Ok files) × HoldsFile held schedule (λ content. content ≡ bytes)
-    × IsTextDue files bytes show text end
+    (files : List File) × (bytes : List ℕ) × FindsInFiles (site_read site) held (Ok files)
+    × HoldsFile held schedule (λ content. content ≡ bytes) × IsTextDue files bytes show text end
 
 -- the shelf tells its files, and lacks the site or the schedule
 abbrev pub LacksEither : List ℕ → List ℕ → Option Files → Type 0
