@@ -1,7 +1,7 @@
 /* The addresses that the map of start.S gives to the board "virt" of qemu: flash at 0, memory at 8 MB. The stack stands lowest, above
    addresses that are not mapped, so one that grows too far faults. */
 MEMORY {
-    FLASH (rx) : ORIGIN = 0x00000000, LENGTH = 64K
+    FLASH (rx) : ORIGIN = 0x00000000, LENGTH = 2M
     RAM (rw)   : ORIGIN = 0x00800000, LENGTH = 64K
 }
 ENTRY(_start)
