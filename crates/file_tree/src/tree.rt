@@ -15,8 +15,8 @@ use std::marker::Model;
 #[derive(Drop)]
 pub struct Tree<'a> {
     pub image: &'a [u8],
-    pub files: &'a [Place],
-    pub order: &'a [FileId],
+    pub files: &'a Vec<Place>,
+    pub order: &'a Vec<FileId>,
 }
 
 impl<'a> Model for Tree<'a> {
@@ -24,16 +24,16 @@ impl<'a> Model for Tree<'a> {
 
     ghost Value = { SiteContent };
 
-    ghost view = { λ tree. record { image = tree.image.now; files = tree.files.now; order = tree.order.now } };
+    ghost view = { λ tree. record { image = tree.image.now; files = tree.files.now.items; order = tree.order.now.items } };
 
-    ghost invariant = { λ tree. IsLoaded (record { image = tree.image.now; files = tree.files.now; order = tree.order.now }) };
+    ghost invariant = { λ tree. IsLoaded (record { image = tree.image.now; files = tree.files.now.items; order = tree.order.now.items }) };
 }
 
 impl<'a> Tree<'a> {
     /// The site of three parts that are loaded.
-    pub(crate) fn of(image: &'a [u8], files: &'a [Place], order: &'a [FileId]) -> Tree<'a>
-        requires { IsLoaded (record { image = image.now; files = files.now; order = order.now }) }
-        ensures { result ≡ record { image = image.now; files = files.now; order = order.now } }
+    pub(crate) fn of(image: &'a [u8], files: &'a Vec<Place>, order: &'a Vec<FileId>) -> Tree<'a>
+        requires { IsLoaded (record { image = image.now; files = files.now.items; order = order.now.items }) }
+        ensures { result ≡ record { image = image.now; files = files.now.items; order = order.now.items } }
     {
         Tree {
             image,
