@@ -1,3 +1,6 @@
+ghost use Rattle.std.specs.Prelude.{◌≡◌, ◌≤◌, ◌+◌, drop, length, take};
+ghost use Rattle.device_values.specs.Spellings.{spelled};
+
 use crate::kept::Kept;
 use crate::spelling::{Spelling, spell};
 use crate::values::{Values, kept_value};
@@ -12,6 +15,26 @@ pub enum ValueCapture {
     Uip(Capture),
     /// The bytes of a value at the moment of the call, and how they are spelled.
     Value { spelling: Spelling, kept: Kept },
+}
+
+/// How long a value is as it is spelled. It stands by itself, so that its area is no part of a caller's frame.
+#[inline(never)]
+fn value_len(spelling: Spelling, kept: &Kept) -> usize
+    ensures length { result ≡ length (spelled spelling (take kept.now.len kept.now.bytes)) }
+    ensures short { result ≤ 192 }
+{
+    spell(spelling, kept.text()).len()
+}
+
+/// Writes a part of a value as it is spelled. It stands by itself, too.
+#[inline(never)]
+fn fill_value(spelling: Spelling, kept: &Kept, at: usize, out: &mut [u8])
+    requires { at + length out.old ≤ length (spelled spelling (take kept.now.len kept.now.bytes)) }
+    ensures { out.new ≡ take (length out.old) (drop at (spelled spelling (take kept.now.len kept.now.bytes))) }
+{
+    let text = spell(spelling, kept.text());
+    let end = at + out.len();
+    out.copy_from_slice(&text.as_slice()[at..end]);
 }
 
 impl Record for ValueCapture {
@@ -51,18 +74,14 @@ impl Record for ValueCapture {
     fn text_len(&self) -> usize {
         match self {
             ValueCapture::Uip(capture) => capture.text_len(),
-            ValueCapture::Value { spelling, kept } => spell(*spelling, kept.text()).len(),
+            ValueCapture::Value { spelling, kept } => value_len(*spelling, kept),
         }
     }
 
     fn fill_at(&self, at: usize, out: &mut [u8]) {
         match self {
             ValueCapture::Uip(capture) => capture.fill_at(at, out),
-            ValueCapture::Value { spelling, kept } => {
-                let text = spell(*spelling, kept.text());
-                let end = at + out.len();
-                out.copy_from_slice(&text.as_slice()[at..end]);
-            }
+            ValueCapture::Value { spelling, kept } => fill_value(*spelling, kept, at, out),
         }
     }
 

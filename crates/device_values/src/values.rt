@@ -51,6 +51,7 @@ fn row_of(text: &[u8]) -> [u8; 33]
 }
 
 /// The bytes of the value whose number the argument is. There are none where it is no number of a value.
+#[inline(never)]
 pub(crate) fn kept_value(values: &Values, argument: &[u8]) -> Kept
     ensures { take result.len result.bytes ≡ value_named values.now.bytes argument.now }
 {
