@@ -8,7 +8,6 @@ use crate::handle::{UipDevice, put_in, take_out};
 use crate::status::{BAD_CALL, FINE, NO_DEVICE};
 use device_values::{LONGEST_VALUE, MOST_VALUES};
 use std::alloc::Global;
-use uip_device::give_value;
 
 /// The value of a number from 0 to 15 is this text of at most 32 bytes from now on, which is copied. What is left of a text stays.
 #[unsafe(no_mangle)]
@@ -30,7 +29,7 @@ pub extern "C" fn uip_value(
     let Some(mut opened) = take_out(alloc, device) else {
         return NO_DEVICE;
     };
-    give_value(&mut opened, number, text);
+    opened.give(number, text);
     put_in(device, opened);
     FINE
 }

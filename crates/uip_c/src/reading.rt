@@ -14,7 +14,6 @@ ghost use Rattle.uip_c.specs.Handles.{IsOf};
 use crate::handle::{UipDevice, put_in, take_out};
 use crate::status::{BAD_CALL, FINE, NO_DEVICE};
 use std::alloc::Global;
-use uip_device::hits_in;
 
 /// A number that was read.
 #[repr(C)]
@@ -107,7 +106,7 @@ pub extern "C" fn uip_hits(alloc: Global, device: &mut UipDevice, name: &[u8]) -
     let Some(opened) = take_out(alloc, device) else {
         return unread(NO_DEVICE);
     };
-    let number = hits_in(&opened, name);
+    let number = opened.hits(name);
     put_in(device, opened);
     UipNumber {
         status: FINE,

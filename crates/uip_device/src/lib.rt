@@ -17,7 +17,7 @@ pub use handing::LARGEST_TEXT;
 pub use laws::{calls_are_told, calls_keep_the_promise, line_is_served};
 pub use opening::{OpenFault, open_web};
 pub use value_pages::ValuePages;
-pub use web_device::{WebDevice, give_value, hits_in};
+pub use web_device::WebDevice;
 
 #[cfg(test)]
 mod tests;

@@ -24,27 +24,29 @@ fn see_values(values: &Values)
     let _ = &values.bytes;
 }
 
-/// The value of a number below 16 is this text of at most 32 bytes from now on. What is left of a text stays.
-pub fn give_value(device: &mut WebDevice, number: usize, text: &[u8])
-    requires number { number < 16 }
-    requires short { length text.now ≤ 32 }
-    requires sound { IsSoundWebDevice device.old }
-    ensures sound { IsSoundWebDevice device.new }
-    ensures gives { Changes ghosts (write_value number text.now) device.old device.new }
-{
-    see_values(&device.node.shared.values);
-    device.node.shared.values.give(number, text);
-}
+impl WebDevice {
+    /// The value of a number below 16 is this text of at most 32 bytes from now on. What is left of a text stays.
+    pub fn give(&mut self, number: usize, text: &[u8])
+        requires number { number < 16 }
+        requires short { length text.now ≤ 32 }
+        requires sound { IsSoundWebDevice self.old }
+        ensures sound { IsSoundWebDevice self.new }
+        ensures gives { Changes ghosts (write_value number text.now) self.old self.new }
+    {
+        see_values(&self.node.shared.values);
+        self.node.shared.values.give(number, text);
+    }
 
-/// How often the file of that name was asked for, modulo 2^32; 0 where no file has the name.
-pub fn hits_in(device: &WebDevice, name: &[u8]) -> u32
-    ensures { (n : AbstractNode) → Stands ghosts device.now.node n n.past
-        → result ≡ hits_of (files_of (site_in device.now)) n.numbers name.now }
-{
-    let web = &device.node.shared.web;
-    see_loaded(&web.site);
-    match web.site.tree().find(name) {
-        Some(id) => web.hits[id.0 as usize],
-        None => 0,
+    /// How often the file of that name was asked for, modulo 2^32; 0 where no file has the name.
+    pub fn hits(&self, name: &[u8]) -> u32
+        ensures { (n : AbstractNode) → Stands ghosts self.now.node n n.past
+            → result ≡ hits_of (files_of (site_in self.now)) n.numbers name.now }
+    {
+        let web = &self.node.shared.web;
+        see_loaded(&web.site);
+        match web.site.tree().find(name) {
+            Some(id) => web.hits[id.0 as usize],
+            None => 0,
+        }
     }
 }

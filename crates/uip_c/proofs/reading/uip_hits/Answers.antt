@@ -5,7 +5,7 @@ use Rattle.uip_c.proofs.reading.uip_hits.Goals as goal
 
 pub returns-clause-fine : goal.returns-clause-fine
 returns-clause-fine c = λ fine.
-    let told = rw c.deref.ensures at c.hits_in-number.ensures in (
+    let told = rw c.deref.ensures at c.hits-number.ensures in (
       c.in-Some.opened.value,
       sym c.in-Some.ensures.taken,
       λ files own n s.

@@ -8,13 +8,13 @@ use Rattle.httpd.specs.Web.{WebContent}
 use Rattle.httpd.proofs.Finding.{found_place}
 use Rattle.web_pages.specs.Pages.{hits_of, place_of}
 use Rattle.uip_device.proofs.WebLaws.{hits_at}
-use Rattle.uip_device.proofs.web_device.hits_in.Goals as goal
+use Rattle.uip_device.proofs.web_device.WebDevice.hits.Goals as goal
 
 pub returns-in-Some : goal.returns-in-Some
 returns-in-Some c = λ n stands.
     let files : List File = files_of c.tree.result in
     let hits : List ℕ = c.web.inside.hits.items in
-    let values : List ℕ = c.args.device.now.node.shared.values.bytes in
+    let values : List ℕ = c.args.self.now.node.shared.values.bytes in
     let name : List ℕ = c.args.name.now in
     let id : ℕ = c.in-Some.id.0 in
     let found : Option FileId = c.find.result in

@@ -1,14 +1,14 @@
 use Rattle.std.proofs.Common.{List, ℕ, ◌++◌, ap, refl, sym, ◌∙◌}
 use Rattle.uip_device.specs.WebDevices.{write_value}
 use Rattle.uip_device.proofs.WebLaws.{written_behind}
-use Rattle.uip_device.proofs.web_device.give_value.Goals as goal
+use Rattle.uip_device.proofs.web_device.WebDevice.give.Goals as goal
 
 pub returns-clause-gives : goal.returns-clause-gives
 returns-clause-gives c =
     let number : ℕ = c.args.number in
     let text : List ℕ = c.args.text.now in
-    let hits : List ℕ = c.args.device.now.node.shared.web.hits in
-    let values : List ℕ = c.args.device.now.node.shared.values.bytes in
+    let hits : List ℕ = c.args.self.now.node.shared.web.hits in
+    let values : List ℕ = c.args.self.now.node.shared.values.bytes in
     record {
       kept = refl;
       heard = λ before h. h;
