@@ -56,7 +56,8 @@ fn spell_html(out: &mut Spelled, text: &[u8])
     }
 }
 
-/// Appends bytes.
+/// Appends bytes. It stands by itself, since it is called in many places.
+#[inline(never)]
 fn push_all(out: &mut Spelled, piece: &[u8])
     requires { length out.old.items + length piece.now ≤ 192 }
     ensures items { out.new.items ≡ out.old.items ++ piece.now }

@@ -1,3 +1,6 @@
+ghost use Rattle.std.specs.Prelude.{◌≡◌};
+ghost use Rattle.std.specs.Str.{bytes_eq};
+
 use crate::spelling::Spelling;
 use script_lang::{Calls, Function};
 
@@ -10,20 +13,25 @@ pub enum Word {
     Value(Spelling),
 }
 
+/// Whether a name is that word. It stands by itself, since it is called in three places.
+#[inline(never)]
+fn is_word(name: &[u8], word: &[u8]) -> bool
+    ensures { result ≡ bytes_eq name.now word.now }
+{
+    name == word
+}
+
 impl Calls for Word {
     ghost use Rattle.device_values.specs.Words.{word_calls};
 
     ghost calling = { word_calls };
 
     fn named(name: &[u8]) -> Word {
-        let plain: &[u8] = b"value";
-        let json: &[u8] = b"value-json";
-        let html: &[u8] = b"value-html";
-        if name == plain {
+        if is_word(name, b"value") {
             Word::Value(Spelling::Plain)
-        } else if name == json {
+        } else if is_word(name, b"value-json") {
             Word::Value(Spelling::Json)
-        } else if name == html {
+        } else if is_word(name, b"value-html") {
             Word::Value(Spelling::Html)
         } else {
             Word::Uip(Function::named(name))
