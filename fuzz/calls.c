@@ -5,7 +5,7 @@
 
 enum { MOST_ROOM = 1 << 20, LOOKED_AT = 256 };
 
-static area line_in, datagram_in, image_in, outputs;
+static area line_in, datagram_in, image_in, words_in, outputs;
 static byte before[2 * LOOKED_AT];
 static size_t heap_before;
 static uip_device handle_before;
@@ -14,6 +14,7 @@ void calls_begin(void) {
     line_in = area_new(1 << 16, 1);
     datagram_in = area_new(1 << 16, 1);
     image_in = area_new(1 << 20, 1);
+    words_in = area_new(1 << 16, 1);
     outputs = area_new(MOST_ROOM, 0);
 }
 
@@ -148,12 +149,66 @@ void call_close(tested *t) {
     t->is_open = t->has_left = 0;
 }
 
+// What calls that neither read nor write an area answer: they leave the heap, and the handle where they were refused or read.
+static void told(const tested *t, unsigned status, int is_bad, const char *what) {
+    unsigned wanted = foretold(t, is_bad, 0);
+    counts.calls++;
+    counts.refused += wanted != UIP_FINE;
+    WANT(status == wanted, "%s answers %u, and %u was foretold", what, status, wanted);
+    WANT(heap_calls == heap_before, "%s called the heap", what);
+    WANT(!memcmp(&t->handle, &handle_before, sizeof t->handle), "%s wrote to the handle", what);
+}
+
+void call_value(tested *t, unsigned long number, const byte *bytes, size_t len) {
+    (void)begin(t, 0);
+    unsigned status = uip_value(&t->handle, number, put_input(&words_in, bytes, len), len);
+    told(t, status, number >= UIP_VALUES || len > UIP_LONGEST_VALUE, "uip_value");
+}
+
+unsigned call_hits(tested *t, const byte *name, size_t len) {
+    (void)begin(t, 0);
+    uip_number read = uip_hits(&t->handle, put_input(&words_in, name, len), len);
+    told(t, read.status, 0, "uip_hits");
+    return read.number;
+}
+
+int call_idle(tested *t) {
+    (void)begin(t, 0);
+    uip_number read = uip_is_idle(&t->handle);
+    told(t, read.status, 0, "uip_is_idle");
+    WANT(read.number <= (unsigned)t->is_open, "uip_is_idle tells %u", read.number);
+    return (int)read.number;
+}
+
+uip_row call_row(tested *t, unsigned long slot) {
+    (void)begin(t, 0);
+    uip_row row = uip_connection(&t->handle, slot);
+    told(t, row.status, slot >= UIP_SLOTS, "uip_connection");
+    return row;
+}
+
+// These two are refused for their words or without a device; a name that no file has was asked for by nobody.
+static void refused_words(tested *t) {
+    static byte words[1 << 16];
+    size_t len = chance(90) ? UIP_LONGEST_VALUE + 1 + below(40) : between(100, sizeof words);
+    random_bytes(words, 128);
+    unsigned long no_number = chance(50) ? UIP_VALUES : UIP_VALUES + random_next();
+    call_value(t, no_number, words, below(UIP_LONGEST_VALUE + 1));
+    call_value(t, chance(80) ? below(UIP_VALUES) : no_number, words, len);
+    (void)call_row(t, chance(50) ? UIP_SLOTS : UIP_SLOTS + random_next());
+    words[0] = (byte)below('/');
+    WANT(call_hits(t, words, chance(20) ? len : below(70)) == 0, "uip_hits counts what is no name");
+    if (t->is_open) return;
+    call_value(t, below(UIP_VALUES), words, below(UIP_LONGEST_VALUE + 1));
+    WANT(call_row(t, below(UIP_SLOTS)).state == UIP_CLOSED && !call_idle(t), "a row without a device");
+}
+
 // A call that has to be refused: with bad words, or while a text is left, or without a device.
 void refused_calls(tested *t) {
     static byte none[LARGEST + 2];
     text nowhere = {none, 0};
     int is_idle = t->is_open && !t->has_left;
-    switch (below(8)) {
+    switch (below(9)) {
     case 0: call_hear(t, none, 0, 2 + below(4000), &nowhere); break;
     case 1: call_hear(t, none, between(1, 100), below(2), &nowhere); break;
     case 2: call_slot(t, chance(50) ? UIP_SLOTS : (unsigned)random_next() | 0x10, is_idle ? 2 : below(4000), &nowhere); break;
@@ -161,6 +216,7 @@ void refused_calls(tested *t) {
     case 4: call_more(t, below(2), &nowhere); break;
     case 5: call_datagram(t, none, chance(50) ? 0 : LARGEST + 1, &nowhere); break;
     case 6: call_slot_datagram(t, chance(50) ? UIP_SLOTS : (unsigned)random_next() | 0x10, &nowhere); break;
+    case 8: refused_words(t); break;
     default:
         if (is_idle) break;
         call_hear(t, none, between(1, 100), 2 + below(4000), &nowhere);

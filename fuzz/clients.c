@@ -5,15 +5,16 @@
 #include <string.h>
 #include "fuzz.h"
 
-enum { CLIENTS = 28, QUEUE = 64, LONGEST_PAGE = 1 << 16, HTTP = 80 };
+enum { CLIENTS = 28, QUEUE = 64, HTTP = 80 };
 typedef enum { IDLE, OPENING, OPEN, CLOSING, ENDED } state;
 
 typedef struct {
     state state;
-    byte address[4], request[300], page[LONGEST_PAGE];
+    byte address[4], request[300], name[64];
     unsigned port, mss, window, piece, first, theirs, next, wait, retries;
-    int is_known, is_stale, was_answered;
-    size_t request_len, acked, page_len, got;
+    int is_stale, was_answered, was_told;
+    size_t request_len, name_len, acked, got;
+    page page;    // of the connection that answered last; it begins with its SYN-ACK
 } client;
 
 typedef struct { byte bytes[LARGEST]; size_t len; } packet;
@@ -68,7 +69,7 @@ static void say_due(client *c, int asks_ack) {
     c->wait = between(2, 9);
 }
 
-// A request, and the page that it gets.
+// A request, and the name of the file that it asks for.
 static void choose_request(client *c) {
     static const char *const forms[] = {"GET %.*s HTTP/1.0\r\n\r\n", "GET %.*s\r\n", "GET %.*s?a=1&b HTTP/1.1\r\nHost: node\r\n\r\n",
         "GET %.*s HTTP/1.1\r\nAccept: */*\r\nUser-Agent: fuzz\r\n\r\n", "POST %.*s HTTP/1.0\r\n\r\n", "GET x%.*s HTTP/1.0\r\n\r\n"};
@@ -80,13 +81,17 @@ static void choose_request(client *c) {
         name = f->name, len = f->name_len;
     }
     c->request_len = (size_t)snprintf((char *)c->request, sizeof c->request, forms[form], (int)len, (const char *)name);
-    c->page_len = form < 4 ? page_of(asked, name, len, c->page, sizeof c->page) : 0;
-    c->is_known = form >= 4 || c->page_len > 0;
+    memcpy(c->name, name, c->name_len = form < 4 ? len : 0);
+}
+
+// What the page is from its first byte on; a request that is none gets an empty one.
+static void begin_page(client *c) {
+    if (c->name_len) page_begin(&c->page, asked, c->name, c->name_len);
+    else c->page.len = 0, c->page.script = 0, c->page.is_known = c->page.is_whole = 1;
 }
 
 static void open_client(client *c) {
     memset(c, 0, offsetof(client, page));
-    c->is_stale = c->was_answered = 0, c->acked = c->got = 0, c->retries = 0;
     c->state = OPENING;
     memcpy(c->address, (byte[]){10, 1, (byte)random_next(), (byte)random_next()}, 4);
     c->port = next_port++;
@@ -100,8 +105,9 @@ static void open_client(client *c) {
 
 static void take_text(client *c, const segment *s) {
     for (size_t at = 0; at < s->len; at++, c->got++)
-        if (c->is_known && !c->is_stale)
-            WANT(c->got < c->page_len && c->page[c->got] == s->text[at], "byte %zu of a page of %zu is another", c->got, c->page_len);
+        if (c->page.is_known && !c->is_stale)
+            WANT(c->got < c->page.len && c->page.bytes[c->got] == s->text[at],
+                 "byte %zu of a page of %zu is another", c->got, c->page.len);
     c->next += (unsigned)s->len;
 }
 
@@ -109,8 +115,8 @@ static void take_end(client *c) {
     c->next++;
     c->state = CLOSING;
     counts.pages++;
-    if (!c->is_known || c->is_stale) return;
-    WANT(c->got == c->page_len, "%zu bytes of a page of %zu came before a plain close", c->got, c->page_len);
+    if (!c->page.is_known || c->is_stale) return;
+    WANT(c->page.is_whole && c->got == c->page.len, "%zu bytes of a page of %zu came before a plain close", c->got, c->page.len);
     counts.whole++;
 }
 
@@ -146,8 +152,27 @@ static client *client_of(const segment *s) {
     return 0;
 }
 
-// A client is stale once a second connection answers it: what it has got is then not compared any more. No segment is longer than the
-// client asked for.
+// The page is fixed as it is sent: a call's text is of the moment at which it is sent first, and begins a segment. What is sent again is
+// compared with what was sent first.
+static void page_was_sent(client *c, const segment *s) {
+    page *p = &c->page;
+    size_t at = s->seq - c->theirs - 1, end = at + s->len;
+    WANT(at <= LONGEST_PAGE || !p->is_known, "a segment from byte %zu of a page", at);
+    if (p->is_known && p->call_at && at == p->call_at && end <= p->len && s->len) counts.changed += value_has_changed(p);
+    while (p->is_known && !p->is_whole && (p->len < end || s->flags & FIN)) {
+        size_t before = p->len;
+        int is_call = page_goes_on(p);
+        WANT(!is_call || p->len == before || before == at, "a call's text at byte %zu was sent with byte %zu", before, at);
+        counts.shown += is_call && p->len > before;
+    }
+    if (!p->is_known) return;
+    WANT(end <= p->len && !memcmp(p->bytes + at, s->text, s->len),
+         "bytes %zu to %zu of a page of %zu were sent otherwise", at, end, p->len);
+    WANT(!(s->flags & FIN) || (p->is_whole && end == p->len), "a page of %zu bytes was closed behind %zu", p->len, end);
+}
+
+// A client is stale once a second connection answers it: what it has got is then not compared any more, but what is sent is. No segment
+// is longer than the client asked for.
 void heard_back(const byte *datagram, size_t len) {
     segment s;
     enqueue(&from_node, datagram, len);
@@ -157,9 +182,14 @@ void heard_back(const byte *datagram, size_t len) {
     client *c = client_of(&s);
     if (!c) return;
     WANT(s.len <= (c->mss ? c->mss : 536) && s.len <= 1460, "a segment of %zu bytes went to a client that takes %u", s.len, c->mss);
-    if (!(s.flags & SYN)) return;
-    if (c->was_answered && c->theirs != s.seq) c->is_stale = 1;
-    c->was_answered = 1, c->theirs = s.seq;
+    if (s.flags & RST) return;
+    if (!(s.flags & SYN)) {
+        if (s.len || s.flags & FIN) c->was_told = 1, page_was_sent(c, &s);
+        return;
+    }
+    if (c->was_answered && (c->theirs != s.seq || c->was_told)) c->is_stale = 1;
+    c->was_answered = 1, c->was_told = 0, c->theirs = s.seq;
+    begin_page(c);
 }
 
 static void deliver_back(void) {

@@ -14,6 +14,10 @@ static text said, said_whole, said_by_datagrams;
 static byte rooms[3][LONGEST_TEXT];
 static FILE *line_file, *said_file;
 static unsigned until_tick;
+static const site *open_site;
+static int is_last, is_given;    // whether the devices hear one event alone; whether a value was given to the first device alone
+static unsigned given_number;
+static value given;
 
 static size_t random_room(void) {
     unsigned kind = below(100);
@@ -22,11 +26,49 @@ static size_t random_room(void) {
     return kind < 90 ? between(2, 3100) : kind < 99 ? UIP_ROOM : between(2, 1 << 20);
 }
 
-// Hands out what is left of a text in random rooms, with refused calls and reads between them.
+// Gives the device under test a value; the others get it before they hear anything more.
+static void give(void) {
+    given_number = below(UIP_VALUES), given = random_value(), is_given = 1;
+    call_value(&under_test, given_number, given.bytes, given.len);
+    counts.given++;
+}
+
+static void give_others(void) {
+    if (!is_given) return;
+    call_value(&whole, given_number, given.bytes, given.len);
+    call_value(&by_datagrams, given_number, given.bytes, given.len);
+    counts.calls -= 2, counts.others += 2;
+    values_given(given_number, &given);
+    is_given = 0;
+}
+
+// A name of a file that is mostly asked for; at times a byte longer or shorter, so of no file, or of another.
+static size_t some_name(byte *to) {
+    if (open_site->count == 0) return 0;
+    const file *f = &open_site->files[below(open_site->count < 12 ? open_site->count : 12)];
+    memcpy(to, f->name, f->name_len);
+    if (!chance(10)) return f->name_len;
+    to[f->name_len] = (byte)random_next();
+    return f->name_len - 1 + 2 * below(2);
+}
+
+// Reads a hit count while an event is being heard: of before or behind it.
+static void read_hits(void) {
+    byte name[66];
+    size_t len = some_name(name);
+    unsigned told = call_hits(&under_test, name, len), low = least_hits(name, len), high = hits_foretold(name, len);
+    WANT(told - low <= high - low, "a file was asked for %u times, and %u to %u was foretold", told, low, high);
+}
+
+// Hands out what is left of a text in random rooms, with refused calls and reads between them, and with a value where the text is of
+// the last event that the others hear too.
 static void drain(void) {
     while (under_test.has_left) {
         if (chance(10)) refused_calls(&under_test);
         if (chance(5)) reads(&under_test, &counted_before, &counted);
+        if (chance(3)) read_hits();
+        if (chance(2)) (void)call_idle(&under_test), (void)call_row(&under_test, below(UIP_SLOTS));
+        if (is_last && !is_given && chance(8)) give();
         call_more(&under_test, random_room(), &said);
     }
 }
@@ -47,11 +89,12 @@ static void hear_whole(const byte *bytes, size_t len) {
 }
 
 // What the device by datagrams sent is told to the model and to the clients, and is due on the line as a frame.
-static void take_sent(const byte *datagram, size_t len) {
+static void take_sent(const byte *heard, size_t heard_len, const byte *datagram, size_t len) {
     byte kept[LARGEST];
     if (len == 0) return;
     memcpy(kept, datagram, len);
     model_sends(&counted, kept, len);
+    peers_see(heard, heard_len, kept, len);
     said_by_datagrams.len += write_frame(said_by_datagrams.bytes + said_by_datagrams.len, kept, len);
     WANT(said_by_datagrams.len + 3100 < LONGEST_TEXT, "the harness has no room for a text");
     heard_back(kept, len);
@@ -63,16 +106,19 @@ static void hear_one(const byte *datagram, size_t len) {
     model_hears(&counted, datagram, len);
     call_datagram(&by_datagrams, datagram, len, &sent);
     counts.calls--, counts.others++;
-    take_sent(room, sent.len);
+    take_sent(datagram, len, room, sent.len);
 }
 
-static void hear_frames(const byte *bytes, size_t len) {
+static unsigned hear_frames(const byte *bytes, size_t len) {
+    unsigned events = 0;
     for (size_t at = 0; at < len; at++) {
         int ended = decode(&line, bytes[at]);
+        events += ended > 0;
         if (ended > 0) hear_one(line.bytes, line.len);
         if (ended < 0) counted.numbers[UIP_OVERLONG_FRAMES]++;
         if (bytes[at] == 0xc0) line.len = 0;
     }
+    return events;
 }
 
 static void same_text(const text *other, const char *name) {
@@ -82,8 +128,31 @@ static void same_text(const text *other, const char *name) {
          said.len, name, other->len, at);
 }
 
+// What is read of all three devices is the same, and as it was foretold.
+static void read_all(void) {
+    byte name[66];
+    size_t len = some_name(name);
+    unsigned told = call_hits(&under_test, name, len), rows = 0;
+    WANT(told == hits_foretold(name, len), "a file was asked for %u times, and %u was foretold", told, hits_foretold(name, len));
+    WANT(told == call_hits(&whole, name, len) && told == call_hits(&by_datagrams, name, len), "the hits differ");
+    for (unsigned slot = 0; slot < UIP_SLOTS; slot++) {
+        uip_row row = call_row(&under_test, slot), other = call_row(&whole, slot), third = call_row(&by_datagrams, slot);
+        row_is_foretold(slot, &row);
+        rows += row.state != UIP_CLOSED;
+        int is_same = row.state == UIP_CLOSED ? other.state == UIP_CLOSED && third.state == UIP_CLOSED
+            : !memcmp(&row, &other, sizeof row) && !memcmp(&row, &third, sizeof row);
+        WANT(is_same, "the rows of slot %u differ", slot);
+    }
+    WANT(call_idle(&under_test) == (rows == 0), "a device with %u connections is %sidle", rows, rows ? "" : "not ");
+    WANT(call_idle(&whole) == (rows == 0) && call_idle(&by_datagrams) == (rows == 0), "the devices are not idle alike");
+    counts.hits++, counts.rows += rows;
+    counts.calls -= 2 * (UIP_SLOTS + 2), counts.others += 2 * (UIP_SLOTS + 2);
+}
+
 static void compare(void) {
     counted_before = counted;
+    hits_settled();
+    give_others();
     same_text(&said_whole, "in whole pieces");
     same_text(&said_by_datagrams, "by datagrams");
     if (said_file) fwrite(said.bytes, 1, said.len, said_file);
@@ -94,10 +163,12 @@ static void compare(void) {
     }
     if (chance(3)) reads(&under_test, &counted_before, &counted);
     if (chance(1)) heap_check();
+    if (chance(1)) read_all();
+    if (chance(4)) give(), give_others();
 }
 
 static void hear_part(const byte *bytes, size_t len) {
-    hear_frames(bytes, len);
+    is_last = hear_frames(bytes, len) <= 1;
     hear_in_parts(bytes, len);
     hear_whole(bytes, len);
     compare();
@@ -136,12 +207,24 @@ void devices_hear_datagram(const byte *datagram, size_t len) {
     compare();
 }
 
+// What a tick of a slot sends goes to the peer of its row, but for a RST, behind which the slot is CLOSED.
+static void speaks(unsigned slot, const byte *datagram, size_t len) {
+    segment s;
+    uip_row row = call_row(&under_test, slot);
+    WANT(read_segment(datagram, len, &s), "a tick sent what is no segment");
+    if (s.flags & RST) WANT(row.state == UIP_CLOSED, "slot %u is not CLOSED behind a RST", slot);
+    else WANT(row.state != UIP_CLOSED && row.port == s.to && !memcmp(row.peer, s.target, 4), "slot %u sent to another peer", slot);
+}
+
 void devices_tick(unsigned slot) {
     static byte room[LARGEST], sent_room[LARGEST];
     text sent = {room, 0}, one = {sent_room, 0};
+    int was_idle = chance(5) && call_idle(&under_test);
+    is_last = 1;
     counted.ticks += slot == 0;
     call_slot_datagram(&by_datagrams, slot, &one);
-    take_sent(sent_room, one.len);
+    take_sent(0, 0, sent_room, one.len);
+    WANT(!was_idle || one.len == 0, "an idle device sent a datagram for a tick");
     if (how.is_mixed && chance(30)) {
         call_slot_datagram(&under_test, slot, &sent);
         said.len += sent.len ? write_frame(said.bytes + said.len, room, sent.len) : 0;
@@ -152,6 +235,7 @@ void devices_tick(unsigned slot) {
     call_slot(&whole, slot, UIP_ROOM, &said_whole);
     counts.calls -= 2, counts.others += 2;
     compare();
+    if (one.len && chance(30)) speaks(slot, sent_room, one.len);
 }
 
 // An image of which some bytes are others, or which is cut or longer; gives its length.
@@ -192,6 +276,9 @@ void devices_open(const site *s, const byte *own, const way *asked) {
     memcpy(counted.own, own, 4);
     memset(&line, 0, sizeof line);
     until_tick = how.pace;
+    open_site = s, is_given = 0;
+    values_begin();
+    peers_begin(s);
     open_under_test(s, own);
     call_open(&whole, s->image, s->len, own);
     call_open(&by_datagrams, s->image, s->len, own);
@@ -206,6 +293,7 @@ void devices_close(void) {
     }
     call_close(&under_test);
     if (chance(20)) call_close(&under_test);
+    for (unsigned k = below(5); k; k--) refused_calls(&under_test);
     call_close(&whole);
     call_close(&by_datagrams);
     WANT(heap_blocks == 0, "%zu blocks are kept behind uip_close", heap_blocks);

@@ -6,7 +6,8 @@
 
 typedef unsigned char byte;
 
-enum { MOST_FILES = 1024, LONGEST_TEXT = 1 << 21, LARGEST = UIP_DATAGRAM_ROOM };
+enum { MOST_FILES = 1024, LONGEST_TEXT = 1 << 21, LARGEST = UIP_DATAGRAM_ROOM, LONGEST_PAGE = 1 << 16,
+       LONGEST_SPELLED = 6 * UIP_LONGEST_VALUE };
 
 // random.c: numbers that follow from a seed alone.
 void random_begin(unsigned long seed);
@@ -21,6 +22,7 @@ _Noreturn void fail(const char *format, ...) __attribute__((format(printf, 1, 2)
 #define WANT(is_so, ...) do { if (!(is_so)) fail(__VA_ARGS__); } while (0)
 extern struct counts {
     unsigned long calls, others, refused, opens, bad_images, refusals, sessions, pages, whole, datagrams, pings;
+    unsigned long given, shown, changed, hits, rows;
 } counts;
 void report_begin(unsigned long seed, int is_mixed);
 void report_end(void);
@@ -59,9 +61,40 @@ int decode(decoder *d, byte b);            // 1: its bytes are a frame, and -1: 
 // sites.c: images, by docs/FORMATS.md.
 typedef struct { byte name[64], kind[64]; unsigned name_len, kind_len; const byte *content; size_t len; } file;
 typedef struct { byte *image; size_t len; unsigned count; file files[MOST_FILES]; int is_two; } site;
-void make_site(site *s, int has_calls);
+typedef struct { int others, values; } calls_of;                           // what the scripts of a site may call
+void make_site(site *s, const calls_of *has);
+const file *file_named(const site *s, const byte *name, size_t len);
+const byte *file_of_target(const byte *target, size_t *len);
 const char *site_fault(const byte *image, size_t len, unsigned *entry);    // the word of the first fault, or 0
-size_t page_of(const site *s, const byte *name, size_t name_len, byte *to, size_t most);    // 0: it has a call, or no room
+// A piece of a script: its kind, the bytes that it names, where its words end, and where the next begins.
+typedef struct { enum { TEXT, INCLUDE, CALL } kind; size_t from, to, end, next; } piece;
+// A page as it is sent, as far as it is fixed: not beyond a call whose moment has not come.
+typedef struct {
+    const site *asked;
+    const file *script;
+    piece call;                         // the last one that is fixed, whose text begins at `call_at`, which is 0 where none is
+    size_t at, len, call_at;
+    int is_known, is_whole;
+    byte bytes[LONGEST_PAGE];
+} page;
+void page_begin(page *p, const site *s, const byte *name, size_t name_len);
+int value_has_changed(const page *p);
+int page_goes_on(page *p);                                                 // 1: by a call
+
+// values.c: the values that were given to all devices.
+typedef struct { byte bytes[UIP_LONGEST_VALUE]; size_t len; } value;
+void values_begin(void);
+void values_given(unsigned number, const value *given);
+value random_value(void);
+size_t spell_value(const byte *argument, size_t argument_len, int spelling, byte *to);    // 0 as it is, 1 for JSON, 2 for HTML
+
+// peers.c: what is known of the connections from what the node hears (0 for a tick) and sends.
+void peers_begin(const site *s);
+void peers_see(const byte *heard, size_t heard_len, const byte *sent, size_t sent_len);
+void hits_settled(void);                                                   // all devices have heard the same
+unsigned hits_foretold(const byte *name, size_t len);
+unsigned least_hits(const byte *name, size_t len);                         // before what is being heard
+void row_is_foretold(unsigned slot, const uip_row *row);
 
 // model.c: what a node counts of datagrams that come and go.
 typedef struct { unsigned numbers[21], ticks; byte own[4]; } model;
@@ -94,6 +127,10 @@ void refused_calls(tested *t);
 void reads(tested *t, const model *least, const model *most);
 void calls_begin(void);
 unsigned numbers_of(tested *t, unsigned number);
+void call_value(tested *t, unsigned long number, const byte *bytes, size_t len);
+unsigned call_hits(tested *t, const byte *name, size_t len);
+int call_idle(tested *t);
+uip_row call_row(tested *t, unsigned long slot);
 
 // clients.c: clients, honest and dishonest, behind a link that loses, repeats, reorders and damages.
 void clients_begin(const site *s, const byte *own, int may_be_overlong);

@@ -3,8 +3,10 @@
 //     fuzz SECONDS CALLS SEED [mixed] [record FOLDER]
 //
 // It ends behind so many seconds or calls of the device under test, whichever is first, or with the first finding. A session is a random
-// site at a random address, three devices in step (devices.c), clients and a link between (clients.c). With `mixed` datagrams come outside
-// of the line too. With `record` each session has a pace, and its line and what was sent are kept for `uipd serve` (run.sh compares).
+// site at a random address, three devices in step (devices.c) that are given values (values.c), clients and a link between (clients.c).
+// What of it was asked for, and how the connections stand, follows from what is heard and sent (peers.c). With `mixed` datagrams come
+// outside of the line too. With `record` each session has a pace, and its line and what was sent are kept for `uipd serve` (run.sh
+// compares).
 #include <stdio.h>
 #include <stdlib.h>
 #include <string.h>
@@ -29,11 +31,11 @@ static void act(const way *how, unsigned *slot) {
 static void session(void) {
     static site s;
     byte own[4] = {10, 0, 0, 1};
-    int has_calls = chance(50);
-    way how = {.is_mixed = is_mixed, .may_be_overlong = !has_calls, .pace = folder ? between(1, 3000) : 0};
+    calls_of has = {.others = chance(50), .values = !folder && chance(60)};
+    way how = {.is_mixed = is_mixed, .may_be_overlong = !has.others, .pace = folder ? between(1, 3000) : 0};
     unsigned slot = 0;
     if (chance(50)) random_bytes(own, 4);
-    make_site(&s, has_calls);
+    make_site(&s, &has);
     if (folder) record_begin(folder, &s, own, how.pace);
     devices_open(&s, own, &how);
     clients_begin(&s, own, how.may_be_overlong);

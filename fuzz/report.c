@@ -45,4 +45,7 @@ void report_end(void) {
     printf("%lu sessions, %lu datagrams sent, %lu echo replies, %lu opens (%lu of bad images, %lu without memory), "
            "%lu pages closed, %lu of them compared whole\n", counts.sessions, counts.datagrams, counts.pings, counts.opens,
            counts.bad_images, counts.refusals, counts.pages, counts.whole);
+    printf("%lu values given, %lu texts of calls in pages, %lu segments sent again at a value that was another by then, "
+           "%lu hit counts and %lu rows of connections read\n",
+           counts.given, counts.shown, counts.changed, counts.hits, counts.rows);
 }

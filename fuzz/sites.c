@@ -1,6 +1,5 @@
 // Images of sites, good and bad, and the pages of their files, by docs/FORMATS.md.
 #include <stdio.h>
-#include <stdlib.h>
 #include <string.h>
 #include "fuzz.h"
 
@@ -10,9 +9,16 @@ static int same(const byte *one, size_t one_len, const byte *other, size_t other
     return one_len == other_len && !memcmp(one, other, one_len);
 }
 
-static const file *file_named(const site *s, const byte *name, size_t len) {
+const file *file_named(const site *s, const byte *name, size_t len) {
     for (unsigned k = 0; k < s->count; k++) if (same(s->files[k].name, s->files[k].name_len, name, len)) return &s->files[k];
     return 0;
+}
+
+// The name of the file that a target means.
+const byte *file_of_target(const byte *target, size_t *len) {
+    if (!same(target, *len, (const byte *)"/", 1)) return target;
+    *len = 11;
+    return (const byte *)"/index.html";
 }
 
 // The next word of a part of a script, from `at` on.
@@ -23,14 +29,12 @@ static size_t word(const byte *text, size_t *at, size_t end) {
     return from;
 }
 
-// A piece of a script from `at` on: its kind, the bytes that it names, and where the next begins.
-typedef struct { enum { TEXT, INCLUDE, CALL } kind; size_t from, to, next; } piece;
-
+// The piece of a script from `at` on.
 static piece piece_at(const byte *text, size_t at, size_t len) {
     size_t end = at;
     if (!(at + 1 < len && text[at] == '%' && text[at + 1] == '!')) {
         while (end < len && !(end + 1 < len && text[end] == '%' && text[end + 1] == '!')) end++;
-        return (piece){TEXT, at, end, end};
+        return (piece){TEXT, at, end, end, end};
     }
     at += 2;
     while (end < len && text[end] != '\n') end++;
@@ -39,13 +43,10 @@ static piece piece_at(const byte *text, size_t at, size_t len) {
     int is_include = end > at && text[at] == ':';
     if (is_include) at++;
     size_t from = word(text, &at, end);
-    return (piece){is_include ? INCLUDE : CALL, from, at, next};
+    return (piece){is_include ? INCLUDE : CALL, from, at, end, next};
 }
 
-static unsigned longest_call(const byte *name, size_t len) {
-    return same(name, len, (const byte *)"file-stats", 10) ? 10 : same(name, len, (const byte *)"tcp-connections", 15) ? 1030
-        : same(name, len, (const byte *)"net-stats", 9) ? 220 : same(name, len, (const byte *)"ticks", 5) ? 10 : 0;
-}
+static int is_word(const byte *name, size_t len, const char *words) { return same(name, len, (const byte *)words, strlen(words)); }
 
 // Puts together what is written to a room, as far as there is room.
 typedef struct { byte *to; size_t len, most; } writer;
@@ -68,32 +69,64 @@ static void add_kind(writer *w, const file *f) {
     add_text(w, f ? "application/octet-stream" : "text/html");
 }
 
-// The body of a file; 0 where a call of a script has a text that is not known here.
-static int add_body(writer *w, const site *s, const file *f) {
-    if (!is_script(f->name, f->name_len)) { add(w, f->content, f->len); return 1; }
-    for (size_t at = 0; at < f->len;) {
-        piece p = piece_at(f->content, at, f->len);
-        at = p.next;
-        if (p.kind == TEXT) add(w, f->content + p.from, p.to - p.from);
-        if (p.kind == CALL && longest_call(f->content + p.from, p.to - p.from)) return 0;
-        if (p.kind != INCLUDE) continue;
-        const file *included = file_named(s, f->content + p.from, p.to - p.from);
-        if (included) add(w, included->content, included->len);
+// The text of a call as it is at this moment, by the values and the hits; 0 where it is not foretold.
+static int add_call(writer *w, const byte *script, const piece *is) {
+    size_t len = is->to - is->from, at = is->to, from = word(script, &at, is->end), argument_len = at - from;
+    const byte *name = script + is->from, *argument = script + from;
+    static const char *const spellings[] = {"value", "value-json", "value-html"};
+    char number[16] = "";
+    for (int k = 0; k < 3; k++) {
+        byte spelled[LONGEST_SPELLED];
+        if (is_word(name, len, spellings[k])) add(w, spelled, spell_value(argument, argument_len, k, spelled));
     }
-    return 1;
+    if (is_word(name, len, "ticks")) snprintf(number, sizeof number, "%10u", counted.ticks);
+    if (is_word(name, len, "file-stats")) snprintf(number, sizeof number, "%10u", hits_foretold(argument, argument_len));
+    add_text(w, number);
+    return !is_word(name, len, "tcp-connections") && !is_word(name, len, "net-stats");
 }
 
-size_t page_of(const site *s, const byte *name, size_t name_len, byte *to, size_t most) {
-    writer w = {to, 0, most};
-    if (same(name, name_len, (const byte *)"/", 1)) name = (const byte *)"/index.html", name_len = 11;
+// What is fixed of a page at once: all but the body of a script.
+void page_begin(page *p, const site *s, const byte *name, size_t name_len) {
+    writer w = {p->bytes, 0, sizeof p->bytes};
+    name = file_of_target(name, &name_len);
     const file *f = file_named(s, name, name_len), *shown = f ? f : file_named(s, (const byte *)"/404.html", 9);
     add_text(&w, f ? "HTTP/1.0 200 OK\r\n" : "HTTP/1.0 404 Not found\r\n");
     add_text(&w, "Server: uIP/1.0\r\nConnection: close\r\nContent-type: ");
     add_kind(&w, f);
     add_text(&w, "\r\n\r\n");
+    p->asked = s, p->at = p->call_at = 0, p->is_known = 1;
+    p->script = shown && is_script(shown->name, shown->name_len) ? shown : 0;
     if (!shown) add_text(&w, "not found\n");
-    else if (!add_body(&w, s, shown)) return 0;
-    return w.len <= most ? w.len : 0;
+    else if (!p->script) add(&w, shown->content, shown->len);
+    p->len = w.len, p->is_whole = !p->script;
+    if (p->len > w.most) p->is_known = 0;
+}
+
+// Whether the last call that was fixed is of a value, which is another by now.
+int value_has_changed(const page *p) {
+    byte now[LONGEST_SPELLED];
+    writer w = {now, 0, sizeof now};
+    const byte *script = p->script->content;
+    if (p->call.to - p->call.from < 5 || memcmp(script + p->call.from, "value", 5)) return 0;
+    (void)add_call(&w, script, &p->call);
+    size_t len = w.len, left = p->len - p->call_at;
+    return len > left || memcmp(now, p->bytes + p->call_at, len);
+}
+
+// One more piece of the script, as it is at this moment. Gives whether it is a call, whose text begins with a segment.
+int page_goes_on(page *p) {
+    const file *f = p->script;
+    if (p->at >= f->len) { p->is_whole = 1; return 0; }
+    writer w = {p->bytes, p->len, sizeof p->bytes};
+    piece is = piece_at(f->content, p->at, f->len);
+    p->at = is.next;
+    if (is.kind == TEXT) add(&w, f->content + is.from, is.to - is.from);
+    if (is.kind == CALL) p->call = is, p->call_at = p->len, p->is_known = add_call(&w, f->content, &is);
+    const file *included = is.kind == INCLUDE ? file_named(p->asked, f->content + is.from, is.to - is.from) : 0;
+    if (included) add(&w, included->content, included->len);
+    p->len = w.len;
+    if (p->len > w.most) p->is_known = 0;
+    return is.kind == CALL;
 }
 
 // What is left of an image to read.
@@ -168,13 +201,28 @@ const char *site_fault(const byte *image, size_t len, unsigned *entry) {
     return 0;
 }
 
-// The text of a random script: text, includes of files that are there, and calls.
-static void add_script(writer *w, const site *s, int has_calls) {
-    static const char *const calls[] = {"%! tcp-connections\n", "%! net-stats\r\n", "%! ticks \n", "%! file-stats /f0.html\n"};
+// A call of a value, mostly by a number that there is.
+static void add_value_call(writer *w) {
+    static const char *const spellings[] = {"value", "value-json", "value-html"};
+    static const char *const none[] = {"16", "007", "+1", "-1", "", "1x", "99999999999999999999", "0x3", "15.", "\xff"};
+    char call[64];
+    if (chance(85)) snprintf(call, sizeof call, "%%! %s  %u%s\n", spellings[below(3)], below(UIP_VALUES), chance(20) ? " 7 more\r" : "");
+    else snprintf(call, sizeof call, "%%! %s %s\n", spellings[below(3)], none[below(10)]);
+    add_text(w, call);
+}
+
+// The text of a random script: text, includes of files that are there, and calls. Between a value and the next call stands a text: where
+// a value is empty, the moment of a call that follows at once cannot be seen.
+static void add_script(writer *w, const site *s, const calls_of *has) {
+    static const char *const calls[] = {"%! tcp-connections\n", "%! net-stats\r\n", "%! ticks \n", "%! file-stats /f0.html\n",
+        "%! ticks\n", "%! file-stats /index.html\n"};
+    int was_value = 0;
     for (unsigned parts = below(8); parts; parts--) {
         byte run[600];
+        unsigned kind = below(has->values ? 8 : has->others ? 5 : 4);
         size_t len = below(chance(20) ? 600 : 60);
-        unsigned kind = below(has_calls ? 5 : 4);
+        if (was_value && len == 0) len = 1;
+        was_value = kind > 4;
         for (size_t at = 0; at < len; at++) run[at] = (byte)between(' ', '~');
         for (size_t at = 0; at < len; at++) if (run[at] == '!') run[at] = '%';
         add(w, run, len);
@@ -183,15 +231,17 @@ static void add_script(writer *w, const site *s, int has_calls) {
             add_text(w, "%!: "), add(w, f->name, f->name_len), add_text(w, chance(50) ? " more\n" : "\r\n");
         }
         if (kind == 2) add_text(w, "%! unknown /a\n");
-        if (kind == 4) add_text(w, calls[below(4)]);
+        if (kind == 4) add_text(w, calls[has->others && chance(50) ? below(6) : between(2, 5)]);
+        if (kind > 4) add_value_call(w);
     }
 }
 
-static void add_file(writer *w, site *s, int has_calls, int is_small) {
+static void add_file(writer *w, site *s, const calls_of *has, int is_small) {
     static const char *const ends[] = {".html", ".shtml", ".txt", ".css", ".png", "", ".gif", ".jpg", ".shtm", ".shtml"};
     file *f = &s->files[s->count];
     unsigned k = s->count, own = s->is_two && chance(50) ? below(65) : 0;
     f->name_len = (unsigned)snprintf((char *)f->name, sizeof f->name, k == 3 ? "/404.html" : "/f%u%s", k, k ? ends[below(10)] : ".html");
+    if (k && has->values && chance(30)) f->name_len = (unsigned)snprintf((char *)f->name, sizeof f->name, "/f%u.shtml", k);
     if (k == 1) f->name_len = (unsigned)snprintf((char *)f->name, sizeof f->name, "/index.html");
     f->kind_len = own;
     for (unsigned at = 0; at < own; at++) f->kind[at] = (byte)between(' ', '~');
@@ -199,7 +249,7 @@ static void add_file(writer *w, site *s, int has_calls, int is_small) {
     if (s->is_two) add(w, (byte[]){(byte)own}, 1), add(w, f->kind, own);
     size_t place = w->len;
     add(w, "\0\0\0\0", 4);
-    if (is_script(f->name, f->name_len)) add_script(w, s, has_calls);
+    if (is_script(f->name, f->name_len)) add_script(w, s, has);
     else {
         size_t len = is_small ? below(20) : below(chance(20) ? 6000 : 300);
         for (; len; len--) add(w, (byte[]){(byte)random_next()}, 1);
@@ -209,14 +259,14 @@ static void add_file(writer *w, site *s, int has_calls, int is_small) {
     s->count++;
 }
 
-void make_site(site *s, int has_calls) {
+void make_site(site *s, const calls_of *has) {
     static byte room[1 << 20];
     unsigned count = chance(3) ? between(0, MOST_FILES) : chance(10) ? 0 : between(1, 12);
     writer w = {room, 0, sizeof room};
     s->is_two = chance(50), s->count = 0;
     add_text(&w, s->is_two ? "UIPSITE2" : "UIPSITE1");
     add(&w, (byte[]){(byte)(count >> 8), (byte)count}, 2);
-    for (unsigned k = 0; k < count; k++) add_file(&w, s, has_calls, count > 20);
+    for (unsigned k = 0; k < count; k++) add_file(&w, s, has, count > 20);
     WANT(w.len <= w.most, "the harness made a site without room");
     s->image = room, s->len = w.len;
 }

@@ -12,6 +12,11 @@ uip_done __real_uip_more(uip_device *d, byte *out, size_t room);
 uip_done __real_uip_hear_datagram(uip_device *d, const byte *datagram, size_t len, byte *out, size_t room);
 uip_number __real_uip_counter(uip_device *d, size_t number);
 unsigned __real_uip_close(uip_device *d);
+uip_done __real_uip_call_datagram(uip_device *d, size_t slot, byte *out, size_t room);
+unsigned __real_uip_value(uip_device *d, size_t number, const void *text, size_t len);
+uip_number __real_uip_hits(uip_device *d, const void *name, size_t len);
+uip_number __real_uip_is_idle(uip_device *d);
+uip_row __real_uip_connection(uip_device *d, size_t slot);
 
 static unsigned calls;
 
@@ -71,4 +76,44 @@ unsigned __wrap_uip_close(uip_device *d) {
         return UIP_FINE;
     }
     return __real_uip_close(d);
+}
+
+// The words of a text change places, so that its checksum stays.
+uip_done __wrap_uip_call_datagram(uip_device *d, size_t slot, byte *out, size_t room) {
+    uip_done done = __real_uip_call_datagram(d, slot, out, room);
+    if (PLANT == 16 && done.wrote >= 44) {                                        // what a tick sends again is another
+        byte word[2] = {out[40], out[41]};
+        memcpy(out + 40, out + 42, 2), memcpy(out + 42, word, 2);
+    }
+    return done;
+}
+
+unsigned __wrap_uip_value(uip_device *d, size_t number, const void *text, size_t len) {
+    if (PLANT == 17 && number < UIP_VALUES) number ^= 1;                          // under its neighbour
+    if (PLANT == 18 && len == UIP_LONGEST_VALUE) len--;                           // the last byte is cut off
+    if (PLANT == 19 && number < UIP_VALUES && len > UIP_LONGEST_VALUE) __real_uip_value(d, number, text, UIP_LONGEST_VALUE);
+    if (PLANT == 20 && len == 0 && d->is_open) return UIP_FINE;                   // an empty text is not given
+    unsigned status = __real_uip_value(d, number, text, len);
+    if (PLANT == 21 && len == UIP_LONGEST_VALUE + 1) status = UIP_FINE;
+    return status;
+}
+
+uip_number __wrap_uip_hits(uip_device *d, const void *name, size_t len) {
+    uip_number read = __real_uip_hits(d, name, len);
+    if (PLANT == 22 && read.number > 9) read.number--;                            // a hit is not counted
+    if (PLANT == 23 && len == 65) read.number = 1;                                // a name that is too long has hits
+    return read;
+}
+
+uip_number __wrap_uip_is_idle(uip_device *d) {
+    uip_number read = __real_uip_is_idle(d);
+    if (PLANT == 24 && read.status == UIP_FINE && __real_uip_connection(d, 0).state == UIP_CLOSED) read.number = 1;    // by slot 0 alone
+    return read;
+}
+
+uip_row __wrap_uip_connection(uip_device *d, size_t slot) {
+    uip_row row = __real_uip_connection(d, PLANT == 25 && slot < UIP_SLOTS ? slot ^ 1 : slot);    // the row beside it
+    if (PLANT == 26 && row.tries) row.tries--;
+    if (PLANT == 27 && row.state == UIP_TIME_WAIT) row.state = UIP_FIN_WAIT_1;
+    return row;
 }
