@@ -1,103 +1,208 @@
--- The turns of the reader of a capture file, put together.
-use Rattle.std.proofs.Common.{◌≡◌, ℕ, ◌+◌, ◌<◌, ◌≤◌, List, ◌++◌, length, map, None, ap, ◌∙◌, arith, length-append}
-use Rattle.std.proofs.lemmas.List.{length-map}
+-- How the reading of a capture file ends.
+use Rattle.std.proofs.Common.{◌≡◌, ℕ, ◌<◌, ◌≤◌, List, [], ◌∷◌, ◌++◌, Option, Some, None, length, map, take, refl, sym, ap, ◌∙◌, append-nil, arith, subst}
+use Rattle.std.specs.Io.KnownBytes.{Appends}
 use Rattle.uip_edge.specs.Coming.{Consumes, bytes_among}
-use Rattle.uip_edge.proofs.Told.{Consumes-then, none_more, took_all}
+use Rattle.uip_edge.specs.Ending.{EndsBy}
 use Rattle.uip_edge.specs.declared.item.Item.{Item}
-use Rattle.uip_edge.specs.declared.item.Item.TheVariants.{Byte}
-use Rattle.trace.specs.CaptureReading.{IsReadAs, Reading, fault_in}
+use Rattle.uip_edge.specs.declared.item.Item.TheVariants.{Byte, Quiet}
+use Rattle.uip_edge.specs.declared.serve_end.ServeEnd.TheVariants as line
+use Rattle.uip_edge.proofs.Breaking.{breaks_front}
+use Rattle.uip_edge.proofs.Told.{bytes_among-append, bytes_among-map}
+use Rattle.uip_edge.specs.Told.{LineTold, IsCalm, SinkTold}
+use Rattle.trace.specs.CaptureReading.{Captured, IsReadAs, Reading, cut_in, captured_in, fault_in, lines_of}
+use Rattle.trace.specs.CaptureReading.Reading.{BadHeader, BadLength, InRecord, InHeader, Whole}
 use Rattle.trace.specs.Converting.{Converts, HasNewFault, IsFoundSoon, SlipEndsBy}
-use Rattle.trace.specs.Gathering.{IsReadTo, IsOpen, StopsBy, ReadsTurn}
-use Rattle.uip_edge.specs.declared.turn.Turn.TheVariants.{Ended}
-use Rattle.uip_edge.proofs.Turns.{calm_then}
+use Rattle.trace.specs.Gathering.{IsReadTo, IsOpen, IsReadSound, StopBy, Stopped, StopsAt, end_at}
+use Rattle.trace.specs.declared.reader.Stop.{Stop}
+use Rattle.trace.specs.declared.reader.Stop.TheVariants as stops
+use Rattle.trace.specs.declared.slip_end.CaptureWhy.{CaptureWhy}
 use Rattle.trace.specs.declared.slip_end.CaptureWhy.TheVariants as whys
 use Rattle.trace.specs.declared.slip_end.SlipEnd.{SlipEnd}
 use Rattle.trace.specs.declared.slip_end.SlipEnd.TheVariants as ends
 use Rattle.trace.specs.declared.stage.Stage.{Stage}
-use Rattle.trace.proofs.TurnLaws.{sound_at}
-use Rattle.uip_edge.specs.Told.{LineTold, IsCalm}
+use Rattle.trace.specs.declared.stage.Stage.TheVariants as stages
+use Rattle.trace.proofs.ReadLaws.{part_grows, stops_front}
 
-module _ (n : ℕ) (taken items : List Item) (old mid new : LineTold) (reading : Reading)
-    (c : Consumes old.link.coming mid.link.coming taken) (below : length taken < n) (fits : length items + length taken ≤ n)
-    (calm : IsCalm old mid) (before : Reading) (read : IsReadAs (bytes_among taken) before) (sound : fault_in before ≡ None) where
-  fresh : (bytes : List ℕ) → items ≡ map Byte bytes → HasNewFault (taken ++ items)
-  fresh bytes is =
-      record { front = taken; last = bytes; pieces = ap (λ (l : List Item). taken ++ l) is; reading = before; read = read; sound = sound }
+-- the answer to the end of the link, where the bytes are read so
+abbrev pub EndIs : Reading → SlipEnd → Type 0
+EndIs reading ends.End = cut_in reading ≡ None
+EndIs reading ends.LinkFault = ⊥
+EndIs reading ends.WriteFault = ⊥
+EndIs reading ends.Budget = ⊥
+EndIs reading (ends.Bad number whys.Cut) = cut_in reading ≡ Some number
+EndIs reading (ends.Bad number whys.Head) = ⊥
+EndIs reading (ends.Bad number whys.Length) = ⊥
 
-  ends_by : (end : SlipEnd) → StopsBy mid new items reading end → SlipEndsBy n old new (taken ++ items) reading end
-  ends_by ends.End t = rw (none_more taken items t.0) (took_all _ _ taken c t.1, below, calm_then old mid new calm t.2, t.3, t.4)
-  ends_by ends.LinkFault t = rw (none_more taken items t.0) (below, rw calm.link at t.1, t.2 ∙ calm.sink, t.3)
-  ends_by ends.WriteFault t = (omega (arith, length-append taken items), t.0 ∙ calm.link, rw calm.sink at t.1)
-  ends_by ends.Budget t = absurd t
-  ends_by (ends.Bad number whys.Cut) t = rw (none_more taken items t.0) (took_all _ _ taken c t.1, below, calm_then old mid new calm t.2, t.3, t.4)
-  ends_by (ends.Bad number whys.Head) t = (omega (arith, length-append taken items), calm_then old mid new calm t.0, t.1, fresh t.2 t.3)
-  ends_by (ends.Bad number whys.Length) t = (omega (arith, length-append taken items), calm_then old mid new calm t.0, t.1, fresh t.2 t.3)
+-- how the bytes are read that a reader took
+pub record IsSoundAt (start now : Option (List ℕ)) (bytes : List ℕ) (end : SlipEnd) : Type 0 where
+  pub reading : Reading
+  pub read : IsReadAs bytes reading
+  pub sound : fault_in reading ≡ None
+  pub written : Appends start now (lines_of (captured_in reading))
+  pub cut : EndIs reading end
 
--- a reading that ends in a turn
-pub stopped : (n : ℕ) (taken : List Item) (old mid new : LineTold) (stage stage' : Stage) (number number' : ℕ) (part part' : List ℕ) (want room : ℕ) (end : SlipEnd)
-    → Consumes old.link.coming mid.link.coming taken → length taken < n → room + length taken ≤ n
-    → IsCalm old mid
-    → IsReadTo old.sink.written mid.sink.written (bytes_among taken) stage number part → IsOpen stage part want
-    → ReadsTurn old.sink.written taken mid new stage' number' part' room (Ended end) → Converts n old new end
-stopped n taken old mid new stage stage' number number' part part' want room end c below fits calm at is t =
-    let s = sound_at old.sink.written mid.sink.written (bytes_among taken) stage number part want at is in
-    let within = t.within in
+pub sound_at : (start now : Option (List ℕ)) (bytes : List ℕ) (stage : Stage) (number : ℕ) (part : List ℕ) (want : ℕ)
+    → IsReadTo start now bytes stage number part → IsOpen stage part want → IsSoundAt start now bytes (end_at stage part number)
+sound_at start now bytes stages.Header number part want at is =
+    let size = ap (λ l. length l) at.read.2 in
     record {
-      taken = taken ++ t.items;
-      consumed = Consumes-then _ _ _ taken t.items c t.consumed;
-      reading = t.by.reading;
-      read = t.by.read;
-      ends = ends_by n taken t.items old mid new t.by.reading c below (omega arith) calm s.reading s.read s.sound end t.by.cause;
-      wrote = t.by.wrote;
-      some = t.by.some;
+      reading = InHeader;
+      read = (let s = is.short in let w = is.wants in omega (arith, size));
+      sound = refl;
+      written = subst (λ (l : List Captured). Appends start now (lines_of l)) at.read.1 at.written;
+      cut = ap (λ n. Some n) (sym at.read.0);
+    }
+sound_at start now bytes (stages.Head order) number [] want at is =
+    record { reading = Whole at.records; read = (order, at.read.1); sound = refl; written = at.written; cut = refl }
+sound_at start now bytes (stages.Head order) number (b ∷ part) want at is =
+    let short : length (b ∷ part) < 16 = (let s = is.short in let w = is.wants in omega arith) in
+    record {
+      reading = InRecord at.records;
+      read = (order, b ∷ part, at.read.1, omega arith, record { fits = λ k. absurd (omega arith); short = λ k. absurd (omega arith) });
+      sound = refl;
+      written = at.written;
+      cut = ap (λ n. Some n) (sym at.read.0);
+    }
+sound_at start now bytes (stages.Body order) number part want at is =
+    let s = is.short in
+    let w = is.wants in
+    record {
+      reading = InRecord at.records;
+      read = (order, part, at.read.1, omega (arith, w.2), record { fits = λ k. omega (arith, w.1, w.3); short = λ k. omega (arith, w.3) });
+      sound = refl;
+      written = at.written;
+      cut = ap (λ n. Some n) (sym at.read.0);
     }
 
--- the items of a turn are bytes, of which there is room for no more
-found_soon : (taken items : List Item) (old mid new : LineTold) (before : Reading) (room : ℕ) (bytes : List ℕ)
-    → Consumes old.link.coming mid.link.coming taken → Consumes mid.link.coming new.link.coming items → length items ≤ room → room ≤ 4096
-    → IsReadAs (bytes_among taken) before → fault_in before ≡ None → items ≡ map Byte bytes
-    → (all : List Item) × Consumes old.link.coming new.link.coming all × (fault : HasNewFault all) × (length fault.last ≤ 4096)
-found_soon taken items old mid new before room bytes c d within block read sound is = (
-  taken ++ items,
-  Consumes-then _ _ _ taken items c d,
-  record { front = taken; last = bytes; pieces = ap (λ (l : List Item). taken ++ l) is; reading = before; read = read; sound = sound },
-  (let size = ap (λ (l : List Item). length l) is in let count = length-map bytes Byte in omega (arith, within, block, size, count)),
-)
+-- a silence says nothing
+pub silence_read : (start now : Option (List ℕ)) (before : List Item) (stage : Stage) (number : ℕ) (part : List ℕ) → IsReadTo start now (bytes_among before) stage number part
+    → IsReadTo start now (bytes_among (before ++ Quiet ∷ [])) stage number part
+silence_read start now before stage number part at =
+    subst (λ (l : List ℕ). IsReadTo start now l stage number part) (sym (bytes_among-append before (Quiet ∷ []) ∙ append-nil (bytes_among before))) at
 
-soon : (taken items : List Item) (old mid new : LineTold) (before reading : Reading) (room : ℕ) (end : SlipEnd)
-    → Consumes old.link.coming mid.link.coming taken → Consumes mid.link.coming new.link.coming items → length items ≤ room → room ≤ 4096
-    → IsReadAs (bytes_among taken) before → fault_in before ≡ None
-    → StopsBy mid new items reading end → IsFoundSoon old new end
-soon taken items old mid new before reading room ends.End c d within block read sound t = tt
-soon taken items old mid new before reading room ends.LinkFault c d within block read sound t = tt
-soon taken items old mid new before reading room ends.WriteFault c d within block read sound t = tt
-soon taken items old mid new before reading room ends.Budget c d within block read sound t = tt
-soon taken items old mid new before reading room (ends.Bad number whys.Cut) c d within block read sound t = tt
-soon taken items old mid new before reading room (ends.Bad number whys.Head) c d within block read sound t =
-    found_soon taken items old mid new before room t.2 c d within block read sound t.3
-soon taken items old mid new before reading room (ends.Bad number whys.Length) c d within block read sound t =
-    found_soon taken items old mid new before room t.2 c d within block read sound t.3
+-- the bytes of a line go on
+pub bytes_on : (before : List Item) (bytes : List ℕ) → bytes_among before ++ bytes ≡ bytes_among (before ++ map Byte bytes)
+bytes_on before bytes = ap (λ l. bytes_among before ++ l) (sym (bytes_among-map bytes)) ∙ sym (bytes_among-append before (map Byte bytes))
 
-pub stopped_soon : (taken : List Item) (old mid new : LineTold) (stage stage' : Stage) (number number' : ℕ) (part part' : List ℕ) (want room : ℕ) (end : SlipEnd)
-    → Consumes old.link.coming mid.link.coming taken → room ≤ 4096
-    → IsReadTo old.sink.written mid.sink.written (bytes_among taken) stage number part → IsOpen stage part want
-    → ReadsTurn old.sink.written taken mid new stage' number' part' room (Ended end) → IsFoundSoon old new end
-stopped_soon taken old mid new stage stage' number number' part part' want room end c block at is t =
-    let s = sound_at old.sink.written mid.sink.written (bytes_among taken) stage number part want at is in
-    soon taken t.items old mid new s.reading t.by.reading room end c t.consumed t.within block s.read s.sound t.by.cause
+-- more of the part was read, which then is this
+pub grown : (start now : Option (List ℕ)) (before : List Item) (bytes : List ℕ) (stage : Stage) (number : ℕ) (part part' : List ℕ) → part' ≡ part ++ bytes
+    → IsReadTo start now (bytes_among before) stage number part → IsReadTo start now (bytes_among (before ++ map Byte bytes)) stage number part'
+grown start now before bytes stage number part part' e at =
+    subst (λ (l : List ℕ). IsReadTo start now l stage number part') (bytes_on before bytes)
+    (subst (λ (l : List ℕ). IsReadTo start now (bytes_among before ++ bytes) stage number l) (sym e) (part_grows start now (bytes_among before) bytes stage number part at))
 
--- and one that took all that it might
-pub spent : (n : ℕ) (taken : List Item) (old new : LineTold) (stage : Stage) (number : ℕ) (part : List ℕ) (want : ℕ)
-    → Consumes old.link.coming new.link.coming taken → length taken ≡ n → IsCalm old new
-    → IsReadTo old.sink.written new.sink.written (bytes_among taken) stage number part → IsOpen stage part want → Converts n old new ends.Budget
-spent n taken old new stage number part want c all calm at is =
-    let s = sound_at old.sink.written new.sink.written (bytes_among taken) stage number part want at is in
+-- and the reading stopped at it
+pub stopped_front : (stop : Stop) (old : Option (List ℕ)) (faults : ℕ) (new : SinkTold) (n : ℕ) (bytes : List ℕ) (stage : Stage) (number number' : ℕ) (part part' : List ℕ) (want : ℕ)
+    → IsOpen stage part want → part' ≡ part ++ take n bytes → StopBy stop faults new.faults
+    → ((start : Option (List ℕ)) (fed more : List ℕ) → IsReadTo start old fed stage number part' → StopsAt stop start new.written (fed ++ more) number')
+    → (start : Option (List ℕ)) (before : List Item) → IsReadTo start old (bytes_among before) stage number part → Stopped stop start before bytes faults new number'
+stopped_front stop old faults new n bytes stage number number' part part' want is e by f = λ start before at.
+    let s = sound_at start old (bytes_among before) stage number part want at is in
     record {
-      taken = taken;
-      consumed = c;
-      reading = s.reading;
-      read = s.read;
-      ends = (all, calm, s.sound);
-      wrote = s.written;
-      some = λ is. absurd (cc is);
+      front = record { reading = s.reading; read = s.read; sound = s.sound };
+      stops = stops_front stop old new.written n bytes stage number number' part part' e f start (bytes_among before) at;
+      by = by;
     }
+
+why_of : Option (ℕ × CaptureWhy) → CaptureWhy
+why_of None = whys.Head
+why_of (Some fault) = fault.1
+
+never_cut : (reading : Reading) (number : ℕ) → fault_in reading ≡ Some (number, whys.Cut) → ⊥
+unfolding why_of
+never_cut InHeader number e = absurd cc
+never_cut BadHeader number e = let w : whys.Head ≡ whys.Cut = ap why_of e in absurd cc
+never_cut (Whole records) number e = absurd cc
+never_cut (InRecord records) number e = absurd cc
+never_cut (BadLength records) number e = let w : whys.Length ≡ whys.Cut = ap why_of e in absurd cc
+
+-- the line ended, or the budget did, behind these items
+module _ (n : ℕ) (taken : List Item) (old new : LineTold) (stage : Stage) (number : ℕ) (part : List ℕ) (want : ℕ)
+    (c : Consumes old.link.coming new.link.coming taken)
+    (at : IsReadTo old.sink.written new.sink.written (bytes_among taken) stage number part) (is : IsOpen stage part want) where
+  ended_so : (end : SlipEnd) → IsSoundAt old.sink.written new.sink.written (bytes_among taken) end → EndsBy n old new taken line.End → Converts n old new end
+  ended_so ends.End s e = record {
+    taken = taken;
+    consumed = c;
+    reading = s.reading;
+    read = s.read;
+    some = λ is. absurd (cc is);
+    ends = (e.0, e.1, record { link = e.2; sink = e.3 }, s.sound, s.cut);
+    wrote = s.written;
+  }
+  ended_so (ends.Bad number whys.Cut) s e = record {
+    taken = taken;
+    consumed = c;
+    reading = s.reading;
+    read = s.read;
+    some = λ is. absurd (cc is);
+    ends = (e.0, e.1, record { link = e.2; sink = e.3 }, s.sound, s.cut);
+    wrote = s.written;
+  }
+  ended_so ends.LinkFault s e = absurd s.cut
+  ended_so ends.WriteFault s e = absurd s.cut
+  ended_so ends.Budget s e = absurd s.cut
+  ended_so (ends.Bad number whys.Head) s e = absurd s.cut
+  ended_so (ends.Bad number whys.Length) s e = absurd s.cut
+
+  pub ended : EndsBy n old new taken line.End → Converts n old new (end_at stage part number)
+  ended e = ended_so (end_at stage part number) (sound_at _ _ _ stage number part want at is) e
+
+  pub link_failed : EndsBy n old new taken line.LinkFault → Converts n old new ends.LinkFault
+  link_failed e =
+      let s = sound_at _ _ _ stage number part want at is in
+      record { taken = taken; consumed = c; reading = s.reading; read = s.read; some = λ is. absurd (cc is); ends = (e.0, e.1, e.2, s.sound); wrote = s.written }
+
+  pub spent : EndsBy n old new taken line.Budget → Converts n old new ends.Budget
+  spent e =
+      let s = sound_at _ _ _ stage number part want at is in
+      record {
+        taken = taken;
+        consumed = c;
+        reading = s.reading;
+        read = s.read;
+        some = λ is. absurd (cc is);
+        ends = (e.0, record { link = e.1; sink = e.2 }, s.sound);
+        wrote = s.written;
+      }
+
+-- the reader stopped among bytes that came in one answer
+module _ (n : ℕ) (before : List Item) (bytes : List ℕ) (old new : LineTold) (number : ℕ)
+    (c : Consumes old.link.coming new.link.coming (before ++ map Byte bytes)) (within : length (before ++ map Byte bytes) ≤ n)
+    (calm : new.link.faults ≡ old.link.faults) where
+  pub write_failed : Stopped stops.WriteFault old.sink.written before bytes old.sink.faults new.sink number → Converts n old new ends.WriteFault
+  write_failed s = record {
+    taken = before ++ map Byte bytes;
+    consumed = c;
+    reading = s.stops.reading;
+    read = subst (λ (l : List ℕ). IsReadAs l s.stops.reading) (bytes_on before bytes) s.stops.read;
+    some = λ is. s.stops.broke.some;
+    ends = (within, calm, s.by);
+    wrote = breaks_front [] _ old.sink.written new.sink.written s.stops.broke;
+  }
+
+  abbrev new_fault : IsReadSound (bytes_among before) → HasNewFault (before ++ map Byte bytes)
+  new_fault s = record { front = before; last = bytes; pieces = refl; reading = s.reading; read = s.read; sound = s.sound }
+
+  found_so : (why : CaptureWhy) (reading : Reading) → fault_in reading ≡ Some (number, why) → IsCalm old new → HasNewFault (before ++ map Byte bytes)
+      → SlipEndsBy n old new (before ++ map Byte bytes) reading (ends.Bad number why)
+  found_so whys.Head reading fault all fresh = (within, all, fault, fresh)
+  found_so whys.Length reading fault all fresh = (within, all, fault, fresh)
+  found_so whys.Cut reading fault all fresh = absurd (never_cut reading number fault)
+
+  pub file_fault : (why : CaptureWhy) → Stopped (stops.Bad why) old.sink.written before bytes old.sink.faults new.sink number
+      → Converts n old new (ends.Bad number why)
+  file_fault why s = record {
+    taken = before ++ map Byte bytes;
+    consumed = c;
+    reading = s.stops.reading;
+    read = subst (λ (l : List ℕ). IsReadAs l s.stops.reading) (bytes_on before bytes) s.stops.read;
+    some = λ is. absurd (cc is);
+    ends = found_so why s.stops.reading s.stops.fault (record { link = calm; sink = s.by }) (new_fault s.front);
+    wrote = s.stops.written;
+  }
+
+  pub found_soon : (why : CaptureWhy) → length bytes ≤ 4096 → IsReadSound (bytes_among before) → IsFoundSoon old new (ends.Bad number why)
+  found_soon whys.Cut few s = tt
+  found_soon whys.Head few s = (before ++ map Byte bytes, c, new_fault s, few)
+  found_soon whys.Length few s = (before ++ map Byte bytes, c, new_fault s, few)

@@ -1,19 +1,27 @@
 -- What bytes bring that a decoder took, and what is written of it.
-use Rattle.std.proofs.Common.{◌≡◌, ℕ, ◌+◌, ◌<◌, List, [], ◌∷◌, ◌++◌, Option, length, map, take, drop, refl, sym, ap, ◌∙◌, append-nil, append_assoc, arith, length-append, subst}
+use Rattle.std.proofs.Common.{◌≡◌, ℕ, ◌+◌, List, [], ◌∷◌, ◌++◌, Option, Result, Ok, Err, IfErr, length, map, take, drop, refl, sym, ap, ◌∙◌, append-nil, arith, length-append, subst}
 use Rattle.std.proofs.lemmas.List.{length-map, map-append, take-append-drop}
 use Rattle.std.specs.Io.KnownBytes.{Appends}
+use Rattle.uip_edge.specs.Causes.{Rose}
+use Rattle.uip_edge.specs.Told.{SinkTold}
 use Rattle.uip_edge.specs.Writing.{BreaksOff}
 use Rattle.uip_edge.proofs.Breaking.{breaks_by, breaks_then, breaks_whole}
-use Rattle.uip_edge.proofs.Told.{Appends-then, appends_by, bytes_among-append, bytes_among-map}
+use Rattle.uip_edge.proofs.Told.{Appends-none, Appends-then, appends_by, bytes_among-append, bytes_among-map}
 use Rattle.uip_edge.specs.declared.item.Item.{Item}
 use Rattle.uip_edge.specs.declared.item.Item.TheVariants.{Byte, Quiet}
 use Rattle.uip_slip.specs.Decoding.{State, WasFed}
 use Rattle.uip_slip.specs.Frames.{Frame, frames}
 use Rattle.trace.specs.Seen.{seen_at, seen_behind, seen_on, silences_of}
-use Rattle.trace.specs.Watching.{HasSeen, text_after, texts_from}
+use Rattle.trace.specs.Watching.{BrokeWatch, HasSeen, IsWatched, Saw, text_after, texts_from}
 use Rattle.trace.specs.declared.form.Form.{Form}
+use Rattle.trace.specs.declared.watch.Watch.{Watch}
 use Rattle.trace.proofs.SeenLaws.{seen-told, seen_on-append, silences-append, silences-bytes, text-then}
 use Rattle.uip_edge.specs.Coming.{bytes_among}
+
+-- what holds of a failure, whichever it is
+pub if_err : {T E P : Type 0} (r : Result T E) → P → IfErr r (λ e. P)
+if_err (Ok x) p = tt
+if_err (Err e) p = p
 
 -- what a decoder tells of these bytes, whatever it was fed before
 abbrev pub Told : State → State → List ℕ → List Frame → Type 0
@@ -63,43 +71,6 @@ front_broke decoder decoder' count silences n bytes told fed form area a b e p =
     (breaks_by [] [] (text_after form before (map Byte (take n bytes))) area a b refl
     (front_text decoder decoder' count silences (take n bytes) told fed form before h ∙ sym e) p)
 
-module _ (form form' : Form) (same : form' ≡ form) (decoder decoder' : State) (count count' silences silences' : ℕ) (front : List ℕ)
-    (seen : (before : List Item) → HasSeen before decoder count silences → HasSeen (before ++ map Byte front) decoder' count' silences')
-    (a b : Option (List ℕ))
-    (written : (before : List Item) → HasSeen before decoder count silences → Appends a b (text_after form before (map Byte front))) where
-  -- what was seen goes on
-  pub seen_on_both : (decoder″ : State) (count″ silences″ : ℕ) (bytes : List ℕ)
-      → ((before : List Item) → HasSeen before decoder' count' silences' → HasSeen (before ++ map Byte bytes) decoder″ count″ silences″)
-      → (before : List Item) → HasSeen before decoder count silences → HasSeen (before ++ map Byte (front ++ bytes)) decoder″ count″ silences″
-  seen_on_both decoder″ count″ silences″ bytes more before h =
-      subst (λ (l : List Item). HasSeen l decoder″ count″ silences″)
-      (append_assoc before (map Byte front) (map Byte bytes) ∙ ap (λ l. before ++ l) (sym (map-append Byte front bytes)))
-      (more (before ++ map Byte front) (seen before h))
-
-  both_text : (before : List Item) (bytes : List ℕ)
-      → text_after form before (map Byte (front ++ bytes)) ≡ text_after form before (map Byte front) ++ text_after form' (before ++ map Byte front) (map Byte bytes)
-  both_text before bytes =
-      ap (λ l. text_after form before l) (map-append Byte front bytes) ∙ text-then form before (map Byte front) (map Byte bytes)
-      ∙ ap (λ f. text_after form before (map Byte front) ++ text_after f (before ++ map Byte front) (map Byte bytes)) (sym same)
-
-  -- and what was written
-  pub wrote_both : (c : Option (List ℕ)) (bytes : List ℕ)
-      → ((before : List Item) → HasSeen before decoder' count' silences' → Appends b c (text_after form' before (map Byte bytes)))
-      → (before : List Item) → HasSeen before decoder count silences → Appends a c (text_after form before (map Byte (front ++ bytes)))
-  wrote_both c bytes more before h =
-      appends_by a c _ _ (both_text before bytes) (Appends-then a b c _ _ (written before h) (more (before ++ map Byte front) (seen before h)))
-
-  -- or it broke off
-  pub broke_both : (c : Option (List ℕ)) (bytes whole : List ℕ) → whole ≡ front ++ bytes
-      → ((before : List Item) → HasSeen before decoder' count' silences' → BreaksOff [] (text_after form' before (map Byte bytes)) b c)
-      → (before : List Item) → HasSeen before decoder count silences → BreaksOff [] (text_after form before (map Byte whole)) a c
-  broke_both c bytes whole e more = λ before h.
-      let first = text_after form before (map Byte front) in
-      let next = text_after form' (before ++ map Byte front) (map Byte bytes) in
-      breaks_whole (first ++ []) next [] (text_after form before (map Byte whole)) a c
-      (ap (λ l. text_after form before (map Byte l)) e ∙ both_text before bytes ∙ ap (λ l. l ++ next) (sym (append-nil first)) ∙ sym (append-nil ((first ++ []) ++ next)))
-      (breaks_then first [] next a b c (written before h) (more (before ++ map Byte front) (seen before h)))
-
 -- a silence brings no frame
 pub silence_seen : (before : List Item) (decoder : State) (count silences : ℕ) → HasSeen before decoder count silences
     → HasSeen (before ++ Quiet ∷ []) decoder count (silences + 1)
@@ -111,3 +82,37 @@ silence_seen before decoder count silences h =
       numbered = omega (arith, size, h.numbered);
       waited = omega (arith, h.waited, silences-append before (Quiet ∷ []));
     }
+
+module _ (k : Form × Option (List ℕ)) (before : List Item) (a b : Option (List ℕ)) (watch : Watch) (h : IsWatched k before a watch) where
+  -- the text of further items was written
+  pub wrote_on : (items : List Item) (text : List ℕ) → text_after watch.form before items ≡ text → Appends a b text
+      → Appends k.1 b (text_after k.0 [] (before ++ items))
+  wrote_on items text e w =
+      let first = text_after k.0 [] before in
+      appends_by k.1 b _ _
+      (text-then k.0 [] before items ∙ ap (λ f. first ++ text_after f before items) (sym h.form) ∙ ap (λ l. first ++ l) e)
+      (Appends-then k.1 a b first text h.written w)
+
+  -- or it broke off
+  pub broke_on : (items : List Item) → BreaksOff [] (text_after watch.form before items) a b
+      → BreaksOff (text_after k.0 [] before) (text_after k.0 before items) k.1 b
+  broke_on items p =
+      let first = text_after k.0 [] before in
+      breaks_by first (first ++ []) (text_after k.0 before items) (text_after watch.form before items) k.1 b
+      (sym (append-nil first)) (ap (λ f. text_after f before items) (sym h.form))
+      (breaks_then first [] (text_after watch.form before items) k.1 a b h.written p)
+
+pub broke_watch : (watch : Watch) (bytes : List ℕ) (a : Option (List ℕ)) (faults : ℕ) (new : SinkTold)
+    → ((before : List Item) → Saw before watch → BreaksOff [] (text_after watch.form before (map Byte bytes)) a new.written) → Rose faults new.faults
+    → (k : Form × Option (List ℕ)) (before : List Item) → IsWatched k before a watch → BrokeWatch k before bytes faults new
+broke_watch watch bytes a faults new broke rose k before h =
+    record { broke = broke_on k before a new.written watch h (map Byte bytes) (broke before h.seen); rose = rose }
+
+-- a silence has no text
+pub silence_watched : (k : Form × Option (List ℕ)) (before : List Item) (now : Option (List ℕ)) (watch : Watch) → IsWatched k before now watch
+    → IsWatched k (before ++ Quiet ∷ []) now (record watch { silences = watch.silences + 1 })
+silence_watched k before now watch h = record {
+  form = h.form;
+  seen = silence_seen before watch.decoder watch.frames watch.silences h.seen;
+  written = wrote_on k before now now watch h (Quiet ∷ []) [] refl (Appends-none now);
+}

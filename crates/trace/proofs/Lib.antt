@@ -1,6 +1,7 @@
 mod CaptureLaws
 mod ConvertLaws
 mod FrontLaws
+mod LineLaws
 mod OneReading
 mod ReadLaws
 mod RoundTrip
@@ -8,4 +9,3 @@ mod Rows
 mod SeenLaws
 mod TellLaws
 mod TextLaws
-mod TurnLaws

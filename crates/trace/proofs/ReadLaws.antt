@@ -161,20 +161,3 @@ stops_front stop old new n bytes stage number number' part part' e f = λ start 
     (append_assoc before (take n bytes) (drop n bytes) ∙ ap (λ l. before ++ l) (take-append-drop n bytes))
     (f start (before ++ take n bytes) (drop n bytes)
     (subst (λ (l : List ℕ). IsReadTo start old (before ++ take n bytes) stage number l) (sym e) (part_grows start old before (take n bytes) stage number part at)))
-
-module _ (begun old : Option (List ℕ)) (stage stage' : Stage) (number number' : ℕ) (part part' front : List ℕ)
-    (at : (start : Option (List ℕ)) (before : List ℕ) → IsReadTo start begun before stage number part → IsReadTo start old (before ++ front) stage' number' part') where
-  -- the reading went on
-  pub at_both : (new : Option (List ℕ)) (bytes : List ℕ) (stage″ : Stage) (number″ : ℕ) (part″ : List ℕ)
-      → ((start : Option (List ℕ)) (before : List ℕ) → IsReadTo start old before stage' number' part' → IsReadTo start new (before ++ bytes) stage″ number″ part″)
-      → (start : Option (List ℕ)) (before : List ℕ) → IsReadTo start begun before stage number part → IsReadTo start new (before ++ (front ++ bytes)) stage″ number″ part″
-  at_both new bytes stage″ number″ part″ more start before h =
-      subst (λ (l : List ℕ). IsReadTo start new l stage″ number″ part″) (append_assoc before front bytes) (more start (before ++ front) (at start before h))
-
-  -- or it stopped
-  pub stops_both : (stop : Stop) (new : Option (List ℕ)) (bytes whole : List ℕ) (number″ : ℕ) → whole ≡ front ++ bytes
-      → ((start : Option (List ℕ)) (before : List ℕ) → IsReadTo start old before stage' number' part' → StopsAt stop start new (before ++ bytes) number″)
-      → (start : Option (List ℕ)) (before : List ℕ) → IsReadTo start begun before stage number part → StopsAt stop start new (before ++ whole) number″
-  stops_both stop new bytes whole number″ e more = λ start before h.
-      subst (λ (l : List ℕ). StopsAt stop start new l number″) (append_assoc before front bytes ∙ ap (λ l. before ++ l) (sym e))
-      (more start (before ++ front) (at start before h))

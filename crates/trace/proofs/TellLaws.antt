@@ -1,52 +1,21 @@
--- The turns of a reading, put together.
-use Rattle.std.proofs.Common.{◌≡◌, ℕ, ◌+◌, ◌<◌, ◌≤◌, List, [], ◌++◌, Option, length, length-append, sym, ap, ◌∙◌, arith, subst}
+-- What was told of a line, under another name and behind a head.
+use Rattle.std.proofs.Common.{◌≡◌, ℕ, ◌<◌, List, [], ◌++◌, Option, length, length-append, append-nil, sym, ap, ◌∙◌, arith, subst}
 use Rattle.std.specs.Io.KnownBytes.{Appends}
 use Rattle.uip_edge.specs.Coming.{Consumes, TookAll}
-use Rattle.uip_edge.proofs.Told.{Appends-then, Consumes-then, appends_by, prefix_by, prefix_then}
+use Rattle.uip_edge.proofs.Told.{Appends-then, appends_by, prefix_by, prefix_then}
 use Rattle.uip_edge.specs.declared.item.Item.{Item}
 use Rattle.uip_edge.specs.declared.serve_end.ServeEnd.{ServeEnd}
 use Rattle.uip_edge.specs.declared.serve_end.ServeEnd.TheVariants as ends
-use Rattle.uip_slip.specs.Decoding.{State}
 use Rattle.trace.specs.Telling.{TellsLine}
-use Rattle.trace.specs.Watching.{Watches, TellsOn, text_after}
-use Rattle.trace.specs.declared.form.Form.{Form}
-use Rattle.uip_edge.specs.declared.turn.Turn.TheVariants.{Ended}
-use Rattle.uip_edge.proofs.Breaking.{breaks_front}
-use Rattle.uip_edge.proofs.Turns.{ends_by}
-use Rattle.trace.proofs.SeenLaws.{text-then}
-use Rattle.uip_edge.specs.Told.{IsCalm, LineTold}
+use Rattle.uip_edge.specs.Told.{LineTold}
 use Rattle.uip_edge.specs.Ending.{EndsBy, WrittenBy}
 
--- what was written up to such an end
-wrote_by : (first more whole : List ℕ) (a b c : Option (List ℕ)) (end : ServeEnd) → whole ≡ first ++ more
-    → Appends a b first → TellsOn (Ended end) b c more → WrittenBy end a c whole
-wrote_by first more whole a b c ends.End e v w = appends_by a c _ _ e (Appends-then a b c first more v w)
-wrote_by first more whole a b c ends.LinkFault e v w = appends_by a c _ _ e (Appends-then a b c first more v w)
-wrote_by first more whole a b c ends.WriteFault e v w = prefix_by a c _ _ e (prefix_then a b c first more v (breaks_front [] more b c w))
-wrote_by first more whole a b c ends.Budget e v w = absurd w
-
--- and where that broke off there was something to write
-some_by : (first more whole : List ℕ) (b c : Option (List ℕ)) (end : ServeEnd) → whole ≡ first ++ more
-    → TellsOn (Ended end) b c more → end ≡ ends.WriteFault → 0 < length whole
-some_by first more whole b c ends.WriteFault e w is =
-    let some = w.some in omega (arith, some, length-append first more, ap (λ l. length l) e)
-some_by first more whole b c ends.End e w is = absurd (cc is)
-some_by first more whole b c ends.LinkFault e w is = absurd (cc is)
-some_by first more whole b c ends.Budget e w is = absurd (cc is)
-
--- a reading that ends in a turn
-pub stopped : (form form' : Form) (n : ℕ) (taken : List Item) (old mid new : LineTold) (decoder : State) (frames silences room : ℕ) (end : ServeEnd) → form' ≡ form
-    → Consumes old.link.coming mid.link.coming taken → length taken < n → room + length taken ≤ n → IsCalm old mid
-    → Appends old.sink.written mid.sink.written (text_after form [] taken) → Watches form' taken mid new decoder frames silences room (Ended end)
-    → TellsLine (text_after form []) n old new end
-stopped form form' n taken old mid new decoder frames silences room end same c below fits calm w t =
-    let both = text-then form [] taken t.items ∙ ap (λ f. text_after form [] taken ++ text_after f taken t.items) (sym same) in record {
-      taken = taken ++ t.items;
-      consumed = Consumes-then _ _ _ taken t.items c t.consumed;
-      ends = ends_by n taken t.items old mid new end c below (let within = t.within in omega arith) calm t.cause;
-      wrote = wrote_by _ _ _ _ _ _ end both w t.wrote;
-      some = some_by _ _ _ _ _ end both t.wrote;
-    }
+-- the text was written whole, whatever the end
+pub written_by : (a b : Option (List ℕ)) (text : List ℕ) (end : ServeEnd) → Appends a b text → WrittenBy end a b text
+written_by a b text ends.End w = w
+written_by a b text ends.Budget w = w
+written_by a b text ends.LinkFault w = w
+written_by a b text ends.WriteFault w = (text, [], sym (append-nil text), w)
 
 -- the same text under another name
 pub told_by_name : (text text' : List Item → List ℕ) (n : ℕ) (old new : LineTold) (end : ServeEnd) → ((items : List Item) → text' items ≡ text items)

@@ -1,15 +1,11 @@
--- What the reader of a capture file knows of the bytes that it took, and what it does in one turn.
-use Rattle.std.specs.Prelude.{◌≡◌, ◌<◌, ◌≤◌, ◌+◌, ℕ, List, [], ◌∷◌, ◌++◌, Option, Some, None, Result, Ok, Err, length, map}
+-- What the reader of a capture file knows of the bytes that it took, and what stops it.
+use Rattle.std.specs.Prelude.{◌≡◌, ◌<◌, ◌≤◌, ◌+◌, ℕ, List, [], ◌∷◌, ◌++◌, Option, Some, None, length}
 use Rattle.std.specs.Io.KnownBytes.{Appends}
 use Rattle.uip_edge.specs.Causes.{Rose}
-use Rattle.uip_edge.specs.Coming.{Consumes, bytes_among, TookAll}
+use Rattle.uip_edge.specs.Coming.{bytes_among}
 use Rattle.uip_edge.specs.Writing.{BreaksOff}
 use Rattle.uip_edge.specs.declared.item.Item.{Item}
-use Rattle.uip_edge.specs.declared.item.Item.TheVariants.{Byte}
-use Rattle.uip_edge.specs.declared.turn.Turn.{Turn}
-use Rattle.uip_edge.specs.declared.turn.Turn.TheVariants as turns
-use Rattle.trace.specs.CaptureReading.{BeginsWith, Captured, IsReadAs, Reading, cut_in, captured_in, fault_in, length_in, lines_of}
-use Rattle.trace.specs.Converting.{WroteLine}
+use Rattle.trace.specs.CaptureReading.{BeginsWith, Captured, IsReadAs, Reading, captured_in, fault_in, length_in, lines_of}
 use Rattle.trace.specs.declared.area.TheConstants.{LONGEST_RECORD}
 use Rattle.trace.specs.declared.reader.Reader.{Reader}
 use Rattle.trace.specs.declared.reader.Stop.{Stop}
@@ -19,7 +15,7 @@ use Rattle.trace.specs.declared.slip_end.CaptureWhy.TheVariants as whys
 use Rattle.trace.specs.declared.slip_end.SlipEnd.{SlipEnd}
 use Rattle.trace.specs.declared.slip_end.SlipEnd.TheVariants as ends
 use Rattle.trace.specs.declared.stage.Stage.{Stage}
-use Rattle.uip_edge.specs.Told.{LineTold, IsCalm}
+use Rattle.uip_edge.specs.Told.{SinkTold}
 use Rattle.trace.specs.declared.stage.Stage.TheVariants as stages
 
 -- how long the part has to be
@@ -80,10 +76,9 @@ StopsAt stops.WriteFault start now bytes number = BrokeOff start now bytes
 StopsAt (stops.Bad why) start now bytes number = IsAtFault why start now bytes number
 
 -- a write failed only where the sink's count rose; else the count stays
-abbrev pub SinkBy : {T : Type 0} → ℕ → ℕ → Result T Stop → Type 0
-SinkBy before now (Ok x) = now ≡ before
-SinkBy before now (Err stops.WriteFault) = Rose before now
-SinkBy before now (Err (stops.Bad why)) = now ≡ before
+abbrev pub StopBy : Stop → ℕ → ℕ → Type 0
+StopBy stops.WriteFault before now = Rose before now
+StopBy (stops.Bad why) before now = now ≡ before
 
 -- the answer to the end of the link
 abbrev pub end_at : Stage → List ℕ → ℕ → SlipEnd
@@ -92,38 +87,15 @@ end_at (stages.Head order) (b ∷ part) number = ends.Bad number whys.Cut
 end_at (stages.Body order) part number = ends.Bad number whys.Cut
 end_at stages.Header part number = ends.Bad number whys.Cut
 
--- the cause of an end that a turn tells which took these items
-abbrev pub StopsBy : LineTold → LineTold → List Item → Reading → SlipEnd → Type 0
-StopsBy old new items reading ends.End =
-    (items ≡ []) × TookAll old.link.coming [] × IsCalm old new × (fault_in reading ≡ None) × (cut_in reading ≡ None)
-StopsBy old new items reading ends.Budget = ⊥
-StopsBy old new items reading ends.LinkFault =
-    (items ≡ []) × Rose old.link.faults new.link.faults × (new.sink.faults ≡ old.sink.faults) × (fault_in reading ≡ None)
-StopsBy old new items reading ends.WriteFault = (new.link.faults ≡ old.link.faults) × Rose old.sink.faults new.sink.faults
-StopsBy old new items reading (ends.Bad number whys.Cut) =
-    (items ≡ []) × TookAll old.link.coming [] × IsCalm old new × (fault_in reading ≡ None) × (cut_in reading ≡ Some number)
-StopsBy old new items reading (ends.Bad number whys.Head) =
-    IsCalm old new × (fault_in reading ≡ Some (number, whys.Head)) × (bytes : List ℕ) × (items ≡ map Byte bytes)
-StopsBy old new items reading (ends.Bad number whys.Length) =
-    IsCalm old new × (fault_in reading ≡ Some (number, whys.Length)) × (bytes : List ℕ) × (items ≡ map Byte bytes)
-
--- the reading stopped in a turn
-pub record EndsIn (start : Option (List ℕ)) (before items : List Item) (old new : LineTold) (end : SlipEnd) : Type 0 where
+-- the bytes are read so, and are not at fault
+pub record IsReadSound (bytes : List ℕ) : Type 0 where
   pub reading : Reading
-  pub read : IsReadAs (bytes_among (before ++ items)) reading
-  pub cause : StopsBy old new items reading end
-  pub wrote : WroteLine end start new.sink.written (lines_of (captured_in reading))
-  pub some : end ≡ ends.WriteFault → 0 < length (lines_of (captured_in reading))
+  pub read : IsReadAs bytes reading
+  pub sound : fault_in reading ≡ None
 
-abbrev pub ReadBy : Option (List ℕ) → List Item → List Item → LineTold → LineTold → Stage → ℕ → List ℕ → Turn SlipEnd → Type 0
-ReadBy start before items old new stage number part (turns.Took n) =
-    (length items ≡ n) × IsCalm old new × IsReadTo start new.sink.written (bytes_among (before ++ items)) stage number part
-ReadBy start before items old new stage number part (turns.Ended end) = EndsIn start before items old new end
-
--- a turn, behind the items before it
-pub record ReadsTurn (start : Option (List ℕ)) (before : List Item) (old new : LineTold)
-    (stage : Stage) (number : ℕ) (part : List ℕ) (room : ℕ) (turn : Turn SlipEnd) : Type 0 where
-  pub items : List Item
-  pub consumed : Consumes old.link.coming new.link.coming items
-  pub within : length items ≤ room
-  pub by : ReadBy start before items old new stage number part turn
+-- the reading stopped among these bytes, behind sound ones
+pub record Stopped (stop : Stop) (start : Option (List ℕ)) (before : List Item) (bytes : List ℕ) (faults : ℕ) (new : SinkTold)
+    (number : ℕ) : Type 0 where
+  pub front : IsReadSound (bytes_among before)
+  pub stops : StopsAt stop start new.written (bytes_among before ++ bytes) number
+  pub by : StopBy stop faults new.faults

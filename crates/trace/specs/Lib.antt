@@ -3,6 +3,7 @@ pub mod CaptureText
 pub mod Converting
 pub mod DumpText
 pub mod Gathering
+pub mod LineReading
 pub mod Seen
 pub mod Telling
 pub mod Watching

@@ -1,15 +1,12 @@
--- What the reader of a serial line does in one turn, told of all items that it took before.
-use Rattle.std.specs.Prelude.{◌≡◌, ◌≤◌, ◌+◌, ℕ, List, [], ◌++◌, Option, length}
+-- What the reader of a serial line knows of the items that it took.
+use Rattle.std.specs.Prelude.{◌≡◌, ◌+◌, ℕ, List, [], Option, length, map}
 use Rattle.std.specs.List.{enumerate_from, flat_map}
 use Rattle.std.specs.Io.KnownBytes.{Appends}
-use Rattle.uip_edge.specs.Coming.{Consumes, bytes_among}
-use Rattle.uip_edge.specs.Turns.{IfTook, TurnsBy}
+use Rattle.uip_edge.specs.Causes.{Rose}
+use Rattle.uip_edge.specs.Coming.{bytes_among}
 use Rattle.uip_edge.specs.Writing.{BreaksOff}
 use Rattle.uip_edge.specs.declared.item.Item.{Item}
-use Rattle.uip_edge.specs.declared.serve_end.ServeEnd.{ServeEnd}
-use Rattle.uip_edge.specs.declared.serve_end.ServeEnd.TheVariants as ends
-use Rattle.uip_edge.specs.declared.turn.Turn.{Turn}
-use Rattle.uip_edge.specs.declared.turn.Turn.TheVariants as turns
+use Rattle.uip_edge.specs.declared.item.Item.TheVariants.{Byte}
 use Rattle.uip_slip.specs.Decoding.{State, WasFed}
 use Rattle.trace.specs.CaptureText.{frame_record}
 use Rattle.trace.specs.DumpText.{dump_line}
@@ -17,7 +14,7 @@ use Rattle.trace.specs.Seen.{Seen, seen_behind, seen_on, silences_of}
 use Rattle.trace.specs.declared.form.Form.{Form}
 use Rattle.trace.specs.declared.form.Form.TheVariants.{Capture, Dump}
 use Rattle.trace.specs.declared.watch.Watch.{Watch}
-use Rattle.uip_edge.specs.Told.{LineTold}
+use Rattle.uip_edge.specs.Told.{SinkTold}
 
 -- what is written of a frame with its number
 abbrev pub frame_text : Form → ℕ × Seen → List ℕ
@@ -42,20 +39,13 @@ pub record HasSeen (before : List Item) (decoder : State) (frames silences : ℕ
 abbrev pub Saw : List Item → Watch → Type 0
 Saw before watch = HasSeen before watch.decoder watch.frames watch.silences
 
--- what a turn wrote of this text
-abbrev pub TellsOn : Turn ServeEnd → Option (List ℕ) → Option (List ℕ) → List ℕ → Type 0
-TellsOn (turns.Took n) old new text = Appends old new text
-TellsOn (turns.Ended ends.End) old new text = Appends old new text
-TellsOn (turns.Ended ends.LinkFault) old new text = Appends old new text
-TellsOn (turns.Ended ends.WriteFault) old new text = BreaksOff [] text old new
-TellsOn (turns.Ended ends.Budget) old new text = ⊥
+-- a line is watched in this form: these items were read, and their text was written, from where the sink stood at the start
+pub record IsWatched (k : Form × Option (List ℕ)) (before : List Item) (now : Option (List ℕ)) (watch : Watch) : Type 0 where
+  pub form : watch.form ≡ k.0
+  pub seen : Saw before watch
+  pub written : Appends k.1 now (text_after k.0 [] before)
 
--- a turn, behind the items before it
-pub record Watches (form : Form) (before : List Item) (old new : LineTold) (decoder : State)
-    (frames silences : ℕ) (room : ℕ) (turn : Turn ServeEnd) : Type 0 where
-  pub items : List Item
-  pub consumed : Consumes old.link.coming new.link.coming items
-  pub within : length items ≤ room
-  pub cause : TurnsBy old new items turn
-  pub on : IfTook turn (λ n. HasSeen (before ++ items) decoder frames silences)
-  pub wrote : TellsOn turn old.sink.written new.sink.written (text_after form before items)
+-- a write failed in the text of these bytes behind those items
+pub record BrokeWatch (k : Form × Option (List ℕ)) (before : List Item) (bytes : List ℕ) (faults : ℕ) (new : SinkTold) : Type 0 where
+  pub broke : BreaksOff (text_after k.0 [] before) (text_after k.0 before (map Byte bytes)) k.1 new.written
+  pub rose : Rose faults new.faults

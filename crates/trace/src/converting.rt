@@ -2,10 +2,10 @@ ghost use Rattle.std.specs.Prelude.{◌≡◌, List, ℕ, Option};
 ghost use Rattle.trace.specs.Converting.{Converts, IsFoundSoon};
 ghost use Rattle.uip_edge.specs.Telling.{line_told};
 
-use crate::reader::Reader;
+use crate::line_reading::read_line;
+use crate::reader::{Reader, Stop};
 use crate::slip_end::SlipEnd;
-use crate::telling::BLOCK;
-use uip_edge::{Link, Sink, Turn};
+use uip_edge::{Link, ServeEnd, Sink};
 
 /// Reads a capture file and writes its datagrams as a serial line, up to so many items.
 #[inline(never)]
@@ -19,14 +19,12 @@ pub fn slip<L: Link, K: Sink>(link: &mut L, sink: &mut K, items: u64) -> SlipEnd
         (line_told L.Link K.Sink link.new sink.new) result }
 {
     let mut reader = Reader::new();
-    let mut buf = [0; BLOCK];
-    let mut left = items;
-    while left > 0 {
-        let room = left.min(BLOCK as u64) as usize;
-        match reader.turn(&mut buf[..room], link, sink) {
-            Turn::Took(count) => left -= count,
-            Turn::Ended(end) => return end,
-        }
+    match read_line(&mut reader, link, sink, items) {
+        Ok(ServeEnd::End) => reader.end(),
+        Ok(ServeEnd::LinkFault) => SlipEnd::LinkFault,
+        Ok(ServeEnd::Budget) => SlipEnd::Budget,
+        Ok(ServeEnd::WriteFault) => SlipEnd::WriteFault,
+        Err(Stop::WriteFault) => SlipEnd::WriteFault,
+        Err(Stop::Bad(why)) => reader.bad(why),
     }
-    SlipEnd::Budget
 }

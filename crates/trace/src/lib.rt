@@ -10,6 +10,8 @@ mod dump_line;
 mod fields;
 mod form;
 mod laws;
+mod line_reader;
+mod line_reading;
 mod reader;
 mod record;
 mod slip_end;

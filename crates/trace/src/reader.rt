@@ -1,20 +1,17 @@
-ghost use Rattle.std.specs.Prelude.{◌≡◌, ◌<◌, ◌≤◌, ◌+◌, ◌^◌, ◌++◌, [], List, ℕ, Option, length, take, IfErr, IfOk, OnErr, OnOk};
+ghost use Rattle.std.specs.Prelude.{◌≡◌, ◌<◌, ◌≤◌, ◌+◌, ◌^◌, ◌++◌, [], List, ℕ, Option, length, IfErr, OnErr, OnOk};
 ghost use Rattle.uip_edge.specs.Causes.{HasCause};
-ghost use Rattle.uip_edge.specs.Turns.{IfTook, TurnFits};
-ghost use Rattle.uip_edge.specs.declared.item.Item.{Item};
-ghost use Rattle.trace.specs.Gathering.{BrokeOff, HasReadTo, IsAtFault, IsFullIn, IsOpenIn, SinkBy, StopsAt, ReadsTurn, end_at};
+ghost use Rattle.trace.specs.Gathering.{BrokeOff, HasReadTo, IsAtFault, IsFullIn, IsOpenIn, StopBy, StopsAt, end_at};
 ghost use Rattle.trace.specs.declared.reader.Stop.TheVariants.{Bad as BadStop, WriteFault};
 ghost use Rattle.trace.specs.declared.slip_end.SlipEnd.TheVariants.{Bad as BadEnd};
-ghost use Rattle.uip_edge.specs.Coming.{bytes_among};
-ghost use Rattle.uip_edge.specs.Telling.{line_told};
 ghost use Rattle.trace.specs.declared.stage.Stage.TheVariants as stages;
 
 use crate::area::Area;
 use crate::byte_order::ByteOrder;
 use crate::fields::{field, order_of};
+use crate::line_reader::LineReader;
 use crate::slip_end::{CaptureWhy, SlipEnd};
 use crate::stage::Stage;
-use uip_edge::{Failed, Got, Link, Sink, Turn};
+use uip_edge::{Failed, Sink};
 use uip_slip::Encoder;
 use uip_wire::LARGEST_DATAGRAM;
 
@@ -76,39 +73,8 @@ impl Reader {
         }
     }
 
-    /// Takes what the link gives next. A silence says nothing.
-    pub fn turn<L: Link, K: Sink>(
-        &mut self,
-        buf: &mut [u8],
-        link: &mut L,
-        sink: &mut K,
-    ) -> Turn<SlipEnd>
-        requires room { 0 < length buf.old }
-        requires open { IsOpenIn self.old }
-        requires number { self.old.number + length buf.old < 2 ^ 64 }
-        ensures open { IfTook result (λ n. IsOpenIn self.new) }
-        ensures fits { TurnFits result (length buf.old) }
-        ensures number { IfTook result (λ n. self.new.number ≤ self.old.number + n) }
-        ensures turns { (start : Option (List ℕ)) (before : List Item)
-            → HasReadTo start (K.written sink.old) (bytes_among before) self.old
-            → ReadsTurn start before (line_told L.Link K.Sink link.old sink.old)
-            (line_told L.Link K.Sink link.new sink.new)
-            self.new.stage self.new.number self.new.part (length buf.old) result }
-    {
-        match link.next(buf) {
-            Err(Failed) => Turn::Ended(SlipEnd::LinkFault),
-            Ok(Got::End) => Turn::Ended(self.end()),
-            Ok(Got::Quiet) => Turn::Took(1),
-            Ok(Got::Bytes(count)) => match self.take(&buf[..count], sink) {
-                Ok(()) => Turn::Took(count as u64),
-                Err(Stop::WriteFault) => Turn::Ended(SlipEnd::WriteFault),
-                Err(Stop::Bad(why)) => Turn::Ended(self.bad(why)),
-            },
-        }
-    }
-
     /// The answer where the link answers its end.
-    fn end(&self) -> SlipEnd
+    pub fn end(&self) -> SlipEnd
         ensures { result ≡ end_at self.now.stage self.now.part self.now.number }
     {
         match self.stage {
@@ -118,59 +84,13 @@ impl Reader {
     }
 
     /// The answer where the header or the record that is being read is at fault.
-    fn bad(&self, why: CaptureWhy) -> SlipEnd
+    pub fn bad(&self, why: CaptureWhy) -> SlipEnd
         ensures { result ≡ BadEnd self.now.number why }
     {
         SlipEnd::Bad {
             number: self.number,
             why,
         }
-    }
-
-    /// Takes bytes, and writes the datagrams that they complete.
-    fn take<K: Sink>(&mut self, bytes: &[u8], sink: &mut K) -> Result<(), Stop>
-        requires open { IsOpenIn self.old }
-        requires number { self.old.number + length bytes.now < 2 ^ 64 }
-        ensures open { OnOk result (IsOpenIn self.new) }
-        ensures number { OnOk result (self.new.number ≤ self.old.number + length bytes.now) }
-        ensures at { OnOk result ((start : Option (List ℕ)) (before : List ℕ)
-            → HasReadTo start (K.written sink.old) before self.old
-            → HasReadTo start (K.written sink.new) (before ++ bytes.now) self.new) }
-        ensures stop { IfErr result (λ stop. (start : Option (List ℕ)) (before : List ℕ)
-            → HasReadTo start (K.written sink.old) before self.old
-            → StopsAt stop start (K.written sink.new) (before ++ bytes.now) self.new.number) }
-        ensures cause { SinkBy (K.faults sink.old) (K.faults sink.new) result }
-    {
-        let mut rest = bytes;
-        while !rest.is_empty() {
-            let count = self.take_front(rest, sink)?;
-            rest = &rest[count..];
-        }
-        Ok(())
-    }
-
-    /// Takes as many bytes as the part still wants.
-    fn take_front<K: Sink>(&mut self, bytes: &[u8], sink: &mut K) -> Result<usize, Stop>
-        requires some { 0 < length bytes.now }
-        requires open { IsOpenIn self.old }
-        requires number { self.old.number + 1 < 2 ^ 64 }
-        ensures open { OnOk result (IsOpenIn self.new) }
-        ensures number { self.new.number ≤ self.old.number + 1 }
-        ensures count { IfOk result (λ n. (0 < n) × (n ≤ length bytes.now)) }
-        ensures at { IfOk result (λ n. (start : Option (List ℕ)) (before : List ℕ)
-            → HasReadTo start (K.written sink.old) before self.old
-            → HasReadTo start (K.written sink.new) (before ++ take n bytes.now) self.new) }
-        ensures stop { IfErr result (λ stop. (start : Option (List ℕ)) (before : List ℕ)
-            → HasReadTo start (K.written sink.old) before self.old
-            → StopsAt stop start (K.written sink.new) (before ++ bytes.now) self.new.number) }
-        ensures cause { SinkBy (K.faults sink.old) (K.faults sink.new) result }
-    {
-        let count = bytes.len().min(self.want - self.part.len());
-        self.part.put(&bytes[..count]);
-        if self.part.len() == self.want {
-            self.look(sink)?;
-        }
-        Ok(count)
     }
 
     /// The part is as long as was wanted.
@@ -185,7 +105,8 @@ impl Reader {
         ensures stop { IfErr result (λ stop. (start : Option (List ℕ)) (bytes more : List ℕ)
             → HasReadTo start (K.written sink.old) bytes self.old
             → StopsAt stop start (K.written sink.new) (bytes ++ more) self.new.number) }
-        ensures cause { SinkBy (K.faults sink.old) (K.faults sink.new) result }
+        ensures calm { OnOk result (K.faults sink.new ≡ K.faults sink.old) }
+        ensures by { IfErr result (λ stop. StopBy stop (K.faults sink.old) (K.faults sink.new)) }
     {
         match self.stage {
             Stage::Header => Ok(self.look_at_header()?),
@@ -271,5 +192,36 @@ impl Reader {
         self.part.clear();
         self.want = HEAD_LEN;
         self.stage = Stage::Head(order);
+    }
+}
+
+impl LineReader for Reader {
+    ghost use Rattle.std.specs.Prelude.{List, ℕ, Option};
+    ghost use Rattle.uip_edge.specs.Coming.{bytes_among};
+    ghost use Rattle.trace.specs.Gathering.{HasReadTo, IsOpenIn, Stopped};
+
+    type Stop = Stop;
+
+    ghost Set = { Option (List ℕ) };
+
+    ghost ready = { λ reader. IsOpenIn reader };
+
+    ghost counted = { λ reader. reader.number };
+
+    ghost took = { λ reader start before now. HasReadTo start now (bytes_among before) reader };
+
+    ghost stopped = { λ reader start stop before bytes faults now. Stopped stop start before bytes faults now reader.number };
+
+    /// A silence says nothing.
+    fn silence(&mut self) {}
+
+    /// Takes as many bytes as the part still wants.
+    fn take_front<K: Sink>(&mut self, bytes: &[u8], sink: &mut K) -> Result<usize, Stop> {
+        let count = bytes.len().min(self.want - self.part.len());
+        self.part.put(&bytes[..count]);
+        if self.part.len() == self.want {
+            self.look(sink)?;
+        }
+        Ok(count)
     }
 }

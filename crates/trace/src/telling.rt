@@ -8,12 +8,10 @@ ghost use Rattle.trace.specs.Watching.{text_after};
 ghost use Rattle.uip_edge.specs.Telling.{line_told};
 
 use crate::form::Form;
+use crate::line_reading::read_line;
 use crate::record::HEADER;
 use crate::watch::Watch;
-use uip_edge::{Link, ServeEnd, Sink, Turn};
-
-/// The most bytes that are asked of a link at once.
-pub(crate) const BLOCK: usize = 4096;
+use uip_edge::{Failed, Link, ServeEnd, Sink};
 
 /// Writes a line of text for each frame of a serial line, up to so many items.
 #[inline(never)]
@@ -45,14 +43,8 @@ fn watch_line<L: Link, K: Sink>(form: Form, link: &mut L, sink: &mut K, items: u
         (line_told L.Link K.Sink link.new sink.new) result }
 {
     let mut watch = Watch::new(form);
-    let mut buf = [0; BLOCK];
-    let mut left = items;
-    while left > 0 {
-        let room = left.min(BLOCK as u64) as usize;
-        match watch.turn(&mut buf[..room], link, sink) {
-            Turn::Took(count) => left -= count,
-            Turn::Ended(end) => return end,
-        }
+    match read_line(&mut watch, link, sink, items) {
+        Ok(end) => end,
+        Err(Failed) => ServeEnd::WriteFault,
     }
-    ServeEnd::Budget
 }

@@ -1,0 +1,34 @@
+use Rattle.std.proofs.Common.{◌++◌, [], ◌∙◌, take, refl, sym, ap, subst, List, map, append-nil, append_assoc, arith, length-append}
+use Rattle.std.proofs.lemmas.List.{length-take-le, map-append}
+use Rattle.uip_edge.proofs.Told.{moved_on}
+use Rattle.uip_edge.specs.declared.item.Item.{Item}
+use Rattle.uip_edge.specs.declared.item.Item.TheVariants.{Byte}
+use Rattle.trace.proofs.line_reading.take_bytes.Goals as goal
+
+pub loop-rest-init : goal.loop-rest-init
+loop-rest-init g c = record {
+  front = [];
+  pieces = refl;
+  ready = c.requires.ready;
+  counted = omega arith;
+  took = λ k before h. rw append-nil h;
+  calm = refl;
+}
+
+pub loop-rest-preserved : goal.loop-rest-preserved
+loop-rest-preserved g c =
+    let inv = c.loop-rest.invariant in
+    let rest = c.loop-rest.rest.now in
+    let n = c.in_ok-count.count in
+    let told = c.in_ok-count.ensures in
+    record {
+      front = inv.front ++ take n rest;
+      pieces = moved_on _ inv.front rest n inv.pieces;
+      ready = told.ready;
+      counted = omega (arith, told.counted, told.count.1, inv.counted, length-append inv.front (take n rest), length-take-le n rest told.count.1);
+      took = λ k before h.
+          subst (λ (l : List Item). g.R.LineReader.took c.take_front.new.self k l (g.K.Sink.written c.take_front.new.sink))
+          (append_assoc before (map Byte inv.front) (map Byte (take n rest)) ∙ ap (λ l. before ++ l) (sym (map-append Byte inv.front (take n rest))))
+          (told.took k (before ++ map Byte inv.front) (inv.took k before h));
+      calm = told.calm ∙ inv.calm;
+    }

@@ -1,0 +1,18 @@
+use Rattle.std.proofs.Common.{◌≡◌, ◌≤◌, ◌+◌, ◌++◌, List, ℕ, length, map}
+use Rattle.uip_edge.specs.declared.item.Item.{Item}
+use Rattle.uip_edge.specs.declared.item.Item.TheVariants.{Byte}
+use Rattle.trace.proofs.line_reading.take_bytes.Given as goal
+
+abbrev pub invariant-loop-rest : goal.invariant-loop-rest
+invariant-loop-rest g l = record {
+  front : List ℕ;
+  pieces : l.bytes ≡ front ++ l.rest;
+  ready : g.R.LineReader.ready l.reader;
+  counted : g.R.LineReader.counted l.reader ≤ g.R.LineReader.counted l.fn.reader + length front;
+  took : (k : g.R.LineReader.Set) (before : List Item) → g.R.LineReader.took l.fn.reader k before (g.K.Sink.written l.fn.sink)
+      → g.R.LineReader.took l.reader k (before ++ map Byte front) (g.K.Sink.written l.sink);
+  calm : g.K.Sink.faults l.sink ≡ g.K.Sink.faults l.fn.sink;
+}
+
+abbrev pub decreases-loop-rest : goal.decreases-loop-rest
+decreases-loop-rest g l = length l.rest

@@ -1,0 +1,71 @@
+//! One reading of a line, by whatever takes its items.
+
+ghost use Rattle.std.specs.Prelude.{◌≡◌, ◌<◌, ◌≤◌, ◌+◌, ◌^◌, ◌++◌, [], List, length, map, IfErr, OnOk};
+ghost use Rattle.uip_edge.specs.Telling.{line_told, sink_told};
+ghost use Rattle.uip_edge.specs.declared.item.Item.{Item};
+ghost use Rattle.uip_edge.specs.declared.item.Item.TheVariants.{Byte};
+ghost use Rattle.trace.specs.LineReading.{ReadsLine, StopsAmong};
+
+use crate::line_reader::LineReader;
+use uip_edge::{Failed, Got, Link, ServeEnd, Sink};
+
+/// The most bytes that are asked of a link at once.
+const BLOCK: usize = 4096;
+
+/// Takes bytes.
+fn take_bytes<R: LineReader, K: Sink>(
+    reader: &mut R,
+    bytes: &[u8],
+    sink: &mut K,
+) -> Result<(), R::Stop>
+    requires ready { R.ready reader.old }
+    requires counted { R.counted reader.old + length bytes.now < 2 ^ 64 }
+    ensures ready { OnOk result (R.ready reader.new) }
+    ensures counted { OnOk result (R.counted reader.new ≤ R.counted reader.old + length bytes.now) }
+    ensures took { OnOk result ((k : R.Set) (before : List Item) → R.took reader.old k before (K.written sink.old)
+        → R.took reader.new k (before ++ map Byte bytes.now) (K.written sink.new)) }
+    ensures calm { OnOk result (K.faults sink.new ≡ K.faults sink.old) }
+    ensures stopped { IfErr result (λ stop. (k : R.Set) (before : List Item) → R.took reader.old k before (K.written sink.old)
+        → StopsAmong R.LineReader k before bytes.now (K.faults sink.old) (sink_told K.Sink sink.new) reader.new stop) }
+{
+    let mut rest = bytes;
+    while !rest.is_empty() {
+        let count = reader.take_front(rest, sink)?;
+        rest = &rest[count..];
+    }
+    Ok(())
+}
+
+/// Reads a line, up to so many items: why it ended, or why the reader stopped.
+pub(crate) fn read_line<R: LineReader, L: Link, K: Sink>(
+    reader: &mut R,
+    link: &mut L,
+    sink: &mut K,
+    items: u64,
+) -> Result<ServeEnd, R::Stop>
+    requires ready { R.ready reader.old }
+    requires counted { R.counted reader.old ≡ 0 }
+    ensures { (k : R.Set) → R.took reader.old k [] (K.written sink.old) → ReadsLine R.LineReader k items
+        (line_told L.Link K.Sink link.old sink.old)
+        (line_told L.Link K.Sink link.new sink.new) reader.new result }
+{
+    let mut buf = [0; BLOCK];
+    let mut left = items;
+    while left > 0 {
+        let room = left.min(BLOCK as u64) as usize;
+        let block = &mut buf[..room];
+        match link.next(block) {
+            Err(Failed) => return Ok(ServeEnd::LinkFault),
+            Ok(Got::End) => return Ok(ServeEnd::End),
+            Ok(Got::Quiet) => {
+                reader.silence();
+                left -= 1;
+            }
+            Ok(Got::Bytes(count)) => {
+                take_bytes(reader, &block[..count], sink)?;
+                left -= count as u64;
+            }
+        }
+    }
+    Ok(ServeEnd::Budget)
+}
