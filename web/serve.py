@@ -123,8 +123,7 @@ class Board:
         self.name, self.firmware, self.is_filled, self.rate = "a board by qemu", firmware, False, browse.BOARD_RATE
 
     def open(self):
-        board, line, other, monitor = browse.start_board(self.firmware, [])
-        os.close(other)   # qemu alone has it, so that its end is seen here
+        board, line, monitor = browse.start_board(self.firmware)
         return Line(board, line, line, monitor)
 
 
