@@ -5,7 +5,6 @@ ghost use Rattle.serve_loop.specs.DeedServing.{ServesOver};
 ghost use Rattle.serve_loop.specs.Items.{BringsBytes};
 ghost use Rattle.serve_loop.specs.LineDeeds.{line_deeds};
 ghost use Rattle.uip_node.specs.Node.{AbstractNode, opening};
-ghost use Rattle.uip_node.specs.StandsFor.{IsWhole};
 ghost use Rattle.uip_wire.specs.declared.addr.Addr.{Addr as Address};
 ghost use Rattle.ethernet_arp.specs.EtherWay.{ether_way};
 ghost use Rattle.ethernet_arp.specs.Frames.{Host};
@@ -33,8 +32,6 @@ pub fn serve_ether<A: App, L: Link, K: Sink>(
     pace: u64,
     items: u64,
 ) -> ServeEnd
-    requires whole { IsWhole A.App node.old }
-    ensures whole { IsWhole A.App node.new }
     ensures same { A.kept node.new.shared ≡ A.kept node.old.shared }
     ensures host { host_of arp.new ≡ host_of arp.old }
     ensures serves { ServesOver A.App (ether_way (host_of arp.old))

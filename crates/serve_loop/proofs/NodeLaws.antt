@@ -6,7 +6,7 @@ use Rattle.uip_wire.specs.declared.addr.Addr.{Addr}
 use Rattle.app_events.specs.Part.{Meaning}
 use Rattle.app_events.specs.declared.app.App.{Ghosts}
 use Rattle.uip_edge.proofs.Told.{appends_by, Appends-none}
-use Rattle.uip_node.specs.declared.node.Node.{Node}
+use Rattle.uip_node.specs.State.{Node}
 use Rattle.uip_node.specs.Events.{Event, Reply, tick}
 use Rattle.uip_node.specs.Events.Event.{Periodic}
 use Rattle.uip_node.specs.Node.{AbstractNode, step}

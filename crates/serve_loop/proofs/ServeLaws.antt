@@ -12,7 +12,7 @@ use Rattle.uip_edge.specs.Coming.{Consumes, bytes_among}
 use Rattle.uip_edge.specs.declared.turn.Turn.TheVariants.{Ended}
 use Rattle.uip_edge.proofs.Told.{Consumes-then, taken_within}
 use Rattle.uip_edge.proofs.Turns.{ends_by}
-use Rattle.uip_node.specs.declared.node.Node.{Node}
+use Rattle.uip_node.specs.State.{Node}
 use Rattle.line_medium.specs.declared.medium.Medium.{Ghosts as MediumGhosts}
 use Rattle.serve_loop.specs.declared.pacer.Pacer.{Pacer}
 use Rattle.serve_loop.specs.Items.{IsItem}

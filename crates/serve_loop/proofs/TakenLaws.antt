@@ -5,7 +5,7 @@ use Rattle.uip_wire.specs.declared.addr.Addr.{Addr}
 use Rattle.app_events.specs.Part.{Meaning}
 use Rattle.app_events.specs.declared.app.App.{Ghosts}
 use Rattle.uip_edge.proofs.Told.{appends_by, Appends-none}
-use Rattle.uip_node.specs.declared.node.Node.{Node}
+use Rattle.uip_node.specs.State.{Node}
 use Rattle.uip_node.specs.Edge.{event_of}
 use Rattle.uip_node.specs.Counted.{seen}
 use Rattle.uip_node.specs.Events.Event.{Overlong as OverlongFrame}

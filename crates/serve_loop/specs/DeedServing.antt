@@ -8,7 +8,7 @@ use Rattle.uip_edge.specs.declared.item.Item.{Item}
 use Rattle.uip_edge.specs.declared.serve_end.ServeEnd.{ServeEnd}
 use Rattle.uip_edge.specs.declared.serve_end.ServeEnd.TheVariants as ends
 use Rattle.uip_edge.specs.Coming.{Consumes}
-use Rattle.uip_node.specs.declared.node.Node.{Node}
+use Rattle.uip_node.specs.State.{Node}
 use Rattle.uip_node.specs.StandsFor.{Stands}
 use Rattle.line_medium.specs.Ways.{Way}
 use Rattle.serve_loop.specs.DeedRuns.{AllSaid, Deed, FrontSaid, Station}

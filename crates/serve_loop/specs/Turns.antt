@@ -10,7 +10,7 @@ use Rattle.uip_edge.specs.declared.turn.Turn.{Turn}
 use Rattle.uip_edge.specs.declared.turn.Turn.TheVariants as turns
 use Rattle.uip_edge.specs.Coming.{Consumes, bytes_among}
 use Rattle.uip_edge.specs.Turns.{IfTook, TurnsBy}
-use Rattle.uip_node.specs.declared.node.Node.{Node}
+use Rattle.uip_node.specs.State.{Node}
 use Rattle.uip_node.specs.Node.{AbstractNode}
 use Rattle.uip_node.specs.StandsFor.{Stands}
 use Rattle.line_medium.specs.Ways.{Way}

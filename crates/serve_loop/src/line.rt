@@ -6,7 +6,6 @@ ghost use Rattle.uip_edge.specs.declared.item.Item.TheVariants.{Byte};
 ghost use Rattle.uip_edge.specs.Causes.{HasCause};
 ghost use Rattle.uip_edge.specs.Turns.{TurnFits};
 ghost use Rattle.uip_edge.specs.Writing.{BreaksOff};
-ghost use Rattle.uip_node.specs.StandsFor.{IsWhole};
 ghost use Rattle.line_medium.specs.Ways.{all_brought};
 ghost use Rattle.serve_loop.specs.LineDeeds.{deed_by, deeds_behind};
 ghost use Rattle.serve_loop.specs.Turns.{Breaks, HasTaken, Plays, Turns, place};
@@ -30,8 +29,6 @@ pub fn take_turn<A: App, M: Medium, L: Link, K: Sink>(
     sink: &mut K,
 ) -> Turn<ServeEnd>
     requires room { 0 < length buf.old }
-    requires whole { IsWhole A.App node.old }
-    ensures whole { IsWhole A.App node.new }
     ensures same { A.kept node.new.shared ≡ A.kept node.old.shared }
     ensures fits { TurnFits result (length buf.old) }
     ensures turns { (k : M.Set) (pace : ℕ) (before : List ℕ) → HasTaken pace before (M.fed medium.old k) pacer.old
@@ -61,8 +58,6 @@ fn take_bytes<A: App, M: Medium, K: Sink>(
     bytes: &[u8],
     sink: &mut K,
 ) -> Result<(), Failed>
-    requires whole { IsWhole A.App node.old }
-    ensures whole { IsWhole A.App node.new }
     ensures same { A.kept node.new.shared ≡ A.kept node.old.shared }
     ensures are { All IsByte bytes.now }
     ensures taken { OnOk result ((k : M.Set) (pace : ℕ) (before : List ℕ)
@@ -95,8 +90,6 @@ fn take_front<A: App, M: Medium, K: Sink>(
     sink: &mut K,
 ) -> Result<usize, Failed>
     requires some { 0 < length bytes.now }
-    requires whole { IsWhole A.App node.old }
-    ensures whole { IsWhole A.App node.new }
     ensures same { A.kept node.new.shared ≡ A.kept node.old.shared }
     ensures count { IfOk result (λ n. (0 < n) × (n ≤ length bytes.now)) }
     ensures taken { IfOk result (λ n. (k : M.Set) (pace : ℕ) (before : List ℕ)
@@ -128,8 +121,6 @@ fn take_run<A: App, M: Medium, K: Sink>(
     sink: &mut K,
 ) -> Result<usize, Failed>
     requires some { 0 < length bytes.now }
-    requires whole { IsWhole A.App node.old }
-    ensures whole { IsWhole A.App node.new }
     ensures same { A.kept node.new.shared ≡ A.kept node.old.shared }
     ensures count { IfOk result (λ n. (0 < n) × (n ≤ length bytes.now)) }
     ensures fed { IfOk result (λ n. (k : M.Set) (before : List ℕ) → M.fed medium.old k before

@@ -7,7 +7,6 @@ ghost use Rattle.uip_node.specs.Edge.{event_of};
 ghost use Rattle.uip_node.specs.Events.{Reply, tick};
 ghost use Rattle.uip_node.specs.Events.Event.{Periodic};
 ghost use Rattle.uip_node.specs.Spoken.{IsSent};
-ghost use Rattle.uip_node.specs.StandsFor.{IsWhole};
 ghost use Rattle.serve_loop.specs.DeedRuns.{Happens, text_behind};
 ghost use Rattle.serve_loop.specs.LineDeeds.{tick_on};
 ghost use Rattle.serve_loop.specs.Turns.{Breaks, Plays, place};
@@ -48,10 +47,8 @@ pub(crate) fn take_datagram<A: App, M: Medium, K: Sink>(
     count: usize,
     sink: &mut K,
 ) -> Result<(), Failed>
-    requires whole { IsWhole A.App node.old }
     requires shows { M.shows medium.old count }
     requires most { length (M.shown medium.old) ≤ LARGEST_DATAGRAM }
-    ensures whole { IsWhole A.App node.new }
     ensures same { A.kept node.new.shared ≡ A.kept node.old.shared }
     ensures fed { (k : M.Set) (before : List ℕ) → M.fed medium.old k before → M.fed medium.new k before }
     ensures ok { OnOk result ((k : M.Set) → Plays A.App M.Medium k
@@ -73,9 +70,7 @@ fn call_slot<A: App, M: Medium, K: Sink>(
     slot: usize,
     sink: &mut K,
 ) -> Result<(), Failed>
-    requires whole { IsWhole A.App node.old }
     requires within { slot < 10 }
-    ensures whole { IsWhole A.App node.new }
     ensures same { A.kept node.new.shared ≡ A.kept node.old.shared }
     ensures fed { (k : M.Set) (before : List ℕ) → M.fed medium.old k before → M.fed medium.new k before }
     ensures ok { OnOk result ((k : M.Set) → Plays A.App M.Medium k
@@ -96,8 +91,6 @@ fn call_slots<A: App, M: Medium, K: Sink>(
     medium: &mut M,
     sink: &mut K,
 ) -> Result<(), Failed>
-    requires whole { IsWhole A.App node.old }
-    ensures whole { IsWhole A.App node.new }
     ensures same { A.kept node.new.shared ≡ A.kept node.old.shared }
     ensures fed { (k : M.Set) (before : List ℕ) → M.fed medium.old k before → M.fed medium.new k before }
     ensures ok { OnOk result ((k : M.Set) → Plays A.App M.Medium k
@@ -120,8 +113,6 @@ pub(crate) fn tick<A: App, M: Medium, K: Sink>(
     medium: &mut M,
     sink: &mut K,
 ) -> Result<(), Failed>
-    requires whole { IsWhole A.App node.old }
-    ensures whole { IsWhole A.App node.new }
     ensures same { A.kept node.new.shared ≡ A.kept node.old.shared }
     ensures fed { (k : M.Set) (before : List ℕ) → M.fed medium.old k before → M.fed medium.new k before }
     ensures ok { OnOk result ((k : M.Set) → Plays A.App M.Medium k

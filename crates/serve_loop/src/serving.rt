@@ -3,7 +3,6 @@ ghost use Rattle.uip_edge.specs.Coming.{Consumes};
 ghost use Rattle.uip_edge.specs.declared.item.Item.{Item};
 ghost use Rattle.uip_edge.specs.declared.serve_end.ServeEnd.{ServeEnd as AnyEnd};
 ghost use Rattle.uip_edge.specs.declared.serve_end.ServeEnd.TheVariants.{Budget, End};
-ghost use Rattle.uip_node.specs.StandsFor.{IsWhole};
 ghost use Rattle.serve_loop.specs.DeedServing.{ServesOver};
 ghost use Rattle.serve_loop.specs.SlipWay.{any_acts, slip_way};
 ghost use Rattle.serve_loop.specs.Turns.{HasTaken};
@@ -32,8 +31,6 @@ pub fn serve<A: App, L: Link, K: Sink>(
     pace: u64,
     items: u64,
 ) -> ServeEnd
-    requires whole { IsWhole A.App node.old }
-    ensures whole { IsWhole A.App node.new }
     ensures same { A.kept node.new.shared ≡ A.kept node.old.shared }
     ensures serves { ServesOver A.App slip_way any_acts any_acts pace items node.old node.new
         (line_told L.Link K.Sink link.old sink.old)
@@ -53,8 +50,6 @@ pub fn serve_over<A: App, M: Medium, L: Link, K: Sink>(
     pace: u64,
     items: u64,
 ) -> ServeEnd
-    requires whole { IsWhole A.App node.old }
-    ensures whole { IsWhole A.App node.new }
     ensures same { A.kept node.new.shared ≡ A.kept node.old.shared }
     ensures serves { (k : M.Set) → M.fed medium.old k []
         → ServesOver A.App (M.way k) (M.did medium.old k) (M.did medium.new k) pace items node.old node.new
@@ -74,8 +69,6 @@ fn serve_line<A: App, M: Medium, L: Link, K: Sink>(
     sink: &mut K,
     items: u64,
 ) -> ServeEnd
-    requires whole { IsWhole A.App node.old }
-    ensures whole { IsWhole A.App node.new }
     ensures same { A.kept node.new.shared ≡ A.kept node.old.shared }
     ensures serves { (k : M.Set) (pace : ℕ) → HasTaken pace [] (M.fed medium.old k) pacer.old
         → ServesOver A.App (M.way k) (M.did medium.old k) (M.did medium.new k) pace items node.old node.new

@@ -5,7 +5,6 @@ ghost use Rattle.packet_buffer.specs.Buffer.{datagram_in};
 ghost use Rattle.uip_edge.specs.declared.item.Item.TheVariants.{Byte};
 ghost use Rattle.uip_slip.specs.Decoding.{WasFed};
 ghost use Rattle.uip_node.specs.Edge.{event_of};
-ghost use Rattle.uip_node.specs.StandsFor.{IsWhole};
 ghost use Rattle.serve_loop.specs.LineEvents.{events_behind};
 ghost use Rattle.serve_loop.specs.Texts.{text_of};
 ghost use Rattle.uip_device.specs.Devices.{row_in};
@@ -39,10 +38,8 @@ pub struct Device<A: App> {
 
 /// A datagram comes to the node, and the text of its answer is written.
 fn answer<A: App>(node: &mut Node<A>, datagram: &[u8], out: &mut [u8]) -> Written
-    requires whole { IsWhole A.App node.old }
     requires most { length datagram.now ≤ LARGEST_DATAGRAM }
     requires room { 0 < length out.old }
-    ensures whole { IsWhole A.App node.new }
     ensures long { length out.new ≡ length out.old }
     ensures fits { result.wrote ≤ length out.new }
     ensures left { IfSome result.left (λ k. k ≤ length (datagram_in node.new.packet)) }
@@ -80,9 +77,7 @@ struct Taken {
 /// Takes a front of the bytes, of which the last alone may complete a frame, and writes the text of the answer.
 fn take<A: App>(decoder: &mut Decoder, node: &mut Node<A>, bytes: &[u8], out: &mut [u8]) -> Taken
     requires some { 0 < length bytes.now }
-    requires whole { IsWhole A.App node.old }
     requires room { 0 < length out.old }
-    ensures whole { IsWhole A.App node.new }
     ensures taken { (0 < result.count) × (result.count ≤ length bytes.now) }
     ensures long { length out.new ≡ length out.old }
     ensures fits { result.written.wrote ≤ length out.new }

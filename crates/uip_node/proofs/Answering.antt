@@ -19,8 +19,7 @@ use Rattle.uip_node.specs.Node.{AbstractNode, NodeStep, gone_by, happened}
 use Rattle.uip_node.specs.Slots.{MeetsAt, SlotsStand}
 use Rattle.uip_node.specs.Spoken.{IsSpoken}
 use Rattle.uip_node.specs.StandsFor.{Steps}
-use Rattle.uip_node.specs.declared.counts.Counts.{Counts}
-use Rattle.uip_node.specs.declared.node.Node.{Node}
+use Rattle.uip_node.specs.State.{Counts, Node}
 use Rattle.uip_node.proofs.Twice.{next_ident}
 
 -- what is answered to an event of which so much is said

@@ -20,7 +20,7 @@ use Rattle.tcp_segment.specs.Segments.{PlainSegment}
 use Rattle.uip_node.specs.Node.{AbstractNode, arrives, arrives_at, opens, slot_for_syn}
 use Rattle.uip_node.specs.Slots.{AllKept, SlotsStand}
 use Rattle.uip_node.specs.StandsFor.{Steps}
-use Rattle.uip_node.specs.declared.node.Node.{Node}
+use Rattle.uip_node.specs.State.{Node}
 use Rattle.std.specs.Option.{option_or}
 
 -- place by place the same

@@ -20,7 +20,6 @@ use Rattle.uip_node.proofs.Finding.{syn_slot_within}
 use Rattle.uip_node.proofs.Stepping.{slice_get-element}
 use Rattle.uip_node.specs.Laws.{serving, IsEvent}
 use Rattle.uip_node.proofs.Basics.{choose, only_some}
-use Rattle.uip_node.proofs.Connections.Written.{there}
 use Rattle.uip_node.proofs.Fits.{FitConn, FitOut, all_nil, all_cons, set_conns, moment_fits, asked_fits, accepted_fits, on_segment_fits, on_tick_fits}
 
 abbrev pub FitConns : List Connection → Type 0

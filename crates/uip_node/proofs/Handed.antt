@@ -1,5 +1,5 @@
 -- What a part is after it is handed text, and after it took captures.
-use Rattle.std.proofs.Common.{◌≡◌, ℕ, ◌+◌, inl, inr, List, [], ◌∷◌, ◌++◌, refl, sym, ◌∙◌}
+use Rattle.std.proofs.Common.{◌≡◌, ℕ, inl, inr, List, [], ◌∷◌, ◌++◌, refl, sym, ◌∙◌}
 use Rattle.app_events.specs.Part.{Part, Moment, Meaning}
 use Rattle.app_events.specs.Pages.{Pages, IsPaged}
 use Rattle.app_events.specs.declared.now.Now.{Now}

@@ -1,6 +1,6 @@
 -- Every segment that a node sends fits its fields, and its text is bytes that fit a datagram.
 use Rattle.std.specs.List.{All}
-use Rattle.std.proofs.Common.{◌≡◌, ℕ, ◌+◌, ◌-◌, ◌<◌, ◌≤◌, min, Bool, true, false, not, ◌&&◌, ◌⊎◌, inl, inr, List, [], length, take, drop, refl, sym, subst, arith, Option, Some, None, IfSome, eqb, ltb, length-take, if◌then◌else◌}
+use Rattle.std.proofs.Common.{◌≡◌, ℕ, ◌+◌, ◌<◌, ◌≤◌, min, Bool, true, false, not, ◌&&◌, ◌⊎◌, inl, inr, List, [], length, take, drop, refl, sym, subst, arith, Option, Some, None, IfSome, eqb, ltb, length-take, if◌then◌else◌}
 use Rattle.std.proofs.lemmas.List.Elements.{All-take, All-drop}
 use Rattle.uip_wire.specs.Numbers.{wrap}
 use Rattle.uip_wire.specs.declared.sizes.TheConstants.{OWN_MSS}

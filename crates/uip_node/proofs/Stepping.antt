@@ -29,7 +29,7 @@ use Rattle.uip_node.specs.Events.Answer.{Silent}
 use Rattle.uip_node.specs.Node.{AbstractNode, connection_in, from_stranger, happened, moment, opens, opens_in, passes, periodic, refuses, slot_for_syn}
 use Rattle.uip_node.specs.Slots.{SlotsStand}
 use Rattle.uip_node.specs.StandsFor.{Steps}
-use Rattle.uip_node.specs.declared.node.Node.{Node}
+use Rattle.uip_node.specs.State.{Node}
 
 -- only what is left and what is sent is looked at
 pub opened : {A S : Type 0} (g : Ghosts A S) (node : Node A S) (result : Option ℕ) (m : Meaning) (n : AbstractNode) (s : Sockets) (seg : PlainSegment) (slot : ℕ) →

@@ -11,7 +11,7 @@ use Rattle.tcp_segment.specs.declared.fate.TcpFate.TheVariants as Tcp
 use Rattle.uip_node.specs.Raising.{marks, raise}
 use Rattle.uip_node.specs.Counted.{CountsStand, again_place, icmp_place, ip_place, seen, tcp_place}
 use Rattle.uip_node.specs.Counters.{called_by, counters, ident_of, raised_by_answer, times}
-use Rattle.uip_node.specs.declared.counts.Counts.{Counts}
+use Rattle.uip_node.specs.State.{Counts}
 use Rattle.uip_node.specs.Events.{Answer, Event, Past}
 use Rattle.uip_node.specs.Events.Event.{IpRefused, IcmpRefused, TcpRefused, EchoAsked, Arrived, Overlong, Periodic}
 use Rattle.uip_node.specs.Events.Answer.{NoSlot, Silent, Spoke}
@@ -36,13 +36,18 @@ marked (IcmpRefused Icmp.Short) = refl
 marked (TcpRefused Tcp.Short) = refl
 marked _ = refl
 
--- an event that is no periodic call was counted
-pub counted : (event : Event) (past : List Past) (counts : Counts) (net : List ℕ) → called_by event ≡ None → CountsStand counts past → net ≡ raise (marks_of event) counts.net →
+-- an event was counted
+pub counted : (event : Event) (past : List Past) (old net : List ℕ) → old ≡ counters past → net ≡ raise (marks_of event) old → net ≡ counters (seen event past)
+counted event past old net h e =
+    e ∙ ap (raise (marks_of event)) h ∙ ap (λ (bs : List Bool). raise bs (counters past)) (sym (marked event)) ∙ sym (counters_more (with_answer event Silent) past)
+
+-- so the numbers stand, where it is no periodic call
+pub recounted : (event : Event) (past : List Past) (counts : Counts) (net : List ℕ) → called_by event ≡ None → CountsStand counts past → net ≡ counters (seen event past) →
     CountsStand (record counts { net = net }) (seen event past)
-counted event past counts net uncalled h e =
+recounted event past counts net uncalled h e =
     let ticks : ℕ = times (λ p. option_map_or (λ place. place == 0) (called_by p.event) false) past in
     record {
-      net = e ∙ ap (raise (marks_of event)) h.net ∙ ap (λ (bs : List Bool). raise bs (counters past)) (sym (marked event)) ∙ sym (counters_more (with_answer event Silent) past);
+      net = e;
       ticks = h.ticks ∙ ap (λ (o : Option ℕ). wrap (if option_map_or (λ place. place == 0) o false then ticks + 1 else ticks)) (sym uncalled);
       ident = h.ident;
     }
@@ -109,3 +114,8 @@ second event answer past a b c net new adds n e =
 -- the next identification
 pub next_ident : (counts : Counts) (event : Event) (again : Bool) (past : List Past) → CountsStand counts (seen event past) → (counts.ident + 1) % 65536 ≡ ident_of (with_answer event (Spoke again) ∷ past)
 next_ident counts event again past h = ap (λ (n : ℕ). (n + 1) % 65536) h.ident ∙ mod-add-mod (times (λ p. list_any (λ n. n == 16) (raised_by_answer p.answer)) past) 65536 1
+
+-- what was said was counted
+pub said_counted : (counts : Counts) (event : Event) (again : Bool) (past : List Past) (net : List ℕ) → CountsStand counts (seen event past) → net ≡ counters (with_answer event (Spoke again) ∷ past) →
+    CountsStand (record { net = net; ticks = counts.ticks; ident = (counts.ident + 1) % 65536 }) (with_answer event (Spoke again) ∷ past)
+said_counted counts event again past net h e = record { net = e; ticks = h.ticks; ident = next_ident counts event again past h }

@@ -7,9 +7,9 @@ use Rattle.icmp_echo.specs.declared.fate.IcmpFate.TheVariants as Icmp
 use Rattle.tcp_segment.specs.declared.fate.TcpFate.{TcpFate}
 use Rattle.tcp_segment.specs.declared.fate.TcpFate.TheVariants as Tcp
 use Rattle.uip_node.specs.Counters.{counters, ident_of, ticks_of}
-use Rattle.uip_node.specs.Events.{Event, Past}
+use Rattle.uip_node.specs.Events.{Answer, Event, Past}
 use Rattle.uip_node.specs.Events.Answer.{Silent}
-use Rattle.uip_node.specs.declared.counts.Counts.{Counts}
+use Rattle.uip_node.specs.State.{Counts}
 
 pub record CountsStand (counts : Counts) (past : List Past) : Type 0 where
   pub net : counts.net ≡ counters past
@@ -43,3 +43,13 @@ again_place again = if again then 18 else 20
 -- an event that nothing was answered to as yet
 abbrev pub seen : Event → List Past → List Past
 seen event past = record { event = event; answer = Silent } ∷ past
+
+-- the counters stand for a past with the event, where they did for the past before it
+abbrev pub CountsEvent : List ℕ → List ℕ → Event → Type 0
+CountsEvent old new event = (past : List Past) → old ≡ counters past → new ≡ counters (seen event past)
+
+-- the counters stand for what was answered to the last event, where they did for a past in which nothing was
+abbrev pub CountsAnswer : List ℕ → List ℕ → Answer → Type 0
+CountsAnswer old new answer =
+    (past : List Past) (event : Event) → old ≡ counters (seen event past)
+    → new ≡ counters (record { event = event; answer = answer } ∷ past)

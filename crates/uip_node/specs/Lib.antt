@@ -4,6 +4,7 @@ pub mod Node
 pub mod Edge
 pub mod Slots
 pub mod Raising
+pub mod State
 pub mod Counted
 pub mod Spoken
 pub mod StandsFor

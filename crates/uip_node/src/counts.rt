@@ -1,9 +1,10 @@
 //! What a node counts: its counters, its ticks, and the identification of its datagrams.
 
-ghost use Rattle.std.specs.Prelude.{◌≡◌, ℕ, [], ◌∷◌, List};
+ghost use Rattle.std.specs.Prelude.{◌≡◌, ℕ, ◌∷◌, List};
 ghost use Rattle.tcp_machine.specs.Connection.{Sockets};
 ghost use Rattle.tcp_segment.specs.Segments.{PlainSegment};
-ghost use Rattle.uip_node.specs.Counted.{CountsStand, again_place, icmp_place, ip_place, seen, tcp_place};
+ghost use Rattle.uip_node.specs.Counted.{CountsAnswer, CountsEvent, again_place, icmp_place, ip_place, seen, tcp_place};
+ghost use Rattle.uip_node.specs.Counters.{counters, ticks_of};
 ghost use Rattle.uip_node.specs.Events.{Event, Past};
 ghost use Rattle.uip_node.specs.Events.Event.{Arrived, EchoAsked, IcmpRefused, IpRefused, Overlong, Periodic, TcpRefused};
 ghost use Rattle.uip_node.specs.Events.Answer.{EchoReplied, NoSlot, Spoke};
@@ -12,16 +13,6 @@ use crate::counters::raised;
 use icmp_echo::IcmpFate;
 use tcp_segment::TcpFate;
 use uip_ipv4::IpFate;
-
-/// The numbers of a node that only rise, each modulo the size of its type.
-#[derive(Clone, Copy, Debug, PartialEq, Eq)]
-pub struct Counts {
-    /// The twenty counters, in the order of the table in docs.
-    pub net: [u32; 20],
-    pub ticks: u32,
-    /// The identification of the last TCP datagram.
-    pub ident: u16,
-}
 
 /// The place behind the last counter, which is none.
 const NONE: usize = 20;
@@ -68,86 +59,71 @@ fn again_place(again: bool) -> usize
     if again { 18 } else { NONE }
 }
 
-impl Counts {
-    /// All zero.
-    pub fn new() -> Counts
-        ensures { CountsStand result [] }
-    {
-        Counts {
-            net: [0; 20],
-            ticks: 0,
-            ident: 0,
-        }
-    }
+/// A datagram failed a check of its IP header.
+pub(crate) fn refuse_ip(net: &mut [u32; 20], fate: IpFate)
+    ensures { CountsEvent net.old net.new (IpRefused fate) }
+{
+    *net = raised(*net, 0, ip_place(fate), NONE);
+}
 
-    /// A datagram failed a check of its IP header.
-    pub(crate) fn refuse_ip(&mut self, fate: IpFate)
-        ensures { (past : List Past) → CountsStand self.old past → CountsStand self.new (seen (IpRefused fate) past) }
-    {
-        self.net = raised(self.net, 0, ip_place(fate), NONE);
-    }
+/// A datagram's ICMP message was refused.
+pub(crate) fn refuse_icmp(net: &mut [u32; 20], fate: IcmpFate)
+    ensures { CountsEvent net.old net.new (IcmpRefused fate) }
+{
+    *net = raised(*net, 0, 10, icmp_place(fate));
+}
 
-    /// A datagram's ICMP message was refused.
-    pub(crate) fn refuse_icmp(&mut self, fate: IcmpFate)
-        ensures { (past : List Past) → CountsStand self.old past → CountsStand self.new (seen (IcmpRefused fate) past) }
-    {
-        self.net = raised(self.net, 0, 10, icmp_place(fate));
-    }
+/// A datagram's TCP segment was refused.
+pub(crate) fn refuse_tcp(net: &mut [u32; 20], fate: TcpFate)
+    ensures { CountsEvent net.old net.new (TcpRefused fate) }
+{
+    *net = raised(*net, 0, 14, tcp_place(fate));
+}
 
-    /// A datagram's TCP segment was refused.
-    pub(crate) fn refuse_tcp(&mut self, fate: TcpFate)
-        ensures { (past : List Past) → CountsStand self.old past → CountsStand self.new (seen (TcpRefused fate) past) }
-    {
-        self.net = raised(self.net, 0, 14, tcp_place(fate));
-    }
+/// An echo was asked for and replied to.
+pub(crate) fn echo(net: &mut [u32; 20])
+    ensures { (past : List Past) (request : List ℕ) → net.old ≡ counters past
+        → net.new ≡ counters (record { event = EchoAsked request; answer = EchoReplied } ∷ past) }
+{
+    let asked = raised(*net, 0, 10, NONE);
+    *net = raised(asked, 1, 11, NONE);
+}
 
-    /// An echo was asked for and replied to.
-    pub(crate) fn echo(&mut self)
-        ensures { (past : List Past) (request : List ℕ) → CountsStand self.old past
-            → CountsStand self.new (record { event = EchoAsked request; answer = EchoReplied } ∷ past) }
-    {
-        let net = raised(self.net, 0, 10, NONE);
-        self.net = raised(net, 1, 11, NONE);
-    }
+/// A segment arrived.
+pub(crate) fn arrive(net: &mut [u32; 20])
+    ensures { (sockets : Sockets) (segment : PlainSegment) → CountsEvent net.old net.new (Arrived sockets segment) }
+{
+    *net = raised(*net, 0, 14, NONE);
+}
 
-    /// A segment arrived.
-    pub(crate) fn arrive(&mut self)
-        ensures { (past : List Past) (sockets : Sockets) (segment : PlainSegment) → CountsStand self.old past
-            → CountsStand self.new (seen (Arrived sockets segment) past) }
-    {
-        self.net = raised(self.net, 0, 14, NONE);
-    }
+/// A frame was longer than a datagram.
+pub(crate) fn overlong(net: &mut [u32; 20])
+    ensures { CountsEvent net.old net.new Overlong }
+{
+    *net = raised(*net, 2, NONE, NONE);
+}
 
-    /// A frame was longer than a datagram.
-    pub(crate) fn overlong(&mut self)
-        ensures { (past : List Past) → CountsStand self.old past → CountsStand self.new (seen Overlong past) }
-    {
-        self.net = raised(self.net, 2, NONE, NONE);
+/// The ticks at the periodic call of a slot, of which the first begins one.
+pub(crate) fn ticks_at(ticks: u32, slot: usize) -> u32
+    ensures { (past : List Past) → ticks ≡ ticks_of past → result ≡ ticks_of (seen (Periodic slot) past) }
+{
+    if slot == 0 {
+        ticks.wrapping_add(1)
+    } else {
+        ticks
     }
+}
 
-    /// The periodic call of a slot, of which the first begins a tick.
-    pub(crate) fn call(&mut self, slot: usize)
-        ensures { (past : List Past) → CountsStand self.old past → CountsStand self.new (seen (Periodic slot) past) }
-    {
-        if slot == 0 {
-            self.ticks = self.ticks.wrapping_add(1);
-        }
-    }
+/// A TCP datagram is sent as the answer to the last event, maybe again.
+pub(crate) fn speak(net: &mut [u32; 20], again: bool)
+    ensures { CountsAnswer net.old net.new (Spoke again) }
+{
+    *net = raised(*net, 1, 15, again_place(again));
+}
 
-    /// A TCP datagram is sent as the answer to the last event, maybe again.
-    pub(crate) fn speak(&mut self, again: bool)
-        ensures { (past : List Past) (event : Event) → CountsStand self.old (seen event past)
-            → CountsStand self.new (record { event = event; answer = Spoke again } ∷ past) }
-    {
-        self.net = raised(self.net, 1, 15, again_place(again));
-        self.ident = self.ident.wrapping_add(1);
-    }
-
-    /// The last event, a plain SYN, found no slot.
-    pub(crate) fn turn_away(&mut self)
-        ensures { (past : List Past) (event : Event) → CountsStand self.old (seen event past)
-            → CountsStand self.new (record { event = event; answer = NoSlot } ∷ past) }
-    {
-        self.net = raised(self.net, 19, NONE, NONE);
-    }
+/// The last event, a plain SYN, found no slot.
+pub(crate) fn turn_away(net: &mut [u32; 20])
+    ensures { CountsAnswer net.old net.new NoSlot }
+{
+    *net = raised(*net, 19, NONE, NONE);
 }

@@ -9,5 +9,4 @@ mod listing;
 mod node;
 mod speaking;
 
-pub use counts::Counts;
 pub use node::Node;

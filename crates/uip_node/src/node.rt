@@ -3,7 +3,7 @@
 ghost use Rattle.std.specs.Prelude.{◌≡◌, ◌==◌, ◌&&◌};
 ghost use Rattle.tcp_machine.specs.Segments.{is_again};
 
-use crate::counts::Counts;
+use crate::counts;
 use crate::deliver::{
     conn_in, count_slots, is_live_in, open_in, rows_in, settle, speak_in, take_segment, take_tick,
 };
@@ -12,6 +12,7 @@ use app_events::{App, Now};
 use icmp_echo::reply;
 use packet_buffer::Packet;
 use std::alloc::Global;
+use std::marker::Model;
 use tcp_machine::Step;
 use tcp_segment::{SYN, Segment, check as check_segment};
 use tcp_table::{Conn, Table};
@@ -42,9 +43,30 @@ pub struct Node<A: App> {
     pub addr: Addr,
     pub packet: Packet,
     pub table: Table<A>,
-    pub counts: Counts,
+    /// The twenty counters, in the order of the table in docs.
+    pub net: [u32; 20],
+    pub ticks: u32,
+    /// The identification of the last TCP datagram.
+    pub ident: u16,
     /// What the connections' applications share.
     pub shared: A::Shared,
+}
+
+impl<A: App> Model for Node<A> {
+    ghost use Rattle.uip_node.specs.State.{Node};
+    ghost use Rattle.uip_node.specs.StandsFor.{IsWhole};
+
+    ghost Value = { Node A A.Shared };
+
+    ghost view = { λ node. record {
+      addr = node.addr;
+      packet = node.packet;
+      table = node.table;
+      counts = record { net = node.net; ticks = node.ticks; ident = node.ident };
+      shared = node.shared;
+    } };
+
+    ghost invariant = { λ node. IsWhole A.App node.packet node.table.conns node.shared };
 }
 
 impl<A: App> Node<A> {
@@ -65,12 +87,11 @@ impl<A: App> Node<A> {
     ghost use Rattle.uip_node.specs.Events.Event.{Arrived, Overlong, Periodic};
     ghost use Rattle.uip_node.specs.Node.{AbstractNode, arrives, connection_in, from_stranger, happened, moment, opening, opens, refuses, slot_for_syn, step};
     ghost use Rattle.uip_node.specs.Slots.{AllKept, AllSound, IsIn, MeetsAt, NoneAt, OthersRest};
-    ghost use Rattle.uip_node.specs.StandsFor.{Takes, IsWhole, Stands, Steps};
+    ghost use Rattle.uip_node.specs.StandsFor.{Takes, Stands, Steps};
 
     /// A node at an address, with ten CLOSED connections and nothing counted. After this no call of it takes memory. On NoMemory
     /// `shared` is dropped.
     pub fn new(alloc: Global, addr: Addr, shared: A::Shared) -> Result<Node<A>, NoMemory>
-        ensures whole { IfOk result (λ node. IsWhole A.App node) }
         ensures stands { IfOk result (λ node. Stands A.App node (opening addr (A.numbers shared)) []) }
         ensures shared { IfOk result (λ node. node.shared ≡ shared) }
     {
@@ -81,7 +102,9 @@ impl<A: App> Node<A> {
             addr,
             packet,
             table,
-            counts: Counts::new(),
+            net: [0; 20],
+            ticks: 0,
+            ident: 0,
             shared,
         })
     }
@@ -114,31 +137,27 @@ impl<A: App> Node<A> {
             → result ≡ record { ticks = ticks_of n.past; net = counters n.past; rows = rows_from 0 n.connections } }
     {
         Now {
-            ticks: self.counts.ticks,
-            net: self.counts.net,
+            ticks: self.ticks,
+            net: self.net,
             rows: rows_in(&self.table),
         }
     }
 
     /// A frame was longer than a datagram.
     pub fn count_overlong(&mut self)
-        requires whole { IsWhole A.App self.old }
-        ensures whole { IsWhole A.App self.new }
         ensures rest { self.new ≡ record self.old { counts = self.new.counts } }
         ensures same { A.kept self.new.shared ≡ A.kept self.old.shared }
         ensures step { (n : AbstractNode) → Stands A.App self.old n n.past
             → Stands A.App self.new (step (A.meaning (A.kept self.old.shared)) A.served n Overlong).node (seen Overlong n.past) }
     {
-        self.counts.overlong();
+        counts::overlong(&mut self.net);
     }
 
     /// The segment of a step of the connection in a slot is sent, as the answer to the last event.
     fn say(&mut self, slot: usize, step: Step) -> Option<usize>
-        requires whole { IsWhole A.App self.old }
         requires within { slot < length self.old.table.conns }
         requires answer { IsAnswer step }
         requires fits { IsIn self.old.table.conns slot (λ c. StepFits c step) }
-        ensures whole { IsWhole A.App self.new }
         ensures same { A.kept self.new.shared ≡ A.kept self.old.shared }
         ensures step { (n : AbstractNode) (event : Event) (old : Connection) (o : Outcome) → self.old.addr ≡ n.addr
             → slot < length n.connections → self.old.table.iss ≡ initial_number (seen event n.past)
@@ -146,7 +165,7 @@ impl<A: App> Node<A> {
             → MeetsAt A.App (A.kept self.old.shared) self.old.table.conns (A.numbers self.old.shared) step n.connections slot o
             → Steps A.App self.new result (happened (A.meaning (A.kept self.old.shared)) n event slot old o) }
     {
-        let id = self.counts.ident.wrapping_add(1);
+        let id = self.ident.wrapping_add(1);
         match speak_in(
             &mut self.packet,
             &self.table,
@@ -157,48 +176,19 @@ impl<A: App> Node<A> {
             id,
         ) {
             Some(len) => {
-                self.counts.speak(is_again(step));
+                counts::speak(&mut self.net, is_again(step));
+                self.ident = id;
                 Some(len)
             }
             None => None,
         }
     }
 
-    /// After a step of the connection in a slot its application is asked where the step says so, and what comes of both is sent.
-    fn finish(&mut self, slot: usize, step: Step) -> Option<usize>
-        requires size { length self.old.packet.area ≡ LARGEST_DATAGRAM }
-        requires within { slot < length self.old.table.conns }
-        requires fits { IsIn self.old.table.conns slot (λ c. StepFits c step) }
-        requires sound { AllSound A.App (A.kept self.old.shared) self.old.table.conns }
-        requires others { OthersRest slot self.old.table.conns }
-        ensures whole { IsWhole A.App self.new }
-        ensures same { A.kept self.new.shared ≡ A.kept self.old.shared }
-        ensures step { (n : AbstractNode) (event : Event) (old : Connection) (o : Outcome) → self.old.addr ≡ n.addr
-            → slot < length n.connections → self.old.table.iss ≡ initial_number (seen event n.past)
-            → CountsStand self.old.counts (seen event n.past)
-            → MeetsAt A.App (A.kept self.old.shared) self.old.table.conns (A.numbers self.old.shared) step n.connections slot o
-            → Steps A.App self.new result
-            (happened (A.meaning (A.kept self.old.shared)) n event slot old
-            (asked (A.meaning (A.kept self.old.shared)) (moment n event slot) o)) }
-    {
-        let step = settle(
-            &mut self.table,
-            &self.shared,
-            slot,
-            step,
-            self.counts.ticks,
-            self.counts.net,
-        );
-        self.say(slot, step)
-    }
-
     /// A segment of the connection in a slot, which is not CLOSED.
     fn deliver(&mut self, slot: usize, seg: &Segment) -> Option<usize>
-        requires whole { IsWhole A.App self.old }
         requires within { slot < length self.old.table.conns }
         requires live { IsIn self.old.table.conns slot (λ c. is_live c.state ≡ true) }
         requires inside { seg.now.text_at + seg.now.text_len ≤ length (datagram_in self.old.packet) }
-        ensures whole { IsWhole A.App self.new }
         ensures same { A.kept self.new.shared ≡ A.kept self.old.shared }
         ensures step { (n : AbstractNode) (event : Event) → Stands A.App self.old n (seen event n.past) → slot < length n.connections
             → Steps A.App self.new result
@@ -209,15 +199,21 @@ impl<A: App> Node<A> {
     {
         let piece = seg.text(self.packet.bytes());
         let step = take_segment(&mut self.table, &mut self.shared, slot, seg, piece);
-        self.finish(slot, step)
+        let answer = settle(
+            &mut self.table,
+            &self.shared,
+            slot,
+            step,
+            self.ticks,
+            self.net,
+        );
+        self.say(slot, answer)
     }
 
     /// A plain SYN opens a connection in a slot.
     fn open(&mut self, slot: usize, peer: Addr, seg: &Segment) -> Option<usize>
-        requires whole { IsWhole A.App self.old }
         requires within { slot < length self.old.table.conns }
         requires free { NoneAt peer seg.now.from seg.now.to self.old.table.conns }
-        ensures whole { IsWhole A.App self.new }
         ensures same { A.kept self.new.shared ≡ A.kept self.old.shared }
         ensures step { (n : AbstractNode) (event : Event) (old : Connection) (text : List ℕ) → Stands A.App self.old n (seen event n.past)
             → slot < length n.connections
@@ -231,24 +227,21 @@ impl<A: App> Node<A> {
 
     /// A segment to no connection is answered with a reset.
     fn refuse(&mut self, peer: Addr, seg: &Segment) -> Option<usize>
-        requires whole { IsWhole A.App self.old }
-        ensures whole { IsWhole A.App self.new }
         ensures same { A.kept self.new.shared ≡ A.kept self.old.shared }
         ensures step { (n : AbstractNode) (text : List ℕ)
             → Stands A.App self.old n (seen (Arrived (sockets_of peer seg.now) (plain seg.now text)) n.past)
             → Steps A.App self.new result (refuses n (sockets_of peer seg.now) (plain seg.now text)) }
     {
-        let id = self.counts.ident.wrapping_add(1);
+        let id = self.ident.wrapping_add(1);
         let len = put_reset(&mut self.packet, self.addr, peer, seg, id);
-        self.counts.speak(false);
+        counts::speak(&mut self.net, false);
+        self.ident = id;
         Some(len)
     }
 
     /// A plain SYN to a served port takes a slot, or is turned away.
     fn welcome(&mut self, peer: Addr, seg: &Segment) -> Option<usize>
-        requires whole { IsWhole A.App self.old }
         requires free { NoneAt peer seg.now.from seg.now.to self.old.table.conns }
-        ensures whole { IsWhole A.App self.new }
         ensures same { A.kept self.new.shared ≡ A.kept self.old.shared }
         ensures step { (n : AbstractNode) (text : List ℕ)
             → Stands A.App self.old n (seen (Arrived (sockets_of peer seg.now) (plain seg.now text)) n.past)
@@ -258,7 +251,7 @@ impl<A: App> Node<A> {
         match self.table.slot_for_syn() {
             Some(slot) => self.open(slot, peer, seg),
             None => {
-                self.counts.turn_away();
+                counts::turn_away(&mut self.net);
                 None
             }
         }
@@ -266,9 +259,7 @@ impl<A: App> Node<A> {
 
     /// A segment that belongs to no connection.
     fn answer_stranger(&mut self, peer: Addr, seg: &Segment) -> Option<usize>
-        requires whole { IsWhole A.App self.old }
         requires free { NoneAt peer seg.now.from seg.now.to self.old.table.conns }
-        ensures whole { IsWhole A.App self.new }
         ensures same { A.kept self.new.shared ≡ A.kept self.old.shared }
         ensures step { (n : AbstractNode) (text : List ℕ)
             → Stands A.App self.old n (seen (Arrived (sockets_of peer seg.now) (plain seg.now text)) n.past)
@@ -286,13 +277,12 @@ impl<A: App> Node<A> {
 
     /// A segment from a peer, which stands in the packet.
     fn arrive(&mut self, peer: Addr, seg: &Segment) -> Option<usize>
-        requires whole { IsWhole A.App self.old }
         requires inside { seg.now.text_at + seg.now.text_len ≤ length (datagram_in self.old.packet) }
         ensures { Takes A.App
             (λ m served n. arrives m served n (sockets_of peer seg.now)
             (plain_of seg.now (datagram_in self.old.packet))) self.old self.new result }
     {
-        self.counts.arrive();
+        counts::arrive(&mut self.net);
         match self.table.find(peer, seg.from, seg.to) {
             Some(slot) => self.deliver(slot, seg),
             None => self.answer_stranger(peer, seg),
@@ -301,7 +291,6 @@ impl<A: App> Node<A> {
 
     /// The TCP datagram that stands in the packet.
     fn take_tcp(&mut self, head: &IpHead) -> Option<usize>
-        requires whole { IsWhole A.App self.old }
         requires head { IsHeadOf head.now (datagram_in self.old.packet) }
         requires most { head.now.total ≤ length (datagram_in self.old.packet) }
         ensures { Takes A.App
@@ -311,7 +300,7 @@ impl<A: App> Node<A> {
     {
         match check_segment(self.packet.bytes(), head) {
             Err(fate) => {
-                self.counts.refuse_tcp(fate);
+                counts::refuse_tcp(&mut self.net, fate);
                 None
             }
             Ok(seg) => self.arrive(head.source, &seg),
@@ -320,7 +309,6 @@ impl<A: App> Node<A> {
 
     /// The ICMP datagram that stands in the packet.
     fn take_icmp(&mut self, head: &IpHead) -> Option<usize>
-        requires whole { IsWhole A.App self.old }
         requires head { IsHeadOf head.now (datagram_in self.old.packet) }
         requires most { head.now.total ≤ length (datagram_in self.old.packet) }
         ensures { Takes A.App
@@ -328,11 +316,11 @@ impl<A: App> Node<A> {
     {
         match reply(&mut self.packet, head) {
             Err(fate) => {
-                self.counts.refuse_icmp(fate);
+                counts::refuse_icmp(&mut self.net, fate);
                 None
             }
             Ok(()) => {
-                self.counts.echo();
+                counts::echo(&mut self.net);
                 Some(self.packet.bytes().len())
             }
         }
@@ -340,12 +328,11 @@ impl<A: App> Node<A> {
 
     /// The datagram that stands in the packet.
     fn take_datagram(&mut self) -> Option<usize>
-        requires whole { IsWhole A.App self.old }
         ensures { Takes A.App (λ m served n. step m served n (event_of n.addr (datagram_in self.old.packet))) self.old self.new result }
     {
         match check_head(self.packet.bytes(), self.addr) {
             Err(fate) => {
-                self.counts.refuse_ip(fate);
+                counts::refuse_ip(&mut self.net, fate);
                 None
             }
             Ok(head) => match head.proto {
@@ -357,7 +344,6 @@ impl<A: App> Node<A> {
 
     /// A datagram of 1 to 1500 bytes came. What is answered stands in the packet then, and its length is told.
     pub fn input(&mut self, datagram: &[u8]) -> Option<usize>
-        requires whole { IsWhole A.App self.old }
         requires most { length datagram.now ≤ LARGEST_DATAGRAM }
         ensures { Takes A.App (λ m served n. step m served n (event_of n.addr datagram.now)) self.old self.new result }
     {
@@ -367,17 +353,24 @@ impl<A: App> Node<A> {
 
     /// The periodic call of the connection in a slot below 10.
     pub fn periodic(&mut self, slot: usize) -> Option<usize>
-        requires whole { IsWhole A.App self.old }
         requires within { slot < 10 }
         ensures { Takes A.App (λ m served n. step m served n (Periodic slot)) self.old self.new result }
     {
         count_slots(&self.table);
-        self.counts.call(slot);
+        self.ticks = counts::ticks_at(self.ticks, slot);
         self.table.next_iss();
         if !is_live_in(&self.table, slot) {
             return None;
         }
         let step = take_tick(&mut self.table, &mut self.shared, slot);
-        self.finish(slot, step)
+        let answer = settle(
+            &mut self.table,
+            &self.shared,
+            slot,
+            step,
+            self.ticks,
+            self.net,
+        );
+        self.say(slot, answer)
     }
 }

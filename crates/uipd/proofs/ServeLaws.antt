@@ -9,7 +9,7 @@ use Rattle.uip_edge.specs.Ending.{WrittenBy}
 use Rattle.uip_edge.specs.Told.{LineTold}
 use Rattle.uip_edge.specs.Writing.{BreaksOff}
 use Rattle.uip_edge.proofs.Breaking.{breaks_front, breaks_whole}
-use Rattle.uip_node.specs.declared.node.Node.{Node}
+use Rattle.uip_node.specs.State.{Node}
 use Rattle.uip_node.specs.Node.{opening}
 use Rattle.uip_node.specs.StandsFor.{Stands}
 use Rattle.uip_wire.specs.declared.addr.Addr.{Addr}

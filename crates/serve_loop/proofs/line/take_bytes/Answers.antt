@@ -10,7 +10,6 @@ pub loop-rest-init : goal.loop-rest-init
 loop-rest-init g c = record {
   front = [];
   pieces = refl;
-  whole = c.requires.whole;
   same = refl;
   taken = λ k pace before h. rw append-nil h;
   wrote = λ k pace before h m own. wrote_none m g.A.App.served (g.M.Medium.way k) own _ _ _ (λ n p. p);
@@ -31,7 +30,6 @@ loop-rest-preserved g c =
     record {
       front = inv.front ++ take n rest;
       pieces = moved_on _ inv.front rest n inv.pieces;
-      whole = told.whole;
       same = told.same ∙ inv.same;
       taken = λ k pace before h. rw (← append_assoc before inv.front (take n rest)) (told.taken k pace (before ++ inv.front) (inv.taken k pace before h));
       wrote = behind_wrote g.M.Medium.way g.A.App.served _ (λ k before. g.M.Medium.fed c.loop-rest.medium k before) _ _ inv.front inv.taken _ _ _ _ _ _ inv.wrote (take n rest) told.ok;

@@ -2,7 +2,6 @@ use Rattle.std.proofs.Common.{◌≡◌, ◌++◌, List, ℕ, length, map}
 use Rattle.app_events.specs.Part.{Meaning}
 use Rattle.uip_edge.specs.declared.item.Item.TheVariants.{Byte}
 use Rattle.uip_wire.specs.declared.addr.Addr.{Addr}
-use Rattle.uip_node.specs.StandsFor.{IsWhole}
 use Rattle.serve_loop.specs.LineDeeds.{deeds_behind}
 use Rattle.serve_loop.specs.DeedRuns.{AllSaid}
 use Rattle.serve_loop.specs.Turns.{HasTaken, IsHere}
@@ -12,7 +11,6 @@ abbrev pub invariant-loop-rest : goal.invariant-loop-rest
 invariant-loop-rest g l = record {
   front : List ℕ;
   pieces : l.bytes ≡ front ++ l.rest;
-  whole : IsWhole g.A.App l.node;
   same : g.A.App.kept l.node.shared ≡ g.A.App.kept l.fn.node.shared;
   taken : (k : g.M.Medium.Set) (pace : ℕ) (before : List ℕ) → HasTaken pace before (g.M.Medium.fed l.fn.medium k) l.fn.pacer → HasTaken pace (before ++ front) (g.M.Medium.fed l.medium k) l.pacer;
   wrote : (k : g.M.Medium.Set) (pace : ℕ) (before : List ℕ) → HasTaken pace before (g.M.Medium.fed l.fn.medium k) l.fn.pacer

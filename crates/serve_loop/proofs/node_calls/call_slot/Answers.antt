@@ -9,7 +9,6 @@ returns g c =
     c.periodic-sent.ensures.same (λ m own n p. c.periodic-sent.ensures.step n p.stands)
     c.write_sent.ensures.did c.write_sent.ensures.ok c.write_sent.ensures.err in
     record {
-      whole = c.periodic-sent.ensures.whole;
       same = c.periodic-sent.ensures.same;
       fed = c.write_sent.ensures.fed;
       ok = told.0;

@@ -1,7 +1,6 @@
 use Rattle.std.proofs.Common.{◌≡◌, ℕ, List}
 use Rattle.app_events.specs.Part.{Meaning}
 use Rattle.uip_wire.specs.declared.addr.Addr.{Addr}
-use Rattle.uip_node.specs.StandsFor.{IsWhole}
 use Rattle.serve_loop.specs.DeedRuns.{AllSaid}
 use Rattle.serve_loop.specs.Turns.{IsHere}
 use Rattle.serve_loop.proofs.NodeLaws.{calls}
@@ -9,7 +8,6 @@ use Rattle.serve_loop.proofs.node_calls.call_slots.Given as goal
 
 abbrev pub invariant-loop-slot : goal.invariant-loop-slot
 invariant-loop-slot g l = record {
-  whole : IsWhole g.A.App l.node;
   same : g.A.App.kept l.node.shared ≡ g.A.App.kept l.fn.node.shared;
   fed : (k : g.M.Medium.Set) (before : List ℕ) → g.M.Medium.fed l.fn.medium k before → g.M.Medium.fed l.medium k before;
   wrote : (k : g.M.Medium.Set) (m : Meaning) (own : Addr) → AllSaid m g.A.App.served (g.M.Medium.way k) own (calls l.slot)

@@ -19,7 +19,6 @@ returns g c =
     (rw c.shown.ensures at (c.input-sent.ensures.step n p.stands)))
     c.write_sent.ensures.did c.write_sent.ensures.ok c.write_sent.ensures.err in
     record {
-      whole = c.input-sent.ensures.whole;
       same = c.input-sent.ensures.same;
       fed = c.write_sent.ensures.fed;
       ok = told.0;

@@ -11,7 +11,6 @@ use Rattle.serve_loop.proofs.serving.serve_line.Goals as goal
 
 pub loop-left-init : goal.loop-left-init
 loop-left-init g c = record {
-  whole = c.requires.whole;
   same = refl;
   served = λ k pace h. record {
     taken = [];
@@ -26,7 +25,6 @@ loop-left-init g c = record {
 
 pub loop-left-preserved : goal.loop-left-preserved
 loop-left-preserved g c = record {
-  whole = c.in-Took.ensures.whole;
   same = c.in-Took.ensures.same ∙ c.loop-left.invariant.same;
   served = λ k pace h.
       let inv = c.loop-left.invariant.served k pace h in

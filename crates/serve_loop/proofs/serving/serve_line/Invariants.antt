@@ -6,7 +6,6 @@ use Rattle.uip_edge.specs.Coming.{Consumes, bytes_among}
 use Rattle.uip_edge.specs.Telling.{line_told}
 use Rattle.uip_edge.specs.Told.{IsCalm}
 use Rattle.uip_wire.specs.declared.addr.Addr.{Addr}
-use Rattle.uip_node.specs.StandsFor.{IsWhole}
 use Rattle.serve_loop.specs.Items.{IsItem}
 use Rattle.serve_loop.specs.LineDeeds.{line_deeds}
 use Rattle.serve_loop.specs.DeedRuns.{AllSaid}
@@ -15,7 +14,6 @@ use Rattle.serve_loop.proofs.serving.serve_line.Given as goal
 
 abbrev pub invariant-loop-left : goal.invariant-loop-left
 invariant-loop-left g l = record {
-  whole : IsWhole g.A.App l.node;
   same : g.A.App.kept l.node.shared ≡ g.A.App.kept l.fn.node.shared;
   served : (k : g.M.Medium.Set) (pace : ℕ) → HasTaken pace [] (g.M.Medium.fed l.fn.medium k) l.fn.pacer → record {
     taken : List Item;

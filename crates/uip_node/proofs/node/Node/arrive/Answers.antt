@@ -1,5 +1,5 @@
 -- The connection that a segment belongs to.
-use Rattle.std.proofs.Common.{rules, ◌≡◌, ◌<◌, Some, None, arith, sym, ◌∙◌, length}
+use Rattle.std.proofs.Common.{rules, ◌≡◌, ◌<◌, Some, None, arith, refl, sym, ◌∙◌, length}
 use Rattle.std.specs.Prelude.{position}
 use Rattle.std.proofs.lemmas.Bool.{and_parts}
 use Rattle.packet_buffer.specs.Buffer.{datagram_in}
@@ -7,42 +7,45 @@ use Rattle.tcp_segment.specs.Received.{plain_of}
 use Rattle.tcp_table.specs.Connections.{is_at}
 use Rattle.uip_node.specs.Edge.{sockets_of}
 use Rattle.uip_node.specs.Events.Event.{Arrived}
+use Rattle.uip_node.specs.State.{Counts}
+use Rattle.uip_node.proofs.Twice.{recounted}
 use Rattle.uip_node.proofs.Finding.{arrives_by, found, not_found}
 use Rattle.uip_node.proofs.node.Node.arrive.Goals as goal
 
 pub deliver-requires-clause-live : goal.deliver-requires-clause-live
 deliver-requires-clause-live g c = λ d at.
     let p = is_at c.args.peer c.args.seg.now.from c.args.seg.now.to in
-    (and_parts _ _ ((found p c.args.self.now.table.conns c.in-Some.slot (sym c.find.ensures ∙ c.in-Some.is)).1 d at)).0
+    (and_parts _ _ ((found p c.self.inside.table.conns c.in-Some.slot (sym c.find.ensures ∙ c.in-Some.is)).1 d at)).0
 
-pub answer_stranger-requires-clause-free : goal.answer_stranger-requires-clause-free
-answer_stranger-requires-clause-free g c = λ j d at.
-    not_found (is_at c.args.peer c.args.seg.now.from c.args.seg.now.to) c.args.self.now.table.conns (sym c.find.ensures ∙ c.in-None.is) j d at
+pub answer_stranger-requires : goal.answer_stranger-requires
+answer_stranger-requires g c = record {
+  free = λ j d at. not_found (is_at c.args.peer c.args.seg.now.from c.args.seg.now.to) c.self.inside.table.conns (sym c.find.ensures ∙ c.in-None.is) j d at;
+}
 
 pub returns-in-Some : goal.returns-in-Some
-returns-in-Some g c = record {
-  whole = search rules;
+returns-in-Some g c = rw (← c.self.view_is) (record {
   same = search rules;
   step = λ n h.
-      let now = c.args.self.now in
+      let now = c.self.inside in
       let s = sockets_of c.args.peer c.args.seg.now in
       let seg = plain_of c.args.seg.now (datagram_in now.packet) in
       let here : position (is_at s.peer s.peer_port s.own_port) now.table.conns ≡ Some c.in-Some.slot = sym c.find.ensures ∙ c.in-Some.is in
       let within : c.in-Some.slot < length n.connections = omega (arith, (found _ now.table.conns c.in-Some.slot here).0, h.slots.same_length) in
+      let counts : Counts = record { net = now.net; ticks = now.ticks; ident = now.ident } in
       arrives_by g.A.App (g.A.App.kept now.shared) now.table.conns n s seg (Some c.in-Some.slot) c.deliver.new.self c.deliver.result h.slots here
       (c.deliver.ensures.step n (Arrived s seg)
-      (record { addr = h.addr; slots = h.slots; iss = h.iss; numbers_stand = h.numbers_stand; counts = c.arrive.ensures n.past s seg h.counts }) within);
-}
+      (record { addr = h.addr; slots = h.slots; iss = h.iss; numbers_stand = h.numbers_stand; counts = recounted (Arrived s seg) n.past counts c.arrive.new.net refl h.counts (c.arrive.ensures s seg n.past h.counts.net) }) within);
+})
 
 pub returns-in-None : goal.returns-in-None
-returns-in-None g c = record {
-  whole = search rules;
+returns-in-None g c = rw (← c.self.view_is) (record {
   same = search rules;
   step = λ n h.
-      let now = c.args.self.now in
+      let now = c.self.inside in
       let s = sockets_of c.args.peer c.args.seg.now in
       let seg = plain_of c.args.seg.now (datagram_in now.packet) in
+      let counts : Counts = record { net = now.net; ticks = now.ticks; ident = now.ident } in
       arrives_by g.A.App (g.A.App.kept now.shared) now.table.conns n s seg None c.answer_stranger.new.self c.answer_stranger.result h.slots (sym c.find.ensures ∙ c.in-None.is)
       (c.answer_stranger.ensures.step n seg.text
-      (record { addr = h.addr; slots = h.slots; iss = h.iss; numbers_stand = h.numbers_stand; counts = c.arrive.ensures n.past s seg h.counts }));
-}
+      (record { addr = h.addr; slots = h.slots; iss = h.iss; numbers_stand = h.numbers_stand; counts = recounted (Arrived s seg) n.past counts c.arrive.new.net refl h.counts (c.arrive.ensures s seg n.past h.counts.net) }));
+})

@@ -1,5 +1,5 @@
 -- The step of the connection, and what follows.
-use Rattle.std.proofs.Common.{ℕ, ◌≡◌, List, Some, arith, ap, sym, ◌∙◌, subst}
+use Rattle.std.proofs.Common.{ℕ, ◌≡◌, List, Some, length, arith, ap, sym, ◌∙◌, subst}
 use Rattle.std.specs.Prelude.{slice_get}
 use Rattle.std.proofs.lemmas.Option.{slice_get-get_or}
 use Rattle.tcp_machine.specs.Ask.{Outcome, asked}
@@ -11,28 +11,35 @@ use Rattle.packet_buffer.specs.Buffer.{datagram_in}
 use Rattle.uip_node.specs.Node.{connection_in, happened, moment}
 use Rattle.uip_node.specs.Slots.{MeetsAt}
 use Rattle.uip_node.specs.StandsFor.{Steps}
+use Rattle.uip_node.specs.State.{Counts}
+use Rattle.uip_node.proofs.Finishing.{finished}
 use Rattle.uip_node.proofs.node.Node.deliver.Goals as goal
 
-pub finish-requires-clause-within : goal.finish-requires-clause-within
-finish-requires-clause-within g c = omega (arith, c.take_segment-step.ensures.took.long, c.requires.within)
+pub settle-answer-requires-clause-within : goal.settle-answer-requires-clause-within
+settle-answer-requires-clause-within g c = omega (arith, c.take_segment-step.ensures.took.long, c.requires.within, ap (λ x. length x.table.conns) c.self.view_is)
 
-pub finish-requires-clause-others : goal.finish-requires-clause-others
-finish-requires-clause-others g c = λ j d other h. (c.requires.whole.conns j d (c.take_segment-step.ensures.took.others j d other h)).busy
+pub settle-answer-requires-clause-others : goal.settle-answer-requires-clause-others
+settle-answer-requires-clause-others g c = λ j d other h. (c.self.invariant.kept j d (c.take_segment-step.ensures.took.others j d other h)).busy
 
 pub returns-clause-step : goal.returns-clause-step
-returns-clause-step g c = λ n event h within.
-    let now = c.args.self.now in
+returns-clause-step g c = rw (← c.self.view_is) (λ n event h within.
+    let now = c.self.inside in
     let k = g.A.App.kept now.shared in
     let m = g.A.App.meaning k in
     let app = g.A.App in
+    let slot = c.args.slot in
     let step = c.take_segment-step in
-    let a : Connection = connection_in c.args.slot n in
-    let there : slice_get n.connections c.args.slot ≡ Some a = slice_get-get_or n.connections c.args.slot closed within in
+    let answer = c.settle-answer in
+    let counts : Counts = record { net = now.net; ticks = now.ticks; ident = now.ident } in
+    let a : Connection = connection_in slot n in
+    let there : slice_get n.connections slot ≡ Some a = slice_get-get_or n.connections slot closed within in
     let one = step.ensures.meets n.connections a h.slots there in
-    let two = subst (λ (ns : List ℕ). MeetsAt app k step.new.table.conns (g.A.App.numbers step.new.shared) step.result n.connections c.args.slot (on_segment m a ns (plain c.args.seg.now c.text-piece.result.now))) h.numbers_stand one in
-    let three = subst (λ (text : List ℕ). MeetsAt app k step.new.table.conns (g.A.App.numbers step.new.shared) step.result n.connections c.args.slot (on_segment m a n.numbers (plain c.args.seg.now text)))
+    let two = subst (λ (ns : List ℕ). MeetsAt app k step.new.table.conns (g.A.App.numbers step.new.shared) step.result n.connections slot (on_segment m a ns (plain c.args.seg.now c.text-piece.result.now))) h.numbers_stand one in
+    let three = subst (λ (text : List ℕ). MeetsAt app k step.new.table.conns (g.A.App.numbers step.new.shared) step.result n.connections slot (on_segment m a n.numbers (plain c.args.seg.now text)))
     (c.text-piece.ensures ∙ ap (λ (bytes : List ℕ). (plain_of c.args.seg.now bytes).text) c.bytes.ensures) two in
     let o : Outcome = on_segment m a n.numbers (plain_of c.args.seg.now (datagram_in now.packet)) in
-    let four = subst (λ (j : g.A.App.Kept). MeetsAt app j step.new.table.conns (g.A.App.numbers step.new.shared) step.result n.connections c.args.slot o) (sym step.ensures.same) three in
-    subst (λ (j : g.A.App.Kept). Steps app c.finish.new.self c.finish.result (happened (g.A.App.meaning j) n event c.args.slot a (asked (g.A.App.meaning j) (moment n event c.args.slot) o))) step.ensures.same
-    (c.finish.ensures.step n event a o h.addr within (step.ensures.took.iss ∙ h.iss) h.counts four)
+    let four = subst (λ (j : g.A.App.Kept). MeetsAt app j step.new.table.conns (g.A.App.numbers step.new.shared) step.result n.connections slot o) (sym step.ensures.same) three in
+    let five = finished app (g.A.App.kept step.new.shared) (g.A.App.meaning (g.A.App.kept step.new.shared)) answer.new.table.conns (g.A.App.numbers step.new.shared) answer.result n event slot o counts h.counts
+    (answer.ensures.meets n.connections o within four) in
+    subst (λ (j : g.A.App.Kept). Steps app c.say.new.self c.say.result (happened (g.A.App.meaning j) n event slot a (asked (g.A.App.meaning j) (moment n event slot) o))) step.ensures.same
+    (c.say.ensures.step n event a (asked (g.A.App.meaning (g.A.App.kept step.new.shared)) (moment n event slot) o) h.addr within (answer.ensures.iss ∙ step.ensures.took.iss ∙ h.iss) h.counts five))

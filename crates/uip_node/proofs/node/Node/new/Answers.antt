@@ -5,10 +5,10 @@ use Rattle.packet_buffer.specs.Buffer.{Buffer}
 use Rattle.uip_node.proofs.Opening.{all_kept, all_stand}
 use Rattle.uip_node.proofs.node.Node.new.Goals as goal
 
-pub returns-clause-whole : goal.returns-clause-whole
-returns-clause-whole g c = record {
+pub invariant_of-result : goal.invariant_of-result
+invariant_of-result g c = record {
   size = ap (λ (b : Buffer). length b.area) c.in_ok-packet.ensures ∙ length-replicate {A = ℕ} 1500 0;
-  conns = all_kept g.A.App (g.A.App.kept c.args.shared) c.in_ok-table.table.conns c.in_ok-table.ensures.closed;
+  kept = all_kept g.A.App (g.A.App.kept c.args.shared) c.in_ok-table.table.conns c.in_ok-table.ensures.closed;
 }
 
 pub returns-clause-stands : goal.returns-clause-stands
@@ -17,5 +17,5 @@ returns-clause-stands g c = record {
   slots = all_stand g.A.App (g.A.App.kept c.args.shared) c.in_ok-table.table.conns c.in_ok-table.ensures.closed c.count_slots.ensures.all;
   iss = c.in_ok-table.ensures.iss;
   numbers_stand = refl;
-  counts = c.new-3.ensures;
+  counts = record { net = refl; ticks = refl; ident = refl };
 }

@@ -1,5 +1,5 @@
 -- The connection that was opened.
-use Rattle.std.proofs.Common.{ℕ, arith, ◌∙◌, subst, refl}
+use Rattle.std.proofs.Common.{ℕ, arith, ap, length, ◌∙◌, subst, refl}
 use Rattle.std.specs.Prelude.{slice_set}
 use Rattle.tcp_machine.specs.Connection.{Connection}
 use Rattle.tcp_machine.specs.OnSegment.{accept, accepted}
@@ -12,15 +12,15 @@ use Rattle.uip_node.proofs.Naming.{like_named}
 use Rattle.uip_node.proofs.Settling.{get_set}
 use Rattle.uip_node.proofs.node.Node.open.Goals as goal
 
-pub say-requires-clause-whole : goal.say-requires-clause-whole
-say-requires-clause-whole g c = record { size = c.requires.whole.size; conns = c.open_in-step.ensures.kept (g.A.App.kept c.args.self.now.shared) c.requires.whole.conns }
+pub invariant_of-self : goal.invariant_of-self
+invariant_of-self g c = record { size = c.self.invariant.size; kept = c.open_in-step.ensures.kept (g.A.App.kept c.self.inside.shared) c.self.invariant.kept }
 
 pub say-requires-clause-within : goal.say-requires-clause-within
-say-requires-clause-within g c = omega (arith, c.open_in-step.ensures.long, c.requires.within)
+say-requires-clause-within g c = omega (arith, c.open_in-step.ensures.long, c.requires.within, ap (λ x. length x.table.conns) c.self.view_is)
 
 pub returns-clause-step : goal.returns-clause-step
-returns-clause-step g c = λ n event old text h within.
-    let now = c.args.self.now in
+returns-clause-step g c = rw (← c.self.view_is) (λ n event old text h within.
+    let now = c.self.inside in
     let k = g.A.App.kept now.shared in
     let app = g.A.App in
     let b : Connection = accepted (initial_number (seen event n.past)) (sockets_of c.args.peer c.args.seg.now) (plain c.args.seg.now text) in
@@ -32,4 +32,4 @@ returns-clause-step g c = λ n event old text h within.
       counted = h.numbers_stand;
       asked = c.open_in-step.ensures.step;
       named = λ speaks d at. like_named d b ((slots.each c.args.slot d b at (get_set n.connections c.args.slot b within)).numbers.like refl);
-    })
+    }))

@@ -12,18 +12,17 @@ use Rattle.uip_node.specs.Events.Event.{Periodic}
 use Rattle.uip_node.specs.Node.{connection_in, happened, moment}
 use Rattle.uip_node.specs.Slots.{AllKept, MeetsAt, SlotsStand}
 use Rattle.uip_node.specs.StandsFor.{Steps}
+use Rattle.uip_node.specs.Counted.{CountsStand, seen}
+use Rattle.uip_node.specs.State.{Counts}
+use Rattle.uip_node.proofs.Finishing.{finished}
 use Rattle.uip_node.proofs.Stepping.{next_first, rests_at, slice_get-element}
 use Rattle.uip_node.proofs.node.Node.periodic.Goals as goal
 
 pub returns-then-not-is_live_in : goal.returns-then-not-is_live_in
-returns-then-not-is_live_in g c = record {
-  whole = record {
-    size = c.requires.whole.size;
-    conns = subst (λ (cs : List (Conn g.row.A.Denot)). AllKept g.A.App (g.A.App.kept c.args.self.now.shared) cs) (sym c.next_iss.ensures.conns) c.requires.whole.conns;
-  };
+returns-then-not-is_live_in g c = rw (← c.self.view_is) (record {
   same = search rules;
   step = λ n h.
-      let now = c.args.self.now in
+      let now = c.self.inside in
       let k = g.A.App.kept now.shared in
       let m = g.A.App.meaning k in
       let app = g.A.App in
@@ -36,31 +35,39 @@ returns-then-not-is_live_in g c = record {
       let stand = h.slots.each slot at.0 a at.1 there in
       let here = subst (λ (cs : List (Conn g.row.A.Denot)). slice_get cs slot ≡ Some at.0) (sym c.next_iss.ensures.conns) at.1 in
       let dead : is_live a.state ≡ false = sym (ap is_live stand.numbers.state) ∙ (sym (c.is_live_in.ensures at.0 here) ∙ c.if-not-is_live_in.true) in
-      rests_at app m (record now { table = c.next_iss.new.self; counts = c.call.new.self }) n slot h.addr
+      let counts : Counts = record { net = now.net; ticks = c.ticks_at-self-inside.result; ident = now.ident } in
+      rests_at app m (record { addr = now.addr; packet = now.packet; table = c.next_iss.new.self; counts = counts; shared = now.shared }) n slot h.addr
       (subst (λ (cs : List (Conn g.row.A.Denot)). SlotsStand app k cs n.connections) (sym c.next_iss.ensures.conns) h.slots)
       (c.next_iss.ensures.iss ∙ ap (λ (i : ℕ). (i + 1) % 4294967296) h.iss ∙ next_first n.past slot)
-      h.numbers_stand (c.call.ensures n.past h.counts) there dead;
+      h.numbers_stand (record { net = h.counts.net; ticks = c.ticks_at-self-inside.ensures n.past h.counts.ticks; ident = h.counts.ident }) there dead;
+})
+
+pub invariant_of-self : goal.invariant_of-self
+invariant_of-self g c = record {
+  size = c.self.invariant.size;
+  kept = subst (λ (cs : List (Conn g.row.A.Denot)). AllKept g.A.App (g.A.App.kept c.self.inside.shared) cs) (sym c.next_iss.ensures.conns) c.self.invariant.kept;
 }
 
 pub take_tick-step-requires-clause-kept : goal.take_tick-step-requires-clause-kept
 take_tick-step-requires-clause-kept g c =
-    subst (λ (cs : List (Conn g.row.A.Denot)). AllKept g.A.App (g.A.App.kept c.args.self.now.shared) cs) (sym c.next_iss.ensures.conns) c.requires.whole.conns
+    subst (λ (cs : List (Conn g.row.A.Denot)). AllKept g.A.App (g.A.App.kept c.self.inside.shared) cs) (sym c.next_iss.ensures.conns) c.self.invariant.kept
 
-pub finish-requires-clause-others : goal.finish-requires-clause-others
-finish-requires-clause-others g c = λ j d other h.
-    (c.requires.whole.conns j d (subst (λ (cs : List (Conn g.row.A.Denot)). slice_get cs j ≡ Some d) c.next_iss.ensures.conns (c.take_tick-step.ensures.took.others j d other h))).busy
+pub settle-answer-requires-clause-others : goal.settle-answer-requires-clause-others
+settle-answer-requires-clause-others g c = λ j d other h.
+    (c.self.invariant.kept j d (subst (λ (cs : List (Conn g.row.A.Denot)). slice_get cs j ≡ Some d) c.next_iss.ensures.conns (c.take_tick-step.ensures.took.others j d other h))).busy
 
 pub returns : goal.returns
-returns g c = record {
-  whole = search rules;
+returns g c = rw (← c.self.view_is) (record {
   same = search rules;
   step = λ n h.
-      let now = c.args.self.now in
+      let now = c.self.inside in
       let k = g.A.App.kept now.shared in
       let m = g.A.App.meaning k in
       let app = g.A.App in
       let slot = c.args.slot in
       let step = c.take_tick-step in
+      let answer = c.settle-answer in
+      let counts : Counts = record { net = now.net; ticks = c.ticks_at-self-inside.result; ident = now.ident } in
       let a : Connection = connection_in slot n in
       let within : slot < length n.connections = omega (arith, c.requires.within, c.count_slots.ensures.all, h.slots.same_length) in
       let there : slice_get n.connections slot ≡ Some a = slice_get-get_or n.connections slot closed within in
@@ -70,7 +77,10 @@ returns g c = record {
       let one = step.ensures.meets n.connections a slots there in
       let two = subst (λ (ns : List ℕ). MeetsAt app k step.new.table.conns (g.A.App.numbers step.new.shared) step.result n.connections slot (on_tick m a ns)) h.numbers_stand one in
       let three = subst (λ (j : g.A.App.Kept). MeetsAt app j step.new.table.conns (g.A.App.numbers step.new.shared) step.result n.connections slot o) (sym step.ensures.same) two in
-      subst (λ (j : g.A.App.Kept). Steps app c.finish.new.self c.finish.result (happened (g.A.App.meaning j) n event slot a (asked (g.A.App.meaning j) (moment n event slot) o))) step.ensures.same
-      (c.finish.ensures.step n event a o h.addr within
-      (step.ensures.took.iss ∙ c.next_iss.ensures.iss ∙ ap (λ (i : ℕ). (i + 1) % 4294967296) h.iss ∙ next_first n.past slot) (c.call.ensures n.past h.counts) three);
-}
+      let stand : CountsStand counts (seen event n.past) = record { net = h.counts.net; ticks = c.ticks_at-self-inside.ensures n.past h.counts.ticks; ident = h.counts.ident } in
+      let four = finished app (g.A.App.kept step.new.shared) (g.A.App.meaning (g.A.App.kept step.new.shared)) answer.new.table.conns (g.A.App.numbers step.new.shared) answer.result n event slot o counts stand
+      (answer.ensures.meets n.connections o within three) in
+      subst (λ (j : g.A.App.Kept). Steps app c.say.new.self c.say.result (happened (g.A.App.meaning j) n event slot a (asked (g.A.App.meaning j) (moment n event slot) o))) step.ensures.same
+      (c.say.ensures.step n event a (asked (g.A.App.meaning (g.A.App.kept step.new.shared)) (moment n event slot) o) h.addr within
+      (answer.ensures.iss ∙ step.ensures.took.iss ∙ c.next_iss.ensures.iss ∙ ap (λ (i : ℕ). (i + 1) % 4294967296) h.iss ∙ next_first n.past slot) stand four);
+})

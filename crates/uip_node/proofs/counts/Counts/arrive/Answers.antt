@@ -1,8 +1,0 @@
--- The counters stand for the longer past.
-use Rattle.std.proofs.Common.{refl}
-use Rattle.uip_node.specs.Events.Event.{Arrived}
-use Rattle.uip_node.proofs.Twice.{counted}
-use Rattle.uip_node.proofs.counts.Counts.arrive.Goals as goal
-
-pub returns : goal.returns
-returns c = λ past sockets segment h. counted (Arrived sockets segment) past c.args.self.now c.raised-self.result refl h c.raised-self.ensures
