@@ -10,18 +10,16 @@ use protosocket::{LineIn, Stops};
 use rexmit_timer::Timer;
 use tcp_table::{Conn, Table};
 use telnet_shell::{Desk, Shell};
-use uip_node::{Counts, Node};
+use uip_node::Node;
 
 pub(crate) fn node(value: &Node<Httpd>) {
     let Node {
         addr: _,
         packet: Packet { area: _, len: _ },
         table: Table { conns, iss: _ },
-        counts: Counts {
-            net: _,
-            ticks: _,
-            ident: _,
-        },
+        net: _,
+        ticks: _,
+        ident: _,
         shared: Web {
             site: Site {
                 image: _,

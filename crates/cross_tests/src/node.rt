@@ -1,7 +1,6 @@
 //! A node of the fixed greeting, on its happy path.
 
 ghost use Rattle.std.specs.Prelude.{◌≤◌, length};
-ghost use Rattle.uip_node.specs.StandsFor.{IsWhole};
 
 use crate::talking::{GREETING, NODE, REQUEST, SENT_AGAIN, SYN, bytes_of, check_answer, opened};
 use app_events::{App, Fixed};
@@ -29,10 +28,8 @@ fn a_greeting_is_served(rt: HostRuntime) -> Result<(), Fail> {
 
 /// Whether no prefix of a datagram, up to this length, is answered.
 fn are_ignored<A: App>(node: &mut Node<A>, datagram: &[u8], end: usize) -> bool
-    requires whole { IsWhole A.App node.old }
     requires end { end ≤ length datagram.now }
     requires most { length datagram.now ≤ 1500 }
-    ensures whole { IsWhole A.App node.new }
 {
     if end == 0 {
         return true;

@@ -1,7 +1,6 @@
 //! The desk over a node: worked talks datagram by datagram, and each of them with what is heard cut in two at every place.
 
 ghost use Rattle.std.specs.Prelude.{◌≤◌, length};
-ghost use Rattle.uip_node.specs.StandsFor.{IsWhole};
 
 use crate::fields::desk as see_desk;
 use crate::talking::{NODE, check_answer};
@@ -133,9 +132,7 @@ impl Peer {
 
     /// Sends a piece behind an acknowledgement of all that was heard, and hears what the node answers.
     fn say<A: App>(&mut self, node: &mut Node<A>, piece: &[u8]) -> Result<(), AllocError>
-        requires whole { IsWhole A.App node.old }
         requires short { length piece.now ≤ 1460 }
-        ensures { IsWhole A.App node.new }
     {
         let mut area = [0u8; 1500];
         area[40..40 + piece.len()].copy_from_slice(piece);

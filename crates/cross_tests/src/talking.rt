@@ -1,7 +1,6 @@
 //! Datagrams in hex digits, four bytes a word, the headers on a line, and a node to which they are said.
 
 ghost use Rattle.std.specs.Prelude.{◌≤◌, IfOk};
-ghost use Rattle.uip_node.specs.StandsFor.{IsWhole};
 
 use app_events::App;
 use std::alloc::Global;
@@ -54,8 +53,6 @@ pub(crate) fn check_answer<A: App>(
     datagram: &str,
     answer: &str,
 ) -> Result<(), Fail>
-    requires { IsWhole A.App node.old }
-    ensures { IsWhole A.App node.new }
 {
     let datagram = bytes_of(alloc, datagram)?;
     let answer = bytes_of(alloc, answer)?;
@@ -71,7 +68,6 @@ pub(crate) fn opened<A: App>(
     alloc: Global,
     shared: A::Shared,
 ) -> Result<Node<A>, Fail>
-    ensures { IfOk result (λ node. IsWhole A.App node) }
 {
     let Ok(mut node) = Node::<A>::new(alloc, NODE, shared) else {
         return Err("no memory".into());

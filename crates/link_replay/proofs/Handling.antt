@@ -9,7 +9,7 @@ use Rattle.uip_node.specs.Events.{Event, Reply, tick}
 use Rattle.uip_node.specs.Events.Event.{Arrived, Periodic}
 use Rattle.uip_node.specs.Events.Reply.{Echo, Tcp}
 use Rattle.uip_node.specs.Node.{AbstractNode, NodeStep, step, connection_in}
-use Rattle.uip_node.specs.StandsFor.{IsWhole, Stands}
+use Rattle.uip_node.specs.StandsFor.{Stands}
 use Rattle.link_client.specs.Client.{AbstractClient, ClientStep, client_takes}
 use Rattle.link_world.specs.Acts.{client_acts, handed}
 use Rattle.link_world.specs.Bytes.{hears_datagram}
@@ -110,8 +110,8 @@ handed_stays w number bytes =
 
 module _ {A S : Type 0} (g : Ghosts A S) where
   -- what a world keeps, with another link
-  pub still_kept : (world : CodeWorld A S) (before : Link) → IsWhole g world.node → (addr : Addr) × IsLink addr before → ((addr : Addr) → IsLink addr before → IsLink addr world.link) → IsKept g world
-  still_kept world before node link keeps = record { node = node; link = (link.0, keeps link.0 link.1) }
+  pub still_kept : (world : CodeWorld A S) (before : Link) → (addr : Addr) × IsLink addr before → ((addr : Addr) → IsLink addr before → IsLink addr world.link) → IsKept g world
+  still_kept world before link keeps = record { link = (link.0, keeps link.0 link.1) }
 
   -- the node and the mark stay
   pub linked : (world : CodeWorld A S) (link : Link) (w v : World) → WorldStands g world w → v.node ≡ w.node → v.mark ≡ w.mark → LinkStands link v → IsLink w.node.addr link

@@ -2,7 +2,7 @@
 use Rattle.std.proofs.Common.{◌≡◌, ℕ, List, true, false, refl, sym, ap, ◌∙◌, subst, None}
 use Rattle.link_client.specs.Client.{AbstractClient, ClientStep, keeps, opens_by, client_opens}
 use Rattle.link_client.specs.declared.client_state.ClientState.{ClientState}
-use Rattle.link_client.specs.declared.client_state.ClientState.TheVariants.{Idle, Opening, Opened, Closing, Closed, Ended, Reset}
+use Rattle.link_client.specs.declared.client_state.ClientState.TheVariants.{Idle}
 use Rattle.link_world.specs.Acts.{is_idle}
 use Rattle.link_world.specs.World.{Side}
 use Rattle.link_replay.specs.declared.side.Side.{Side as CodeSide}

@@ -1,6 +1,6 @@
 -- What is due for a schedule that was played by the server of a site.
 use Rattle.std.specs.List.{All}
-use Rattle.std.proofs.Common.{◌≡◌, ℕ, List, Result, Ok, Err, map, length, sym, subst, refl, inl, inr, ap, ◌∙◌, Bool, lit<}
+use Rattle.std.proofs.Common.{◌≡◌, ℕ, List, Result, Ok, Err, length, sym, subst, refl, inl, inr, ap, ◌∙◌, Bool, lit<}
 use Rattle.std.proofs.lemmas.List.Elements.{All-replicate}
 use Rattle.app_events.specs.Part.{Meaning}
 use Rattle.app_events.specs.Pages.{IsByte, IsPaged, IsWord, Pages}
@@ -15,10 +15,10 @@ use Rattle.link_schedule.specs.Reading.{BadText, SchedulePlan, read_text}
 use Rattle.link_schedule.specs.declared.read_schedule.ReadSchedule.{ReadSchedule}
 use Rattle.link_schedule.specs.declared.read_schedule.ReadSchedule.TheVariants.{Bad, NoMemory}
 use Rattle.uip_node.specs.Laws.{HasBytes}
-use Rattle.link_world.specs.Schedule.{BadLine, plays}
+use Rattle.link_world.specs.Schedule.{plays}
 use Rattle.link_world.specs.World.{World}
-use Rattle.link_replay.specs.Opening.{opening_for, plan_from}
-use Rattle.link_replay.specs.Playing.{PlaysSchedule, Reaches, Refuses, event_at}
+use Rattle.link_replay.specs.Opening.{plan_from}
+use Rattle.link_replay.specs.Playing.{PlaysSchedule, Reaches, Refuses}
 use Rattle.link_replay.specs.Reaching.{IsAt}
 use Rattle.link_replay.specs.Outcome.{bad_schedule, outcome}
 use Rattle.web_pages.specs.Serving.{is_served, no_hits}

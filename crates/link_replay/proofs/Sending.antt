@@ -10,7 +10,7 @@ use Rattle.uip_node.proofs.Basics.{append_nothing}
 use Rattle.link_client.specs.Calls.{standing, Sends, client_datagram, client_hands, client_hears, IsClient}
 use Rattle.link_client.specs.Client.{AbstractClient, ClientStep, client_takes}
 use Rattle.link_client.specs.declared.client_state.ClientState.{ClientState}
-use Rattle.link_client.specs.declared.client_state.ClientState.TheVariants.{Idle, Opening, Opened, Closing, Closed, Ended, Reset}
+use Rattle.link_client.specs.declared.client_state.ClientState.TheVariants.{Idle}
 use Rattle.link_client.specs.declared.setup.Setup.{Setup}
 use Rattle.link_world.proofs.Hearing.{same_hearing}
 use Rattle.uip_node.specs.Counters.{ticks_of}

@@ -3,7 +3,7 @@ use Rattle.std.specs.List.{All, list_all, list_any, slice_split}
 use Rattle.std.specs.Option.{option_map_or}
 use Rattle.std.specs.Prelude.{IfSome, codes}
 use Rattle.std.specs.Str.{bytes_eq}
-use Rattle.std.proofs.Common.{◌≡◌, ℕ, ◌+◌, ◌<◌, ◌&&◌, Bool, true, false, cond, List, [], ◌∷◌, ◌++◌, length, Option, Some, None, Result, Ok, Err, IfOk, refl, subst, arith, eqb, leb, ltb}
+use Rattle.std.proofs.Common.{◌≡◌, ℕ, ◌<◌, ◌&&◌, Bool, true, false, cond, List, [], ◌∷◌, ◌++◌, length, Option, Some, None, Result, Ok, Err, IfOk, refl, subst, arith, eqb, leb, ltb}
 use Rattle.std.proofs.lemmas.Bool.{and_parts, leb-true, ltb-true}
 use Rattle.std.proofs.lemmas.List.Elements.{All-append, All-cons, All-nil}
 use Rattle.uip_wire.specs.Addr.{quad_of}
@@ -14,7 +14,7 @@ use Rattle.hex.specs.declared.error.FromHexError.{FromHexError}
 use Rattle.link_schedule.specs.Clients.{Plan, got, is_target, plan_of, plan_with, raw, request_of, side_of}
 use Rattle.link_schedule.specs.Events.{event_of_words}
 use Rattle.link_schedule.specs.Kept.{Keeps, is_between}
-use Rattle.link_schedule.specs.Numbers.{◌>>=◌, address, within}
+use Rattle.link_schedule.specs.Numbers.{address, within}
 use Rattle.link_schedule.specs.Reading.{BadText, SchedulePlan, meets, nothing_yet, read_lines, read_text, with_plan, with_event, with_line}
 use Rattle.link_schedule.specs.declared.sides.ClientSide.{ClientSide}
 use Rattle.link_schedule.specs.declared.why.Why.{Why}

@@ -7,7 +7,7 @@ use Rattle.web_pages.specs.Pages.{pages_of}
 use Rattle.link_world.specs.Honest.{IsServedWhole}
 use Rattle.link_world.specs.World.{World}
 use Rattle.link_schedule.specs.Clients.{Plan}
-use Rattle.link_schedule.specs.Reading.{BadText, SchedulePlan, read_text}
+use Rattle.link_schedule.specs.Reading.{SchedulePlan, read_text}
 use Rattle.link_schedule.specs.declared.read_schedule.ReadSchedule.{ReadSchedule}
 use Rattle.link_schedule.specs.declared.read_schedule.ReadSchedule.TheVariants.{Bad, NoMemory}
 use Rattle.link_replay.specs.Playing.{Refuses}

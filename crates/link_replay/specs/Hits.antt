@@ -3,7 +3,6 @@ use Rattle.std.specs.Prelude.{◌≡◌, ℕ, ◌+◌, ◌==◌, ◌<◌, ◌||�
 use Rattle.uip_wire.specs.Numbers.{wrap}
 use Rattle.uip_wire.specs.declared.addr.Addr.{Addr}
 use Rattle.site_image.specs.Files.{File}
-use Rattle.app_events.specs.Part.{Meaning}
 use Rattle.tcp_machine.specs.Connection.{Connection}
 use Rattle.uip_node.specs.Events.{Event}
 use Rattle.uip_node.specs.Node.{AbstractNode, opening, run, step}

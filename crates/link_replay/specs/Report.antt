@@ -1,6 +1,6 @@
 -- The text of a report.
 use Rattle.std.specs.Option.{option_map_or}
-use Rattle.std.specs.Prelude.{ℕ, ◌+◌, Bool, List, [], ◌∷◌, ◌++◌, length, if◌then◌else◌, Option, Some, None, codes, decimal}
+use Rattle.std.specs.Prelude.{ℕ, ◌+◌, Bool, List, [], ◌∷◌, ◌++◌, length, if◌then◌else◌, Option, codes, decimal}
 use Rattle.hex.specs.Hex.{encode_lower}
 use Rattle.tcp_segment.specs.Segments.{PlainSegment, has_syn, has_ack, has_psh, has_fin, has_rst}
 use Rattle.uip_node.specs.Counters.{ticks_of}

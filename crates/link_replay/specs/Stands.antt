@@ -3,7 +3,7 @@ use Rattle.std.specs.Prelude.{◌≡◌, ℕ, ◌≤◌, false, length, Some, sl
 use Rattle.uip_wire.specs.declared.addr.Addr.{Addr}
 use Rattle.uip_wire.specs.declared.sizes.TheConstants.{LARGEST_DATAGRAM}
 use Rattle.app_events.specs.declared.app.App.{Ghosts}
-use Rattle.uip_node.specs.StandsFor.{Stands, IsWhole}
+use Rattle.uip_node.specs.StandsFor.{Stands}
 use Rattle.link_client.specs.Calls.{standing, IsClient}
 use Rattle.link_world.specs.World.{World, Side, Sent, epoch}
 use Rattle.link_world.specs.Bytes.{sent_bytes}
@@ -51,7 +51,6 @@ pub record WorldStands {A S : Type 0} (g : Ghosts A S) (world : CodeWorld A S) (
 
 -- What every world of the code keeps, one that is spent too.
 pub record IsKept {A S : Type 0} (g : Ghosts A S) (world : CodeWorld A S) : Type 0 where
-  pub node : IsWhole g world.node
   pub link : (addr : Addr) × IsLink addr world.link
 
 -- A world of the code that keeps what it has to; what its application keeps, and the mark, are those of an older one.

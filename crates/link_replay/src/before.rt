@@ -2,7 +2,7 @@
 
 ghost use Rattle.std.specs.Prelude.{◌≡◌, ℕ, ◌≤◌, Bool, List, length, map};
 ghost use Rattle.app_events.specs.Part.{Meaning};
-ghost use Rattle.uip_node.specs.Counted.{CountsStand};
+ghost use Rattle.uip_node.specs.Counters.{counters};
 ghost use Rattle.uip_node.specs.Events.{Event, Past};
 ghost use Rattle.uip_node.specs.Node.{AbstractNode, connection_in, step};
 ghost use Rattle.uip_node.specs.StandsFor.{Stands};
@@ -12,7 +12,7 @@ use crate::socket_pair::SocketPair;
 use app_events::App;
 use arrayvec::ArrayVec;
 use tcp_table::{Conn, Table};
-use uip_node::{Counts, Node};
+use uip_node::Node;
 
 /// What is looked at before a call of the node: the sockets of its connections, and how often it has sent again.
 #[derive(Drop)]
@@ -56,10 +56,10 @@ fn owners_in<A: App>(table: &Table<A>) -> ArrayVec<Option<SocketPair>, 10>
 }
 
 /// How often what was outstanding was sent again.
-fn resent_of(counts: &Counts) -> u32
-    ensures { (past : List Past) → CountsStand counts.now past → result ≡ resent past }
+fn resent_of(net: &[u32; 20]) -> u32
+    ensures { (past : List Past) → net.now ≡ counters past → result ≡ resent past }
 {
-    counts.net[18]
+    net[18]
 }
 
 /// The owner of a slot, where the connection there is not its any more.
@@ -102,7 +102,7 @@ impl Before {
     {
         Before {
             pairs: owners_in(&node.table),
-            resent: resent_of(&node.counts),
+            resent: resent_of(&node.net),
         }
     }
 
@@ -121,7 +121,7 @@ impl Before {
             → Stands A.App node.now (step m served n event).node (step m served n event).node.past
             → result ≡ is_sent_again (step m served n event).sent }
     {
-        self.resent != resent_of(&node.counts)
+        self.resent != resent_of(&node.net)
     }
 
     /// The sockets of the connection that was in a slot, where it was not CLOSED.

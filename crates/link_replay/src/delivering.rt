@@ -86,7 +86,7 @@ impl<A: App> WorldOf<A> {
         ensures acted { OnOk result ((w : PlainWorld) → WorldStands A.App self.old w
             → WorldStands A.App self.new (client_acts w number (own_step own))) }
     {
-        self.link.act(number, own, self.node.counts.ticks)?;
+        self.link.act(number, own, self.node.ticks())?;
         Ok(())
     }
 
@@ -99,14 +99,14 @@ impl<A: App> WorldOf<A> {
         ensures sent { OnOk result ((w : PlainWorld) → WorldStands A.App self.old w
             → WorldStands A.App self.new (posts w Pinger false (OfPing (ping_from source w.node.addr)))) }
     {
-        let Ok(bytes) = echo_request(source, self.node.addr)
+        let Ok(bytes) = echo_request(source, self.node.addr())
             .as_slice()
             .to_vec(self.link.alloc)
         else {
             return Err(NoMemory);
         };
         self.link
-            .post(Who::Pinger, self.node.counts.ticks, false, bytes)?;
+            .post(Who::Pinger, self.node.ticks(), false, bytes)?;
         Ok(())
     }
 
@@ -132,7 +132,7 @@ impl<A: App> WorldOf<A> {
                 Ok(())
             }
             Who::FromNode(client) => {
-                self.link.hear(client, bytes, self.node.counts.ticks)?;
+                self.link.hear(client, bytes, self.node.ticks())?;
                 Ok(())
             }
         }

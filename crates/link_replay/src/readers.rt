@@ -76,6 +76,6 @@ impl<A: App> WorldOf<A> {
     pub fn ticks(&self) -> u32
         ensures { (w : PlainWorld) → WorldStands A.App self.now w → result ≡ ticks_of w.node.past }
     {
-        self.node.counts.ticks
+        self.node.ticks()
     }
 }

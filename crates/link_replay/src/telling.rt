@@ -9,7 +9,7 @@ ghost use Rattle.uip_node.specs.Edge.{reply_bytes};
 ghost use Rattle.uip_node.specs.Events.{Event as NodeEvent, Reply};
 ghost use Rattle.uip_node.specs.Node.{AbstractNode, step};
 ghost use Rattle.uip_node.specs.Spoken.{IsSent};
-ghost use Rattle.uip_node.specs.StandsFor.{IsWhole, Stands};
+ghost use Rattle.uip_node.specs.StandsFor.{Stands};
 ghost use Rattle.link_world.specs.World.{World as PlainWorld, buries, node_stepped, posts_reply};
 ghost use Rattle.link_replay.specs.Noting.{IsBefore, gone_pair, is_sent_again};
 ghost use Rattle.link_replay.specs.Stands.{IsLink, LinkStands};
@@ -80,7 +80,6 @@ pub(crate) fn tell<A: App>(
     sent: Option<usize>,
     to: Option<SocketPair>,
 ) -> Result<(), NoMemory>
-    requires whole { IsWhole A.App node.now }
     requires few { length link.old.sides.items ≤ 64 }
     ensures kept { (addr : Address) → IsLink addr link.old → IsLink addr link.new }
     ensures told { OnOk result ((m : Meaning) (served : ℕ → Bool) (w : PlainWorld) (event : NodeEvent) → IsBefore before.now w.node
@@ -94,7 +93,7 @@ pub(crate) fn tell<A: App>(
     match sent {
         None => Ok(()),
         Some(_) => {
-            link.post_reply(to, node.counts.ticks, again, node.packet())?;
+            link.post_reply(to, node.ticks(), again, node.packet())?;
             Ok(())
         }
     }

@@ -7,7 +7,6 @@ use Rattle.app_events.specs.declared.row.Row.{Row}
 use Rattle.packet_buffer.specs.Buffer.{datagram_in}
 use Rattle.tcp_machine.specs.Connection.{rows_from}
 use Rattle.uip_node.specs.Node.{AbstractNode, opening}
-use Rattle.uip_node.specs.StandsFor.{IsWhole}
 use Rattle.uip_wire.specs.declared.addr.Addr.{Addr}
 use Rattle.uip_slip.specs.Decoding.{WasFed}
 use Rattle.serve_loop.specs.Turns.{IsNode}
@@ -17,9 +16,8 @@ use Rattle.uip_device.specs.Handing.{text_to_come}
 use Rattle.uip_device.specs.Sending.{HandsOut, SendsOver}
 use Rattle.uip_device.specs.declared.device.Device.{Device}
 
--- every connection of the device's node is sound, and what is left of a text is of the datagram in its packet
+-- what is left of a text is of the datagram in the packet
 pub record IsSoundDevice {A S : Type 0} (g : Ghosts A S) (d : Device A S) : Type 0 where
-  pub whole : IsWhole g d.node
   pub left : IfSome d.left (λ at. at ≤ length (datagram_in d.node.packet))
 
 -- the text that is left to be handed out

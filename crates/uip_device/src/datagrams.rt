@@ -6,7 +6,6 @@ ghost use Rattle.uip_wire.specs.declared.addr.Addr.{Addr as Address};
 ghost use Rattle.uip_node.specs.Events.{Reply};
 ghost use Rattle.uip_node.specs.Node.{joined};
 ghost use Rattle.uip_node.specs.Spoken.{IsSent};
-ghost use Rattle.uip_node.specs.StandsFor.{IsWhole};
 ghost use Rattle.uip_device.specs.Sending.{datagram_sent};
 
 use app_events::App;
@@ -15,7 +14,6 @@ use uip_wire::LARGEST_DATAGRAM;
 
 /// Copies what a call of the node has sent, if it sent a datagram. Says how long it is.
 pub(crate) fn copy_sent<A: App>(node: &Node<A>, sent: Option<usize>, out: &mut [u8]) -> usize
-    requires whole { IsWhole A.App node.now }
     requires room { LARGEST_DATAGRAM ≤ length out.old }
     ensures long { length out.new ≡ length out.old }
     ensures within { result ≤ length out.new }

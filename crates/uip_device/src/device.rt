@@ -221,7 +221,7 @@ impl<A: App> Device<A> {
     pub fn ticks(&self) -> u32
         ensures { (n : AbstractNode) → Stands A.App self.now.node n n.past → result ≡ ticks_of n.past }
     {
-        self.node.counts.ticks
+        self.node.ticks
     }
 
     /// Whether no connection is open. Then a tick does nothing but count.
@@ -244,6 +244,6 @@ impl<A: App> Device<A> {
         requires { place < 20 }
         ensures { (n : AbstractNode) → Stands A.App self.now.node n n.past → slice_get (counters n.past) place ≡ Some result }
     {
-        self.node.counts.net[place]
+        self.node.net[place]
     }
 }

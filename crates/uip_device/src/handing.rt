@@ -6,7 +6,6 @@ ghost use Rattle.uip_slip.specs.Text.{escaped};
 ghost use Rattle.uip_wire.specs.declared.addr.Addr.{Addr as Address};
 ghost use Rattle.uip_node.specs.Events.{Reply};
 ghost use Rattle.uip_node.specs.Spoken.{IsSent};
-ghost use Rattle.uip_node.specs.StandsFor.{IsWhole};
 ghost use Rattle.serve_loop.specs.Texts.{text_for};
 ghost use Rattle.uip_device.specs.Handing.{text_to_come};
 
@@ -119,7 +118,6 @@ fn put_end(out: &mut [u8])
 
 /// Writes the text of what a call of the node has sent, if it sent a datagram, as far as there is room.
 pub(crate) fn write_text<A: App>(node: &Node<A>, sent: Option<usize>, out: &mut [u8]) -> Written
-    requires whole { IsWhole A.App node.now }
     requires room { 0 < length out.old }
     ensures long { length out.new ≡ length out.old }
     ensures fits { result.wrote ≤ length out.new }

@@ -33,8 +33,9 @@ impl WebDevice {
         ensures sound { IsSoundWebDevice self.new }
         ensures gives { Changes ghosts (write_value number text.now) self.old self.new }
     {
-        see_values(&self.node.shared.values);
-        self.node.shared.values.give(number, text);
+        let node = &mut self.node;
+        see_values(&node.shared.values);
+        node.shared.values.give(number, text);
     }
 
     /// How often the file of that name was asked for, modulo 2^32; 0 where no file has the name.
@@ -42,7 +43,8 @@ impl WebDevice {
         ensures { (n : AbstractNode) → Stands ghosts self.now.node n n.past
             → result ≡ hits_of (files_of (site_in self.now)) n.numbers name.now }
     {
-        let web = &self.node.shared.web;
+        let node = &self.node;
+        let web = &node.shared.web;
         see_loaded(&web.site);
         match web.site.tree().find(name) {
             Some(id) => web.hits[id.0 as usize],

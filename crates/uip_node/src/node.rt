@@ -111,9 +111,24 @@ impl<A: App> Node<A> {
 
     /// The datagram that stands in the packet.
     pub fn packet(&self) -> &[u8]
-        ensures { result.now ≡ datagram_in self.now.packet }
+        ensures datagram { result.now ≡ datagram_in self.now.packet }
+        ensures most { length result.now ≤ LARGEST_DATAGRAM }
     {
         self.packet.bytes()
+    }
+
+    /// The own address.
+    pub fn addr(&self) -> Addr
+        ensures { result ≡ self.now.addr }
+    {
+        self.addr
+    }
+
+    /// How many ticks there were, modulo 2^32.
+    pub fn ticks(&self) -> u32
+        ensures { result ≡ self.now.counts.ticks }
+    {
+        self.ticks
     }
 
     /// What the connections' applications share.

@@ -26,4 +26,4 @@ returns-in_ok-post_reply-in-Some-clause-told g c = λ m served w event before to
     let buried : LinkStands c.bury.new.self v = c.in_ok-bury.ensures.buried w r.node r.gone (c.gone.ensures m served w.node event before stands) (step_addr m served w.node event) h in
     loud (λ (u : World). LinkStands c.post_reply.new.self u) v c.args.node.now.addr c.args.to r.sent c.args.sent c.in-Some.field-0 c.args.node.now.packet c.again-again.result
     c.in-Some.is stands.addr to (c.again-again.ensures m served w.node event before stands) sent
-    (λ reply t a d. c.in_ok-post_reply-in-Some.ensures.posted v reply t stands.counts.ticks a (c.packet.ensures ∙ d) buried)
+    (λ reply t a d. c.in_ok-post_reply-in-Some.ensures.posted v reply t (c.ticks.ensures ∙ stands.counts.ticks) a (c.packet.ensures.datagram ∙ d) buried)

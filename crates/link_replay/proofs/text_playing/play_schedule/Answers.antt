@@ -1,5 +1,4 @@
 use Rattle.std.specs.Prelude.{⊤}
-use Rattle.file_tree.specs.Site.{files_of}
 use Rattle.link_schedule.specs.Answer.{content_at}
 use Rattle.link_replay.specs.Stands.{WorldStands}
 use Rattle.link_replay.proofs.PlayedText.{played_due, refused_due}

@@ -1,4 +1,4 @@
-use Rattle.std.proofs.Common.{◌≡◌, ℕ, ◌-◌, ◌<◌, ◌≤◌, length, List, Option, Some, slice_get, sym, ap, ◌∙◌, arith, subst, rules, tests}
+use Rattle.std.proofs.Common.{◌≡◌, ℕ, ◌<◌, ◌≤◌, length, List, Option, sym, ap, ◌∙◌, arith, subst, rules, tests}
 use Rattle.uip_node.specs.Edge.{event_of}
 use Rattle.uip_node.specs.Events.{Reply}
 use Rattle.uip_node.specs.Node.{step}
@@ -6,13 +6,11 @@ use Rattle.link_world.specs.Acts.{does, hands_over}
 use Rattle.link_world.specs.declared.act.Act.{Act}
 use Rattle.link_world.proofs.Doing.{damaged}
 use Rattle.link_world.specs.Bytes.{sent_bytes, changed}
-use Rattle.link_world.specs.World.{World, Sent, numbered}
+use Rattle.link_world.specs.World.{World, Sent}
 use Rattle.link_world.specs.declared.who.Who.{Who}
-use Rattle.link_replay.specs.Stands.{SentStands, WorldStands}
+use Rattle.link_replay.specs.Stands.{WorldStands}
 use Rattle.link_replay.specs.Telling.{AnswersTo}
-use Rattle.link_replay.specs.declared.sent.Sent.{Sent as CodeSent}
 use Rattle.link_replay.proofs.Damaging.{damage_answers}
-use Rattle.link_replay.proofs.Pairs.{there_is}
 use Rattle.link_replay.proofs.Readable.{sent_there}
 use Rattle.link_replay.proofs.Sending.{area_is}
 use Rattle.link_replay.proofs.world.WorldOf.damage.Goals as goal

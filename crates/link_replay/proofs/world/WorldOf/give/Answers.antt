@@ -1,4 +1,4 @@
-use Rattle.std.proofs.Common.{◌≡◌, ℕ, ◌-◌, ◌≤◌, ◌<◌, List, Option, Some, length, slice_get, sym, ap, ◌∙◌, arith, subst, rules, tests}
+use Rattle.std.proofs.Common.{◌≡◌, ℕ, ◌-◌, ◌≤◌, List, Option, Some, length, slice_get, sym, ap, ◌∙◌, arith, subst, rules, tests}
 use Rattle.uip_wire.specs.declared.sizes.TheConstants.{LARGEST_DATAGRAM}
 use Rattle.uip_node.specs.Edge.{event_of}
 use Rattle.uip_node.specs.Events.{Reply}
@@ -9,7 +9,7 @@ use Rattle.link_world.specs.declared.act.Act.{Act}
 use Rattle.link_world.specs.Bytes.{sent_bytes}
 use Rattle.link_world.specs.World.{World, Sent, delivers, numbered}
 use Rattle.link_world.specs.declared.who.Who.{Who}
-use Rattle.link_replay.specs.Stands.{LinkStands, SentStands, WorldStands}
+use Rattle.link_replay.specs.Stands.{LinkStands, WorldStands}
 use Rattle.link_replay.specs.Telling.{AnswersTo, client_told, sees}
 use Rattle.link_replay.specs.declared.sent.Sent.{Sent as CodeSent}
 use Rattle.link_replay.proofs.Delivered.{answers_seen, hands, seen, speaks_to}
@@ -19,7 +19,7 @@ use Rattle.link_replay.proofs.Handling.{still_kept}
 use Rattle.link_replay.proofs.world.WorldOf.give.Goals as goal
 
 pub hand-requires-clause-kept : goal.hand-requires-clause-kept
-hand-requires-clause-kept g c = still_kept g.A.App _ _ c.requires.kept.node c.requires.kept.link c.see.ensures.kept
+hand-requires-clause-kept g c = still_kept g.A.App _ _ c.requires.kept.link c.see.ensures.kept
 
 pub hand-requires-clause-most : goal.hand-requires-clause-most
 hand-requires-clause-most g c =

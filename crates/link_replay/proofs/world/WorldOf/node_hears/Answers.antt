@@ -3,10 +3,10 @@ use Rattle.link_replay.proofs.Handling.{handled, still_kept}
 use Rattle.link_replay.proofs.world.WorldOf.node_hears.Goals as goal
 
 pub returns-in_err-tell-clause-kept : goal.returns-in_err-tell-clause-kept
-returns-in_err-tell-clause-kept g c = still_kept g.A.App _ _ c.input-sent.ensures.whole c.requires.kept.link c.tell.ensures.kept
+returns-in_err-tell-clause-kept g c = still_kept g.A.App _ _ c.requires.kept.link c.tell.ensures.kept
 
 pub returns-clause-kept : goal.returns-clause-kept
-returns-clause-kept g c = still_kept g.A.App _ _ c.input-sent.ensures.whole c.requires.kept.link c.tell.ensures.kept
+returns-clause-kept g c = still_kept g.A.App _ _ c.requires.kept.link c.tell.ensures.kept
 
 pub returns-clause-heard : goal.returns-clause-heard
 returns-clause-heard g c = λ w s to.

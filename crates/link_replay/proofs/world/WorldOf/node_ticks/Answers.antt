@@ -3,10 +3,10 @@ use Rattle.link_replay.proofs.Handling.{handled, periodic_to, still_kept}
 use Rattle.link_replay.proofs.world.WorldOf.node_ticks.Goals as goal
 
 pub returns-in_err-tell-clause-kept : goal.returns-in_err-tell-clause-kept
-returns-in_err-tell-clause-kept g c = still_kept g.A.App _ _ c.periodic-sent.ensures.whole c.requires.kept.link c.tell.ensures.kept
+returns-in_err-tell-clause-kept g c = still_kept g.A.App _ _ c.requires.kept.link c.tell.ensures.kept
 
 pub returns-clause-kept : goal.returns-clause-kept
-returns-clause-kept g c = still_kept g.A.App _ _ c.periodic-sent.ensures.whole c.requires.kept.link c.tell.ensures.kept
+returns-clause-kept g c = still_kept g.A.App _ _ c.requires.kept.link c.tell.ensures.kept
 
 pub returns-clause-ticked : goal.returns-clause-ticked
 returns-clause-ticked g c = λ w s.

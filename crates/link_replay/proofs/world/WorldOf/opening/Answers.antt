@@ -9,7 +9,6 @@ pub returns-clause-kept : goal.returns-clause-kept
 returns-clause-kept g c =
     let size : length c.in-Ok.area.items ≡ 1500 = search rules in
     record {
-      node = c.in_ok-node.ensures.whole;
       link = (
         server,
         link_opened server _ (map plan_at c.args.clients.now) c.in_ok-sides.ensures (omega (arith, c.requires.few, length-map c.args.clients.now plan_at)) size

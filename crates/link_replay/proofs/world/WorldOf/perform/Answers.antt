@@ -7,7 +7,7 @@ use Rattle.link_replay.proofs.Handling.{own_done, still_kept}
 use Rattle.link_replay.proofs.world.WorldOf.perform.Goals as goal
 
 pub returns-in-Window-clause-kept : goal.returns-in-Window-clause-kept
-returns-in-Window-clause-kept g c = still_kept g.A.App _ _ c.requires.kept.node c.requires.kept.link c.tell_window.ensures.kept
+returns-in-Window-clause-kept g c = still_kept g.A.App _ _ c.requires.kept.link c.tell_window.ensures.kept
 
 pub returns-in-Window-clause-done : goal.returns-in-Window-clause-done
 returns-in-Window-clause-done g c = λ w h f s.

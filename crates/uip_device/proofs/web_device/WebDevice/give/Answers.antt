@@ -7,9 +7,9 @@ pub returns-clause-gives : goal.returns-clause-gives
 returns-clause-gives c =
     let number : ℕ = c.args.number in
     let text : List ℕ = c.args.text.now in
-    let hits : List ℕ = c.args.self.now.node.shared.web.hits in
-    let values : List ℕ = c.args.self.now.node.shared.values.bytes in
-    record {
+    let hits : List ℕ = c.node.inside.shared.web.hits in
+    let values : List ℕ = c.node.inside.shared.values.bytes in
+    rw (← c.node.view_is) (record {
       kept = refl;
       heard = λ before h. h;
       left = refl;
@@ -24,4 +24,4 @@ returns-clause-gives c =
           counts = p.stands.counts;
         };
       };
-    }
+    })

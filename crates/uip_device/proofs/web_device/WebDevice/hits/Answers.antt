@@ -11,10 +11,10 @@ use Rattle.uip_device.proofs.WebLaws.{hits_at}
 use Rattle.uip_device.proofs.web_device.WebDevice.hits.Goals as goal
 
 pub returns-in-Some : goal.returns-in-Some
-returns-in-Some c = λ n stands.
+returns-in-Some c = rw (← c.node.view_is) (λ n stands.
     let files : List File = files_of c.tree.result in
     let hits : List ℕ = c.web.inside.hits.items in
-    let values : List ℕ = c.args.self.now.node.shared.values.bytes in
+    let values : List ℕ = c.node.inside.shared.values.bytes in
     let name : List ℕ = c.args.name.now in
     let id : ℕ = c.in-Some.id.0 in
     let found : Option FileId = c.find.result in
@@ -31,10 +31,10 @@ returns-in-Some c = λ n stands.
     ∙ ap (λ (l : List ℕ). get_or l id 0) numbers
     ∙ hits_at files n.numbers name found (Some c.in-Some.id) place c.in-Some.is
     ∙ ap (λ (site : SiteContent). hits_of (files_of site) n.numbers name) c.tree.ensures
-    ∙ ap (λ (w : WebContent). hits_of (files_of w.site) n.numbers name) c.web.view_is
+    ∙ ap (λ (w : WebContent). hits_of (files_of w.site) n.numbers name) c.web.view_is)
 
 pub returns-in-None : goal.returns-in-None
-returns-in-None c = λ n stands.
+returns-in-None c = rw (← c.node.view_is) (λ n stands.
     let files : List File = files_of c.tree.result in
     let name : List ℕ = c.args.name.now in
     let found : Option FileId = c.find.result in
@@ -42,4 +42,4 @@ returns-in-None c = λ n stands.
     let place : option_map (λ (x : FileId). x.0) found ≡ place_of files name = found_place files apart name found c.find.ensures.found c.find.ensures.there in
     hits_at files n.numbers name found None place c.in-None.is
     ∙ ap (λ (site : SiteContent). hits_of (files_of site) n.numbers name) c.tree.ensures
-    ∙ ap (λ (w : WebContent). hits_of (files_of w.site) n.numbers name) c.web.view_is
+    ∙ ap (λ (w : WebContent). hits_of (files_of w.site) n.numbers name) c.web.view_is)
