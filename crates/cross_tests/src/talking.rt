@@ -1,7 +1,5 @@
 //! Datagrams in hex digits, four bytes a word, the headers on a line, and a node to which they are said.
 
-ghost use Rattle.std.specs.Prelude.{◌≤◌, IfOk};
-
 use app_events::App;
 use std::alloc::Global;
 use std::process::Abort;
@@ -52,8 +50,7 @@ pub(crate) fn check_answer<A: App>(
     node: &mut Node<A>,
     datagram: &str,
     answer: &str,
-) -> Result<(), Fail>
-{
+) -> Result<(), Fail> {
     let datagram = bytes_of(alloc, datagram)?;
     let answer = bytes_of(alloc, answer)?;
     assert!(rt; datagram.len() <= 1500);
@@ -67,8 +64,7 @@ pub(crate) fn opened<A: App>(
     rt: &impl Abort,
     alloc: Global,
     shared: A::Shared,
-) -> Result<Node<A>, Fail>
-{
+) -> Result<Node<A>, Fail> {
     let Ok(mut node) = Node::<A>::new(alloc, NODE, shared) else {
         return Err("no memory".into());
     };

@@ -8,7 +8,6 @@ ghost use Rattle.uip_node.specs.Node.{AbstractNode, opening};
 ghost use Rattle.uip_wire.specs.declared.addr.Addr.{Addr as Address};
 ghost use Rattle.ethernet_arp.specs.EtherWay.{ether_way};
 ghost use Rattle.ethernet_arp.specs.Frames.{Host};
-ghost use Rattle.ethernet_arp.specs.Learning.{Act};
 ghost use Rattle.ethernet_arp.specs.Sendable.{AllSendable};
 ghost use Rattle.ethernet_arp.specs.Sending.{AllGoHome};
 ghost use Rattle.ethernet_arp.specs.Table.{Knows, host_of};

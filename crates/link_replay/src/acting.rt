@@ -1,6 +1,6 @@
 //! A client takes a step, and what it sends is posted.
 
-ghost use Rattle.std.specs.Prelude.{◌≡◌, ◌≤◌, ℕ, List, OnOk, Option, Some, length};
+ghost use Rattle.std.specs.Prelude.{◌≡◌, ◌≤◌, ℕ, OnOk, Option, Some, length};
 ghost use Rattle.tcp_segment.specs.Segments.{PlainSegment};
 ghost use Rattle.uip_node.specs.Counters.{ticks_of};
 ghost use Rattle.uip_wire.specs.declared.addr.Addr.{Addr as Address};

@@ -1,11 +1,11 @@
 //! The lines of the clients.
 
-ghost use Rattle.std.specs.Prelude.{◌≡◌, ◌++◌, List, length};
+ghost use Rattle.std.specs.Prelude.{List};
 ghost use Rattle.uip_edge.specs.Causes.{HasCause};
 ghost use Rattle.link_world.specs.World.{Side as PlainSide};
 ghost use Rattle.link_replay.specs.Matched.{Matched};
 ghost use Rattle.link_replay.specs.Stands.{SideStands};
-ghost use Rattle.link_replay.specs.Report.{client_line as client_text, lines_of_client, numbered_texts, text_line, word_if};
+ghost use Rattle.link_replay.specs.Report.{lines_of_client, numbered_texts, text_line, word_if};
 ghost use Rattle.link_replay.specs.Writing.{Wrote};
 
 use crate::client_lines::client_line;

@@ -1,7 +1,7 @@
 //! What a client does, and what it hears.
 
-ghost use Rattle.std.specs.Prelude.{◌≡◌, ◌≤◌, OnOk, IfSome, IfOk, ℕ, List, length, Some};
-ghost use Rattle.link_client.specs.Calls.{IsClient, Sends, client_hears, client_hands};
+ghost use Rattle.std.specs.Prelude.{◌≡◌, ◌≤◌, IfOk, length, Some};
+ghost use Rattle.link_client.specs.Calls.{IsClient, client_hears, client_hands};
 ghost use Rattle.link_client.specs.Client.{tells_window};
 ghost use Rattle.link_world.specs.World.{Side as PlainSide, with_client};
 ghost use Rattle.link_replay.specs.Owning.{Stepped, own_step};

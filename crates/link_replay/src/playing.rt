@@ -1,7 +1,7 @@
 //! A schedule, line by line.
 
 ghost use Rattle.std.specs.List.{All, list_all};
-ghost use Rattle.std.specs.Prelude.{◌≡◌, ℕ, true, IfOk, List, Some, length, map, slice_get};
+ghost use Rattle.std.specs.Prelude.{◌≡◌, ℕ, true, IfOk, Some, map, slice_get};
 ghost use Rattle.app_events.specs.Pages.{IsPaged, IsWord, Pages};
 ghost use Rattle.file_tree.specs.Site.{files_of};
 ghost use Rattle.httpd.specs.contracts.httpd.HttpdApp.TheImpl.{ghosts};

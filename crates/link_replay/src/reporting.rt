@@ -1,7 +1,7 @@
 //! The report of a replay: what became of each client, and where it is asked for, each datagram that was sent. It is written to a
 //! sink line by line, and no call is given an allocator.
 
-ghost use Rattle.std.specs.Prelude.{◌≡◌, ℕ, Bool, OnErr, OnOk};
+ghost use Rattle.std.specs.Prelude.{ℕ, Bool, OnErr, OnOk};
 ghost use Rattle.std.specs.Io.KnownBytes.{Appends};
 ghost use Rattle.app_events.specs.Part.{Meaning};
 ghost use Rattle.uip_edge.specs.Causes.{HasCause};

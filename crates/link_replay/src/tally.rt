@@ -1,6 +1,6 @@
 //! What became of a replay's clients and datagrams, in numbers.
 
-ghost use Rattle.std.specs.Prelude.{◌≡◌, Bool, count_by, is_none, length, not, sum_by};
+ghost use Rattle.std.specs.Prelude.{◌≡◌, count_by, is_none, length, not, sum_by};
 ghost use Rattle.link_world.specs.World.{World as PlainWorld};
 ghost use Rattle.link_replay.specs.Stands.{LinkStands};
 ghost use Rattle.link_client.specs.Calls.{is_opened as open_state};

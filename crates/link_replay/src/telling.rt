@@ -1,6 +1,6 @@
 //! What a call of the node did is told to the clients and to the list of datagrams.
 
-ghost use Rattle.std.specs.Prelude.{◌≡◌, ◌≤◌, ℕ, Bool, List, OnOk, Option, Some, length};
+ghost use Rattle.std.specs.Prelude.{◌≡◌, ◌≤◌, ℕ, Bool, OnOk, Option, Some, length};
 ghost use Rattle.app_events.specs.Part.{Meaning};
 ghost use Rattle.tcp_machine.specs.Connection.{Connection};
 ghost use Rattle.uip_wire.specs.declared.addr.Addr.{Addr as Address};

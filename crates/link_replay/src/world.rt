@@ -1,9 +1,7 @@
 //! A world and its acts.
 
 ghost use Rattle.std.specs.List.{All};
-ghost use Rattle.std.specs.Prelude.{◌≡◌, ℕ, true, false, OnErr, OnOk, Ok, Err, None, IfErr, IfOk, length};
-ghost use Rattle.app_events.specs.Part.{Meaning};
-ghost use Rattle.uip_wire.specs.declared.addr.Addr.{Addr as Address};
+ghost use Rattle.std.specs.Prelude.{◌≡◌, ℕ, true, false, OnErr, Ok, Err, IfErr};
 ghost use Rattle.link_world.specs.Acts.{acts as acted, runs};
 ghost use Rattle.link_world.specs.Schedule.{acts_of as lines_acts, plays_line};
 ghost use Rattle.link_world.specs.World.{World as PlainWorld};

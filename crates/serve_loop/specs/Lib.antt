@@ -8,3 +8,4 @@ pub mod Pace
 pub mod SlipWay
 pub mod Texts
 pub mod Turns
+pub mod TurnCalls

@@ -1,14 +1,12 @@
-ghost use Rattle.std.specs.Prelude.{◌≡◌, ◌<◌, ◌≤◌, ◌++◌, [], List, ℕ, length, map, take, OnOk, OnErr, IfOk};
+ghost use Rattle.std.specs.Prelude.{◌≡◌, ◌<◌, ◌≤◌, ◌++◌, [], List, ℕ, length, take, OnOk, OnErr, IfOk};
 ghost use Rattle.std.specs.Io.KnownBytes.{Appends};
 ghost use Rattle.std.specs.List.{All};
 ghost use Rattle.app_events.specs.Pages.{IsByte};
-ghost use Rattle.uip_edge.specs.declared.item.Item.TheVariants.{Byte};
 ghost use Rattle.uip_edge.specs.Causes.{HasCause};
 ghost use Rattle.uip_edge.specs.Turns.{TurnFits};
 ghost use Rattle.uip_edge.specs.Writing.{BreaksOff};
-ghost use Rattle.line_medium.specs.Ways.{all_brought};
-ghost use Rattle.serve_loop.specs.LineDeeds.{deed_by, deeds_behind};
-ghost use Rattle.serve_loop.specs.Turns.{Breaks, HasTaken, Plays, Turns, place};
+ghost use Rattle.serve_loop.specs.TurnCalls.{BreaksBrought, BreaksBytes, PlaysBrought, PlaysBytes, TakesBytes};
+ghost use Rattle.serve_loop.specs.Turns.{HasTaken, Turns, place};
 ghost use Rattle.uip_edge.specs.Telling.{line_told};
 
 use crate::node_calls::{take_datagram, tick};
@@ -60,16 +58,10 @@ fn take_bytes<A: App, M: Medium, K: Sink>(
 ) -> Result<(), Failed>
     ensures same { A.kept node.new.shared ≡ A.kept node.old.shared }
     ensures are { All IsByte bytes.now }
-    ensures taken { OnOk result ((k : M.Set) (pace : ℕ) (before : List ℕ)
-        → HasTaken pace before (M.fed medium.old k) pacer.old
-        → HasTaken pace (before ++ bytes.now) (M.fed medium.new k) pacer.new) }
-    ensures ok { OnOk result ((k : M.Set) (pace : ℕ) (before : List ℕ)
-        → HasTaken pace before (M.fed medium.old k) pacer.old
-        → Plays A.App M.Medium k (λ own. deeds_behind (M.way k) own pace before (map Byte bytes.now))
+    ensures taken { OnOk result (TakesBytes M.Medium bytes.now medium.old medium.new pacer.old pacer.new) }
+    ensures ok { OnOk result (PlaysBytes A.App M.Medium bytes.now pacer.old
         (place medium.old node.old (K.written sink.old)) (place medium.new node.new (K.written sink.new))) }
-    ensures err { OnErr result ((k : M.Set) (pace : ℕ) (before : List ℕ)
-        → HasTaken pace before (M.fed medium.old k) pacer.old
-        → Breaks A.App M.Medium k (λ own. deeds_behind (M.way k) own pace before (map Byte bytes.now))
+    ensures err { OnErr result (BreaksBytes A.App M.Medium bytes.now pacer.old
         (place medium.old node.old (K.written sink.old)) (place medium.new node.new (K.written sink.new))) }
     ensures cause { HasCause (K.faults sink.old) (K.faults sink.new) result }
 {
@@ -92,16 +84,10 @@ fn take_front<A: App, M: Medium, K: Sink>(
     requires some { 0 < length bytes.now }
     ensures same { A.kept node.new.shared ≡ A.kept node.old.shared }
     ensures count { IfOk result (λ n. (0 < n) × (n ≤ length bytes.now)) }
-    ensures taken { IfOk result (λ n. (k : M.Set) (pace : ℕ) (before : List ℕ)
-        → HasTaken pace before (M.fed medium.old k) pacer.old
-        → HasTaken pace (before ++ take n bytes.now) (M.fed medium.new k) pacer.new) }
-    ensures ok { IfOk result (λ n. (k : M.Set) (pace : ℕ) (before : List ℕ)
-        → HasTaken pace before (M.fed medium.old k) pacer.old
-        → Plays A.App M.Medium k (λ own. deeds_behind (M.way k) own pace before (map Byte (take n bytes.now)))
+    ensures taken { IfOk result (λ n. TakesBytes M.Medium (take n bytes.now) medium.old medium.new pacer.old pacer.new) }
+    ensures ok { IfOk result (λ n. PlaysBytes A.App M.Medium (take n bytes.now) pacer.old
         (place medium.old node.old (K.written sink.old)) (place medium.new node.new (K.written sink.new))) }
-    ensures err { OnErr result ((k : M.Set) (pace : ℕ) (before : List ℕ)
-        → HasTaken pace before (M.fed medium.old k) pacer.old
-        → Breaks A.App M.Medium k (λ own. deeds_behind (M.way k) own pace before (map Byte bytes.now))
+    ensures err { OnErr result (BreaksBytes A.App M.Medium bytes.now pacer.old
         (place medium.old node.old (K.written sink.old)) (place medium.new node.new (K.written sink.new))) }
     ensures cause { HasCause (K.faults sink.old) (K.faults sink.new) result }
 {
@@ -125,12 +111,9 @@ fn take_run<A: App, M: Medium, K: Sink>(
     ensures count { IfOk result (λ n. (0 < n) × (n ≤ length bytes.now)) }
     ensures fed { IfOk result (λ n. (k : M.Set) (before : List ℕ) → M.fed medium.old k before
         → M.fed medium.new k (before ++ take n bytes.now)) }
-    ensures ok { IfOk result (λ n. (k : M.Set) (before : List ℕ) → M.fed medium.old k before
-        → Plays A.App M.Medium k (λ own. map (deed_by own) (all_brought (M.way k) before (take n bytes.now)))
+    ensures ok { IfOk result (λ n. PlaysBrought A.App M.Medium (take n bytes.now)
         (place medium.old node.old (K.written sink.old)) (place medium.new node.new (K.written sink.new))) }
-    ensures err { OnErr result ((k : M.Set) (before : List ℕ) → M.fed medium.old k before
-        → (n : ℕ) × (0 < n) × (n ≤ length bytes.now)
-        × Breaks A.App M.Medium k (λ own. map (deed_by own) (all_brought (M.way k) before (take n bytes.now)))
+    ensures err { OnErr result (BreaksBrought A.App M.Medium bytes.now
         (place medium.old node.old (K.written sink.old)) (place medium.new node.new (K.written sink.new))) }
     ensures cause { HasCause (K.faults sink.old) (K.faults sink.new) result }
 {

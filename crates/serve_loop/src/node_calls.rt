@@ -1,14 +1,11 @@
-ghost use Rattle.std.specs.Prelude.{◌≡◌, ◌<◌, ◌≤◌, [], ◌∷◌, List, ℕ, length, map, Option, OnOk, OnErr};
-ghost use Rattle.std.specs.Io.KnownBytes.{Appends};
+ghost use Rattle.std.specs.Prelude.{◌≡◌, ◌<◌, ◌≤◌, [], ◌∷◌, List, length, map, Option, OnOk, OnErr};
 ghost use Rattle.uip_edge.specs.Causes.{HasCause};
-ghost use Rattle.uip_edge.specs.Writing.{BreaksOff};
-ghost use Rattle.uip_wire.specs.declared.addr.Addr.{Addr as Address};
 ghost use Rattle.uip_node.specs.Edge.{event_of};
-ghost use Rattle.uip_node.specs.Events.{Reply, tick};
+ghost use Rattle.uip_node.specs.Events.{tick};
 ghost use Rattle.uip_node.specs.Events.Event.{Periodic};
-ghost use Rattle.uip_node.specs.Spoken.{IsSent};
-ghost use Rattle.serve_loop.specs.DeedRuns.{Happens, text_behind};
+ghost use Rattle.serve_loop.specs.DeedRuns.{Happens};
 ghost use Rattle.serve_loop.specs.LineDeeds.{tick_on};
+ghost use Rattle.serve_loop.specs.TurnCalls.{BreaksSent, StaysFed, WritesSent};
 ghost use Rattle.serve_loop.specs.Turns.{Breaks, Plays, place};
 
 use app_events::App;
@@ -24,14 +21,10 @@ fn write_sent<A: App, M: Medium, K: Sink>(
     medium: &mut M,
     sink: &mut K,
 ) -> Result<(), Failed>
-    ensures fed { (k : M.Set) (before : List ℕ) → M.fed medium.old k before → M.fed medium.new k before }
+    ensures fed { StaysFed M.Medium medium.old medium.new }
     ensures did { (k : M.Set) (acts : List M.Act) → M.did medium.old k acts → M.did medium.new k acts }
-    ensures ok { OnOk result ((k : M.Set) (acts : List M.Act) (own : Address) (reply : Option Reply)
-        → M.did medium.old k acts → IsSent own reply sent node.now.packet
-        → Appends (K.written sink.old) (K.written sink.new) (text_behind (M.way k) acts own reply)) }
-    ensures err { OnErr result ((k : M.Set) (acts : List M.Act) (own : Address) (reply : Option Reply)
-        → M.did medium.old k acts → IsSent own reply sent node.now.packet
-        → BreaksOff [] (text_behind (M.way k) acts own reply) (K.written sink.old) (K.written sink.new)) }
+    ensures ok { OnOk result (WritesSent M.Medium medium.old sent node.now.packet (K.written sink.old) (K.written sink.new)) }
+    ensures err { OnErr result (BreaksSent M.Medium medium.old sent node.now.packet (K.written sink.old) (K.written sink.new)) }
     ensures cause { HasCause (K.faults sink.old) (K.faults sink.new) result }
 {
     match sent {
@@ -50,7 +43,7 @@ pub(crate) fn take_datagram<A: App, M: Medium, K: Sink>(
     requires shows { M.shows medium.old count }
     requires most { length (M.shown medium.old) ≤ LARGEST_DATAGRAM }
     ensures same { A.kept node.new.shared ≡ A.kept node.old.shared }
-    ensures fed { (k : M.Set) (before : List ℕ) → M.fed medium.old k before → M.fed medium.new k before }
+    ensures fed { StaysFed M.Medium medium.old medium.new }
     ensures ok { OnOk result ((k : M.Set) → Plays A.App M.Medium k
         (λ own. Happens (event_of own (M.shown medium.old)) ∷ [])
         (place medium.old node.old (K.written sink.old)) (place medium.new node.new (K.written sink.new))) }
@@ -72,7 +65,7 @@ fn call_slot<A: App, M: Medium, K: Sink>(
 ) -> Result<(), Failed>
     requires within { slot < 10 }
     ensures same { A.kept node.new.shared ≡ A.kept node.old.shared }
-    ensures fed { (k : M.Set) (before : List ℕ) → M.fed medium.old k before → M.fed medium.new k before }
+    ensures fed { StaysFed M.Medium medium.old medium.new }
     ensures ok { OnOk result ((k : M.Set) → Plays A.App M.Medium k
         (λ own. Happens (Periodic slot) ∷ [])
         (place medium.old node.old (K.written sink.old)) (place medium.new node.new (K.written sink.new))) }
@@ -92,7 +85,7 @@ fn call_slots<A: App, M: Medium, K: Sink>(
     sink: &mut K,
 ) -> Result<(), Failed>
     ensures same { A.kept node.new.shared ≡ A.kept node.old.shared }
-    ensures fed { (k : M.Set) (before : List ℕ) → M.fed medium.old k before → M.fed medium.new k before }
+    ensures fed { StaysFed M.Medium medium.old medium.new }
     ensures ok { OnOk result ((k : M.Set) → Plays A.App M.Medium k
         (λ own. map Happens tick)
         (place medium.old node.old (K.written sink.old)) (place medium.new node.new (K.written sink.new))) }
@@ -114,7 +107,7 @@ pub(crate) fn tick<A: App, M: Medium, K: Sink>(
     sink: &mut K,
 ) -> Result<(), Failed>
     ensures same { A.kept node.new.shared ≡ A.kept node.old.shared }
-    ensures fed { (k : M.Set) (before : List ℕ) → M.fed medium.old k before → M.fed medium.new k before }
+    ensures fed { StaysFed M.Medium medium.old medium.new }
     ensures ok { OnOk result ((k : M.Set) → Plays A.App M.Medium k
         (λ own. tick_on (M.way k))
         (place medium.old node.old (K.written sink.old)) (place medium.new node.new (K.written sink.new))) }

@@ -1,8 +1,8 @@
 //! What moves in turn hand out: calls, and values that are given between them.
 
-ghost use Rattle.std.specs.Prelude.{◌≡◌, ◌≤◌, ◌++◌, ℕ, List, [], None, length};
+ghost use Rattle.std.specs.Prelude.{◌≡◌, ◌++◌, ℕ, List, [], None};
 ghost use Rattle.std.specs.List.{All};
-ghost use Rattle.app_events.specs.Pages.{IsAddr, IsByte, IsPaged, IsWord, Pages};
+ghost use Rattle.app_events.specs.Pages.{IsAddr, IsPaged, IsWord, Pages};
 ghost use Rattle.app_events.specs.Part.{Meaning};
 ghost use Rattle.uip_edge.specs.declared.item.Item.{Item};
 ghost use Rattle.uip_node.specs.Laws.{HasBytes};

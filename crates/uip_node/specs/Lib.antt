@@ -8,5 +8,6 @@ pub mod State
 pub mod Counted
 pub mod Spoken
 pub mod StandsFor
+pub mod Inner
 pub mod Steady
 pub mod Laws

@@ -5,7 +5,7 @@ ghost use Rattle.tcp_machine.specs.Connection.{Sockets};
 ghost use Rattle.tcp_segment.specs.Segments.{PlainSegment};
 ghost use Rattle.uip_node.specs.Counted.{CountsAnswer, CountsEvent, again_place, icmp_place, ip_place, seen, tcp_place};
 ghost use Rattle.uip_node.specs.Counters.{counters, ticks_of};
-ghost use Rattle.uip_node.specs.Events.{Event, Past};
+ghost use Rattle.uip_node.specs.Events.{Past};
 ghost use Rattle.uip_node.specs.Events.Event.{Arrived, EchoAsked, IcmpRefused, IpRefused, Overlong, Periodic, TcpRefused};
 ghost use Rattle.uip_node.specs.Events.Answer.{EchoReplied, NoSlot, Spoke};
 

@@ -1,16 +1,15 @@
 //! The connection in a slot takes an event.
 
-ghost use Rattle.std.specs.Prelude.{◌≡◌, ℕ, ◌<◌, ◌≤◌, true, false, List, Some, length, slice_get, slice_set};
+ghost use Rattle.std.specs.Prelude.{◌≡◌, ◌<◌, ◌≤◌, true, false, Some, length, slice_get};
 ghost use Rattle.app_events.specs.States.{is_live};
-ghost use Rattle.tcp_machine.specs.Ask.{Outcome, ask, asked};
-ghost use Rattle.tcp_machine.specs.Connection.{Connection};
+ghost use Rattle.tcp_machine.specs.Ask.{ask};
 ghost use Rattle.tcp_machine.specs.Fits.{CanBeAsked, IsAnswer, StepFits};
-ghost use Rattle.tcp_machine.specs.OnSegment.{accepted, on_segment};
+ghost use Rattle.tcp_machine.specs.OnSegment.{on_segment};
 ghost use Rattle.tcp_machine.specs.OnTick.{on_tick};
 ghost use Rattle.tcp_machine.specs.Stands.{plain};
-ghost use Rattle.tcp_machine.specs.Segments.{segment_of};
-ghost use Rattle.uip_node.specs.Spoken.{IsSpoken};
-ghost use Rattle.uip_node.specs.Slots.{AllKept, AllSound, IsIn, MeetsAt, NoneAt, OthersRest, SlotsStand, TookStep, live_rows, moment_at};
+ghost use Rattle.uip_node.specs.Edge.{sockets_of};
+ghost use Rattle.uip_node.specs.Inner.{OpensIn, SettlesIn, SpeaksIn, TakesIn};
+ghost use Rattle.uip_node.specs.Slots.{AllKept, AllSound, IsIn, NoneAt, OthersRest, TookStep, live_rows};
 
 use crate::listing::rows_of;
 use crate::speaking::speak;
@@ -35,10 +34,9 @@ pub(crate) fn take_segment<A: App>(
     requires short { length piece.now ≤ 1500 }
     ensures same { A.kept shared.new ≡ A.kept shared.old }
     ensures took { TookStep A.App (A.kept shared.old) slot table.old table.new result }
-    ensures meets { (abstracts : List Connection) (a : Connection) → SlotsStand A.App (A.kept shared.old) table.old.conns abstracts
-        → slice_get abstracts slot ≡ Some a
-        → MeetsAt A.App (A.kept shared.old) table.new.conns (A.numbers shared.new) result abstracts slot
-        (on_segment (A.meaning (A.kept shared.old)) a (A.numbers shared.old) (plain seg.now piece.now)) }
+    ensures meets { TakesIn A.App (A.kept shared.old) slot
+        (λ a. on_segment (A.meaning (A.kept shared.old)) a (A.numbers shared.old) (plain seg.now piece.now))
+        table.old.conns table.new.conns (A.numbers shared.new) result }
 {
     let conn = &mut table.conns[slot];
     on_segment(conn, shared, seg, piece)
@@ -51,10 +49,9 @@ pub(crate) fn take_tick<A: App>(table: &mut Table<A>, shared: &mut A::Shared, sl
     requires kept { AllKept A.App (A.kept shared.old) table.old.conns }
     ensures same { A.kept shared.new ≡ A.kept shared.old }
     ensures took { TookStep A.App (A.kept shared.old) slot table.old table.new result }
-    ensures meets { (abstracts : List Connection) (a : Connection) → SlotsStand A.App (A.kept shared.old) table.old.conns abstracts
-        → slice_get abstracts slot ≡ Some a
-        → MeetsAt A.App (A.kept shared.old) table.new.conns (A.numbers shared.new) result abstracts slot
-        (on_tick (A.meaning (A.kept shared.old)) a (A.numbers shared.old)) }
+    ensures meets { TakesIn A.App (A.kept shared.old) slot
+        (λ a. on_tick (A.meaning (A.kept shared.old)) a (A.numbers shared.old))
+        table.old.conns table.new.conns (A.numbers shared.new) result }
 {
     let conn = &mut table.conns[slot];
     on_tick(conn, shared)
@@ -77,10 +74,9 @@ fn ask_in<A: App>(
     ensures kept { AllKept A.App (A.kept shared.now) table.new.conns }
     ensures answer { IsAnswer result }
     ensures text { IsIn table.new.conns slot (λ c. StepFits c result) }
-    ensures meets { (abstracts : List Connection) (a : Connection) → SlotsStand A.App (A.kept shared.now) table.old.conns abstracts
-        → slice_get abstracts slot ≡ Some a
-        → MeetsAt A.App (A.kept shared.now) table.new.conns (A.numbers shared.now) result abstracts slot
-        (ask (A.meaning (A.kept shared.now)) now.now fresh a (A.numbers shared.now)) }
+    ensures meets { TakesIn A.App (A.kept shared.now) slot
+        (λ a. ask (A.meaning (A.kept shared.now)) now.now fresh a (A.numbers shared.now))
+        table.old.conns table.new.conns (A.numbers shared.now) result }
 {
     let conn = &mut table.conns[slot];
     ask(conn, shared, now, fresh)
@@ -105,10 +101,8 @@ pub(crate) fn settle<A: App>(
     ensures kept { AllKept A.App (A.kept shared.now) table.new.conns }
     ensures answer { IsAnswer result }
     ensures text { IsIn table.new.conns slot (λ c. StepFits c result) }
-    ensures meets { (abstracts : List Connection) (o : Outcome) → slot < length abstracts
-        → MeetsAt A.App (A.kept shared.now) table.old.conns (A.numbers shared.now) step abstracts slot o
-        → MeetsAt A.App (A.kept shared.now) table.new.conns (A.numbers shared.now) result abstracts slot
-        (asked (A.meaning (A.kept shared.now)) (moment_at ticks net abstracts slot) o) }
+    ensures meets { SettlesIn A.App (A.kept shared.now) slot ticks net
+        table.old.conns table.new.conns (A.numbers shared.now) step result }
 {
     match step {
         Step::Ask { fresh } => {
@@ -136,10 +130,7 @@ pub(crate) fn open_in<A: App>(table: &mut Table<A>, slot: usize, peer: Addr, seg
     ensures fits { IsIn table.new.conns slot (λ c. StepFits c result) }
     ensures step { result ≡ Step.SynAck false }
     ensures kept { (k : A.Kept) → AllKept A.App k table.old.conns → AllKept A.App k table.new.conns }
-    ensures stands { (k : A.Kept) (abstracts : List Connection) (text : List ℕ) → SlotsStand A.App k table.old.conns abstracts
-        → SlotsStand A.App k table.new.conns
-        (slice_set abstracts slot
-        (accepted table.old.iss (record { peer = peer; peer_port = seg.now.from; own_port = seg.now.to }) (plain seg.now text))) }
+    ensures stands { OpensIn A.App slot table.old.iss (sockets_of peer seg.now) seg.now table.old.conns table.new.conns }
 {
     let iss = table.iss;
     let conn = &mut table.conns[slot];
@@ -162,9 +153,7 @@ pub(crate) fn speak_in<A: App>(
     requires fits { IsIn table.now.conns slot (λ c. StepFits c step) }
     requires answer { IsAnswer step }
     ensures size { length packet.new.area ≡ LARGEST_DATAGRAM }
-    ensures spoken { (abstracts : List Connection) (ns : List ℕ) (o : Outcome) → slot < length abstracts
-        → MeetsAt A.App (A.kept shared.now) table.now.conns ns step abstracts slot o
-        → IsSpoken own o.connection.sockets id (segment_of (A.meaning (A.kept shared.now)) o.connection step) result packet.new }
+    ensures spoken { SpeaksIn A.App (A.kept shared.now) slot own id table.now.conns step result packet.new }
 {
     let conn = &table.conns[slot];
     speak(packet, conn, shared, step, own, id)

@@ -1,6 +1,6 @@
 //! The rows of the table of connections.
 
-ghost use Rattle.std.specs.Prelude.{◌≡◌, ℕ, ◌+◌, ◌≤◌, ◌++◌, length};
+ghost use Rattle.std.specs.Prelude.{◌≡◌, ◌≤◌, length};
 ghost use Rattle.uip_node.specs.Slots.{live_rows, row_in};
 
 use app_events::{Row, RowList};

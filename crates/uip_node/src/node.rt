@@ -70,24 +70,23 @@ impl<A: App> Model for Node<A> {
 }
 
 impl<A: App> Node<A> {
-    ghost use Rattle.std.specs.Prelude.{◌≡◌, ◌+◌, ◌<◌, ◌≤◌, ℕ, [], List, IfOk, Some, length, slice_get, true};
+    ghost use Rattle.std.specs.Prelude.{◌≡◌, ◌+◌, ◌<◌, ◌≤◌, [], IfOk, Some, length, slice_get, true};
     ghost use Rattle.app_events.specs.States.{is_live};
     ghost use Rattle.packet_buffer.specs.Buffer.{datagram_in};
-    ghost use Rattle.tcp_machine.specs.Ask.{Outcome, asked};
-    ghost use Rattle.tcp_machine.specs.Connection.{Connection, rows_from};
+    ghost use Rattle.tcp_machine.specs.Connection.{rows_from};
     ghost use Rattle.tcp_machine.specs.Fits.{IsAnswer, StepFits};
-    ghost use Rattle.tcp_machine.specs.OnSegment.{accept, on_segment};
+    ghost use Rattle.tcp_machine.specs.OnSegment.{on_segment};
     ghost use Rattle.tcp_machine.specs.Stands.{plain};
     ghost use Rattle.tcp_segment.specs.Received.{plain_of, segment_or_fate};
     ghost use Rattle.uip_ipv4.specs.Head.{IsHeadOf};
-    ghost use Rattle.uip_node.specs.Counted.{CountsStand, seen};
-    ghost use Rattle.uip_node.specs.Counters.{counters, initial_number, ticks_of};
+    ghost use Rattle.uip_node.specs.Counted.{seen};
+    ghost use Rattle.uip_node.specs.Counters.{counters, ticks_of};
     ghost use Rattle.uip_node.specs.Edge.{by_proto, by_segment, event_of, sockets_of};
-    ghost use Rattle.uip_node.specs.Events.{Event};
-    ghost use Rattle.uip_node.specs.Events.Event.{Arrived, Overlong, Periodic};
-    ghost use Rattle.uip_node.specs.Node.{AbstractNode, arrives, connection_in, from_stranger, happened, moment, opening, opens, refuses, slot_for_syn, step};
-    ghost use Rattle.uip_node.specs.Slots.{AllKept, AllSound, IsIn, MeetsAt, NoneAt, OthersRest};
-    ghost use Rattle.uip_node.specs.StandsFor.{Takes, Stands, Steps};
+    ghost use Rattle.uip_node.specs.Events.Event.{Overlong, Periodic};
+    ghost use Rattle.uip_node.specs.Node.{AbstractNode, arrives, from_stranger, opening, opens, refuses, slot_for_syn, step};
+    ghost use Rattle.uip_node.specs.Inner.{AnswersPeer, OpensBy, SaysStep, StepsIn};
+    ghost use Rattle.uip_node.specs.Slots.{IsIn, NoneAt};
+    ghost use Rattle.uip_node.specs.StandsFor.{Takes, Stands};
 
     /// A node at an address, with ten CLOSED connections and nothing counted. After this no call of it takes memory. On NoMemory
     /// `shared` is dropped.
@@ -174,11 +173,7 @@ impl<A: App> Node<A> {
         requires answer { IsAnswer step }
         requires fits { IsIn self.old.table.conns slot (λ c. StepFits c step) }
         ensures same { A.kept self.new.shared ≡ A.kept self.old.shared }
-        ensures step { (n : AbstractNode) (event : Event) (old : Connection) (o : Outcome) → self.old.addr ≡ n.addr
-            → slot < length n.connections → self.old.table.iss ≡ initial_number (seen event n.past)
-            → CountsStand self.old.counts (seen event n.past)
-            → MeetsAt A.App (A.kept self.old.shared) self.old.table.conns (A.numbers self.old.shared) step n.connections slot o
-            → Steps A.App self.new result (happened (A.meaning (A.kept self.old.shared)) n event slot old o) }
+        ensures step { SaysStep A.App slot step self.old self.new result }
     {
         let id = self.ident.wrapping_add(1);
         match speak_in(
@@ -205,12 +200,8 @@ impl<A: App> Node<A> {
         requires live { IsIn self.old.table.conns slot (λ c. is_live c.state ≡ true) }
         requires inside { seg.now.text_at + seg.now.text_len ≤ length (datagram_in self.old.packet) }
         ensures same { A.kept self.new.shared ≡ A.kept self.old.shared }
-        ensures step { (n : AbstractNode) (event : Event) → Stands A.App self.old n (seen event n.past) → slot < length n.connections
-            → Steps A.App self.new result
-            (happened (A.meaning (A.kept self.old.shared)) n event slot (connection_in slot n)
-            (asked (A.meaning (A.kept self.old.shared)) (moment n event slot)
-            (on_segment (A.meaning (A.kept self.old.shared)) (connection_in slot n) n.numbers
-            (plain_of seg.now (datagram_in self.old.packet))))) }
+        ensures step { StepsIn A.App slot (λ m c numbers. on_segment m c numbers (plain_of seg.now (datagram_in self.old.packet)))
+            self.old self.new result }
     {
         let piece = seg.text(self.packet.bytes());
         let step = take_segment(&mut self.table, &mut self.shared, slot, seg, piece);
@@ -230,11 +221,7 @@ impl<A: App> Node<A> {
         requires within { slot < length self.old.table.conns }
         requires free { NoneAt peer seg.now.from seg.now.to self.old.table.conns }
         ensures same { A.kept self.new.shared ≡ A.kept self.old.shared }
-        ensures step { (n : AbstractNode) (event : Event) (old : Connection) (text : List ℕ) → Stands A.App self.old n (seen event n.past)
-            → slot < length n.connections
-            → Steps A.App self.new result
-            (happened (A.meaning (A.kept self.old.shared)) n event slot old
-            (accept (initial_number (seen event n.past)) (sockets_of peer seg.now) (plain seg.now text) n.numbers)) }
+        ensures step { OpensBy A.App slot (sockets_of peer seg.now) seg.now self.old self.new result }
     {
         let step = open_in(&mut self.table, slot, peer, seg);
         self.say(slot, step)
@@ -243,9 +230,7 @@ impl<A: App> Node<A> {
     /// A segment to no connection is answered with a reset.
     fn refuse(&mut self, peer: Addr, seg: &Segment) -> Option<usize>
         ensures same { A.kept self.new.shared ≡ A.kept self.old.shared }
-        ensures step { (n : AbstractNode) (text : List ℕ)
-            → Stands A.App self.old n (seen (Arrived (sockets_of peer seg.now) (plain seg.now text)) n.past)
-            → Steps A.App self.new result (refuses n (sockets_of peer seg.now) (plain seg.now text)) }
+        ensures step { AnswersPeer A.App (sockets_of peer seg.now) seg.now (λ m n s t. refuses n s t) self.old self.new result }
     {
         let id = self.ident.wrapping_add(1);
         let len = put_reset(&mut self.packet, self.addr, peer, seg, id);
@@ -258,10 +243,8 @@ impl<A: App> Node<A> {
     fn welcome(&mut self, peer: Addr, seg: &Segment) -> Option<usize>
         requires free { NoneAt peer seg.now.from seg.now.to self.old.table.conns }
         ensures same { A.kept self.new.shared ≡ A.kept self.old.shared }
-        ensures step { (n : AbstractNode) (text : List ℕ)
-            → Stands A.App self.old n (seen (Arrived (sockets_of peer seg.now) (plain seg.now text)) n.past)
-            → Steps A.App self.new result
-            (opens (A.meaning (A.kept self.old.shared)) n (sockets_of peer seg.now) (plain seg.now text) (slot_for_syn n.connections)) }
+        ensures step { AnswersPeer A.App (sockets_of peer seg.now) seg.now (λ m n s t. opens m n s t (slot_for_syn n.connections))
+            self.old self.new result }
     {
         match self.table.slot_for_syn() {
             Some(slot) => self.open(slot, peer, seg),
@@ -276,10 +259,8 @@ impl<A: App> Node<A> {
     fn answer_stranger(&mut self, peer: Addr, seg: &Segment) -> Option<usize>
         requires free { NoneAt peer seg.now.from seg.now.to self.old.table.conns }
         ensures same { A.kept self.new.shared ≡ A.kept self.old.shared }
-        ensures step { (n : AbstractNode) (text : List ℕ)
-            → Stands A.App self.old n (seen (Arrived (sockets_of peer seg.now) (plain seg.now text)) n.past)
-            → Steps A.App self.new result
-            (from_stranger (A.meaning (A.kept self.old.shared)) A.served n (sockets_of peer seg.now) (plain seg.now text)) }
+        ensures step { AnswersPeer A.App (sockets_of peer seg.now) seg.now (λ m n s t. from_stranger m A.served n s t)
+            self.old self.new result }
     {
         if opens_here::<A>(seg) {
             self.welcome(peer, seg)

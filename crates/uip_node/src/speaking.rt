@@ -12,6 +12,7 @@ ghost use Rattle.tcp_machine.specs.declared.step.Step.TheVariants.{Drop};
 ghost use Rattle.tcp_segment.specs.Segments.{datagram_bytes};
 ghost use Rattle.tcp_segment.specs.Sent.{datagram_of};
 ghost use Rattle.uip_node.specs.Edge.{datagram_to, sockets_of};
+ghost use Rattle.uip_node.specs.Inner.{WritesText};
 ghost use Rattle.uip_node.specs.Slots.{IsNamed};
 ghost use Rattle.uip_node.specs.Spoken.{IsSpoken, headed};
 
@@ -129,11 +130,7 @@ fn send_text<A: App>(
     requires len { conn.now.len ≤ OWN_MSS }
     ensures size { length packet.new.area ≡ LARGEST_DATAGRAM }
     ensures length { result ≡ length (datagram_in packet.new) }
-    ensures bytes { (a : Connection) → IsNamed conn.now a → A.stands_for conn.now.app (A.kept shared.now) a.part
-        → datagram_in packet.new ≡ datagram_bytes
-        (datagram_to own a.sockets id
-        (headed (record { flags = ACK + PSH; window = OWN_MSS; mss = None; len = conn.now.len }) a
-        (take conn.now.len (text_left (A.meaning (A.kept shared.now)) a.part)))) }
+    ensures bytes { WritesText A.App (A.kept shared.now) own id conn.now packet.new }
 {
     fill_text(packet, conn, shared);
     let heading = Heading {
