@@ -93,6 +93,11 @@ abbrev pub received_with : Bool → List ℕ → List ℕ → List ℕ
 received_with true received text = received ++ text
 received_with false received text = received
 
+-- a call did this step at a segment of this text, of which a client with this request took the text or not
+abbrev pub DidAtText : (AbstractClient → ClientStep) → List ℕ → List ℕ → Bool → Client → Client → Option ℕ → List ℕ → Type 0
+DidAtText f request text took old new answer area =
+    (received : List ℕ) → Did (f (standing old request received)) (standing new request (received_with took received text)) answer area
+
 -- it has sent a segment, and was not reset
 abbrev pub has_spoken : ClientState → Bool
 has_spoken Idle = false

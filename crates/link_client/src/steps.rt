@@ -4,7 +4,7 @@ ghost use Rattle.std.specs.Prelude.{◌≡◌, ◌+◌, ◌≤◌, ◌==◌, ◌
 ghost use Rattle.tcp_segment.specs.Received.{plain_of};
 ghost use Rattle.tcp_machine.specs.Segments.{has_place};
 ghost use Rattle.tcp_machine.specs.Stands.{plain};
-ghost use Rattle.link_client.specs.Calls.{Did, IsClient, has_more_to_send, received_with, standing};
+ghost use Rattle.link_client.specs.Calls.{Did, DidAtText, IsClient, has_more_to_send, received_with, standing};
 ghost use Rattle.link_client.specs.Client.{after_fin, client_takes, fin_out, fin_sent, hears_ack, is_receiving, is_reset_by, may_finish, sends_next, takes_by, takes_in_order, takes_text, has_outstanding};
 
 use crate::client::Client;
@@ -212,8 +212,8 @@ impl Client {
         requires room { LARGEST_DATAGRAM ≤ length area.old }
         ensures client { IsClient self.new request.now }
         ensures setup { self.new.setup ≡ self.old.setup }
-        ensures step { (received : List ℕ) → Did (takes_in_order (standing self.old request.now received) (plain segment.now piece.now))
-            (standing self.new request.now (received_with result.took_text received piece.now)) result.sent area.new }
+        ensures step { DidAtText (λ c. takes_in_order c (plain segment.now piece.now)) request.now piece.now result.took_text
+            self.old self.new result.sent area.new }
     {
         if segment.has_syn() {
             return without_text(self.send_next(request, true, area));
@@ -260,9 +260,8 @@ impl Client {
         requires room { LARGEST_DATAGRAM ≤ length area.old }
         ensures client { IsClient self.new request.now }
         ensures setup { self.new.setup ≡ self.old.setup }
-        ensures step { (received : List ℕ) → Did (takes_by self.old.state (standing self.old request.now received)
-            (plain segment.now piece.now)) (standing self.new request.now
-            (received_with result.took_text received piece.now)) result.sent area.new }
+        ensures step { DidAtText (λ c. takes_by self.old.state c (plain segment.now piece.now)) request.now piece.now result.took_text
+            self.old self.new result.sent area.new }
     {
         match self.state {
             ClientState::Idle | ClientState::Reset => without_text(None),
@@ -316,8 +315,8 @@ impl Client {
         requires room { LARGEST_DATAGRAM ≤ length area.old }
         ensures client { IsClient self.new request.now }
         ensures setup { self.new.setup ≡ self.old.setup }
-        ensures step { (received : List ℕ) → Did (client_takes (standing self.old request.now received) (plain segment.now piece.now))
-            (standing self.new request.now (received_with result.took_text received piece.now)) result.sent area.new }
+        ensures step { DidAtText (λ c. client_takes c (plain segment.now piece.now)) request.now piece.now result.took_text
+            self.old self.new result.sent area.new }
     {
         if segment.has_rst() {
             self.take_reset(segment);

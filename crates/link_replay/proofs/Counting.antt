@@ -28,13 +28,13 @@ use Rattle.link_replay.specs.Noting.{is_sent_again, resent}
 record Told (n : AbstractNode) (r : NodeStep) : Type 0 where
   pub last : Past
   pub is : r.node.past ≡ last ∷ n.past
-  pub again : raises 19 last ≡ is_sent_again r.sent
+  pub again : raises 18 last ≡ is_sent_again r.sent
 
 -- no event raises the counter of what is sent again
 abbrev was_again : Answer → Bool
 was_again answer = list_any (λ n. n == 19) (raised_by_answer answer)
 
-by_answer : (event : Event) (answer : Answer) → raises 19 (record { event = event; answer = answer }) ≡ was_again answer
+by_answer : (event : Event) (answer : Answer) → raises 18 (record { event = event; answer = answer }) ≡ was_again answer
 by_answer (IpRefused Ip.Short) answer = refl
 by_answer (IcmpRefused Icmp.Short) answer = refl
 by_answer (TcpRefused Tcp.Short) answer = refl
@@ -95,5 +95,5 @@ pub resent_differs : (m : Meaning) (served : ℕ → Bool) (n : AbstractNode) (e
 resent_differs m served n event =
     let t = told m served n event in
     ap (λ (p : List Past). not (eqb (resent n.past) (resent p))) t.is
-    ∙ rises (raises 19 t.last) (times (raises 19) n.past)
+    ∙ rises (raises 18 t.last) (times (raises 18) n.past)
     ∙ t.again

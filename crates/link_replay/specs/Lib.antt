@@ -5,6 +5,7 @@ pub mod Noting
 pub mod Epochs
 pub mod Stands
 pub mod Telling
+pub mod Moving
 pub mod Opening
 pub mod Playing
 pub mod Report

@@ -5,6 +5,7 @@ use Rattle.tcp_table.specs.Connections.{is_at}
 use Rattle.tcp_table.specs.declared.conn.Conn.{Conn}
 use Rattle.tcp_machine.specs.Connection.{Connection, Sockets, is_live}
 use Rattle.uip_node.specs.Counters.{raises, times}
+use Rattle.uip_node.specs.declared.counter.TheConstants.{TCP_AGAIN}
 use Rattle.uip_node.specs.Events.{Past, Reply}
 use Rattle.uip_node.specs.Events.Reply.{Echo, Tcp}
 use Rattle.uip_node.specs.Node.{AbstractNode}
@@ -25,9 +26,9 @@ owner c = if is_live c.state then Some (pair_at c.sockets) else None
 abbrev pub owner_in : {A : Type 0} → Conn A → Option SocketPair
 owner_in c = if is_live c.state then Some (record { peer = c.peer; peer_port = c.peer_port; own_port = c.own_port }) else None
 
--- how often the node has sent again what was outstanding, as its counter 19 tells
+-- how often the node has sent again what was outstanding, as its counter tells
 abbrev pub resent : List Past → ℕ
-resent past = wrap (times (raises 19) past)
+resent past = wrap (times (raises TCP_AGAIN) past)
 
 -- the owners of all slots, and the count of what was sent again
 pub record IsBefore (before : Before) (n : AbstractNode) : Type 0 where

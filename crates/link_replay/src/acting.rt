@@ -1,13 +1,12 @@
 //! A client takes a step, and what it sends is posted.
 
 ghost use Rattle.std.specs.Prelude.{◌≡◌, ◌≤◌, ℕ, OnOk, Option, Some, length};
-ghost use Rattle.tcp_segment.specs.Segments.{PlainSegment};
 ghost use Rattle.uip_node.specs.Counters.{ticks_of};
 ghost use Rattle.uip_wire.specs.declared.addr.Addr.{Addr as Address};
-ghost use Rattle.link_client.specs.Calls.{Sends};
 ghost use Rattle.link_client.specs.Client.{tells_window};
 ghost use Rattle.link_world.specs.Acts.{client_acts, handed};
-ghost use Rattle.link_world.specs.World.{Side as PlainSide, World as PlainWorld, at_side, numbered, posts_of_client};
+ghost use Rattle.link_world.specs.World.{World as PlainWorld, at_side};
+ghost use Rattle.link_replay.specs.Moving.{PostsOfClient};
 ghost use Rattle.link_replay.specs.Owning.{own_step};
 ghost use Rattle.link_replay.specs.Stands.{IsLink, LinkStands};
 
@@ -23,10 +22,7 @@ impl Link {
         requires area { length self.old.area.items ≡ LARGEST_DATAGRAM }
         requires inside { (len : ℕ) → sent ≡ Some len → len ≤ length self.old.area.items }
         ensures kept { (addr : Address) → IsLink addr self.old → IsLink addr self.new }
-        ensures posted { OnOk result ((w : PlainWorld) (side : PlainSide) (s : Option PlainSegment) → LinkStands self.old w
-            → numbered w.sides number ≡ Some side
-            → Sends side.client.setup s sent self.old.area.items → tick ≡ ticks_of w.node.past
-            → LinkStands self.new (posts_of_client w number s)) }
+        ensures posted { OnOk result (PostsOfClient number sent tick self.old self.new) }
     {
         let Some(len) = sent else {
             return Ok(());

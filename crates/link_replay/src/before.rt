@@ -1,11 +1,11 @@
 //! What is looked at before a call of the node, which tells no more than the length of its answer, and again after it.
 
-ghost use Rattle.std.specs.Prelude.{◌≡◌, ℕ, ◌≤◌, Bool, List, length, map};
-ghost use Rattle.app_events.specs.Part.{Meaning};
+ghost use Rattle.std.specs.Prelude.{◌≡◌, ◌≤◌, List, length, map};
 ghost use Rattle.uip_node.specs.Counters.{counters};
-ghost use Rattle.uip_node.specs.Events.{Event, Past};
+ghost use Rattle.uip_node.specs.Events.{Past};
 ghost use Rattle.uip_node.specs.Node.{AbstractNode, connection_in, step};
 ghost use Rattle.uip_node.specs.StandsFor.{Stands};
+ghost use Rattle.link_replay.specs.Moving.{SinceBefore};
 ghost use Rattle.link_replay.specs.Noting.{IsBefore, gone_pair, is_sent_again, lost, lost_at, owner, owner_in, resent};
 
 use crate::socket_pair::SocketPair;
@@ -13,6 +13,7 @@ use app_events::App;
 use arrayvec::ArrayVec;
 use tcp_table::{Conn, Table};
 use uip_node::Node;
+use uip_node::counter::TCP_AGAIN;
 
 /// What is looked at before a call of the node: the sockets of its connections, and how often it has sent again.
 #[derive(Drop)]
@@ -59,7 +60,7 @@ fn owners_in<A: App>(table: &Table<A>) -> ArrayVec<Option<SocketPair>, 10>
 fn resent_of(net: &[u32; 20]) -> u32
     ensures { (past : List Past) → net.now ≡ counters past → result ≡ resent past }
 {
-    net[18]
+    net[TCP_AGAIN]
 }
 
 /// The owner of a slot, where the connection there is not its any more.
@@ -108,18 +109,14 @@ impl Before {
 
     /// The sockets of the connection that became CLOSED since, if one did.
     pub(crate) fn gone<A: App>(&self, node: &Node<A>) -> Option<SocketPair>
-        ensures { (m : Meaning) (served : ℕ → Bool) (n : AbstractNode) (event : Event) → IsBefore self.now n
-            → Stands A.App node.now (step m served n event).node (step m served n event).node.past
-            → result ≡ gone_pair (step m served n event).gone }
+        ensures { SinceBefore A.App self.now node.now (λ step. result ≡ gone_pair step.gone) }
     {
         lost_in(&self.pairs, &node.table)
     }
 
     /// Whether it has sent again since.
     pub(crate) fn again<A: App>(&self, node: &Node<A>) -> bool
-        ensures { (m : Meaning) (served : ℕ → Bool) (n : AbstractNode) (event : Event) → IsBefore self.now n
-            → Stands A.App node.now (step m served n event).node (step m served n event).node.past
-            → result ≡ is_sent_again (step m served n event).sent }
+        ensures { SinceBefore A.App self.now node.now (λ step. result ≡ is_sent_again step.sent) }
     {
         self.resent != resent_of(&node.net)
     }

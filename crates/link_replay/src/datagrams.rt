@@ -1,13 +1,7 @@
 //! The lines of the datagrams.
 
-ghost use Rattle.std.specs.Prelude.{◌≡◌, ℕ, Bool};
-ghost use Rattle.app_events.specs.Part.{Meaning};
 ghost use Rattle.uip_edge.specs.Causes.{HasCause};
-ghost use Rattle.link_world.specs.World.{Sent as PlainSent, World as PlainWorld};
-ghost use Rattle.link_world.specs.Bytes.{sent_bytes};
-ghost use Rattle.link_world.specs.Reading.{IsRead, IsSentBy};
-ghost use Rattle.link_replay.specs.Reaching.{IsAt};
-ghost use Rattle.link_replay.specs.Stands.{IsLink, LinkStands, SentStands};
+ghost use Rattle.link_replay.specs.Moving.{OfDatagram, OfLink};
 ghost use Rattle.link_replay.specs.Report.{line_of_datagram, numbered_texts, word_if};
 ghost use Rattle.link_replay.specs.Writing.{Wrote};
 
@@ -26,9 +20,8 @@ pub(crate) fn write_shown<K: Sink>(
     link: &Link,
     sink: &mut K,
 ) -> Result<(), Failed>
-    ensures wrote { (m : Meaning) (served : ℕ → Bool) (w : PlainWorld) → addr ≡ w.node.addr → LinkStands link.now w
-        → IsLink w.node.addr link.now → IsAt m served w
-        → Wrote (K.written sink.old) (K.written sink.new) result (word_if show (numbered_texts line_of_datagram 1 w.sent)) }
+    ensures wrote { OfLink addr link.now (λ w. Wrote (K.written sink.old) (K.written sink.new) result
+        (word_if show (numbered_texts line_of_datagram 1 w.sent))) }
     ensures cause { HasCause (K.faults sink.old) (K.faults sink.new) result }
 {
     if show {
@@ -39,9 +32,8 @@ pub(crate) fn write_shown<K: Sink>(
 
 /// Writes the line of each datagram.
 fn write_datagrams<K: Sink>(addr: Addr, link: &Link, sink: &mut K) -> Result<(), Failed>
-    ensures wrote { (m : Meaning) (served : ℕ → Bool) (w : PlainWorld) → addr ≡ w.node.addr → LinkStands link.now w
-        → IsLink w.node.addr link.now → IsAt m served w
-        → Wrote (K.written sink.old) (K.written sink.new) result (numbered_texts line_of_datagram 1 w.sent) }
+    ensures wrote { OfLink addr link.now (λ w. Wrote (K.written sink.old) (K.written sink.new) result
+        (numbered_texts line_of_datagram 1 w.sent)) }
     ensures cause { HasCause (K.faults sink.old) (K.faults sink.new) result }
 {
     for (place, sent) in link.sent.iter().enumerate() {
@@ -58,10 +50,8 @@ fn write_datagram<K: Sink>(
     sent: &Sent,
     sink: &mut K,
 ) -> Result<(), Failed>
-    ensures wrote { (w : PlainWorld) (e : PlainSent) → addr ≡ w.node.addr → LinkStands link.now w → IsLink w.node.addr link.now
-        → SentStands w sent.now e
-        → IsRead w e.who e.content (sent_bytes w e) → IsSentBy w.sides e.who e.content
-        → Wrote (K.written sink.old) (K.written sink.new) result (line_of_datagram number e) }
+    ensures wrote { OfDatagram addr link.now sent.now
+        (λ e. Wrote (K.written sink.old) (K.written sink.new) result (line_of_datagram number e)) }
     ensures cause { HasCause (K.faults sink.old) (K.faults sink.new) result }
 {
     let line = datagram_line(number, sent, kind_of(addr, link, sent));

@@ -5,14 +5,14 @@ ghost use Rattle.uip_node.specs.Edge.{event_of};
 ghost use Rattle.uip_node.specs.Events.{tick};
 ghost use Rattle.uip_node.specs.Events.Event.{Periodic};
 ghost use Rattle.uip_node.specs.Node.{step};
-ghost use Rattle.link_world.specs.Acts.{client_acts, does, fault_of, handles_all, hands_over};
+ghost use Rattle.link_world.specs.Acts.{client_acts, does, handles_all, hands_over};
 ghost use Rattle.link_world.specs.Bytes.{changed, ping_from};
 ghost use Rattle.link_world.specs.World.{World as PlainWorld, node_handles, posts};
 ghost use Rattle.link_world.specs.World.Content.{OfPing};
 ghost use Rattle.link_world.specs.declared.who.Who.TheVariants.{Pinger};
+ghost use Rattle.link_replay.specs.Moving.{DoesAct, FromHere};
 ghost use Rattle.link_replay.specs.Owning.{own_step};
 ghost use Rattle.link_world.specs.Headline.{IsAct};
-ghost use Rattle.link_replay.specs.Reaching.{IsAt};
 ghost use Rattle.link_replay.specs.Stands.{IsKept, WorldStands};
 ghost use Rattle.link_replay.specs.Telling.{AnswersTo, AreTo, client_told};
 
@@ -144,9 +144,8 @@ impl<A: App> WorldOf<A> {
         ensures kept { IsKept A.App self.new }
         ensures same { A.kept self.new.node.shared ≡ A.kept self.old.node.shared }
         ensures mark { self.new.mark ≡ self.old.mark }
-        ensures given { OnOk result ((w : PlainWorld) → IsAt (A.meaning (A.kept self.old.node.shared)) A.served w
-            → WorldStands A.App self.old w
-            → WorldStands A.App self.new (does (A.meaning (A.kept self.old.node.shared)) A.served w (Act.Give number))) }
+        ensures given { OnOk result (FromHere A.App self.old
+            (λ m served w. WorldStands A.App self.new (does m served w (Act.Give number)))) }
     {
         let place = number as usize;
         if place == 0 || place > self.link.sent.len() {
@@ -170,11 +169,7 @@ impl<A: App> WorldOf<A> {
         ensures kept { IsKept A.App self.new }
         ensures same { A.kept self.new.node.shared ≡ A.kept self.old.node.shared }
         ensures mark { self.new.mark ≡ self.old.mark }
-        ensures damaged { OnOk result ((w : PlainWorld) → IsAt (A.meaning (A.kept self.old.node.shared)) A.served w
-            → fault_of w (Act.Damage number at mask) ≡ None
-            → WorldStands A.App self.old w
-            → WorldStands A.App self.new (does (A.meaning (A.kept self.old.node.shared)) A.served w
-            (Act.Damage number at mask))) }
+        ensures damaged { OnOk result (DoesAct A.App (Act.Damage number at mask) self.old self.new) }
     {
         let place = number as usize;
         if place == 0 || place > self.link.sent.len() {
@@ -198,9 +193,7 @@ impl<A: App> WorldOf<A> {
         ensures same { A.kept self.new.node.shared ≡ A.kept self.old.node.shared }
         ensures mark { self.new.mark ≡ self.old.mark }
         ensures window { (number size : ℕ) → act.now ≡ Act.Window number size → result ≡ Ok tt }
-        ensures done { OnOk result ((w : PlainWorld) → IsAt (A.meaning (A.kept self.old.node.shared)) A.served w
-            → fault_of w act.now ≡ None → WorldStands A.App self.old w
-            → WorldStands A.App self.new (does (A.meaning (A.kept self.old.node.shared)) A.served w act.now)) }
+        ensures done { OnOk result (DoesAct A.App act.now self.old self.new) }
     {
         match *act {
             Act::Opens(number) => self.own(number, Own::Opens),

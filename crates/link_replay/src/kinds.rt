@@ -7,11 +7,10 @@ ghost use Rattle.tcp_segment.specs.Received.{segment_or_fate};
 ghost use Rattle.tcp_segment.specs.Segments.{PlainSegment};
 ghost use Rattle.uip_node.specs.Edge.{by_segment, event_of};
 ghost use Rattle.uip_node.specs.Events.Event.{Arrived};
-ghost use Rattle.link_world.specs.World.{Sent as PlainSent, Side as PlainSide, World as PlainWorld, numbered};
-ghost use Rattle.link_world.specs.Bytes.{sent_bytes};
-ghost use Rattle.link_world.specs.Reading.{IsRead, IsSentBy};
+ghost use Rattle.link_world.specs.World.{Side as PlainSide, numbered};
+ghost use Rattle.link_replay.specs.Moving.{OfDatagram};
 ghost use Rattle.link_replay.specs.Matched.{Matched};
-ghost use Rattle.link_replay.specs.Stands.{IsLink, LinkStands, SentStands, SideStands};
+ghost use Rattle.link_replay.specs.Stands.{SideStands};
 ghost use Rattle.link_replay.specs.Report.{kind_sent as kind_meant, segment_kind};
 
 use crate::kind::Kind;
@@ -26,9 +25,7 @@ use uip_wire::Addr;
 /// What a datagram is at the node of this address. A segment is read as its receiver reads it; what no receiver can read is told as
 /// an echo reply.
 pub(crate) fn kind_of(addr: Addr, link: &Link, sent: &Sent) -> Kind
-    ensures { (w : PlainWorld) (e : PlainSent) → addr ≡ w.node.addr → LinkStands link.now w → IsLink w.node.addr link.now
-        → SentStands w sent.now e
-        → IsRead w e.who e.content (sent_bytes w e) → IsSentBy w.sides e.who e.content → result ≡ kind_meant e.content }
+    ensures { OfDatagram addr link.now sent.now (λ e. result ≡ kind_meant e.content) }
 {
     match sent.who {
         Who::Pinger => Kind::EchoRequest,

@@ -11,12 +11,11 @@ ghost use Rattle.link_schedule.specs.Answer.{content_at};
 ghost use Rattle.link_schedule.specs.Kept.{event_in_range};
 ghost use Rattle.link_world.specs.Headline.{IsAct, OfLine};
 ghost use Rattle.link_world.specs.History.{IsPlanned, Planned};
+ghost use Rattle.link_replay.specs.Moving.{FromHere};
 ghost use Rattle.link_replay.specs.Opening.{plan_from};
 ghost use Rattle.uip_node.specs.Laws.{HasBytes};
 ghost use Rattle.link_world.specs.Schedule.{plays as played};
-ghost use Rattle.link_world.specs.World.{World as PlainWorld};
 ghost use Rattle.link_replay.specs.Playing.{LinesEnd, PlaysSchedule, event_at, refusal_at};
-ghost use Rattle.link_replay.specs.Reaching.{IsAt};
 ghost use Rattle.link_replay.specs.Stands.{IsKept, WorldStands};
 
 use crate::seeing::see_loaded;
@@ -71,9 +70,8 @@ fn play_lines<A: App>(world: &mut WorldOf<A>, lines: &[Line]) -> Result<(), Read
     requires kept { IsKept A.App world.old }
     requires ranges { (clients : ℕ) × (list_all (λ line. event_in_range clients line.event) lines.now ≡ true) }
     ensures kept { IsKept A.App world.new }
-    ensures played { (w : PlainWorld) → IsAt (A.meaning (A.kept world.old.node.shared)) A.served w → WorldStands A.App world.old w
-        → LinesEnd (A.meaning (A.kept world.old.node.shared)) A.served (λ done. WorldStands A.App world.new) lines.now result
-        (played (A.meaning (A.kept world.old.node.shared)) A.served (map event_at lines.now) w) }
+    ensures played { FromHere A.App world.old (λ m served w. LinesEnd m served (λ done. WorldStands A.App world.new) lines.now result
+        (played m served (map event_at lines.now) w)) }
 {
     for line in lines.iter() {
         event_fits(&line.event);

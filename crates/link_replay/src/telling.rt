@@ -1,19 +1,9 @@
 //! What a call of the node did is told to the clients and to the list of datagrams.
 
-ghost use Rattle.std.specs.Prelude.{◌≡◌, ◌≤◌, ℕ, Bool, OnOk, Option, Some, length};
-ghost use Rattle.app_events.specs.Part.{Meaning};
-ghost use Rattle.tcp_machine.specs.Connection.{Connection};
+ghost use Rattle.std.specs.Prelude.{◌≡◌, ◌≤◌, OnOk, Option, Some, length};
 ghost use Rattle.uip_wire.specs.declared.addr.Addr.{Addr as Address};
-ghost use Rattle.uip_node.specs.Counters.{ticks_of};
-ghost use Rattle.uip_node.specs.Edge.{reply_bytes};
-ghost use Rattle.uip_node.specs.Events.{Event as NodeEvent, Reply};
-ghost use Rattle.uip_node.specs.Node.{AbstractNode, step};
-ghost use Rattle.uip_node.specs.Spoken.{IsSent};
-ghost use Rattle.uip_node.specs.StandsFor.{Stands};
-ghost use Rattle.link_world.specs.World.{World as PlainWorld, buries, node_stepped, posts_reply};
-ghost use Rattle.link_replay.specs.Noting.{IsBefore, gone_pair, is_sent_again};
-ghost use Rattle.link_replay.specs.Stands.{IsLink, LinkStands};
-ghost use Rattle.link_replay.specs.Telling.{IsTo, AreTo};
+ghost use Rattle.link_replay.specs.Moving.{Buries, PostsReply, TellsStep};
+ghost use Rattle.link_replay.specs.Stands.{IsLink};
 
 use crate::before::Before;
 use crate::link::Link;
@@ -30,9 +20,7 @@ impl Link {
     fn bury(&mut self, gone: Option<SocketPair>) -> Result<(), NoMemory>
         ensures kept { (addr : Address) → IsLink addr self.old → IsLink addr self.new }
         ensures few { length self.new.sides.items ≡ length self.old.sides.items }
-        ensures buried { OnOk result ((w : PlainWorld) (node : AbstractNode) (g : Option Connection) → gone ≡ gone_pair g
-            → node.addr ≡ w.node.addr → LinkStands self.old w
-            → LinkStands self.new (record w { node = node; sides = buries g w.sides })) }
+        ensures buried { OnOk result (Buries gone self.old self.new) }
     {
         if let Some(pair) = gone {
             bury(self.sides.as_mut_slice(), pair)?;
@@ -51,9 +39,7 @@ impl Link {
         requires few { length self.old.sides.items ≤ 64 }
         requires most { length datagram.now ≤ LARGEST_DATAGRAM }
         ensures kept { (addr : Address) → IsLink addr self.old → IsLink addr self.new }
-        ensures posted { OnOk result ((w : PlainWorld) (reply : Reply) → IsTo to reply → tick ≡ ticks_of w.node.past
-            → again ≡ is_sent_again (Some reply)
-            → datagram.now ≡ reply_bytes w.node.addr reply → LinkStands self.old w → LinkStands self.new (posts_reply w (Some reply))) }
+        ensures posted { OnOk result (PostsReply to tick again datagram.now self.old self.new) }
     {
         let number = match to {
             None => 0,
@@ -82,11 +68,7 @@ pub(crate) fn tell<A: App>(
 ) -> Result<(), NoMemory>
     requires few { length link.old.sides.items ≤ 64 }
     ensures kept { (addr : Address) → IsLink addr link.old → IsLink addr link.new }
-    ensures told { OnOk result ((m : Meaning) (served : ℕ → Bool) (w : PlainWorld) (event : NodeEvent) → IsBefore before.now w.node
-        → AreTo to (step m served w.node event).sent
-        → Stands A.App node.now (step m served w.node event).node (step m served w.node event).node.past
-        → IsSent node.now.addr (step m served w.node event).sent sent node.now.packet → LinkStands link.old w
-        → LinkStands link.new (node_stepped w (step m served w.node event))) }
+    ensures told { OnOk result (TellsStep A.App before.now node.now to sent link.old link.new) }
 {
     let again = before.again(node);
     link.bury(before.gone(node))?;

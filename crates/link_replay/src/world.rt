@@ -4,9 +4,9 @@ ghost use Rattle.std.specs.List.{All};
 ghost use Rattle.std.specs.Prelude.{◌≡◌, ℕ, true, false, OnErr, Ok, Err, IfErr};
 ghost use Rattle.link_world.specs.Acts.{acts as acted, runs};
 ghost use Rattle.link_world.specs.Schedule.{acts_of as lines_acts, plays_line};
-ghost use Rattle.link_world.specs.World.{World as PlainWorld};
 ghost use Rattle.link_world.specs.Headline.{IsAct, OfLine};
-ghost use Rattle.link_replay.specs.Reaching.{ActsEnd, IsAt, IsNamed, ActSteps, Stops};
+ghost use Rattle.link_replay.specs.Moving.{FromHere};
+ghost use Rattle.link_replay.specs.Reaching.{ActsEnd, IsNamed, ActSteps, Stops};
 ghost use Rattle.link_replay.specs.Stands.{IsKept, WorldStands};
 
 use crate::acts::{acts_of, mark_after};
@@ -44,8 +44,8 @@ impl<A: App> WorldOf<A> {
         ensures spends { result ≡ Err StepFault.NoMemory → self.new.spent ≡ true }
         ensures refused { IfErr result (λ fault. IsNamed fault → self.new ≡ self.old) }
         ensures window { (number size : ℕ) → act.now ≡ Act.Window number size → self.old.spent ≡ false → result ≡ Ok tt }
-        ensures step { (w : PlainWorld) → IsAt (A.meaning (A.kept self.old.node.shared)) A.served w → WorldStands A.App self.old w
-            → ActSteps (WorldStands A.App self.new) w result (acted (A.meaning (A.kept self.old.node.shared)) A.served w act.now) }
+        ensures step { FromHere A.App self.old
+            (λ m served w. ActSteps (WorldStands A.App self.new) w result (acted m served w act.now)) }
     {
         if self.spent {
             return Err(StepFault::NoMemory);
@@ -68,10 +68,9 @@ impl<A: App> WorldOf<A> {
         ensures same { A.kept self.new.node.shared ≡ A.kept self.old.node.shared }
         ensures mark { self.new.mark ≡ self.old.mark }
         ensures spends { result ≡ Err StepFault.NoMemory → self.new.spent ≡ true }
-        ensures stops { (w : PlainWorld) → IsAt (A.meaning (A.kept self.old.node.shared)) A.served w → WorldStands A.App self.old w
-            → Stops (A.meaning (A.kept self.old.node.shared)) A.served (WorldStands A.App self.new) acts.now w result }
-        ensures run { (w : PlainWorld) → IsAt (A.meaning (A.kept self.old.node.shared)) A.served w → WorldStands A.App self.old w
-            → ActsEnd (WorldStands A.App self.new) result (runs (A.meaning (A.kept self.old.node.shared)) A.served acts.now w) }
+        ensures stops { FromHere A.App self.old (λ m served w. Stops m served (WorldStands A.App self.new) acts.now w result) }
+        ensures run { FromHere A.App self.old
+            (λ m served w. ActsEnd (WorldStands A.App self.new) result (runs m served acts.now w)) }
     {
         for act in acts.iter() {
             self.step(act)?;
@@ -89,10 +88,10 @@ impl<A: App> WorldOf<A> {
         ensures mark { OnErr result (self.new.mark ≡ self.old.mark) }
         ensures spent { self.old.spent ≡ true → result ≡ Err StepFault.NoMemory }
         ensures spends { result ≡ Err StepFault.NoMemory → self.new.spent ≡ true }
-        ensures stops { (w : PlainWorld) → IsAt (A.meaning (A.kept self.old.node.shared)) A.served w → WorldStands A.App self.old w
-            → Stops (A.meaning (A.kept self.old.node.shared)) A.served (WorldStands A.App self.new) (lines_acts w event.now) w result }
-        ensures line { (w : PlainWorld) → IsAt (A.meaning (A.kept self.old.node.shared)) A.served w → WorldStands A.App self.old w
-            → ActsEnd (WorldStands A.App self.new) result (plays_line (A.meaning (A.kept self.old.node.shared)) A.served w event.now) }
+        ensures stops { FromHere A.App self.old
+            (λ m served w. Stops m served (WorldStands A.App self.new) (lines_acts w event.now) w result) }
+        ensures line { FromHere A.App self.old
+            (λ m served w. ActsEnd (WorldStands A.App self.new) result (plays_line m served w event.now)) }
     {
         if self.spent {
             return Err(StepFault::NoMemory);

@@ -63,8 +63,8 @@ rises numbers p past n (suc k) e =
     one_more (raises n p) (times (raises n) past) ∙ ap (λ (ns : List ℕ). if list_any (λ j. j == n) ns then wrap (wrap (times (raises n) past) + 1) else wrap (times (raises n) past)) e in
     cc
 
-refusal_counts : (e : Event) (past : List Past) → counters (record { event = e; answer = Silent } ∷ past) ≡ rise (raised_by e) 1 (counters past)
-refusal_counts e past = rises (raised_by e) (record { event = e; answer = Silent }) past 1 20 (append-nil (raised_by e))
+refusal_counts : (e : Event) (past : List Past) → counters (record { event = e; answer = Silent } ∷ past) ≡ rise (raised_by e) 0 (counters past)
+refusal_counts e past = rises (raised_by e) (record { event = e; answer = Silent }) past 0 20 (append-nil (raised_by e))
 
 one_refusal : (m : Meaning) (served : ℕ → Bool) (w : World) (e : Event) → is_refused e ≡ true → OneRefusal w (node_handles m served w e)
 one_refusal m served w (IpRefused fate) h = record { event = IpRefused fate; refused = refl; past = refl; counted = refusal_counts (IpRefused fate) w.node.past }

@@ -260,7 +260,7 @@ pub record OneRefusal (w v : World) : Type 0 where
   pub event : NodeEvent
   pub refused : is_refused event ≡ true
   pub past : v.node.past ≡ record { event = event; answer = Silent } ∷ w.node.past
-  pub counted : counters v.node.past ≡ rise (raised_by event) 1 (counters w.node.past)
+  pub counted : counters v.node.past ≡ rise (raised_by event) 0 (counters w.node.past)
 
 -- The node counts what was sent to it, and nothing else.
 abbrev pub CountsBy : Who → World → World → Type 0

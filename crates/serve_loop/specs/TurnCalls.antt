@@ -11,13 +11,23 @@ use Rattle.uip_node.specs.Spoken.{IsSent}
 use Rattle.line_medium.specs.Ways.{all_brought}
 use Rattle.line_medium.specs.declared.medium.Medium.{Ghosts as MediumGhosts}
 use Rattle.serve_loop.specs.declared.pacer.Pacer.{Pacer}
-use Rattle.serve_loop.specs.DeedRuns.{text_behind}
+use Rattle.serve_loop.specs.DeedRuns.{Deed, text_behind}
 use Rattle.serve_loop.specs.LineDeeds.{deed_by, deeds_behind}
 use Rattle.serve_loop.specs.Turns.{Breaks, HasTaken, Place, Plays}
 
 -- wherever the medium was fed, it was fed that still
 abbrev pub StaysFed : {M : Type 0} (h : MediumGhosts M) → M → M → Type 0
 StaysFed h old new = (k : h.Set) (before : List ℕ) → h.fed old k before → h.fed new k before
+
+-- however the medium is set, all that is due for these deeds is written
+abbrev pub PlaysDeeds : {A S M : Type 0} (g : Ghosts A S) (h : MediumGhosts M) → ((k : h.Set) → Addr → List (Deed h.Act))
+    → Place M A S → Place M A S → Type 0
+PlaysDeeds g h deeds old new = (k : h.Set) → Plays g h k (deeds k) old new
+
+-- or the writing of it breaks off
+abbrev pub BreaksDeeds : {A S M : Type 0} (g : Ghosts A S) (h : MediumGhosts M) → ((k : h.Set) → Addr → List (Deed h.Act))
+    → Place M A S → Place M A S → Type 0
+BreaksDeeds g h deeds old new = (k : h.Set) → Breaks g h k (deeds k) old new
 
 -- a line that has taken any bytes takes these
 abbrev pub TakesBytes : {M : Type 0} (h : MediumGhosts M) → List ℕ → M → M → Pacer → Pacer → Type 0

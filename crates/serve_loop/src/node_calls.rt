@@ -5,8 +5,8 @@ ghost use Rattle.uip_node.specs.Events.{tick};
 ghost use Rattle.uip_node.specs.Events.Event.{Periodic};
 ghost use Rattle.serve_loop.specs.DeedRuns.{Happens};
 ghost use Rattle.serve_loop.specs.LineDeeds.{tick_on};
-ghost use Rattle.serve_loop.specs.TurnCalls.{BreaksSent, StaysFed, WritesSent};
-ghost use Rattle.serve_loop.specs.Turns.{Breaks, Plays, place};
+ghost use Rattle.serve_loop.specs.TurnCalls.{BreaksDeeds, BreaksSent, PlaysDeeds, StaysFed, WritesSent};
+ghost use Rattle.serve_loop.specs.Turns.{place};
 
 use app_events::App;
 use line_medium::Medium;
@@ -44,11 +44,11 @@ pub(crate) fn take_datagram<A: App, M: Medium, K: Sink>(
     requires most { length (M.shown medium.old) ≤ LARGEST_DATAGRAM }
     ensures same { A.kept node.new.shared ≡ A.kept node.old.shared }
     ensures fed { StaysFed M.Medium medium.old medium.new }
-    ensures ok { OnOk result ((k : M.Set) → Plays A.App M.Medium k
-        (λ own. Happens (event_of own (M.shown medium.old)) ∷ [])
+    ensures ok { OnOk result (PlaysDeeds A.App M.Medium
+        (λ k own. Happens (event_of own (M.shown medium.old)) ∷ [])
         (place medium.old node.old (K.written sink.old)) (place medium.new node.new (K.written sink.new))) }
-    ensures err { OnErr result ((k : M.Set) → Breaks A.App M.Medium k
-        (λ own. Happens (event_of own (M.shown medium.old)) ∷ [])
+    ensures err { OnErr result (BreaksDeeds A.App M.Medium
+        (λ k own. Happens (event_of own (M.shown medium.old)) ∷ [])
         (place medium.old node.old (K.written sink.old)) (place medium.new node.new (K.written sink.new))) }
     ensures cause { HasCause (K.faults sink.old) (K.faults sink.new) result }
 {
@@ -66,11 +66,11 @@ fn call_slot<A: App, M: Medium, K: Sink>(
     requires within { slot < 10 }
     ensures same { A.kept node.new.shared ≡ A.kept node.old.shared }
     ensures fed { StaysFed M.Medium medium.old medium.new }
-    ensures ok { OnOk result ((k : M.Set) → Plays A.App M.Medium k
-        (λ own. Happens (Periodic slot) ∷ [])
+    ensures ok { OnOk result (PlaysDeeds A.App M.Medium
+        (λ k own. Happens (Periodic slot) ∷ [])
         (place medium.old node.old (K.written sink.old)) (place medium.new node.new (K.written sink.new))) }
-    ensures err { OnErr result ((k : M.Set) → Breaks A.App M.Medium k
-        (λ own. Happens (Periodic slot) ∷ [])
+    ensures err { OnErr result (BreaksDeeds A.App M.Medium
+        (λ k own. Happens (Periodic slot) ∷ [])
         (place medium.old node.old (K.written sink.old)) (place medium.new node.new (K.written sink.new))) }
     ensures cause { HasCause (K.faults sink.old) (K.faults sink.new) result }
 {
@@ -86,11 +86,11 @@ fn call_slots<A: App, M: Medium, K: Sink>(
 ) -> Result<(), Failed>
     ensures same { A.kept node.new.shared ≡ A.kept node.old.shared }
     ensures fed { StaysFed M.Medium medium.old medium.new }
-    ensures ok { OnOk result ((k : M.Set) → Plays A.App M.Medium k
-        (λ own. map Happens tick)
+    ensures ok { OnOk result (PlaysDeeds A.App M.Medium
+        (λ k own. map Happens tick)
         (place medium.old node.old (K.written sink.old)) (place medium.new node.new (K.written sink.new))) }
-    ensures err { OnErr result ((k : M.Set) → Breaks A.App M.Medium k
-        (λ own. map Happens tick)
+    ensures err { OnErr result (BreaksDeeds A.App M.Medium
+        (λ k own. map Happens tick)
         (place medium.old node.old (K.written sink.old)) (place medium.new node.new (K.written sink.new))) }
     ensures cause { HasCause (K.faults sink.old) (K.faults sink.new) result }
 {
@@ -108,11 +108,11 @@ pub(crate) fn tick<A: App, M: Medium, K: Sink>(
 ) -> Result<(), Failed>
     ensures same { A.kept node.new.shared ≡ A.kept node.old.shared }
     ensures fed { StaysFed M.Medium medium.old medium.new }
-    ensures ok { OnOk result ((k : M.Set) → Plays A.App M.Medium k
-        (λ own. tick_on (M.way k))
+    ensures ok { OnOk result (PlaysDeeds A.App M.Medium
+        (λ k own. tick_on (M.way k))
         (place medium.old node.old (K.written sink.old)) (place medium.new node.new (K.written sink.new))) }
-    ensures err { OnErr result ((k : M.Set) → Breaks A.App M.Medium k
-        (λ own. tick_on (M.way k))
+    ensures err { OnErr result (BreaksDeeds A.App M.Medium
+        (λ k own. tick_on (M.way k))
         (place medium.old node.old (K.written sink.old)) (place medium.new node.new (K.written sink.new))) }
     ensures cause { HasCause (K.faults sink.old) (K.faults sink.new) result }
 {

@@ -49,6 +49,12 @@ abbrev pub DidAll : List Answered → Option WebDevice → Option WebDevice → 
 DidAll [] a c = a ≡ c
 DidAll (it ∷ all) a c = (b : Option WebDevice) × Did it.move a b it.handed × DidAll all b c
 
+-- This holds of every handle that was just opened, and of any moves in turn on it.
+abbrev pub OfMoves : (List File → Addr → List Answered → Option WebDevice → Type 0) → Type 0
+OfMoves P =
+    (files : List File) (own : Addr) (all : List Answered) (closed old new : Option WebDevice) → OpensAs files own closed old
+    → DidAll all old new → P files own all new
+
 -- the text that is left to be handed out of the device of a handle
 abbrev pub left_text_in : Option WebDevice → List ℕ
 left_text_in None = []

@@ -15,7 +15,7 @@ ghost use Rattle.uip_device.specs.Keeping.{IsOfBytes, KeepsCalls};
 ghost use Rattle.uip_device.specs.Moves.{Bring};
 ghost use Rattle.uip_device.specs.WebDevices.{StandsFor, WebDevice, value_pages};
 ghost use Rattle.uip_device.specs.WebDevices.{web_datagrams_sent, web_line_sent, web_node_behind, web_output};
-ghost use Rattle.uip_c.specs.Handles.{DidAll, IsOf, OpensAs, lefts_in};
+ghost use Rattle.uip_c.specs.Handles.{DidAll, IsOf, OfMoves, OpensAs, lefts_in};
 ghost use Rattle.uip_c.specs.ConstantValues.{ConstantValues};
 
 /// Whatever C calls in turn on a handle that was just opened, over either kind of link, fine or refused, and whatever values it gives
@@ -23,15 +23,10 @@ ghost use Rattle.uip_c.specs.ConstantValues.{ConstantValues};
 /// there bring; each call over a link that carries datagrams hands out the datagram that is sent at its event, or none; and the device
 /// serves the same files, and stands for the node behind the moves.
 pub fn calls_from_c_are_told()
-    ensures line { (files : List File) (own : Addr) (all : List Answered) (closed old new : Option WebDevice)
-        → OpensAs files own closed old → DidAll all old new
-        → IsOf (λ d. line_handed all ++ left_text_of d ≡ web_line_sent files own (moves_of all)) new }
-    ensures datagrams { (files : List File) (own : Addr) (all : List Answered) (closed old new : Option WebDevice)
-        → OpensAs files own closed old → DidAll all old new
-        → datagrams_handed all ≡ web_datagrams_sent files own (moves_of all) }
-    ensures stands { (files : List File) (own : Addr) (all : List Answered) (closed old new : Option WebDevice)
-        → OpensAs files own closed old → DidAll all old new
-        → IsOf (λ d. StandsFor files own d (web_node_behind files own (moves_of all))) new }
+    ensures line { OfMoves (λ files own all new.
+        IsOf (λ d. line_handed all ++ left_text_of d ≡ web_line_sent files own (moves_of all)) new) }
+    ensures datagrams { OfMoves (λ files own all new. datagrams_handed all ≡ web_datagrams_sent files own (moves_of all)) }
+    ensures stands { OfMoves (λ files own all new. IsOf (λ d. StandsFor files own d (web_node_behind files own (moves_of all))) new) }
 {}
 
 /// Whatever bytes are heard, whatever else C calls in turn on a handle that was just opened with a good site, and whatever values it gives

@@ -82,6 +82,13 @@ AnswersAll g gives [] a c = a ≡ c
 AnswersAll {A = A} {S = S} g gives (it ∷ all) a c =
     (b : Device A S) × AnswersMove g gives it.move a b it.handed × AnswersAll g gives all b c
 
+-- This holds of every fresh device, and of any moves in turn that it answers.
+abbrev pub FromFresh : {A S : Type 0} → Ghosts A S → (Meaning → Writing → List ℕ → Addr → List Answered → Device A S → Device A S → Type 0)
+    → Type 0
+FromFresh {A = A} {S = S} g P =
+    (m : Meaning) (gives : Writing) (numbers : List ℕ) (own : Addr) (all : List Answered) (old new : Device A S)
+    → IsFreshDevice g m numbers own old → AnswersAll g gives all old new → P m gives numbers own all old new
+
 -- what was left of a text behind each of these moves
 abbrev pub lefts_of : {A S : Type 0} (g : Ghosts A S) (gives : Writing) (all : List Answered) (a c : Device A S)
     → AnswersAll g gives all a c → List (List ℕ)

@@ -12,7 +12,7 @@ ghost use Rattle.serve_loop.specs.LineOutput.{output_by};
 ghost use Rattle.serve_loop.specs.SlipWay.{slip_way};
 ghost use Rattle.serve_loop.specs.Turns.{IsNode};
 ghost use Rattle.uip_device.specs.declared.device.Device.{Device as AnyDevice};
-ghost use Rattle.uip_device.specs.Devices.{Answered, AnswersAll, IsFreshDevice, datagrams_handed, left_text_of, lefts_of};
+ghost use Rattle.uip_device.specs.Devices.{Answered, AnswersAll, FromFresh, IsFreshDevice, datagrams_handed, left_text_of, lefts_of};
 ghost use Rattle.uip_device.specs.Devices.{line_handed, moves_of};
 ghost use Rattle.uip_device.specs.Keeping.{IsOfBytes, KeepsCalls, KeepsWords};
 ghost use Rattle.uip_device.specs.Moves.{Bring, Writing};
@@ -25,18 +25,13 @@ use app_events::App;
 /// datagrams hands out the datagram that is sent at its event, or none; the device stands for the node behind the moves, and its
 /// application keeps what it keeps, as a site.
 pub fn calls_are_told<A: App>()
-    ensures line { (m : Meaning) (gives : Writing) (numbers : List ℕ) (own : Addr) (all : List Answered) (old new : AnyDevice A A.Shared)
-        → IsFreshDevice A.App m numbers own old → AnswersAll A.App gives all old new
-        → line_handed all ++ left_text_of new ≡ line_sent m A.served gives own [] (moves_of all) (opening own numbers) }
-    ensures datagrams { (m : Meaning) (gives : Writing) (numbers : List ℕ) (own : Addr) (all : List Answered)
-        (old new : AnyDevice A A.Shared) → IsFreshDevice A.App m numbers own old → AnswersAll A.App gives all old new
-        → datagrams_handed all ≡ datagrams_sent m A.served gives own [] (moves_of all) (opening own numbers) }
-    ensures stands { (m : Meaning) (gives : Writing) (numbers : List ℕ) (own : Addr) (all : List Answered)
-        (old new : AnyDevice A A.Shared) → IsFreshDevice A.App m numbers own old → AnswersAll A.App gives all old new
-        → IsNode A.App m own new.node (node_behind m A.served gives own [] (moves_of all) (opening own numbers)) }
-    ensures kept { (m : Meaning) (gives : Writing) (numbers : List ℕ) (own : Addr) (all : List Answered)
-        (old new : AnyDevice A A.Shared) → IsFreshDevice A.App m numbers own old → AnswersAll A.App gives all old new
-        → A.kept new.node.shared ≡ A.kept old.node.shared }
+    ensures line { FromFresh A.App (λ m gives numbers own all old new. line_handed all ++ left_text_of new
+        ≡ line_sent m A.served gives own [] (moves_of all) (opening own numbers)) }
+    ensures datagrams { FromFresh A.App (λ m gives numbers own all old new. datagrams_handed all
+        ≡ datagrams_sent m A.served gives own [] (moves_of all) (opening own numbers)) }
+    ensures stands { FromFresh A.App (λ m gives numbers own all old new.
+        IsNode A.App m own new.node (node_behind m A.served gives own [] (moves_of all) (opening own numbers))) }
+    ensures kept { FromFresh A.App (λ m gives numbers own all old new. A.kept new.node.shared ≡ A.kept old.node.shared) }
 {}
 
 /// Whatever bytes are heard, whatever else is called in turn and whatever values are given between, of a fresh device with an application

@@ -89,7 +89,7 @@ pub set_conns : (table : List Connection) (i : ℕ) (new : Connection) → FitCo
 set_conns table i new f h j c x = elim (get_set table i new j c x) [ here e q ↦ subst (λ z. FitConn z) q f | there n g ↦ h j c g ]
 
 pub counters_fit : (past : List Past) → All IsWord (counters past)
-counters_fit past = All-map IsWord (λ k. wrap (times (raises k) past)) (range_with_len 1 20) (λ k d l. wrap_low _)
+counters_fit past = All-map IsWord (λ k. wrap (times (raises k) past)) (range_with_len 0 20) (λ k d l. wrap_low _)
 
 pub moment_fits : (n : AbstractNode) (event : Event) (slot : ℕ) (c : Connection) → length n.connections ≤ 10 → ((j : ℕ) (x : Connection) → slice_get n.connections j ≡ Some x → FitConn x) → FitConn c → IsNow (moment n event slot c)
 moment_fits n event slot c l h f =

@@ -36,10 +36,10 @@ counts_more (k ∷ numbers) p past =
 
 -- which of the twenty an event of the past raised
 abbrev pub raised_at : Past → List Bool
-raised_at p = map (λ k. raises k p) (range_with_len 1 20)
+raised_at p = map (λ k. raises k p) (range_with_len 0 20)
 
 pub counters_more : (p : Past) (past : List Past) → counters (p ∷ past) ≡ raise (raised_at p) (counters past)
-counters_more p past = counts_more (range_with_len 1 20) p past
+counters_more p past = counts_more (range_with_len 0 20) p past
 
 -- the twenty places in their order
 abbrev in_order : ℕ → Bool

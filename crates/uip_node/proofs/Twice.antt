@@ -113,7 +113,7 @@ second event answer past a b c net new adds n e =
 
 -- the next identification
 pub next_ident : (counts : Counts) (event : Event) (again : Bool) (past : List Past) → CountsStand counts (seen event past) → (counts.ident + 1) % 65536 ≡ ident_of (with_answer event (Spoke again) ∷ past)
-next_ident counts event again past h = ap (λ (n : ℕ). (n + 1) % 65536) h.ident ∙ mod-add-mod (times (λ p. list_any (λ n. n == 16) (raised_by_answer p.answer)) past) 65536 1
+next_ident counts event again past h = ap (λ (n : ℕ). (n + 1) % 65536) h.ident ∙ mod-add-mod (times (λ p. list_any (λ n. n == 15) (raised_by_answer p.answer)) past) 65536 1
 
 -- what was said was counted
 pub said_counted : (counts : Counts) (event : Event) (again : Bool) (past : List Past) (net : List ℕ) → CountsStand counts (seen event past) → net ≡ counters (with_answer event (Spoke again) ∷ past) →

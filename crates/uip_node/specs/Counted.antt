@@ -6,6 +6,8 @@ use Rattle.icmp_echo.specs.declared.fate.IcmpFate.{IcmpFate}
 use Rattle.icmp_echo.specs.declared.fate.IcmpFate.TheVariants as Icmp
 use Rattle.tcp_segment.specs.declared.fate.TcpFate.{TcpFate}
 use Rattle.tcp_segment.specs.declared.fate.TcpFate.TheVariants as Tcp
+use Rattle.uip_node.specs.declared.counter.TheConstants.{IP_SHORT, IP_VERSION, IP_LENGTH, IP_FRAGMENT, IP_CHECKSUM, IP_NOT_OURS, IP_PROTOCOL, ICMP_REFUSED, ICMP_CHECKSUM}
+use Rattle.uip_node.specs.declared.counter.TheConstants.{TCP_REFUSED, TCP_CHECKSUM, TCP_AGAIN, NO_COUNTER}
 use Rattle.uip_node.specs.Counters.{counters, ident_of, ticks_of}
 use Rattle.uip_node.specs.Events.{Answer, Event, Past}
 use Rattle.uip_node.specs.Events.Answer.{Silent}
@@ -16,29 +18,29 @@ pub record CountsStand (counts : Counts) (past : List Past) : Type 0 where
   pub ticks : counts.ticks ≡ ticks_of past
   pub ident : counts.ident ≡ ident_of past
 
--- the places of the fates' counters, counted from 0
+-- the places of the fates' counters
 abbrev pub ip_place : IpFate → ℕ
-ip_place Ip.Short = 3
-ip_place Ip.Version = 4
-ip_place Ip.Length = 5
-ip_place Ip.Fragment = 6
-ip_place Ip.Checksum = 7
-ip_place Ip.NotOurs = 8
-ip_place Ip.Protocol = 9
+ip_place Ip.Short = IP_SHORT
+ip_place Ip.Version = IP_VERSION
+ip_place Ip.Length = IP_LENGTH
+ip_place Ip.Fragment = IP_FRAGMENT
+ip_place Ip.Checksum = IP_CHECKSUM
+ip_place Ip.NotOurs = IP_NOT_OURS
+ip_place Ip.Protocol = IP_PROTOCOL
 
 abbrev pub icmp_place : IcmpFate → ℕ
-icmp_place Icmp.Short = 12
-icmp_place Icmp.NotEcho = 12
-icmp_place Icmp.Checksum = 13
+icmp_place Icmp.Short = ICMP_REFUSED
+icmp_place Icmp.NotEcho = ICMP_REFUSED
+icmp_place Icmp.Checksum = ICMP_CHECKSUM
 
 abbrev pub tcp_place : TcpFate → ℕ
-tcp_place Tcp.Short = 16
-tcp_place Tcp.Offset = 16
-tcp_place Tcp.Checksum = 17
+tcp_place Tcp.Short = TCP_REFUSED
+tcp_place Tcp.Offset = TCP_REFUSED
+tcp_place Tcp.Checksum = TCP_CHECKSUM
 
--- the place of the counter of what is sent again; 20 is behind the last
+-- the place of the counter of what is sent again
 abbrev pub again_place : Bool → ℕ
-again_place again = if again then 18 else 20
+again_place again = if again then TCP_AGAIN else NO_COUNTER
 
 -- an event that nothing was answered to as yet
 abbrev pub seen : Event → List Past → List Past

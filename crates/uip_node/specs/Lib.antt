@@ -1,5 +1,6 @@
 pub mod Events
 pub mod Counters
+pub mod ConstantValues
 pub mod Node
 pub mod Edge
 pub mod Slots

@@ -9,26 +9,28 @@ ghost use Rattle.uip_node.specs.Events.{Past};
 ghost use Rattle.uip_node.specs.Events.Event.{Arrived, EchoAsked, IcmpRefused, IpRefused, Overlong, Periodic, TcpRefused};
 ghost use Rattle.uip_node.specs.Events.Answer.{EchoReplied, NoSlot, Spoke};
 
+use crate::counter::{
+    ICMP_CHECKSUM, ICMP_IN, ICMP_OUT, ICMP_REFUSED, IP_CHECKSUM, IP_FRAGMENT, IP_IN, IP_LENGTH,
+    IP_NOT_OURS, IP_OUT, IP_PROTOCOL, IP_SHORT, IP_VERSION, NO_COUNTER, NO_SLOT_LEFT,
+    OVERLONG_FRAMES, TCP_AGAIN, TCP_CHECKSUM, TCP_IN, TCP_OUT, TCP_REFUSED,
+};
 use crate::counters::raised;
 use icmp_echo::IcmpFate;
 use tcp_segment::TcpFate;
 use uip_ipv4::IpFate;
-
-/// The place behind the last counter, which is none.
-const NONE: usize = 20;
 
 /// The place of an IP fate's counter.
 fn ip_place(fate: IpFate) -> usize
     ensures { result ≡ ip_place fate }
 {
     match fate {
-        IpFate::Short => 3,
-        IpFate::Version => 4,
-        IpFate::Length => 5,
-        IpFate::Fragment => 6,
-        IpFate::Checksum => 7,
-        IpFate::NotOurs => 8,
-        IpFate::Protocol => 9,
+        IpFate::Short => IP_SHORT,
+        IpFate::Version => IP_VERSION,
+        IpFate::Length => IP_LENGTH,
+        IpFate::Fragment => IP_FRAGMENT,
+        IpFate::Checksum => IP_CHECKSUM,
+        IpFate::NotOurs => IP_NOT_OURS,
+        IpFate::Protocol => IP_PROTOCOL,
     }
 }
 
@@ -37,8 +39,8 @@ fn icmp_place(fate: IcmpFate) -> usize
     ensures { result ≡ icmp_place fate }
 {
     match fate {
-        IcmpFate::Short | IcmpFate::NotEcho => 12,
-        IcmpFate::Checksum => 13,
+        IcmpFate::Short | IcmpFate::NotEcho => ICMP_REFUSED,
+        IcmpFate::Checksum => ICMP_CHECKSUM,
     }
 }
 
@@ -47,8 +49,8 @@ fn tcp_place(fate: TcpFate) -> usize
     ensures { result ≡ tcp_place fate }
 {
     match fate {
-        TcpFate::Short | TcpFate::Offset => 16,
-        TcpFate::Checksum => 17,
+        TcpFate::Short | TcpFate::Offset => TCP_REFUSED,
+        TcpFate::Checksum => TCP_CHECKSUM,
     }
 }
 
@@ -56,28 +58,28 @@ fn tcp_place(fate: TcpFate) -> usize
 fn again_place(again: bool) -> usize
     ensures { result ≡ again_place again }
 {
-    if again { 18 } else { NONE }
+    if again { TCP_AGAIN } else { NO_COUNTER }
 }
 
 /// A datagram failed a check of its IP header.
 pub(crate) fn refuse_ip(net: &mut [u32; 20], fate: IpFate)
     ensures { CountsEvent net.old net.new (IpRefused fate) }
 {
-    *net = raised(*net, 0, ip_place(fate), NONE);
+    *net = raised(*net, IP_IN, ip_place(fate), NO_COUNTER);
 }
 
 /// A datagram's ICMP message was refused.
 pub(crate) fn refuse_icmp(net: &mut [u32; 20], fate: IcmpFate)
     ensures { CountsEvent net.old net.new (IcmpRefused fate) }
 {
-    *net = raised(*net, 0, 10, icmp_place(fate));
+    *net = raised(*net, IP_IN, ICMP_IN, icmp_place(fate));
 }
 
 /// A datagram's TCP segment was refused.
 pub(crate) fn refuse_tcp(net: &mut [u32; 20], fate: TcpFate)
     ensures { CountsEvent net.old net.new (TcpRefused fate) }
 {
-    *net = raised(*net, 0, 14, tcp_place(fate));
+    *net = raised(*net, IP_IN, TCP_IN, tcp_place(fate));
 }
 
 /// An echo was asked for and replied to.
@@ -85,22 +87,22 @@ pub(crate) fn echo(net: &mut [u32; 20])
     ensures { (past : List Past) (request : List ℕ) → net.old ≡ counters past
         → net.new ≡ counters (record { event = EchoAsked request; answer = EchoReplied } ∷ past) }
 {
-    let asked = raised(*net, 0, 10, NONE);
-    *net = raised(asked, 1, 11, NONE);
+    let asked = raised(*net, IP_IN, ICMP_IN, NO_COUNTER);
+    *net = raised(asked, IP_OUT, ICMP_OUT, NO_COUNTER);
 }
 
 /// A segment arrived.
 pub(crate) fn arrive(net: &mut [u32; 20])
     ensures { (sockets : Sockets) (segment : PlainSegment) → CountsEvent net.old net.new (Arrived sockets segment) }
 {
-    *net = raised(*net, 0, 14, NONE);
+    *net = raised(*net, IP_IN, TCP_IN, NO_COUNTER);
 }
 
 /// A frame was longer than a datagram.
 pub(crate) fn overlong(net: &mut [u32; 20])
     ensures { CountsEvent net.old net.new Overlong }
 {
-    *net = raised(*net, 2, NONE, NONE);
+    *net = raised(*net, OVERLONG_FRAMES, NO_COUNTER, NO_COUNTER);
 }
 
 /// The ticks at the periodic call of a slot, of which the first begins one.
@@ -118,12 +120,12 @@ pub(crate) fn ticks_at(ticks: u32, slot: usize) -> u32
 pub(crate) fn speak(net: &mut [u32; 20], again: bool)
     ensures { CountsAnswer net.old net.new (Spoke again) }
 {
-    *net = raised(*net, 1, 15, again_place(again));
+    *net = raised(*net, IP_OUT, TCP_OUT, again_place(again));
 }
 
 /// The last event, a plain SYN, found no slot.
 pub(crate) fn turn_away(net: &mut [u32; 20])
     ensures { CountsAnswer net.old net.new NoSlot }
 {
-    *net = raised(*net, 19, NONE, NONE);
+    *net = raised(*net, NO_SLOT_LEFT, NO_COUNTER, NO_COUNTER);
 }

@@ -1,0 +1,8 @@
+//! What holds of the constants of this crate.
+
+ghost use Rattle.uip_node.specs.ConstantValues.{ConstantValues};
+
+/// The numbers that the definitions name by the code's constants.
+pub fn constant_values()
+    ensures { ConstantValues }
+{}
