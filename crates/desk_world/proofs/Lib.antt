@@ -1,2 +1,1 @@
-pub mod DeskSteady
 pub mod DeskWorlds

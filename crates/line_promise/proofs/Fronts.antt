@@ -3,7 +3,7 @@ use Rattle.std.specs.List.{All}
 use Rattle.std.proofs.Common.{◌≡◌, ℕ, Bool, ◌∙◌, ap, List, [], ◌∷◌, ◌++◌, map, refl, sym, subst, append_assoc}
 use Rattle.std.proofs.lemmas.List.Elements.{All-cons, All-head, All-nil, All-tail}
 use Rattle.uip_wire.specs.declared.addr.Addr.{Addr}
-use Rattle.app_events.specs.Pages.{Pages}
+use Rattle.node_laws.specs.Promise.{Speech}
 use Rattle.tcp_machine.specs.Connection.{Sockets}
 use Rattle.line_medium.specs.Ways.{Way}
 use Rattle.serve_loop.specs.DeedRuns.{Deed, Does, Happens, text_behind}
@@ -34,7 +34,7 @@ front_all : {X : Type 0} (P : X → Type 0) (xs ys : List X) → All P (xs ++ ys
 front_all P [] ys h = All-nil P
 front_all P (x ∷ xs) ys h = All-cons P x xs (All-head P x (xs ++ ys) h) (front_all P xs ys (All-tail P x (xs ++ ys) h))
 
-module _ (pages : Pages) (served : ℕ → Bool) (turns more : List Turn) where
+module _ (speech : ℕ → Speech) (served : ℕ → Bool) (turns more : List Turn) where
   talk_later : (p : Sockets) → Later (talk_of p (turns ++ more)) (talk_of p turns)
   talk_later p =
       let rest = later p more (talk_of p turns) in
@@ -44,7 +44,7 @@ module _ (pages : Pages) (served : ℕ → Bool) (turns more : List Turn) where
   within p newer rest e =
       (talk_later p).split ∙ ap (λ l. (talk_later p).more ++ l) e ∙ sym (append_assoc (talk_later p).more newer rest)
 
-  turns_front : KeepsTurns pages served (turns ++ more) → KeepsTurns pages served turns
+  turns_front : KeepsTurns speech served (turns ++ more) → KeepsTurns speech served turns
   turns_front k = record {
     lives = λ p life is. k.lives p life (record { later = (talk_later p).more ++ is.later; before = is.before; split = within p is.later (life ++ is.before) is.split; is = is.is });
     asked = λ p newer x before e. k.asked p ((talk_later p).more ++ newer) x before (within p newer (x ∷ before) e);
@@ -92,7 +92,7 @@ module _ {A : Type 0} (w : Way A) (own : Addr) where
       }
 
 pub front_kept : {A : Type 0} (w : Way A) → FrontIsKept w
-front_kept w pages served own xs ys output k =
+front_kept w speech served own xs ys output k =
     let c = cut w own [] xs ys k.turns k.over in (
       text_in w own [] xs c.first,
       c.text,
@@ -101,6 +101,6 @@ front_kept w pages served own xs ys output k =
         turns = c.first;
         over = c.over;
         written = refl;
-        keeps = turns_front pages served c.first c.rest (subst (λ (l : List Turn). KeepsTurns pages served l) c.split k.keeps);
+        keeps = turns_front speech served c.first c.rest (subst (λ (l : List Turn). KeepsTurns speech served l) c.split k.keeps);
       },
     )

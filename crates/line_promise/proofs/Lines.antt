@@ -85,11 +85,11 @@ module _ {A : Type 0} (own : Addr) where
 -- ---- the promise
 
 pub every_line : {A : Type 0} (w : Way A) → BringsBytes w → EveryLineBy w
-every_line {A = A} w brings m pages lawful page served numbers words own is pace items low =
+every_line {A = A} w brings m speech steady bytes speaks served numbers words own is pace items low =
     let deeds : List (Deed A) = line_deeds w own pace items in
     let node : AbstractNode = opening own numbers in
     let from = all_from_line own deeds (behind_from_line own w brings pace [] items (All-nil IsByte) low) in
-    let kept = every_turn m pages lawful page served own is numbers words (events_among deeds) from in
+    let kept = every_turn m speech steady bytes speaks served own is numbers words (events_among deeds) from in
     record {
       line = record {
         turns = turns_of m served (events_among deeds) node;

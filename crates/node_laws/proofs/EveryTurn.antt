@@ -1,10 +1,11 @@
 -- All turns of a node.
 use Rattle.std.specs.List.{All}
 use Rattle.std.specs.Prelude.{option_map}
-use Rattle.std.proofs.Common.{◌≡◌, ℕ, Bool, ◌&&◌, List, [], ◌∷◌, map, position, ap, subst, Option, Some, None}
+use Rattle.std.proofs.Common.{◌≡◌, ℕ, Bool, ◌&&◌, List, [], ◌∷◌, map, position, true, false, inl, refl, sym, ap, subst, Option, Some, None}
 use Rattle.tcp_segment.specs.Segments.{PlainSegment, has_rst}
-use Rattle.app_events.specs.Pages.{IsAddr, IsPaged, IsWord, Pages}
-use Rattle.app_events.specs.Part.{Meaning}
+use Rattle.app_events.specs.Pages.{IsAddr, IsByte, IsPaged, IsWord, MayWant, Pages}
+use Rattle.app_events.specs.Part.{Meaning, Part}
+use Rattle.app_events.specs.declared.want.Want.TheVariants.{Close}
 use Rattle.uip_wire.specs.declared.addr.Addr.{Addr}
 use Rattle.tcp_machine.specs.Connection.{Sockets, Connection, serves}
 use Rattle.tcp_machine.specs.Segments.{is_again, is_plain_syn, segment_of}
@@ -14,11 +15,16 @@ use Rattle.uip_node.specs.Events.{Event}
 use Rattle.uip_node.specs.Events.Event.{IpRefused, IcmpRefused, TcpRefused, EchoAsked, Arrived, Overlong, Periodic}
 use Rattle.uip_node.specs.Events.Reply.{Echo, Tcp}
 use Rattle.uip_node.specs.Node.{AbstractNode, NodeStep, arrives_at, from_stranger, happened, opening, opens as opens_at, opens_in, slot_for_syn, step}
-use Rattle.uip_node.proofs.Basics.{choose}
+use Rattle.uip_node.proofs.Basics.{append_nothing, choose}
 use Rattle.uip_node.proofs.Fits.{all_nil, all_cons}
 use Rattle.uip_node.specs.Laws.{HasBytes}
 use Rattle.node_laws.specs.Asked.{IsEchoed}
-use Rattle.node_laws.specs.KeepsTurns.{EveryTurn, KeepsTurns}
+use Rattle.uip_node.specs.Steady.{IsSteady}
+use Rattle.uip_node.proofs.Steadiness.{steady_of}
+use Rattle.std.proofs.lemmas.List.Elements.{All-append}
+use Rattle.node_laws.specs.Promise.{Speech}
+use Rattle.node_laws.specs.Speakers.{SaysBytes, Speaks, at_every_port}
+use Rattle.node_laws.specs.KeepsTurns.{EveryTurn, EveryTurnOfPages, KeepsTurns}
 use Rattle.node_laws.specs.Talks.{Turn}
 use Rattle.node_laws.specs.Wire.{IsReadByPeer}
 use Rattle.node_laws.proofs.Whole.{talk_ends}
@@ -68,18 +74,71 @@ module _ (m : Meaning) (served : ℕ → Bool) where
   all_echoed (Changes change ∷ steps) n = all_echoed steps (changed change n)
 
 -- over any steps of a line
-abbrev pub KeepsAll : Pages → (ℕ → Bool) → Addr → List Turn → Type 0
-KeepsAll pages served own turns = KeepsTurns pages served turns × All (IsReadByPeer own) turns
+abbrev pub KeepsAll : (ℕ → Speech) → (ℕ → Bool) → Addr → List Turn → Type 0
+KeepsAll speech served own turns = KeepsTurns speech served turns × All (IsReadByPeer own) turns
 
-pub every_step : (m : Meaning) (pages : Pages) → IsPaged m pages → HasBytes pages → (served : ℕ → Bool) (own : Addr) → IsAddr own → (numbers : List ℕ) → All IsWord numbers
-    → (steps : List LineStep) → All (IsStep own) steps → KeepsAll pages served own (turns_over m served steps (opening own numbers))
-every_step m pages lawful page served own a numbers w steps are =
-    let ends = λ (p : Sockets). talk_ends m pages lawful served own numbers w steps are p in (
+pub every_step : (m : Meaning) (speech : ℕ → Speech) → IsSteady m → SaysBytes m → Speaks m speech → (served : ℕ → Bool) (own : Addr) → IsAddr own → (numbers : List ℕ) → All IsWord numbers
+    → (steps : List LineStep) → All (IsStep own) steps → KeepsAll speech served own (turns_over m served steps (opening own numbers))
+every_step m speech steady bytes speaks served own a numbers w steps are =
+    let ends = λ (p : Sockets). talk_ends m speech steady speaks served own numbers w steps are p in (
       record { lives = λ p life l. (ends p).lives life l; asked = λ p. (ends p).asked; ports = λ p. (ends p).ports; echoes = all_echoed m served steps (opening own numbers) },
-      every_peer_reads m pages lawful page served own a numbers w steps are,
+      every_peer_reads m steady bytes served own a numbers w steps are,
     )
 
 pub every_turn : EveryTurn
-every_turn m pages lawful page served own a numbers w events of =
-    subst (λ (l : List Turn). KeepsAll pages served own l) (turns_happen m served events (opening own numbers))
-    (every_step m pages lawful page served own a numbers w (map Happens events) (all_happen own events of))
+every_turn m speech steady bytes speaks served own a numbers w events of =
+    subst (λ (l : List Turn). KeepsAll speech served own l) (turns_happen m served events (opening own numbers))
+    (every_step m speech steady bytes speaks served own a numbers w (map Happens events) (all_happen own events of))
+
+-- ---- of pages at every port
+
+module _ (m : Meaning) (pages : Pages) (lawful : IsPaged m pages) where
+  closes_at_end : (numbers : List ℕ) (p : Part) → m.want numbers p ≡ Close → MayWant pages p Close
+  closes_at_end numbers p e = subst (λ w. MayWant pages p w) e (lawful.wants numbers p)
+
+  pub paged_everywhere : Speaks m (at_every_port pages)
+  paged_everywhere port = record {
+    told = record {
+      grows = lawful.grows;
+      stays = lawful.stays;
+      stays_whole = lawful.stays_whole;
+      here = λ p. true;
+      lost = λ p. false;
+      said = λ p h. lawful.said p;
+      connected = λ numbers. (refl, lawful.connected_heard numbers port);
+      newdata = λ numbers p piece h. record {
+        front = piece;
+        rest = [];
+        joined = append_nothing piece;
+        heard = (refl, lawful.newdata_heard numbers p piece);
+        all = inl refl;
+        no_more = λ e. absurd (cc);
+      };
+      prepare = λ numbers p now h. ((refl, lawful.prepare_heard numbers p now), refl);
+      acked = λ numbers p n h. ((refl, lawful.acked_like numbers p n), refl);
+      polled = λ numbers p h. ((refl, (lawful.polled_like numbers p).heard), refl);
+      closes = λ numbers p h fits e. closes_at_end numbers p e;
+    };
+    hears_all = λ p. refl;
+    short = lawful.short;
+  }
+
+  like_heard : (p q : Part) → q.heard ≡ p.heard → All IsByte p.heard → All IsByte q.heard
+  like_heard p q e h = subst (λ (l : List ℕ). All IsByte l) (sym e) h
+
+  pub page_bytes : HasBytes pages → SaysBytes m
+  page_bytes bytes = record {
+    said = λ p h k. subst (λ (l : List ℕ). All IsByte l) (sym (lawful.said p)) (bytes p.heard p.captures k);
+    connected = λ numbers port. subst (λ (l : List ℕ). All IsByte l) (sym (lawful.connected_heard numbers port)) (all_nil IsByte);
+    newdata = λ numbers p piece h are. subst (λ (l : List ℕ). All IsByte l) (sym (lawful.newdata_heard numbers p piece)) (All-append IsByte p.heard piece h are);
+    prepare = λ numbers p now h. like_heard p (m.prepare numbers p now) (lawful.prepare_heard numbers p now) h;
+    acked = λ numbers p n h. like_heard p (m.acked numbers p n).part (lawful.acked_like numbers p n) h;
+    polled = λ numbers p h. like_heard p (m.polled numbers p).part (lawful.polled_like numbers p).heard h;
+  }
+
+pub every_step_of_pages : (m : Meaning) (pages : Pages) → IsPaged m pages → HasBytes pages → (served : ℕ → Bool) (own : Addr) → IsAddr own → (numbers : List ℕ) → All IsWord numbers
+    → (steps : List LineStep) → All (IsStep own) steps → KeepsAll (at_every_port pages) served own (turns_over m served steps (opening own numbers))
+every_step_of_pages m pages lawful bytes = every_step m (at_every_port pages) (steady_of m pages lawful) (page_bytes m pages lawful bytes) (paged_everywhere m pages lawful)
+
+pub every_turn_of_pages : EveryTurnOfPages
+every_turn_of_pages m pages lawful bytes = every_turn m (at_every_port pages) (steady_of m pages lawful) (page_bytes m pages lawful bytes) (paged_everywhere m pages lawful)

@@ -1,11 +1,14 @@
 pub mod Walk
 pub mod Replying
 pub mod Lines
+pub mod Speaking
+pub mod Texts
 pub mod Kept
 pub mod Lives
 pub mod Receiving
 pub mod Whole
 pub mod Wire
+pub mod Hearing
 pub mod PeerReads
 pub mod TurnRuns
 pub mod EveryTurn

@@ -1,15 +1,17 @@
 -- What each peer reads.
 use Rattle.std.specs.List.{All}
 use Rattle.std.specs.Prelude.{option_map}
-use Rattle.std.proofs.Common.{◌≡◌, ℕ, ◌<◌, Bool, true, false, ◌&&◌, inr, List, [], ◌∷◌, position, replicate, refl, sym, ap, ◌∙◌, subst, arith, Option, Some, None, if◌then◌else◌}
-use Rattle.std.proofs.lemmas.List.Elements.{All-head, All-tail}
+use Rattle.std.proofs.Common.{◌≡◌, ℕ, ◌+◌, ◌<◌, ◌≤◌, length, take, drop, inl, IfSome, length-take, Bool, true, false, ◌&&◌, inr, List, [], ◌∷◌, position, replicate, refl, sym, ap, ◌∙◌, subst, arith, Option, Some, None, if◌then◌else◌}
+use Rattle.std.proofs.lemmas.List.Elements.{All-drop, All-head, All-tail, All-take}
 use Rattle.uip_wire.specs.declared.addr.Addr.{Addr}
 use Rattle.tcp_segment.specs.ReadBack.{IsReadBack, head_of}
 use Rattle.tcp_segment.specs.Segments.{PlainSegment, Datagram, datagram_bytes, has_rst}
 use Rattle.app_events.specs.Part.{Meaning}
-use Rattle.app_events.specs.Pages.{Pages, IsPaged, IsAddr, IsByte, IsWord}
+use Rattle.app_events.specs.Pages.{IsAddr, IsByte, IsWord}
 use Rattle.tcp_machine.specs.Connection.{Sockets, Connection, closed, is_live, serves, same_sockets}
-use Rattle.tcp_machine.specs.Segments.{segment_of, is_again, is_plain_syn, reset_to_none}
+use Rattle.uip_wire.specs.Numbers.{wrap}
+use Rattle.uip_wire.specs.declared.sizes.TheConstants.{OWN_MSS}
+use Rattle.tcp_machine.specs.Segments.{bare_ack, fin_of, is_again, is_plain_syn, reset_of, reset_to_none, segment_of, syn_ack, text_segment}
 use Rattle.tcp_machine.specs.Ask.{Outcome, asked}
 use Rattle.tcp_machine.specs.OnSegment.{accepted, on_segment}
 use Rattle.tcp_machine.specs.OnTick.{on_tick}
@@ -20,14 +22,16 @@ use Rattle.uip_node.specs.Events.Event.{IpRefused, IcmpRefused, TcpRefused, Echo
 use Rattle.uip_node.specs.Events.Reply.{Tcp}
 use Rattle.uip_node.specs.Counters.{ident_of}
 use Rattle.uip_node.specs.Node.{AbstractNode, NodeStep, arrives_at, from_stranger, happened, opening, opens as opens_at, opens_in, refuses, slot_for_syn, step}
-use Rattle.uip_node.specs.Laws.{HasBytes, serving}
+use Rattle.uip_node.specs.Laws.{serving}
+use Rattle.uip_node.specs.Steady.{IsSteady}
+use Rattle.node_laws.specs.Speakers.{SaysBytes}
+use Rattle.node_laws.proofs.Hearing.{HeardBytes, asked_bytes, on_segment_bytes, on_tick_bytes}
 use Rattle.uip_node.proofs.Basics.{both_ways, choose, only_some, wrap_low}
 use Rattle.uip_node.proofs.Fits.{FitConn, FitOut, all_nil, all_cons, asked_fits, on_segment_fits, on_tick_fits}
 use Rattle.uip_node.proofs.FitNodes.{FitNode, closed_fits, event_fits}
 use Rattle.uip_node.proofs.Connections.{none_serves, all_closed, Single, serving_free}
 use Rattle.uip_node.proofs.SocketPairs.{same_is, same_self}
-use Rattle.uip_node.proofs.SoundSegments.{closed_lens, Lens, accepted_lens, asked_lens, on_segment_lens, on_tick_lens, IsSoundSegment, step_sound}
-use Rattle.uip_node.proofs.Steadiness.{steady_of}
+use Rattle.uip_node.proofs.SoundSegments.{closed_lens, Lens, accepted_lens, asked_lens, on_segment_lens, on_tick_lens, IsSoundSegment}
 use Rattle.uip_node.proofs.DatagramsBack.{IsPlace, datagram_back, datagram_short}
 use Rattle.node_laws.specs.Talks.{Exchange, came_from, exchange, said_to}
 use Rattle.node_laws.specs.Wire.{IsOfLine, IsReadByPeer, IsReadThere, seen_from_peer}
@@ -46,12 +50,13 @@ record Fits (p : Sockets) : Type 0 where
 record Came (p : Sockets) (s : PlainSegment) : Type 0 where
   fits : Fits p
   ack : s.ack < 4294967296
+  text : All IsByte s.text
 
 came_fits : (p : Sockets) (event : Event) (s : PlainSegment) → IsWire event → came_from p event ≡ Some s → Came p s
 came_fits p (Arrived q t) s w e =
     both_ways (same_sockets q p)
     (λ h. (let z : Some t ≡ Some s = sym (ap (λ b. if b then Some t else None) h) ∙ e in
-    let g : Came p t = subst (λ y. Came y t) (same_is q p h) record { fits = record { addr = w.0; peer_port = w.1; own_port = w.2 }; ack = w.3 } in
+    let g : Came p t = subst (λ y. Came y t) (same_is q p h) record { fits = record { addr = w.0; peer_port = w.1; own_port = w.2 }; ack = w.3; text = w.4 } in
     only_some (λ y. Came p y) t s z g))
     (λ h. absurd (let z : None ≡ Some s = sym (ap (λ b. if b then Some t else None) h) ∙ e in cc))
 came_fits p (IpRefused fate) s w e = absurd (cc)
@@ -111,6 +116,7 @@ module _ (m : Meaning) (served : ℕ → Bool) where
 record SoundConn (p : Sockets) (c : Connection) : Type 0 where
   fits : Fits p
   lens : Lens c
+  heard : HeardBytes c
 
 record SoundSaid (p : Sockets) (s : PlainSegment) : Type 0 where
   fits : Fits p
@@ -120,17 +126,47 @@ record SoundDoes (p : Sockets) (d : Connection) (x : Exchange) : Type 0 where
   conn : is_live d.state ≡ true → SoundConn p d
   said : (s : PlainSegment) → x.said ≡ Some s → SoundSaid p s
 
-module _ (m : Meaning) (pages : Pages) (lawful : IsPaged m pages) (page : HasBytes pages) where
+module _ (m : Meaning) (steady : IsSteady m) (bytes : SaysBytes m) where
+  control : (c : Connection) (flags window : ℕ) (mss : Option ℕ) → flags < 64 → window < 65536 → IfSome mss (λ n. (0 < n) × (n < 65536)) →
+      IsSoundSegment (record { seq = wrap (c.first + c.acked); ack = wrap (c.peer_first + 1 + c.taken); flags = flags; window = window; mss = mss; text = [] })
+  control c flags window mss f w n = record { seq = wrap_low _; ack = wrap_low _; flags = f; window = w; mss = n; short = omega arith; alone = inr refl; text = all_nil IsByte }
+
+  -- text of bytes that were heard is bytes
+  text_sound : (c : Connection) → FitConn c → Lens c → HeardBytes c → IsSoundSegment (text_segment m c)
+  text_sound c f l h = record {
+    seq = wrap_low _;
+    ack = wrap_low _;
+    flags = omega arith;
+    window = omega arith;
+    mss = tt;
+    short = (let e : length (take c.len (drop c.part.acked (m.said c.part))) ≤ c.len = simp length-take (omega arith) in omega (arith, e, l.len));
+    alone = inl refl;
+    text = All-take IsByte c.len (drop c.part.acked (m.said c.part)) (All-drop IsByte c.part.acked (m.said c.part) (bytes.said c.part h f.captures));
+  }
+
+  step_sound : (c : Connection) (step : Step) (s : PlainSegment) → FitConn c → Lens c → HeardBytes c → segment_of m c step ≡ Some s → IsSoundSegment s
+  step_sound c Step.Drop s f l h e = absurd (cc)
+  step_sound c Step.Ack s f l h e = only_some (λ x. IsSoundSegment x) (bare_ack c) s e (control c 16 OWN_MSS None (omega arith) (omega arith) tt)
+  step_sound c (Step.SynAck again) s f l h e = only_some (λ x. IsSoundSegment x) (syn_ack c) s e (control c 18 OWN_MSS (Some OWN_MSS) (omega arith) (omega arith) (omega arith, omega arith))
+  step_sound c (Step.Text again) s f l h e = only_some (λ x. IsSoundSegment x) (text_segment m c) s e (text_sound c f l h)
+  step_sound c (Step.Fin again) s f l h e = only_some (λ x. IsSoundSegment x) (fin_of c) s e (control c 17 OWN_MSS None (omega arith) (omega arith) tt)
+  step_sound c Step.Reset s f l h e = only_some (λ x. IsSoundSegment x) (reset_of c) s e (control c 20 0 None (omega arith) (omega arith) tt)
+  step_sound c (Step.Ask fresh) s f l h e = absurd (cc)
+
   still_sound : (p : Sockets) (c d : Connection) (x : Exchange) → x.said ≡ None → (is_live d.state ≡ true → d ≡ c) → (is_live c.state ≡ true → SoundConn p c) → SoundDoes p d x
   still_sound p c d x n e h = record {
     conn = λ l. (let q : d ≡ c = e l in subst (λ z. SoundConn p z) (sym q) (h (subst (λ z. is_live z.state ≡ true) q l)));
     said = λ s f. absurd (let z : None ≡ Some s = sym n ∙ f in cc);
   }
 
-  step_does : (p : Sockets) (d : Connection) (x : Exchange) (o : Outcome) → Fits p → FitConn o.connection → Lens o.connection → x.said ≡ segment_of m o.connection o.step → d ≡ left_of o.connection → SoundDoes p d x
-  step_does p d x o f fit lens e q = record {
-    conn = λ l. record { fits = f; lens = subst (λ z. Lens z) (sym q) (choose (λ z. Lens z) (is_live o.connection.state) o.connection closed (λ y. lens) (λ y. closed_lens)) };
-    said = λ s g. record { fits = f; segment = step_sound m pages lawful page o.connection o.step s fit lens (sym e ∙ g) };
+  step_does : (p : Sockets) (d : Connection) (x : Exchange) (o : Outcome) → Fits p → FitConn o.connection → Lens o.connection → HeardBytes o.connection → x.said ≡ segment_of m o.connection o.step → d ≡ left_of o.connection → SoundDoes p d x
+  step_does p d x o f fit lens heard e q = record {
+    conn = λ l. record {
+      fits = f;
+      lens = subst (λ z. Lens z) (sym q) (choose (λ z. Lens z) (is_live o.connection.state) o.connection closed (λ y. lens) (λ y. closed_lens));
+      heard = subst (λ z. HeardBytes z) (sym q) (choose (λ z. HeardBytes z) (is_live o.connection.state) o.connection closed (λ y. heard) (λ y. all_nil IsByte));
+    };
+    said = λ s g. record { fits = f; segment = step_sound o.connection o.step s fit lens heard (sym e ∙ g) };
   }
 
   does_sound : (served : ℕ → Bool) (p : Sockets) (event : Event) (sent : Option Reply) (c d : Connection) → IsWire event → Does m served p c d (exchange p event sent) → (is_live c.state ≡ true → SoundConn p c) → SoundDoes p d (exchange p event sent)
@@ -148,17 +184,17 @@ module _ (m : Meaning) (pages : Pages) (lawful : IsPaged m pages) (page : HasByt
         | born first s plain port fit e f ↦ (let k : Came p s = came s (ap (λ y. y.came) e) in
             let b : Connection = accepted first p s in
             record {
-              conn = λ z. record { fits = k.fits; lens = subst (λ y. Lens y) (sym f) (accepted_lens first p s) };
-              said = λ t g. record { fits = k.fits; segment = step_sound m pages lawful page b (Step.SynAck false) t fit (accepted_lens first p s) (sym (ap (λ y. y.said) e) ∙ g) };
+              conn = λ z. record { fits = k.fits; lens = subst (λ y. Lens y) (sym f) (accepted_lens first p s); heard = subst (λ y. HeardBytes y) (sym f) (all_nil IsByte) };
+              said = λ t g. record { fits = k.fits; segment = step_sound b (Step.SynAck false) t fit (accepted_lens first p s) (all_nil IsByte) (sym (ap (λ y. y.said) e) ∙ g) };
             })
         | hears s numbers at alive fit words is q ↦
             (let o : Outcome = on_segment m c numbers s in
-            let fo : FitOut o = on_segment_fits m (steady_of m pages lawful) c numbers s fit words in
-            step_does p d x (asked m at o) (h alive).fits (asked_fits m (steady_of m pages lawful) at is o fo).conn (asked_lens m at o (on_segment_lens m c numbers s (h alive).lens)) (ap (λ y. y.said) q.0) q.1)
+            let fo : FitOut o = on_segment_fits m steady c numbers s fit words in
+            step_does p d x (asked m at o) (h alive).fits (asked_fits m steady at is o fo).conn (asked_lens m at o (on_segment_lens m c numbers s (h alive).lens)) (asked_bytes m bytes at o (on_segment_bytes m bytes c numbers s (came s (ap (λ y. y.came) q.0)).text (h alive).heard)) (ap (λ y. y.said) q.0) q.1)
         | ticks numbers at alive fit words is q ↦
             (let o : Outcome = on_tick m c numbers in
-            let fo : FitOut o = on_tick_fits m (steady_of m pages lawful) c numbers fit words in
-            step_does p d x (asked m at o) (h alive).fits (asked_fits m (steady_of m pages lawful) at is o fo).conn (asked_lens m at o (on_tick_lens m c numbers (h alive).lens)) (ap (λ y. y.said) q.0) q.1)
+            let fo : FitOut o = on_tick_fits m steady c numbers fit words in
+            step_does p d x (asked m at o) (h alive).fits (asked_fits m steady at is o fo).conn (asked_lens m at o (on_tick_lens m c numbers (h alive).lens)) (asked_bytes m bytes at o (on_tick_bytes m bytes c numbers (h alive).heard)) (ap (λ y. y.said) q.0) q.1)
       ]
 
   record SoundAll (n : AbstractNode) : Type 0 where
@@ -183,9 +219,9 @@ module _ (m : Meaning) (pages : Pages) (lawful : IsPaged m pages) (page : HasByt
     step_all n event of g =
         let w : IsWire event = line_wire own event of in
         let r : NodeStep = step m served n event in
-        let c : Comes m served n event r = comes m served (steady_of m pages lawful) n event (wire_event event w) g.single g.fit in
+        let c : Comes m served n event r = comes m served steady n event (wire_event event w) g.single g.fit in
         let s : (p : Sockets) → SoundDoes p (serving p r.node.connections) (exchange p event r.sent) = λ p. does_sound served p event r.sent (serving p n.connections) (serving p r.node.connections) w (c.each p) (g.each p) in (
-          record { single = c.single; fit = event_fits m (steady_of m pages lawful) served n event (wire_event event w) g.fit; each = λ p. (s p).conn },
+          record { single = c.single; fit = event_fits m steady served n event (wire_event event w) g.fit; each = λ p. (s p).conn },
           λ p id again t e. (let said : said_to p r.sent ≡ Some t = ap (λ z. said_to p z) e ∙ ap (λ b. if b then Some t else None) (same_self p) in
               let k : SoundSaid p t = (s p).said t said in
               read_there own p id again t is_own k.fits (step_low m served n event p id again t e) k.segment),
@@ -201,10 +237,10 @@ module _ (m : Meaning) (pages : Pages) (lawful : IsPaged m pages) (page : HasByt
         let fit : FitNode (changed change n) = record { size = g.fit.size; conns = g.fit.conns; numbers = words n.numbers g.fit.numbers } in
         all_read steps (changed change n) (All-tail (IsStep own) (Changes change) steps a) (record { single = g.single; fit = fit; each = g.each })
 
-pub every_peer_reads : (m : Meaning) (pages : Pages) → IsPaged m pages → HasBytes pages → (served : ℕ → Bool) (own : Addr) → IsAddr own → (numbers : List ℕ) → All IsWord numbers
+pub every_peer_reads : (m : Meaning) → IsSteady m → SaysBytes m → (served : ℕ → Bool) (own : Addr) → IsAddr own → (numbers : List ℕ) → All IsWord numbers
     → (steps : List LineStep) → All (IsStep own) steps → All (IsReadByPeer own) (turns_over m served steps (opening own numbers))
-every_peer_reads m pages lawful page served own a numbers w steps of =
-    all_read m pages lawful page served own a steps (opening own numbers) of record {
+every_peer_reads m steady bytes served own a numbers w steps of =
+    all_read m steady bytes served own a steps (opening own numbers) of record {
       single = λ q i j x y a b u v. absurd (let z = none_serves 10 q i x a in cc);
       fit = record { size = omega arith; conns = λ i x y. subst FitConn (all_closed 10 i x y) closed_fits; numbers = w };
       each = λ p l. absurd (let z : is_live (serving p (replicate 10 closed)).state ≡ false = ap (λ c. is_live c.state) (serving_free (replicate 10 closed) p (none_serves 10 p)) in cc);

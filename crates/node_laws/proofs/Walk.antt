@@ -1,24 +1,29 @@
 -- What a step of a connection takes of its peer, and what its page is then.
-use Rattle.std.proofs.Common.{◌≡◌, ℕ, ◌+◌, Bool, true, false, not, ◌&&◌, ◌||◌, ◌⊎◌, inl, inr, List, [], ◌∷◌, ◌++◌, length, refl, sym, ap, ◌∙◌, subst, arith, Option, Some, None, length-append, eqb, ltb, append_assoc, if◌then◌else◌}
+use Rattle.std.proofs.Common.{◌≡◌, ℕ, ◌+◌, Bool, true, false, not, ◌&&◌, ◌||◌, ◌⊎◌, inl, inr, List, [], ◌∷◌, ◌++◌, length, refl, sym, ap, ◌∙◌, subst, arith, Option, Some, None, length-append, eqb, ltb, append_assoc, take, drop, length-drop, ◌≤◌, if◌then◌else◌}
 use Rattle.uip_wire.specs.Numbers.{wrap}
 use Rattle.tcp_segment.specs.Segments.{PlainSegment, has_fin, has_rst, has_syn}
 use Rattle.rexmit_timer.specs.declared.timer.Beat.{Beat}
 use Rattle.app_events.specs.Part.{Part, Moment, Meaning}
-use Rattle.app_events.specs.Pages.{Pages, IsPaged, MayWant}
+use Rattle.app_events.specs.Laws.{IsPrefixOf, CanSend}
 use Rattle.app_events.specs.declared.now.Now.{Now}
 use Rattle.app_events.specs.declared.state.State.{State}
 use Rattle.app_events.specs.declared.state.State.TheVariants.{Closed, SynRcvd, Established, CloseWait, FinWait1, FinWait2, Closing, TimeWait, LastAck}
 use Rattle.app_events.specs.declared.want.Want.{Want}
 use Rattle.app_events.specs.declared.want.Want.TheVariants.{Nothing, Send, Close, Abort}
-use Rattle.tcp_machine.specs.Connection.{Connection, Sockets, rcv_nxt}
-use Rattle.tcp_machine.specs.Segments.{has_place}
+use Rattle.std.proofs.Math.Seq.{take-add}
+use Rattle.tcp_machine.specs.Connection.{Connection, Sockets, is_live, rcv_nxt}
+use Rattle.tcp_machine.specs.Segments.{has_place, segment_of, text_segment}
 use Rattle.tcp_machine.specs.Ask.{Outcome, after_own_fin, closes, peer_has_closed, idles, does_as_wanted, prepared, asked}
 use Rattle.tcp_machine.specs.OnSegment.{accepted, hears, is_out_of_order, is_acked, rests, has_text, in_state, takes, with_part, with_window, in_established, peer_closes, goes_on, fin_acked, fin_waits, by_state, on_segment}
 use Rattle.tcp_machine.specs.OnTick.{grows_older, by_beat, on_tick}
 use Rattle.tcp_machine.specs.declared.step.Step.{Step}
-use Rattle.uip_node.proofs.Basics.{choose, both_ways, append_nothing, ltb-zero, and_false, eqb-eq, not-false}
-use Rattle.uip_node.proofs.Cases.{asked_by, by_open, is_ask, is_open, no_ask_again, on_tick_by}
-use Rattle.uip_node.proofs.Handed.{hears_is, prepare_is}
+use Rattle.uip_node.proofs.Basics.{choose, both_ways, append_nothing, ltb-zero, and_false, eqb-eq, not-false, prefix_length, prefix_refl}
+use Rattle.uip_node.proofs.Cases.{asked_by, by_open, is_ask, is_open, no_ask_again, on_tick_by, open_live}
+use Rattle.uip_node.proofs.Moves.{segment_moves, tick_moves}
+use Rattle.uip_node.specs.Steady.{IsSteady}
+use Rattle.node_laws.specs.Promise.{Speech}
+use Rattle.node_laws.specs.Speakers.{SpeaksAt}
+use Rattle.node_laws.proofs.Speaking.{IsEnd, IsTold, IsOpen, end_more, end_said, front_length, heard_is, open_acked, open_heard, open_new, open_polled, open_prepared, prepared_is, same_front, told_said}
 
 -- the numbers that a FIN or a SYN takes up
 abbrev pub numbers_for : Bool → ℕ
@@ -77,330 +82,455 @@ in_turn irs taken text e s fin order q t f =
     (λ p. (let b : IsBare s = bare s p in
     inl (ap (λ l. text ++ l) b.text ∙ append_nothing text, both_ways fin (λ g. absurd (let z : has_fin s.flags ≡ true = f g in let y : has_fin s.flags ≡ false = b.fin in cc)) (λ g. g ∙ sym q))))
 
-module _ (m : Meaning) (pages : Pages) (lawful : IsPaged m pages) where
-  pub record AtSyn (c : Connection) (text : List ℕ) (e : Bool) : Type 0 where
+-- What is known of a connection, and of the text that was sent; `F` tells that no FIN was.
+module _ (m : Meaning) (port : ℕ) (speech : Speech) (laws : SpeaksAt m port speech) (F : Type 0) where
+  pub record AtSyn (c : Connection) (text : List ℕ) (e : Bool) (sent : List ℕ) : Type 0 where
     pub acked : c.acked ≡ 0
     pub len : c.len ≡ 1
     pub none : text ≡ []
     pub captures : c.part.captures ≡ []
     pub is : e ≡ false
+    pub unsent : sent ≡ []
+    pub unended : F
+    pub here : c.sockets.own_port.0 ≡ port
 
   -- the application may speak; the peer has sent its FIN or not
-  pub record AtOpen (fin : Bool) (c : Connection) (text : List ℕ) (e : Bool) : Type 0 where
+  pub record AtOpen (fin : Bool) (c : Connection) (text : List ℕ) (e : Bool) (sent : List ℕ) : Type 0 where
     pub count : c.acked ≡ 1 + c.part.acked
-    pub heard : c.part.heard ≡ text
+    pub opens : IsOpen m port speech laws c.part text
     pub is : e ≡ fin
+    pub fits : c.part.acked + c.len ≤ length (m.said c.part)
+    pub sent_is : sent ≡ take (c.part.acked + c.len) (m.said c.part)
+    pub unended : F
 
   -- after the own FIN, which is outstanding (1) or acknowledged (2)
-  pub record AtEnd (far : ℕ) (fin : Bool) (c : Connection) (text : List ℕ) (e : Bool) : Type 0 where
-    pub whole : pages.whole text c.part.captures ≡ true
-    pub count : c.acked ≡ far + length (pages.text text c.part.captures)
+  pub record AtEnd (far : ℕ) (fin : Bool) (c : Connection) (text : List ℕ) (e : Bool) (sent : List ℕ) : Type 0 where
+    pub end : IsEnd speech text c.part.captures sent
+    pub count : c.acked ≡ far + length sent
     pub len : c.len + far ≡ 2
     pub is : e ≡ fin
 
-  abbrev pub AtPage : State → Connection → List ℕ → Bool → Type 0
-  AtPage Closed c text e = Unit {0}
-  AtPage SynRcvd c text e = AtSyn c text e
-  AtPage Established c text e = AtOpen false c text e
-  AtPage CloseWait c text e = AtOpen true c text e
-  AtPage FinWait1 c text e = AtEnd 1 false c text e
-  AtPage FinWait2 c text e = AtEnd 2 false c text e
-  AtPage Closing c text e = AtEnd 1 true c text e
-  AtPage TimeWait c text e = AtEnd 2 true c text e
-  AtPage LastAck c text e = AtEnd 1 true c text e
+  abbrev pub AtPage : State → Connection → List ℕ → Bool → List ℕ → Type 0
+  AtPage Closed c text e sent = Unit {0}
+  AtPage SynRcvd c text e sent = AtSyn c text e sent
+  AtPage Established c text e sent = AtOpen false c text e sent
+  AtPage CloseWait c text e sent = AtOpen true c text e sent
+  AtPage FinWait1 c text e sent = AtEnd 1 false c text e sent
+  AtPage FinWait2 c text e sent = AtEnd 2 false c text e sent
+  AtPage Closing c text e sent = AtEnd 1 true c text e sent
+  AtPage TimeWait c text e sent = AtEnd 2 true c text e sent
+  AtPage LastAck c text e sent = AtEnd 1 true c text e sent
 
-  pub record Page (c : Connection) (text : List ℕ) (e : Bool) : Type 0 where
-    pub at : AtPage c.state c text e
+  pub record Page (c : Connection) (text : List ℕ) (e : Bool) (sent : List ℕ) : Type 0 where
+    pub at : AtPage c.state c text e sent
     pub taken : c.taken ≡ length text + numbers_for e
 
-  -- c goes on into d, with what it took on the way
-  pub record Moved (came : Option PlainSegment) (c : Connection) (text : List ℕ) (e : Bool) (d : Connection) : Type 0 where
+  -- c goes on into d, with what it took on the way; what was sent is this then
+  pub record Moved (came : Option PlainSegment) (c : Connection) (text : List ℕ) (e : Bool) (sent : List ℕ) (d : Connection) : Type 0 where
     pub now : List ℕ
     pub over : Bool
     pub read : Reading came c.peer_first text e now over
     pub more : List Moment
     pub captures : d.part.captures ≡ c.part.captures ++ more
     pub peer_first : d.peer_first ≡ c.peer_first
-    pub page : Page d now over
+    pub page : Page d now over sent
 
-  pub record OutMoved (came : Option PlainSegment) (c : Connection) (text : List ℕ) (e : Bool) (o : Outcome) : Type 0 where
-    pub moved : Moved came c text e o.connection
+  pub record OutMoved (came : Option PlainSegment) (c : Connection) (text : List ℕ) (e : Bool) (sent : List ℕ) (o : Outcome) : Type 0 where
+    pub moved : Moved came c text e sent o.connection
     pub open_there : is_ask o.step ≡ true → is_open o.connection.state ≡ true
 
-  page_at : (d : Connection) (st : State) (text : List ℕ) (e : Bool) → d.state ≡ st → AtPage st d text e → AtPage d.state d text e
-  page_at d st text e q h = subst (λ x. AtPage x d text e) (sym q) h
+  -- text is said that was not sent before
+  pub record Adds (sent now sent' : List ℕ) (d : Connection) (said : Option PlainSegment) : Type 0 where
+    pub is : said ≡ Some (text_segment m d)
+    pub live : is_live d.state ≡ true
+    pub joined : sent' ≡ sent ++ (text_segment m d).text
+    pub acked : d.acked ≡ 1 + length sent
+    pub unended : F
+    pub of_page : IsTold speech ⊥ now d.part.captures sent'
 
-  -- the same numbers in the same state
-  like_page : (c d : Connection) (st : State) (text : List ℕ) (e : Bool) → d.acked ≡ c.acked → d.len ≡ c.len → d.part.acked ≡ c.part.acked → d.part.heard ≡ c.part.heard → d.part.captures ≡ c.part.captures → AtPage st c text e → AtPage st d text e
-  like_page c d Closed text e a l pa ph pc h = tt
-  like_page c d SynRcvd text e a l pa ph pc h = record { acked = a ∙ h.acked; len = l ∙ h.len; none = h.none; captures = pc ∙ h.captures; is = h.is }
-  like_page c d Established text e a l pa ph pc h = record { count = omega (arith, a, pa, h.count); heard = ph ∙ h.heard; is = h.is }
-  like_page c d CloseWait text e a l pa ph pc h = record { count = omega (arith, a, pa, h.count); heard = ph ∙ h.heard; is = h.is }
-  like_page c d FinWait1 text e a l pa ph pc h = record { whole = ap (λ k. pages.whole text k) pc ∙ h.whole; count = a ∙ h.count ∙ ap (λ k. 1 + length (pages.text text k)) (sym pc); len = omega (arith, l, h.len); is = h.is }
-  like_page c d FinWait2 text e a l pa ph pc h = record { whole = ap (λ k. pages.whole text k) pc ∙ h.whole; count = a ∙ h.count ∙ ap (λ k. 2 + length (pages.text text k)) (sym pc); len = omega (arith, l, h.len); is = h.is }
-  like_page c d Closing text e a l pa ph pc h = record { whole = ap (λ k. pages.whole text k) pc ∙ h.whole; count = a ∙ h.count ∙ ap (λ k. 1 + length (pages.text text k)) (sym pc); len = omega (arith, l, h.len); is = h.is }
-  like_page c d TimeWait text e a l pa ph pc h = record { whole = ap (λ k. pages.whole text k) pc ∙ h.whole; count = a ∙ h.count ∙ ap (λ k. 2 + length (pages.text text k)) (sym pc); len = omega (arith, l, h.len); is = h.is }
-  like_page c d LastAck text e a l pa ph pc h = record { whole = ap (λ k. pages.whole text k) pc ∙ h.whole; count = a ∙ h.count ∙ ap (λ k. 1 + length (pages.text text k)) (sym pc); len = omega (arith, l, h.len); is = h.is }
+  -- what c comes to where its application was asked
+  pub record Spoke (came : Option PlainSegment) (c : Connection) (text : List ℕ) (e : Bool) (sent : List ℕ) (o : Outcome) : Type 0 where
+    pub sent_now : List ℕ
+    pub moved : Moved came c text e sent_now o.connection
+    pub adds : (sent_now ≡ sent) ⊎ Adds sent moved.now sent_now o.connection (segment_of m o.connection o.step)
 
-  -- in ESTABLISHED and CLOSE-WAIT what is outstanding does not matter, nor what was captured
-  open_page : (c d : Connection) (st : State) (text : List ℕ) (e : Bool) → is_open st ≡ true → d.acked ≡ c.acked → d.part.acked ≡ c.part.acked → d.part.heard ≡ c.part.heard → AtPage st c text e → AtPage st d text e
-  open_page c d st text e o a pa ph h =
-      by_open (λ x. AtPage x c text e → AtPage x d text e)
-      (λ g. record { count = omega (arith, a, pa, g.count); heard = ph ∙ g.heard; is = g.is })
-      (λ g. record { count = omega (arith, a, pa, g.count); heard = ph ∙ g.heard; is = g.is }) st o h
+  page_at : (d : Connection) (st : State) (text : List ℕ) (e : Bool) (sent : List ℕ) → d.state ≡ st → AtPage st d text e sent → AtPage d.state d text e sent
+  page_at d st text e sent q h = subst (λ x. AtPage x d text e sent) (sym q) h
 
-  -- a whole page stays as it is
-  pub whole_stays : (text more : List ℕ) (k : List Moment) → pages.whole text k ≡ true → (pages.whole (text ++ more) k ≡ true) × (pages.text (text ++ more) k ≡ pages.text text k)
-  whole_stays text more k h = (
-    ap (λ z. pages.whole (text ++ more) z) (sym (append_nothing k)) ∙ lawful.stays_whole text more k [] h,
-    ap (λ z. pages.text (text ++ more) z) (sym (append_nothing k)) ∙ lawful.stays text more k [] h,
-  )
+  -- a connection that grows older
+  older_page : (c : Connection) (st : State) (text : List ℕ) (e : Bool) (sent : List ℕ) → AtPage st c text e sent → AtPage st (grows_older c) text e sent
+  older_page c Closed text e sent h = tt
+  older_page c SynRcvd text e sent h = record { acked = h.acked; len = h.len; none = h.none; captures = h.captures; is = h.is; unsent = h.unsent; unended = h.unended; here = h.here }
+  older_page c Established text e sent h = record { count = h.count; opens = h.opens; is = h.is; fits = h.fits; sent_is = h.sent_is; unended = h.unended }
+  older_page c CloseWait text e sent h = record { count = h.count; opens = h.opens; is = h.is; fits = h.fits; sent_is = h.sent_is; unended = h.unended }
+  older_page c FinWait1 text e sent h = record { end = h.end; count = h.count; len = h.len; is = h.is }
+  older_page c FinWait2 text e sent h = record { end = h.end; count = h.count; len = h.len; is = h.is }
+  older_page c Closing text e sent h = record { end = h.end; count = h.count; len = h.len; is = h.is }
+  older_page c TimeWait text e sent h = record { end = h.end; count = h.count; len = h.len; is = h.is }
+  older_page c LastAck text e sent h = record { end = h.end; count = h.count; len = h.len; is = h.is }
 
-  -- more is taken behind a whole page
-  end_on : (far far' : ℕ) (fin fin' : Bool) (c d : Connection) (text more : List ℕ) (e : Bool) → d.part.captures ≡ c.part.captures → d.acked + far ≡ c.acked + far' → d.len + far' ≡ 2 → AtEnd far fin c text e → AtEnd far' fin' d (text ++ more) fin'
-  end_on far far' fin fin' c d text more e k a l h =
-      let w = whole_stays text more c.part.captures h.whole in
-      let size : length (pages.text (text ++ more) d.part.captures) ≡ length (pages.text text c.part.captures) = ap (λ z. length (pages.text (text ++ more) z)) k ∙ ap (λ z. length z) w.1 in
-      record {
-        whole = ap (λ z. pages.whole (text ++ more) z) k ∙ w.0;
-        count = omega (arith, a, h.count, size);
-        len = l;
-        is = refl;
-      }
+  -- its part was handed something, and as much is acknowledged or outstanding
+  open_on : (fin fin' : Bool) (c d : Connection) (text text' : List ℕ) (e : Bool) (sent : List ℕ) → (c.acked ≡ 1 + c.part.acked → d.acked ≡ 1 + d.part.acked)
+      → d.part.acked + d.len ≡ c.part.acked + c.len → IsPrefixOf (m.said c.part) (m.said d.part)
+      → (IsOpen m port speech laws c.part text → IsOpen m port speech laws d.part text') → AtOpen fin c text e sent → AtOpen fin' d text' fin' sent
+  open_on fin fin' c d text text' e sent count sum grows heard h = record {
+    count = count h.count;
+    opens = heard h.opens;
+    is = refl;
+    fits = omega (arith, h.fits, sum, prefix_length (m.said c.part) (m.said d.part) grows);
+    sent_is = h.sent_is ∙ sym (same_front (m.said c.part) (m.said d.part) (c.part.acked + c.len) grows h.fits) ∙ ap (λ n. take n (m.said d.part)) (sym sum);
+    unended = h.unended;
+  }
+
+  -- the peer's FIN is as it was
+  open_like : (fin : Bool) (c : Connection) (text : List ℕ) (e e' : Bool) (sent : List ℕ) → e ≡ e' → AtOpen fin c text e sent → AtOpen fin c text e' sent
+  open_like fin c text e e' sent q h = subst (λ z. AtOpen fin c text z sent) q h
+
+  -- in ESTABLISHED and CLOSE-WAIT
+  open_page : (c d : Connection) (st : State) (text : List ℕ) (e : Bool) (sent : List ℕ) → is_open st ≡ true → (c.acked ≡ 1 + c.part.acked → d.acked ≡ 1 + d.part.acked)
+      → d.part.acked + d.len ≡ c.part.acked + c.len → IsPrefixOf (m.said c.part) (m.said d.part)
+      → (IsOpen m port speech laws c.part text → IsOpen m port speech laws d.part text) → AtPage st c text e sent → AtPage st d text e sent
+  open_page c d st text e sent o count sum grows heard h =
+      by_open (λ x. AtPage x c text e sent → AtPage x d text e sent)
+      (λ g. open_like false d text false e sent (sym g.is) (open_on false false c d text text e sent count sum grows heard g))
+      (λ g. open_like true d text true e sent (sym g.is) (open_on true true c d text text e sent count sum grows heard g)) st o h
+
+  -- more is taken behind the end
+  ends_on : (far far' : ℕ) (fin fin' : Bool) (c d : Connection) (text more : List ℕ) (e : Bool) (sent : List ℕ) → d.part.captures ≡ c.part.captures → d.acked + far ≡ c.acked + far' → d.len + far' ≡ 2 → AtEnd far fin c text e sent → AtEnd far' fin' d (text ++ more) fin' sent
+  ends_on far far' fin fin' c d text more e sent k a l h = record {
+    end = subst (λ z. IsEnd speech (text ++ more) z sent) (sym k) (end_more m port speech laws text more c.part.captures sent h.end);
+    count = omega (arith, a, h.count);
+    len = l;
+    is = refl;
+  }
 
   -- ---- asking
 
   -- b, into which c moved, goes on into d
-  moved_to : (came : Option PlainSegment) (c : Connection) (text : List ℕ) (e : Bool) (b d : Connection) (w : Moved came c text e b) → d.part.captures ≡ b.part.captures → d.peer_first ≡ b.peer_first → d.taken ≡ b.taken → AtPage d.state d w.now w.over → Moved came c text e d
-  moved_to came c text e b d w k p t a = record { now = w.now; over = w.over; read = w.read; more = w.more; captures = k ∙ w.captures; peer_first = p ∙ w.peer_first; page = record { at = a; taken = t ∙ w.page.taken } }
+  moved_to : (came : Option PlainSegment) (c : Connection) (text : List ℕ) (e : Bool) (sent sent' : List ℕ) (b d : Connection) (w : Moved came c text e sent b) → d.part.captures ≡ b.part.captures → d.peer_first ≡ b.peer_first → d.taken ≡ b.taken → AtPage d.state d w.now w.over sent' → Moved came c text e sent' d
+  moved_to came c text e sent sent' b d w k p t a = record { now = w.now; over = w.over; read = w.read; more = w.more; captures = k ∙ w.captures; peer_first = p ∙ w.peer_first; page = record { at = a; taken = t ∙ w.page.taken } }
 
-  -- the page is whole and said, and the FIN goes out
-  ends_page : (b d : Connection) (text : List ℕ) (e fin : Bool) → d.acked ≡ b.acked → d.len ≡ 1 → d.part ≡ b.part → MayWant pages b.part Close → AtOpen fin b text e → AtEnd 1 fin d text e
-  ends_page b d text e fin a l p w g =
-      let q : pages.text b.part.heard b.part.captures ≡ pages.text text d.part.captures = ap (λ z. pages.text z b.part.captures) g.heard ∙ ap (λ z. pages.text text z.captures) (sym p) in
-      let size : length (pages.text b.part.heard b.part.captures) ≡ length (pages.text text d.part.captures) = ap (λ z. length z) q in
+  -- the FIN goes out behind what was sent
+  ends_page : (b d : Connection) (numbers text : List ℕ) (e fin : Bool) (sent : List ℕ) → d.acked ≡ b.acked → d.len ≡ 1 → d.part ≡ b.part → b.len ≡ 0 → m.want numbers b.part ≡ Close → AtOpen fin b text e sent → AtEnd 1 fin d text e sent
+  ends_page b d numbers text e fin sent a l p z w g =
+      let f : b.part.acked ≤ length (m.said b.part) = omega (arith, g.fits) in
+      let all : sent ≡ take b.part.acked (m.said b.part) = g.sent_is ∙ ap (λ n. take n (m.said b.part)) (omega (arith, z)) in
+      let size : length sent ≡ b.part.acked = ap length all ∙ front_length b.part.acked (m.said b.part) f in
       record {
-        whole = ap (λ z. pages.whole text z.captures) p ∙ ap (λ z. pages.whole z b.part.captures) (sym g.heard) ∙ w.0;
-        count = omega (arith, a, g.count, w.1, size);
+        end = subst (λ q. IsEnd speech text q.captures sent) (sym p) (subst (λ q. IsEnd speech text b.part.captures q) (sym all) (end_said m port speech laws numbers b.part text g.opens f w));
+        count = omega (arith, a, g.count, size);
         len = omega (arith, l);
         is = g.is;
       }
 
-  closing_page : (b d : Connection) (st : State) (text : List ℕ) (e : Bool) → is_open st ≡ true → d.acked ≡ b.acked → d.len ≡ 1 → d.part ≡ b.part → MayWant pages b.part Close → AtPage st b text e → AtPage (after_own_fin st) d text e
-  closing_page b d st text e o a l p w h =
-      by_open (λ x. AtPage x b text e → AtPage (after_own_fin x) d text e) (λ g. ends_page b d text e false a l p w g) (λ g. ends_page b d text e true a l p w g) st o h
+  closing_page : (b d : Connection) (st : State) (numbers text : List ℕ) (e : Bool) (sent : List ℕ) → is_open st ≡ true → d.acked ≡ b.acked → d.len ≡ 1 → d.part ≡ b.part → b.len ≡ 0 → m.want numbers b.part ≡ Close → AtPage st b text e sent → AtPage (after_own_fin st) d text e sent
+  closing_page b d st numbers text e sent o a l p z w h =
+      by_open (λ x. AtPage x b text e sent → AtPage (after_own_fin x) d text e sent) (λ g. ends_page b d numbers text e false sent a l p z w g) (λ g. ends_page b d numbers text e true sent a l p z w g) st o h
 
-  wanted_moved : (came : Option PlainSegment) (c : Connection) (text : List ℕ) (e : Bool) (w : Want) (fresh : Bool) (b : Connection) (numbers : List ℕ) → is_open b.state ≡ true → MayWant pages b.part w → Moved came c text e b → Moved came c text e (does_as_wanted w fresh b numbers).connection
-  unfolding idles
-  wanted_moved came c text e Abort fresh b numbers o may g = moved_to came c text e b (closes b) g refl refl refl tt
-  wanted_moved came c text e Close fresh b numbers o may g =
-      let d : Connection = record b { state = after_own_fin b.state; len = 1; age = 0 } in
-      moved_to came c text e b d g refl refl refl (closing_page b d b.state g.now g.over o refl refl refl may g.page.at)
-  wanted_moved came c text e (Send n) fresh b numbers o may g =
-      let d : Connection = (does_as_wanted (Send n) fresh b numbers).connection in
-      moved_to came c text e b d g refl refl refl (open_page b d b.state g.now g.over o refl refl refl g.page.at)
-  wanted_moved came c text e Nothing fresh b numbers o may g =
-      choose (λ (x : Outcome). Moved came c text e x.connection) (peer_has_closed b.state) _ _ (λ q. moved_to came c text e b (closes b) g refl refl refl tt)
-      (λ q. choose (λ (x : Outcome). Moved came c text e x.connection) fresh _ _ (λ f. g) (λ f. g))
+  -- where the application may speak
+  opened : (c : Connection) (st : State) (text : List ℕ) (e : Bool) (sent : List ℕ) → is_open st ≡ true → AtPage st c text e sent → (fin : Bool) × AtOpen fin c text e sent
+  opened c st text e sent o h = by_open (λ x. AtPage x c text e sent → (fin : Bool) × AtOpen fin c text e sent) (λ g. (false, g)) (λ g. (true, g)) st o h
 
-  asked_moved : (came : Option PlainSegment) (c : Connection) (text : List ℕ) (e : Bool) (at : Connection → Now) (o : Outcome) → OutMoved came c text e o → Moved came c text e (asked m at o).connection
-  asked_moved came c text e at o h =
-      asked_by m (λ x. Moved came c text e x.connection) at o
-      (λ a fresh. (let now : Now = at o.connection in
-      let b : Connection = prepared m now o.connection o.numbers in
-      let q = prepare_is m pages lawful o.numbers o.connection.part now in
-      let w : Moved came c text e o.connection = h.moved in
-      let y : Moved came c text e b = record {
-        now = w.now;
-        over = w.over;
-        read = w.read;
-        more = w.more ++ q.more;
-        captures = q.captures ∙ ap (λ l. l ++ q.more) w.captures ∙ append_assoc c.part.captures w.more q.more;
-        peer_first = w.peer_first;
-        page = record { at = open_page o.connection b o.connection.state w.now w.over (h.open_there a) refl q.acked q.heard w.page.at; taken = w.page.taken };
-      } in
-      wanted_moved came c text e (m.want o.numbers b.part) fresh b o.numbers (h.open_there a) (lawful.wants o.numbers b.part) y))
-      h.moved
+  -- new text goes out
+  module _ (b d : Connection) (n : ℕ) (text : List ℕ) (e : Bool) (sent : List ℕ) (part : d.part ≡ b.part) (acked : d.acked ≡ b.acked) (idle : b.len ≡ 0) (len : d.len ≤ n) (there : n ≤ length (drop b.part.acked (m.said b.part))) where
+    abbrev text_sent : List ℕ
+    text_sent = sent ++ (text_segment m d).text
 
-  -- ---- a segment
+    sends_open : (fin : Bool) → AtOpen fin b text e sent → AtOpen fin d text e text_sent
+    sends_open fin g =
+        let size : length (m.said d.part) ≡ length (m.said b.part) = ap (λ q. length (m.said q)) part in
+        let at : d.part.acked ≡ b.part.acked = ap (λ q. q.acked) part in
+        let front : sent ≡ take d.part.acked (m.said d.part) = g.sent_is ∙ ap (λ k. take k (m.said b.part)) (omega (arith, idle, at)) ∙ ap (λ q. take d.part.acked (m.said q)) (sym part) in
+        record {
+          count = omega (arith, g.count, acked, at);
+          opens = subst (λ q. IsOpen m port speech laws q text) (sym part) g.opens;
+          is = g.is;
+          fits = omega (arith, g.fits, at, size, len, there, idle, length-drop b.part.acked (m.said b.part));
+          sent_is = ap (λ q. q ++ (text_segment m d).text) front ∙ sym (take-add d.part.acked d.len (m.said d.part));
+          unended = g.unended;
+        }
 
-  -- nothing is taken
-  stays : (came : Option PlainSegment) (c : Connection) (text : List ℕ) (e : Bool) (d : Connection) → Page c text e → d.part.captures ≡ c.part.captures → d.peer_first ≡ c.peer_first → d.taken ≡ c.taken → AtPage d.state d text e → Moved came c text e d
-  stays came c text e d g k p t a = record { now = text; over = e; read = inl (refl, refl); more = []; captures = k ∙ sym (append_nothing c.part.captures); peer_first = p; page = record { at = a; taken = t ∙ g.taken } }
+    sends_adds : (fin : Bool) → is_live d.state ≡ true → AtOpen fin b text e sent → Adds sent text text_sent d (Some (text_segment m d))
+    sends_adds fin l g =
+        let q : AtOpen fin d text e text_sent = sends_open fin g in
+        let f : b.part.acked ≤ length (m.said b.part) = omega (arith, g.fits) in
+        let all : sent ≡ take b.part.acked (m.said b.part) = g.sent_is ∙ ap (λ k. take k (m.said b.part)) (omega (arith, idle)) in
+        let size : length sent ≡ b.part.acked = ap length all ∙ front_length b.part.acked (m.said b.part) f in
+        record {
+          is = refl;
+          live = l;
+          joined = refl;
+          acked = omega (arith, acked, g.count, size);
+          unended = g.unended;
+          of_page = subst (λ z. IsTold speech ⊥ text d.part.captures z) (sym q.sent_is) (told_said m port speech laws ⊥ (λ none. none) d.part text (d.part.acked + d.len) q.opens);
+        }
 
-  -- text is taken, and a FIN behind it
-  hears_on : (c : Connection) (text : List ℕ) (e : Bool) (s : PlainSegment) (fin : Bool) (d : Connection) → (has_place s ≡ true → s.seq ≡ rcv_nxt c) → e ≡ false → c.taken ≡ length text + numbers_for e → (fin ≡ true → has_fin s.flags ≡ true) →
-      d.part.captures ≡ c.part.captures → d.peer_first ≡ c.peer_first → d.taken ≡ c.taken + length s.text + numbers_for fin → AtPage d.state d (text ++ s.text) fin → Moved (Some s) c text e d
-  hears_on c text e s fin d order q t f k p n a = record {
-    now = text ++ s.text;
-    over = fin;
-    read = in_turn c.peer_first c.taken text e s fin order q t f;
-    more = [];
-    captures = k ∙ sym (append_nothing c.part.captures);
-    peer_first = p;
-    page = record { at = a; taken = (let z : numbers_for e ≡ 0 = ap numbers_for q in omega (arith, n, t, z, length-append text s.text)) };
-  }
+    sends_page : (st : State) → is_open st ≡ true → AtPage st b text e sent → AtPage st d text e text_sent
+    sends_page st o h = by_open (λ x. AtPage x b text e sent → AtPage x d text e text_sent) (λ g. sends_open false g) (λ g. sends_open true g) st o h
 
-  shut : (came : Option PlainSegment) (c b : Connection) (text : List ℕ) (e : Bool) → Page c text e → b.part.captures ≡ c.part.captures → b.peer_first ≡ c.peer_first → b.taken ≡ c.taken → Moved came c text e (closes b)
-  shut came c b text e g k p t = stays came c text e (closes b) g k p t tt
+  -- nothing is said that is new
+  keeps_sent : (came : Option PlainSegment) (c : Connection) (text : List ℕ) (e : Bool) (sent : List ℕ) (o : Outcome) → Moved came c text e sent o.connection → Spoke came c text e sent o
+  keeps_sent came c text e sent o g = record { sent_now = sent; moved = g; adds = inl refl }
 
-  closing_in : (c : Connection) (text : List ℕ) (e : Bool) (numbers : List ℕ) (s : PlainSegment) → (has_place s ≡ true → s.seq ≡ rcv_nxt c) → has_fin s.flags ≡ true → AtOpen false c text e → c.taken ≡ length text + numbers_for e → OutMoved (Some s) c text e (peer_closes m c numbers s)
-  unfolding peer_closes
-  closing_in c text e numbers s order f h t =
-      let x = hears_is m pages lawful numbers c.part s.text in
-      let d : Connection = in_state CloseWait (with_window s.window (with_part (hears m numbers c.part s.text).part (takes (length s.text + 1) c))) in
-      let g : Moved (Some s) c text e d = hears_on c text e s true d order h.is t (λ z. f) x.captures refl (omega arith) record { count = omega (arith, h.count, x.acked); heard = x.heard ∙ ap (λ l. l ++ s.text) h.heard; is = refl } in
-      choose (λ (o : Outcome). OutMoved (Some s) c text e o) (ltb 0 c.len) _ _ (λ z. record { moved = g; open_there = λ y. refl }) (λ z. record { moved = g; open_there = λ y. refl })
+  pub accepted_page : (first : ℕ) (sockets : Sockets) (s : PlainSegment) → sockets.own_port.0 ≡ port → F → Page (accepted first sockets s) [] false []
+  accepted_page first sockets s here unended = record { at = record { acked = refl; len = refl; none = refl; captures = refl; is = refl; unsent = refl; unended = unended; here = here }; taken = refl }
 
-  going_in : (acked : Bool) (c : Connection) (text : List ℕ) (e : Bool) (numbers : List ℕ) (s : PlainSegment) → (has_place s ≡ true → s.seq ≡ rcv_nxt c) → c.state ≡ Established → AtOpen false c text e → c.taken ≡ length text + numbers_for e → OutMoved (Some s) c text e (goes_on m acked c numbers s)
-  unfolding goes_on
-  going_in acked c text e numbers s order st h t =
-      let x = hears_is m pages lawful numbers c.part s.text in
-      let d : Connection = with_window s.window (with_part (hears m numbers c.part s.text).part (takes (length s.text) c)) in
-      let a : AtOpen false d (text ++ s.text) false = record { count = omega (arith, h.count, x.acked); heard = x.heard ∙ ap (λ l. l ++ s.text) h.heard; is = refl } in
-      let g : Moved (Some s) c text e d = hears_on c text e s false d order h.is t (λ z. absurd (cc)) x.captures refl (omega arith) (page_at d Established (text ++ s.text) false st a) in
-      let o : is_open d.state ≡ true = ap is_open st in
-      choose (λ (o : Outcome). OutMoved (Some s) c text e o) (not acked && not (has_text s)) _ _ (λ z. record { moved = g; open_there = λ y. o })
-      (λ z. choose (λ (o : Outcome). OutMoved (Some s) c text e o) (ltb 0 c.len) _ _ (λ f. record { moved = g; open_there = λ y. o }) (λ f. record { moved = g; open_there = λ y. o }))
+  module _ (steady : IsSteady m) where
+    wanted_spoke : (came : Option PlainSegment) (c : Connection) (text : List ℕ) (e : Bool) (sent : List ℕ) (w : Want) (fresh : Bool) (b : Connection) (numbers : List ℕ) → m.want numbers b.part ≡ w → is_open b.state ≡ true → b.len ≡ 0
+        → CanSend w (length (drop b.part.acked (m.said b.part))) → Moved came c text e sent b → Spoke came c text e sent (does_as_wanted w fresh b numbers)
+    unfolding idles moved_to
+    wanted_spoke came c text e sent Abort fresh b numbers q o z can g = keeps_sent came c text e sent _ (moved_to came c text e sent sent b (closes b) g refl refl refl tt)
+    wanted_spoke came c text e sent Close fresh b numbers q o z can g =
+        let d : Connection = record b { state = after_own_fin b.state; len = 1; age = 0 } in
+        keeps_sent came c text e sent _ (moved_to came c text e sent sent b d g refl refl refl (closing_page b d b.state numbers g.now g.over sent o refl refl refl z q g.page.at))
+    wanted_spoke came c text e sent (Send n) fresh b numbers q o z can g =
+        let d : Connection = (does_as_wanted (Send n) fresh b numbers).connection in
+        let len : d.len ≤ n = omega arith in
+        let x = opened b b.state g.now g.over sent o g.page.at in
+        record {
+          sent_now = sent ++ (text_segment m d).text;
+          moved = moved_to came c text e sent (sent ++ (text_segment m d).text) b d g refl refl refl (sends_page b d n g.now g.over sent refl refl z len can.1 b.state o g.page.at);
+          adds = inr (sends_adds b d n g.now g.over sent refl refl z len can.1 x.0 (open_live b.state o) x.1);
+        }
+    wanted_spoke came c text e sent Nothing fresh b numbers q o z can g =
+        choose (λ (x : Outcome). Spoke came c text e sent x) (peer_has_closed b.state) _ _ (λ p. keeps_sent came c text e sent _ (moved_to came c text e sent sent b (closes b) g refl refl refl tt))
+        (λ p. choose (λ (x : Outcome). Spoke came c text e sent x) fresh _ _ (λ f. keeps_sent came c text e sent _ g) (λ f. keeps_sent came c text e sent _ g))
 
-  established_in : (acked : Bool) (c : Connection) (text : List ℕ) (e : Bool) (numbers : List ℕ) (s : PlainSegment) → (has_place s ≡ true → s.seq ≡ rcv_nxt c) → c.state ≡ Established → AtOpen false c text e → c.taken ≡ length text + numbers_for e → OutMoved (Some s) c text e (in_established m acked c numbers s)
-  unfolding in_established
-  established_in acked c text e numbers s order st h t =
-      choose (λ (o : Outcome). OutMoved (Some s) c text e o) (has_fin s.flags) _ _ (λ f. closing_in c text e numbers s order f h t) (λ f. going_in acked c text e numbers s order st h t)
-
-  -- what b, which differs from c in what was acknowledged, comes to
-  out_of : (came : Option PlainSegment) (c b : Connection) (text : List ℕ) (e : Bool) (o : Outcome) → b.part.captures ≡ c.part.captures → b.peer_first ≡ c.peer_first → OutMoved came b text e o → OutMoved came c text e o
-  out_of came c b text e o k p h =
-      let w : Moved came b text e o.connection = h.moved in
-      record {
-        moved = record {
+    asked_spoke : (came : Option PlainSegment) (c : Connection) (text : List ℕ) (e : Bool) (sent : List ℕ) (at : Connection → Now) (o : Outcome) → (is_ask o.step ≡ true → o.connection.len ≡ 0) → OutMoved came c text e sent o → Spoke came c text e sent (asked m at o)
+    asked_spoke came c text e sent at o idle h =
+        asked_by m (λ x. Spoke came c text e sent x) at o
+        (λ a fresh. (let now : Now = at o.connection in
+        let b : Connection = prepared m now o.connection o.numbers in
+        let q = prepared_is m port steady o.numbers o.connection.part now in
+        let w : Moved came c text e sent o.connection = h.moved in
+        let sum : b.part.acked + b.len ≡ o.connection.part.acked + o.connection.len = omega (arith, q.acked) in
+        let y : Moved came c text e sent b = record {
           now = w.now;
           over = w.over;
-          read = subst (λ n. Reading came n text e w.now w.over) p w.read;
-          more = w.more;
-          captures = w.captures ∙ ap (λ l. l ++ w.more) k;
-          peer_first = w.peer_first ∙ p;
-          page = w.page;
-        };
-        open_there = h.open_there;
-      }
+          read = w.read;
+          more = w.more ++ q.more;
+          captures = q.captures ∙ ap (λ l. l ++ q.more) w.captures ∙ append_assoc c.part.captures w.more q.more;
+          peer_first = w.peer_first;
+          page = record {
+            at = open_page o.connection b o.connection.state w.now w.over sent (h.open_there a) (λ g. omega (arith, g, q.acked)) sum q.grows
+                (λ g. open_prepared m port speech laws o.numbers o.connection.part now w.now g) w.page.at;
+            taken = w.page.taken;
+          };
+        } in
+        wanted_spoke came c text e sent (m.want o.numbers b.part) fresh b o.numbers refl (h.open_there a) (idle a) (steady.lawful.sends o.numbers b.part tt) y))
+        (keeps_sent came c text e sent o h.moved)
 
-  -- a step that asks nothing
-  told : (came : Option PlainSegment) (c : Connection) (text : List ℕ) (e : Bool) (d : Connection) (s : Step) (numbers : List ℕ) → is_ask s ≡ false → Moved came c text e d → OutMoved came c text e (record { connection = d; numbers = numbers; step = s })
-  told came c text e d s numbers q g = record { moved = g; open_there = λ z. absurd (let y : true ≡ false = sym z ∙ q in cc) }
+    -- ---- a segment
 
-  same : (came : Option PlainSegment) (c : Connection) (text : List ℕ) (e : Bool) → Page c text e → Moved came c text e c
-  same came c text e g = stays came c text e c g refl refl refl g.at
+    -- nothing is taken
+    stays : (came : Option PlainSegment) (c : Connection) (text : List ℕ) (e : Bool) (sent : List ℕ) (d : Connection) → Page c text e sent → d.part.captures ≡ c.part.captures → d.peer_first ≡ c.peer_first → d.taken ≡ c.taken → AtPage d.state d text e sent → Moved came c text e sent d
+    stays came c text e sent d g k p t a = record { now = text; over = e; read = inl (refl, refl); more = []; captures = k ∙ sym (append_nothing c.part.captures); peer_first = p; page = record { at = a; taken = t ∙ g.taken } }
 
-  -- text and FIN behind the own FIN: f of them where a FIN comes
-  waits_in : (far : ℕ) (st st' : State) (c closed_by_peer : Connection) (text : List ℕ) (e : Bool) (numbers : List ℕ) (s : PlainSegment) → (has_place s ≡ true → s.seq ≡ rcv_nxt c) → c.state ≡ st →
-      ((d : Connection) (x : List ℕ) → AtEnd far false d x false → AtPage st d x false) → Page c text e → AtEnd far false c text e →
-      (has_fin s.flags ≡ true → Moved (Some s) c text e closed_by_peer) → OutMoved (Some s) c text e (fin_waits closed_by_peer c numbers s)
-  unfolding fin_waits
-  waits_in far st st' c closed_by_peer text e numbers s order q to g h by =
-      choose (λ (o : Outcome). OutMoved (Some s) c text e o) (has_fin s.flags) _ _
-      (λ f. told (Some s) c text e closed_by_peer Step.Ack numbers refl (by f))
-      (λ f. choose (λ (o : Outcome). OutMoved (Some s) c text e o) (has_text s) _ _
-      (λ i. let d : Connection = takes (length s.text) c in
-      told (Some s) c text e d Step.Ack numbers refl
-      (hears_on c text e s false d order h.is g.taken (λ z. absurd (cc)) refl refl (omega arith) (page_at d st (text ++ s.text) false q (to d (text ++ s.text) (end_on far far false false c d text s.text e refl refl h.len h)))))
-      (λ i. told (Some s) c text e c Step.Drop numbers refl (same (Some s) c text e g)))
+    -- text is taken, and a FIN behind it
+    hears_on : (c : Connection) (text : List ℕ) (e : Bool) (sent : List ℕ) (s : PlainSegment) (fin : Bool) (d : Connection) → (has_place s ≡ true → s.seq ≡ rcv_nxt c) → e ≡ false → c.taken ≡ length text + numbers_for e → (fin ≡ true → has_fin s.flags ≡ true) →
+        d.part.captures ≡ c.part.captures → d.peer_first ≡ c.peer_first → d.taken ≡ c.taken + length s.text + numbers_for fin → AtPage d.state d (text ++ s.text) fin sent → Moved (Some s) c text e sent d
+    hears_on c text e sent s fin d order q t f k p n a = record {
+      now = text ++ s.text;
+      over = fin;
+      read = in_turn c.peer_first c.taken text e s fin order q t f;
+      more = [];
+      captures = k ∙ sym (append_nothing c.part.captures);
+      peer_first = p;
+      page = record { at = a; taken = (let z : numbers_for e ≡ 0 = ap numbers_for q in omega (arith, n, t, z, length-append text s.text)) };
+    }
 
-  by_state_in : (st : State) (acked : Bool) (c : Connection) (text : List ℕ) (e : Bool) (numbers : List ℕ) (s : PlainSegment) → (has_place s ≡ true → s.seq ≡ rcv_nxt c) → c.state ≡ st → Page c text e → AtPage st c text e → OutMoved (Some s) c text e (by_state m st acked c numbers s)
-  unfolding fin_acked
-  by_state_in Closed acked c text e numbers s order q g h = told (Some s) c text e c Step.Drop numbers refl (same (Some s) c text e g)
-  by_state_in SynRcvd true c text e numbers s order q g h =
-      let port : ℕ = c.sockets.own_port.0 in
-      let start = m.connected numbers port in
-      let x = hears_is m pages lawful start.numbers start.part s.text in
-      let d : Connection = with_part (hears m start.numbers start.part s.text).part (takes (length s.text) (in_state Established (rests c))) in
-      let none : start.part.heard ≡ [] = lawful.connected_heard numbers port in
-      let zero : start.part.acked ≡ 0 = lawful.connected_acked numbers port in
-      record {
-        moved = hears_on c text e s false d order h.is g.taken (λ z. absurd (cc)) (x.captures ∙ lawful.connected_captures numbers port ∙ sym h.captures) refl (omega arith)
-            record { count = omega (arith, h.acked, h.len, x.acked, zero); heard = x.heard ∙ ap (λ l. l ++ s.text) none ∙ ap (λ l. l ++ s.text) (sym h.none); is = refl };
-        open_there = λ z. refl;
-      }
-  by_state_in SynRcvd false c text e numbers s order q g h = told (Some s) c text e c Step.Drop numbers refl (same (Some s) c text e g)
-  by_state_in Established true c text e numbers s order q g h =
-      let part : Part = (m.acked numbers c.part c.len).part in
-      let b : Connection = with_part part (rests c) in
-      let moved : part.acked ≡ c.part.acked + c.len = lawful.acked_moves numbers c.part c.len in
-      out_of (Some s) c b text e (in_established m true b (m.acked numbers c.part c.len).numbers s) (lawful.acked_captures numbers c.part c.len) refl
-      (established_in true b text e (m.acked numbers c.part c.len).numbers s order q record { count = omega (arith, h.count, moved); heard = lawful.acked_like numbers c.part c.len ∙ h.heard; is = h.is } g.taken)
-  by_state_in Established false c text e numbers s order q g h = established_in false c text e numbers s order q h g.taken
-  by_state_in CloseWait true c text e numbers s order q g h =
-      let part : Part = (m.acked numbers c.part c.len).part in
-      let d : Connection = with_window s.window (with_part part (rests c)) in
-      let moved : part.acked ≡ c.part.acked + c.len = lawful.acked_moves numbers c.part c.len in
-      record {
-        moved = stays (Some s) c text e d g (lawful.acked_captures numbers c.part c.len) refl refl
-            (page_at d CloseWait text e q record { count = omega (arith, h.count, moved); heard = lawful.acked_like numbers c.part c.len ∙ h.heard; is = h.is });
-        open_there = λ z. ap is_open q;
-      }
-  by_state_in CloseWait false c text e numbers s order q g h =
-      let d : Connection = with_window s.window c in
-      told (Some s) c text e d Step.Drop numbers refl (stays (Some s) c text e d g refl refl refl (page_at d CloseWait text e q record { count = h.count; heard = h.heard; is = h.is }))
-  by_state_in FinWait1 true c text e numbers s order q g h =
-      choose (λ (o : Outcome). OutMoved (Some s) c text e o) (has_fin s.flags) _ _
-      (λ f. let d : Connection = in_state TimeWait (takes (length s.text + 1) (rests c)) in
-      told (Some s) c text e d Step.Ack numbers refl
-      (hears_on c text e s true d order h.is g.taken (λ z. f) refl refl (omega arith) (end_on 1 2 false true c d text s.text e refl (omega (arith, h.len)) (omega arith) h)))
-      (λ f. let d : Connection = in_state FinWait2 (takes (length s.text) (rests c)) in
-      told (Some s) c text e d Step.Drop numbers refl
-      (hears_on c text e s false d order h.is g.taken (λ z. absurd (cc)) refl refl (omega arith) (end_on 1 2 false false c d text s.text e refl (omega (arith, h.len)) (omega arith) h)))
-  by_state_in FinWait1 false c text e numbers s order q g h =
-      let d : Connection = in_state Closing (takes (length s.text + 1) c) in
-      waits_in 1 FinWait1 Closing c d text e numbers s order q (λ x y z. z) g h
-      (λ f. hears_on c text e s true d order h.is g.taken (λ z. f) refl refl (omega arith) (end_on 1 1 false true c d text s.text e refl refl h.len h))
-  by_state_in FinWait2 acked c text e numbers s order q g h =
-      let d : Connection = record (in_state TimeWait (takes (length s.text + 1) c)) { age = 0 } in
-      waits_in 2 FinWait2 TimeWait c d text e numbers s order q (λ x y z. z) g h
-      (λ f. hears_on c text e s true d order h.is g.taken (λ z. f) refl refl (omega arith) (end_on 2 2 false true c d text s.text e refl refl h.len h))
-  by_state_in Closing true c text e numbers s order q g h =
-      let d : Connection = in_state TimeWait (rests c) in
-      told (Some s) c text e d Step.Drop numbers refl
-      (stays (Some s) c text e d g refl refl refl record { whole = h.whole; count = omega (arith, h.count, h.len); len = omega arith; is = h.is })
-  by_state_in Closing false c text e numbers s order q g h = told (Some s) c text e c Step.Drop numbers refl (same (Some s) c text e g)
-  by_state_in LastAck true c text e numbers s order q g h = told (Some s) c text e (closes (rests c)) Step.Drop numbers refl (shut (Some s) c (rests c) text e g refl refl refl)
-  by_state_in LastAck false c text e numbers s order q g h = told (Some s) c text e c Step.Drop numbers refl (same (Some s) c text e g)
-  by_state_in TimeWait acked c text e numbers s order q g h = told (Some s) c text e c Step.Ack numbers refl (same (Some s) c text e g)
+    shut : (came : Option PlainSegment) (c b : Connection) (text : List ℕ) (e : Bool) (sent : List ℕ) → Page c text e sent → b.part.captures ≡ c.part.captures → b.peer_first ≡ c.peer_first → b.taken ≡ c.taken → Moved came c text e sent (closes b)
+    shut came c b text e sent g k p t = stays came c text e sent (closes b) g k p t tt
 
-  segment_in : (c : Connection) (text : List ℕ) (e : Bool) (numbers : List ℕ) (s : PlainSegment) → Page c text e → OutMoved (Some s) c text e (on_segment m c numbers s)
-  unfolding on_segment
-  segment_in c text e numbers s g =
-      choose (λ (o : Outcome). OutMoved (Some s) c text e o) (has_rst s.flags) _ _ (λ r. told (Some s) c text e (closes c) Step.Drop _ refl (shut (Some s) c c text e g refl refl refl))
-      (λ r. choose (λ (o : Outcome). OutMoved (Some s) c text e o) (is_out_of_order c s) _ _
-      (λ f. told (Some s) c text e c Step.Ack numbers refl (same (Some s) c text e g))
-      (λ f. by_state_in c.state (is_acked c s) c text e numbers s (in_order c s f) refl g g.at))
+    -- it hears a piece
+    hears_open : (fin fin' : Bool) (c d : Connection) (numbers piece text : List ℕ) (e : Bool) (sent : List ℕ) → d.part ≡ (hears m numbers c.part piece).part → d.acked ≡ c.acked → d.len ≡ c.len → AtOpen fin c text e sent → AtOpen fin' d (text ++ piece) fin' sent
+    hears_open fin fin' c d numbers piece text e sent part acked len h =
+        let x = heard_is m port steady numbers c.part piece in
+        let at : d.part.acked ≡ c.part.acked = ap (λ q. q.acked) part ∙ x.acked in
+        open_on fin fin' c d text (text ++ piece) e sent (λ g. omega (arith, g, acked, at)) (omega (arith, at, len))
+        (subst (λ q. IsPrefixOf (m.said c.part) (m.said q)) (sym part) x.grows)
+        (λ g. subst (λ q. IsOpen m port speech laws q (text ++ piece)) (sym part) (open_heard m port speech laws numbers c.part piece text g)) h
 
-  pub segment_moved : (at : Connection → Now) (c : Connection) (text : List ℕ) (e : Bool) (numbers : List ℕ) (s : PlainSegment) → Page c text e → Moved (Some s) c text e (asked m at (on_segment m c numbers s)).connection
-  segment_moved at c text e numbers s g = asked_moved (Some s) c text e at (on_segment m c numbers s) (segment_in c text e numbers s g)
+    -- all that was outstanding is acknowledged
+    acked_open : (fin : Bool) (c d : Connection) (numbers text : List ℕ) (e : Bool) (sent : List ℕ) → d.part ≡ (m.acked numbers c.part c.len).part → d.acked ≡ c.acked + c.len → d.len ≡ 0 → AtOpen fin c text e sent → AtOpen fin d text e sent
+    acked_open fin c d numbers text e sent part acked len h =
+        let left : c.len ≤ length (drop c.part.acked (m.said c.part)) = omega (arith, h.fits, length-drop c.part.acked (m.said c.part)) in
+        let x = steady.lawful.acked_moves numbers c.part c.len tt left in
+        let at : d.part.acked ≡ c.part.acked + c.len = ap (λ q. q.acked) part ∙ x.1 in
+        let said : m.said d.part ≡ m.said c.part = ap (λ q. m.said q) part ∙ x.0 in
+        open_like fin d text fin e sent (sym h.is)
+        (open_on fin fin c d text text e sent (λ g. omega (arith, g, acked, at)) (omega (arith, at, len))
+        (subst (λ z. IsPrefixOf (m.said c.part) z) (sym said) (prefix_refl (m.said c.part)))
+        (λ g. subst (λ q. IsOpen m port speech laws q text) (sym part) (open_acked m port speech laws numbers c.part c.len text g)) h)
 
-  -- ---- a tick
+    closing_in : (c : Connection) (text : List ℕ) (e : Bool) (sent : List ℕ) (numbers : List ℕ) (s : PlainSegment) → (has_place s ≡ true → s.seq ≡ rcv_nxt c) → has_fin s.flags ≡ true → AtOpen false c text e sent → c.taken ≡ length text + numbers_for e → OutMoved (Some s) c text e sent (peer_closes m c numbers s)
+    unfolding peer_closes
+    closing_in c text e sent numbers s order f h t =
+        let x = heard_is m port steady numbers c.part s.text in
+        let d : Connection = in_state CloseWait (with_window s.window (with_part (hears m numbers c.part s.text).part (takes (length s.text + 1) c))) in
+        let a : AtOpen true d (text ++ s.text) true sent = hears_open false true c d numbers s.text text e sent refl refl refl h in
+        let g : Moved (Some s) c text e sent d = hears_on c text e sent s true d order h.is t (λ z. f) x.captures refl (omega arith) a in
+        choose (λ (o : Outcome). OutMoved (Some s) c text e sent o) (ltb 0 c.len) _ _ (λ z. record { moved = g; open_there = λ y. refl }) (λ z. record { moved = g; open_there = λ y. refl })
 
-  older_moved : (c : Connection) (text : List ℕ) (e : Bool) → Page c text e → Moved None c text e (grows_older c)
-  older_moved c text e g = stays None c text e (grows_older c) g refl refl refl (like_page c (grows_older c) c.state text e refl refl refl refl refl g.at)
+    going_in : (acked : Bool) (c : Connection) (text : List ℕ) (e : Bool) (sent : List ℕ) (numbers : List ℕ) (s : PlainSegment) → (has_place s ≡ true → s.seq ≡ rcv_nxt c) → c.state ≡ Established → AtOpen false c text e sent → c.taken ≡ length text + numbers_for e → OutMoved (Some s) c text e sent (goes_on m acked c numbers s)
+    unfolding goes_on
+    going_in acked c text e sent numbers s order st h t =
+        let x = heard_is m port steady numbers c.part s.text in
+        let d : Connection = with_window s.window (with_part (hears m numbers c.part s.text).part (takes (length s.text) c)) in
+        let a : AtOpen false d (text ++ s.text) false sent = hears_open false false c d numbers s.text text e sent refl refl refl h in
+        let g : Moved (Some s) c text e sent d = hears_on c text e sent s false d order h.is t (λ z. absurd (cc)) x.captures refl (omega arith) (page_at d Established (text ++ s.text) false sent st a) in
+        let o : is_open d.state ≡ true = ap is_open st in
+        choose (λ (o : Outcome). OutMoved (Some s) c text e sent o) (not acked && not (has_text s)) _ _ (λ z. record { moved = g; open_there = λ y. o })
+        (λ z. choose (λ (o : Outcome). OutMoved (Some s) c text e sent o) (ltb 0 c.len) _ _ (λ f. record { moved = g; open_there = λ y. o }) (λ f. record { moved = g; open_there = λ y. o }))
 
-  by_beat_moved : (b : Beat) (c : Connection) (text : List ℕ) (e : Bool) (numbers : List ℕ) → Page c text e → OutMoved None c text e (by_beat m b c numbers)
-  by_beat_moved Beat.Wait c text e numbers g = told None c text e (grows_older c) Step.Drop numbers refl (older_moved c text e g)
-  by_beat_moved Beat.Again c text e numbers g = record { moved = older_moved c text e g; open_there = λ z. absurd (let y = no_ask_again m c.state in cc) }
-  by_beat_moved Beat.GiveUp c text e numbers g = told None c text e (closes c) Step.Reset _ refl (shut None c c text e g refl refl refl)
+    established_in : (acked : Bool) (c : Connection) (text : List ℕ) (e : Bool) (sent : List ℕ) (numbers : List ℕ) (s : PlainSegment) → (has_place s ≡ true → s.seq ≡ rcv_nxt c) → c.state ≡ Established → AtOpen false c text e sent → c.taken ≡ length text + numbers_for e → OutMoved (Some s) c text e sent (in_established m acked c numbers s)
+    unfolding in_established
+    established_in acked c text e sent numbers s order st h t =
+        choose (λ (o : Outcome). OutMoved (Some s) c text e sent o) (has_fin s.flags) _ _ (λ f. closing_in c text e sent numbers s order f h t) (λ f. going_in acked c text e sent numbers s order st h t)
 
-  tick_in : (c : Connection) (text : List ℕ) (e : Bool) (numbers : List ℕ) → Page c text e → OutMoved None c text e (on_tick m c numbers)
-  tick_in c text e numbers g = on_tick_by m (λ o. OutMoved None c text e o) c numbers record {
-    none = told None c text e c Step.Drop numbers refl (same None c text e g);
-    beats = λ r b. by_beat_moved b c text e numbers g;
-    rested = λ q. told None c text e (grows_older c) Step.Drop numbers refl (older_moved c text e g);
-    ends = told None c text e (closes c) Step.Drop numbers refl (shut None c c text e g refl refl refl);
-    polled = λ q l.
-        (let x = lawful.polled_like numbers c.part in
-        let d : Connection = with_part (m.polled numbers c.part).part c in
-        record { moved = stays None c text e d g x.captures refl refl (open_page c d c.state text e (ap is_open q) refl x.acked x.heard g.at); open_there = λ z. ap is_open q });
-  }
+    -- what b, which differs from c in what was acknowledged, comes to
+    out_of : (came : Option PlainSegment) (c b : Connection) (text : List ℕ) (e : Bool) (sent : List ℕ) (o : Outcome) → b.part.captures ≡ c.part.captures → b.peer_first ≡ c.peer_first → OutMoved came b text e sent o → OutMoved came c text e sent o
+    out_of came c b text e sent o k p h =
+        let w : Moved came b text e sent o.connection = h.moved in
+        record {
+          moved = record {
+            now = w.now;
+            over = w.over;
+            read = subst (λ n. Reading came n text e w.now w.over) p w.read;
+            more = w.more;
+            captures = w.captures ∙ ap (λ l. l ++ w.more) k;
+            peer_first = w.peer_first ∙ p;
+            page = w.page;
+          };
+          open_there = h.open_there;
+        }
 
-  pub tick_moved : (at : Connection → Now) (c : Connection) (text : List ℕ) (e : Bool) (numbers : List ℕ) → Page c text e → Moved None c text e (asked m at (on_tick m c numbers)).connection
-  tick_moved at c text e numbers g = asked_moved None c text e at (on_tick m c numbers) (tick_in c text e numbers g)
+    -- a step that asks nothing
+    told : (came : Option PlainSegment) (c : Connection) (text : List ℕ) (e : Bool) (sent : List ℕ) (d : Connection) (s : Step) (numbers : List ℕ) → is_ask s ≡ false → Moved came c text e sent d → OutMoved came c text e sent (record { connection = d; numbers = numbers; step = s })
+    told came c text e sent d s numbers q g = record { moved = g; open_there = λ z. absurd (let y : true ≡ false = sym z ∙ q in cc) }
 
-  pub accepted_page : (first : ℕ) (sockets : Sockets) (s : PlainSegment) → Page (accepted first sockets s) [] false
-  accepted_page first sockets s = record { at = record { acked = refl; len = refl; none = refl; captures = refl; is = refl }; taken = refl }
+    same : (came : Option PlainSegment) (c : Connection) (text : List ℕ) (e : Bool) (sent : List ℕ) → Page c text e sent → Moved came c text e sent c
+    same came c text e sent g = stays came c text e sent c g refl refl refl g.at
+
+    -- text and FIN behind the own FIN: f of them where a FIN comes
+    waits_in : (far : ℕ) (st st' : State) (c closed_by_peer : Connection) (text : List ℕ) (e : Bool) (sent : List ℕ) (numbers : List ℕ) (s : PlainSegment) → (has_place s ≡ true → s.seq ≡ rcv_nxt c) → c.state ≡ st →
+        ((d : Connection) (x : List ℕ) → AtEnd far false d x false sent → AtPage st d x false sent) → Page c text e sent → AtEnd far false c text e sent →
+        (has_fin s.flags ≡ true → Moved (Some s) c text e sent closed_by_peer) → OutMoved (Some s) c text e sent (fin_waits closed_by_peer c numbers s)
+    unfolding fin_waits
+    waits_in far st st' c closed_by_peer text e sent numbers s order q to g h by =
+        choose (λ (o : Outcome). OutMoved (Some s) c text e sent o) (has_fin s.flags) _ _
+        (λ f. told (Some s) c text e sent closed_by_peer Step.Ack numbers refl (by f))
+        (λ f. choose (λ (o : Outcome). OutMoved (Some s) c text e sent o) (has_text s) _ _
+        (λ i. let d : Connection = takes (length s.text) c in
+        told (Some s) c text e sent d Step.Ack numbers refl
+        (hears_on c text e sent s false d order h.is g.taken (λ z. absurd (cc)) refl refl (omega arith) (page_at d st (text ++ s.text) false sent q (to d (text ++ s.text) (ends_on far far false false c d text s.text e sent refl refl h.len h)))))
+        (λ i. told (Some s) c text e sent c Step.Drop numbers refl (same (Some s) c text e sent g)))
+
+    by_state_in : (st : State) (acked : Bool) (c : Connection) (text : List ℕ) (e : Bool) (sent : List ℕ) (numbers : List ℕ) (s : PlainSegment) → (has_place s ≡ true → s.seq ≡ rcv_nxt c) → c.state ≡ st → Page c text e sent → AtPage st c text e sent → OutMoved (Some s) c text e sent (by_state m st acked c numbers s)
+    unfolding fin_acked
+    by_state_in Closed acked c text e sent numbers s order q g h = told (Some s) c text e sent c Step.Drop numbers refl (same (Some s) c text e sent g)
+    by_state_in SynRcvd true c text e sent numbers s order q g h =
+        let own : ℕ = c.sockets.own_port.0 in
+        let start = m.connected numbers own in
+        let x = heard_is m port steady start.numbers start.part s.text in
+        let d : Connection = with_part (hears m start.numbers start.part s.text).part (takes (length s.text) (in_state Established (rests c))) in
+        let zero : d.part.acked ≡ 0 = x.acked ∙ steady.connected_acked numbers own in
+        let new : IsOpen m port speech laws start.part [] = subst (λ n. IsOpen m port speech laws (m.connected numbers n).part []) (sym h.here) (open_new m port speech laws numbers) in
+        let heard : IsOpen m port speech laws d.part s.text = open_heard m port speech laws start.numbers start.part s.text [] new in
+        record {
+          moved = hears_on c text e sent s false d order h.is g.taken (λ z. absurd (cc)) (x.captures ∙ steady.connected_captures numbers own ∙ sym h.captures) refl (omega arith)
+              record {
+                count = omega (arith, h.acked, h.len, zero);
+                opens = subst (λ l. IsOpen m port speech laws d.part (l ++ s.text)) (sym h.none) heard;
+                is = refl;
+                fits = omega (arith, zero);
+                sent_is = h.unsent ∙ ap (λ n. take n (m.said d.part)) (let z : 0 ≡ d.part.acked + 0 = omega (arith, zero) in z);
+                unended = h.unended;
+              };
+          open_there = λ z. refl;
+        }
+    by_state_in SynRcvd false c text e sent numbers s order q g h = told (Some s) c text e sent c Step.Drop numbers refl (same (Some s) c text e sent g)
+    by_state_in Established true c text e sent numbers s order q g h =
+        let part : Part = (m.acked numbers c.part c.len).part in
+        let b : Connection = with_part part (rests c) in
+        out_of (Some s) c b text e sent (in_established m true b (m.acked numbers c.part c.len).numbers s) (steady.acked_captures numbers c.part c.len) refl
+        (established_in true b text e sent (m.acked numbers c.part c.len).numbers s order q (acked_open false c b numbers text e sent refl refl refl h) g.taken)
+    by_state_in Established false c text e sent numbers s order q g h = established_in false c text e sent numbers s order q h g.taken
+    by_state_in CloseWait true c text e sent numbers s order q g h =
+        let part : Part = (m.acked numbers c.part c.len).part in
+        let d : Connection = with_window s.window (with_part part (rests c)) in
+        record {
+          moved = stays (Some s) c text e sent d g (steady.acked_captures numbers c.part c.len) refl refl
+              (page_at d CloseWait text e sent q (acked_open true c d numbers text e sent refl refl refl h));
+          open_there = λ z. ap is_open q;
+        }
+    by_state_in CloseWait false c text e sent numbers s order q g h =
+        let d : Connection = with_window s.window c in
+        told (Some s) c text e sent d Step.Drop numbers refl (stays (Some s) c text e sent d g refl refl refl (page_at d CloseWait text e sent q record { count = h.count; opens = h.opens; is = h.is; fits = h.fits; sent_is = h.sent_is; unended = h.unended }))
+    by_state_in FinWait1 true c text e sent numbers s order q g h =
+        choose (λ (o : Outcome). OutMoved (Some s) c text e sent o) (has_fin s.flags) _ _
+        (λ f. let d : Connection = in_state TimeWait (takes (length s.text + 1) (rests c)) in
+        told (Some s) c text e sent d Step.Ack numbers refl
+        (hears_on c text e sent s true d order h.is g.taken (λ z. f) refl refl (omega arith) (ends_on 1 2 false true c d text s.text e sent refl (omega (arith, h.len)) (omega arith) h)))
+        (λ f. let d : Connection = in_state FinWait2 (takes (length s.text) (rests c)) in
+        told (Some s) c text e sent d Step.Drop numbers refl
+        (hears_on c text e sent s false d order h.is g.taken (λ z. absurd (cc)) refl refl (omega arith) (ends_on 1 2 false false c d text s.text e sent refl (omega (arith, h.len)) (omega arith) h)))
+    by_state_in FinWait1 false c text e sent numbers s order q g h =
+        let d : Connection = in_state Closing (takes (length s.text + 1) c) in
+        waits_in 1 FinWait1 Closing c d text e sent numbers s order q (λ x y z. z) g h
+        (λ f. hears_on c text e sent s true d order h.is g.taken (λ z. f) refl refl (omega arith) (ends_on 1 1 false true c d text s.text e sent refl refl h.len h))
+    by_state_in FinWait2 acked c text e sent numbers s order q g h =
+        let d : Connection = record (in_state TimeWait (takes (length s.text + 1) c)) { age = 0 } in
+        waits_in 2 FinWait2 TimeWait c d text e sent numbers s order q (λ x y z. z) g h
+        (λ f. hears_on c text e sent s true d order h.is g.taken (λ z. f) refl refl (omega arith) (ends_on 2 2 false true c d text s.text e sent refl refl h.len h))
+    by_state_in Closing true c text e sent numbers s order q g h =
+        let d : Connection = in_state TimeWait (rests c) in
+        told (Some s) c text e sent d Step.Drop numbers refl
+        (stays (Some s) c text e sent d g refl refl refl record { end = h.end; count = omega (arith, h.count, h.len); len = omega arith; is = h.is })
+    by_state_in Closing false c text e sent numbers s order q g h = told (Some s) c text e sent c Step.Drop numbers refl (same (Some s) c text e sent g)
+    by_state_in LastAck true c text e sent numbers s order q g h = told (Some s) c text e sent (closes (rests c)) Step.Drop numbers refl (shut (Some s) c (rests c) text e sent g refl refl refl)
+    by_state_in LastAck false c text e sent numbers s order q g h = told (Some s) c text e sent c Step.Drop numbers refl (same (Some s) c text e sent g)
+    by_state_in TimeWait acked c text e sent numbers s order q g h = told (Some s) c text e sent c Step.Ack numbers refl (same (Some s) c text e sent g)
+
+    segment_in : (c : Connection) (text : List ℕ) (e : Bool) (sent : List ℕ) (numbers : List ℕ) (s : PlainSegment) → Page c text e sent → OutMoved (Some s) c text e sent (on_segment m c numbers s)
+    unfolding on_segment
+    segment_in c text e sent numbers s g =
+        choose (λ (o : Outcome). OutMoved (Some s) c text e sent o) (has_rst s.flags) _ _ (λ r. told (Some s) c text e sent (closes c) Step.Drop _ refl (shut (Some s) c c text e sent g refl refl refl))
+        (λ r. choose (λ (o : Outcome). OutMoved (Some s) c text e sent o) (is_out_of_order c s) _ _
+        (λ f. told (Some s) c text e sent c Step.Ack numbers refl (same (Some s) c text e sent g))
+        (λ f. by_state_in c.state (is_acked c s) c text e sent numbers s (in_order c s f) refl g g.at))
+
+    pub segment_moved : (at : Connection → Now) (c : Connection) (text : List ℕ) (e : Bool) (sent : List ℕ) (numbers : List ℕ) (s : PlainSegment) → Page c text e sent → Spoke (Some s) c text e sent (asked m at (on_segment m c numbers s))
+    segment_moved at c text e sent numbers s g = asked_spoke (Some s) c text e sent at (on_segment m c numbers s) (segment_moves m c numbers s).idle (segment_in c text e sent numbers s g)
+
+    -- ---- a tick
+
+    older_moved : (c : Connection) (text : List ℕ) (e : Bool) (sent : List ℕ) → Page c text e sent → Moved None c text e sent (grows_older c)
+    older_moved c text e sent g = stays None c text e sent (grows_older c) g refl refl refl (older_page c c.state text e sent g.at)
+
+    by_beat_moved : (b : Beat) (c : Connection) (text : List ℕ) (e : Bool) (sent : List ℕ) (numbers : List ℕ) → Page c text e sent → OutMoved None c text e sent (by_beat m b c numbers)
+    by_beat_moved Beat.Wait c text e sent numbers g = told None c text e sent (grows_older c) Step.Drop numbers refl (older_moved c text e sent g)
+    by_beat_moved Beat.Again c text e sent numbers g = record { moved = older_moved c text e sent g; open_there = λ z. absurd (let y = no_ask_again m c.state in cc) }
+    by_beat_moved Beat.GiveUp c text e sent numbers g = told None c text e sent (closes c) Step.Reset _ refl (shut None c c text e sent g refl refl refl)
+
+    tick_in : (c : Connection) (text : List ℕ) (e : Bool) (sent : List ℕ) (numbers : List ℕ) → Page c text e sent → OutMoved None c text e sent (on_tick m c numbers)
+    tick_in c text e sent numbers g = on_tick_by m (λ o. OutMoved None c text e sent o) c numbers record {
+      none = told None c text e sent c Step.Drop numbers refl (same None c text e sent g);
+      beats = λ r b. by_beat_moved b c text e sent numbers g;
+      rested = λ q. told None c text e sent (grows_older c) Step.Drop numbers refl (older_moved c text e sent g);
+      ends = told None c text e sent (closes c) Step.Drop numbers refl (shut None c c text e sent g refl refl refl);
+      polled = λ q l.
+          (let x = steady.lawful.polled_keeps numbers c.part tt in
+          let d : Connection = with_part (m.polled numbers c.part).part c in
+          let sum : d.part.acked + d.len ≡ c.part.acked + c.len = omega (arith, x.1) in
+          record {
+            moved = stays None c text e sent d g (steady.polled_captures numbers c.part) refl refl
+                (open_page c d c.state text e sent (ap is_open q) (λ y. omega (arith, y, x.1)) sum
+                (subst (λ z. IsPrefixOf (m.said c.part) z) (sym x.0) (prefix_refl (m.said c.part)))
+                (λ y. open_polled m port speech laws numbers c.part text y) g.at);
+            open_there = λ z. ap is_open q;
+          });
+    }
+
+    pub tick_moved : (at : Connection → Now) (c : Connection) (text : List ℕ) (e : Bool) (sent : List ℕ) (numbers : List ℕ) → Page c text e sent → Spoke None c text e sent (asked m at (on_tick m c numbers))
+    tick_moved at c text e sent numbers g = asked_spoke None c text e sent at (on_tick m c numbers) (tick_moves m c numbers).idle (tick_in c text e sent numbers g)

@@ -5,7 +5,7 @@ use Rattle.std.proofs.Common.{◌≡◌, ℕ, zero, suc, ◌<◌, length, drop, 
 use Rattle.std.proofs.lemmas.List.Elements.{All-head, All-tail}
 use Rattle.uip_wire.specs.declared.addr.Addr.{Addr}
 use Rattle.app_events.specs.Part.{Meaning}
-use Rattle.app_events.specs.Pages.{Pages, IsPaged, IsWord}
+use Rattle.app_events.specs.Pages.{IsWord}
 use Rattle.tcp_segment.specs.Segments.{PlainSegment, has_rst, has_syn}
 use Rattle.tcp_segment.specs.declared.flags.TheConstants.{SYN}
 use Rattle.tcp_machine.specs.Connection.{Sockets, Connection, closed, is_live}
@@ -20,9 +20,10 @@ use Rattle.uip_node.proofs.Basics.{both_ways, eqb-eq, only_some}
 use Rattle.uip_node.proofs.FitNodes.{FitNode, closed_fits, event_fits}
 use Rattle.uip_node.proofs.Fits.{FitConn, all_nil, all_cons}
 use Rattle.uip_node.proofs.Connections.{none_serves, all_closed, Single, serving_free}
-use Rattle.uip_node.proofs.Steadiness.{steady_of}
+use Rattle.uip_node.specs.Steady.{IsSteady}
+use Rattle.node_laws.specs.Speakers.{Speaks, SpeaksAt}
 use Rattle.node_laws.specs.Talks.{Exchange, exchange, talk_behind, talk_of, is_opening, is_empty, is_life, IsLifeIn}
-use Rattle.node_laws.specs.Promise.{Account, KeepsAccount, KeepsLife, GrowsInto}
+use Rattle.node_laws.specs.Promise.{Account, KeepsAccount, KeepsText, KeepsLife, GrowsInto, Speech}
 use Rattle.node_laws.specs.Asked.{HasNoReset, LivesOn, IsAskedFor, NothingUnasked, OpensServed}
 use Rattle.node_laws.proofs.Steps.{LineStep, Happens, Changes, IsStep, changed, turns_over}
 use Rattle.node_laws.proofs.Wire.{line_wire, wire_event}
@@ -30,7 +31,7 @@ use Rattle.node_laws.proofs.Replying.{answer_no_syn, rst_silent, rst_ends, reset
 use Rattle.node_laws.proofs.Lines.{Does, Comes, comes, met, left_of}
 use Rattle.node_laws.proofs.Lines.Does.{passes_by, evicted, unanswered, refused, born, hears, ticks}
 use Rattle.node_laws.proofs.Lives.{Good, Onward, goes_on, begins_by}
-use Rattle.node_laws.proofs.Receiving.{keeps_account}
+use Rattle.node_laws.proofs.Receiving.{keeps_account, keeps_text}
 
 cons_head : {X : Type 0} (x y : X) (xs ys : List X) → x ∷ xs ≡ y ∷ ys → x ≡ y
 cons_head x y xs ys e = cc
@@ -149,11 +150,17 @@ module _ (m : Meaning) (served : ℕ → Bool) (p : Sockets) where
       subst (λ z. IsAskedFor z before) (cons_head x y so_far before e) (subst (λ z. IsAskedFor x z) (cons_tail x y so_far before e) a)
   asked_on x so_far a h (w ∷ later) y before e = h later y before (cons_tail x w so_far (later ++ (y ∷ before)) e)
 
-module _ (m : Meaning) (pages : Pages) (lawful : IsPaged m pages) (served : ℕ → Bool) (p : Sockets) where
+-- what the whole run comes to
+pub record Ends (speech : Speech) (served : ℕ → Bool) (p : Sockets) (so_far : List Exchange) : Type 0 where
+  pub lives : (life : List Exchange) → IsLifeIn so_far life → KeepsLife speech life
+  pub asked : NothingUnasked so_far
+  pub ports : OpensServed served p so_far
+
+module _ (m : Meaning) (steady : IsSteady m) (port : ℕ) (speech : Speech) (laws : SpeaksAt m port speech) (served : ℕ → Bool) (p : Sockets) (here : p.own_port.0 ≡ port) where
   -- a life at its present moment, and its promise
   record Current (c : Connection) (life : List Exchange) : Type 0 where
-    good : Good m pages lawful c life
-    promise : KeepsLife pages life
+    good : Good m steady port speech laws c life
+    promise : KeepsLife speech life
     newest : promise.account 0 ≡ good.kept.account
 
   -- an account in front of those before
@@ -161,19 +168,27 @@ module _ (m : Meaning) (pages : Pages) (lawful : IsPaged m pages) (served : ℕ 
   in_front a old zero = a
   in_front a old (suc back) = old back
 
-  born_current : (d : Connection) (x : Exchange) → Good m pages lawful d (x ∷ []) → Current d (x ∷ [])
-  born_current d x g = record { good = g; promise = record { account = λ back. g.kept.account; keeps = only; grows = λ back l. absurd (omega (arith, l)) }; newest = refl }
+  born_current : (d : Connection) (x : Exchange) → Good m steady port speech laws d (x ∷ []) → Current d (x ∷ [])
+  born_current d x g = record { good = g; promise = record { account = λ back. g.kept.account; keeps = only; tells = only_text; grows = λ back l. absurd (omega (arith, l)) }; newest = refl }
     where
-      only : (back : ℕ) → back < 1 → KeepsAccount pages (drop back (x ∷ [])) g.kept.account
-      only zero l = keeps_account m pages lawful (x ∷ []) g.kept
+      only : (back : ℕ) → back < 1 → KeepsAccount (drop back (x ∷ [])) g.kept.account
+      only zero l = keeps_account speech (x ∷ []) g.kept
       only (suc back) l = absurd (omega (arith, l))
 
-  current_longer : (c d : Connection) (x : Exchange) (life : List Exchange) (v : Current c life) → Onward m pages lawful c life v.good d x → Current d (x ∷ life)
-  current_longer c d x life v o = record { good = o.good; promise = record { account = in_front o.good.kept.account v.promise.account; keeps = keeps_on; grows = grows_on }; newest = refl }
+      only_text : (back : ℕ) → back < 1 → KeepsText speech (drop back (x ∷ [])) g.kept.account
+      only_text zero l = keeps_text m port speech laws (x ∷ []) g.kept
+      only_text (suc back) l = absurd (omega (arith, l))
+
+  current_longer : (c d : Connection) (x : Exchange) (life : List Exchange) (v : Current c life) → Onward m steady port speech laws c life v.good d x → Current d (x ∷ life)
+  current_longer c d x life v o = record { good = o.good; promise = record { account = in_front o.good.kept.account v.promise.account; keeps = keeps_on; tells = tells_on; grows = grows_on }; newest = refl }
     where
-      keeps_on : (back : ℕ) → back < length (x ∷ life) → KeepsAccount pages (drop back (x ∷ life)) (in_front o.good.kept.account v.promise.account back)
-      keeps_on zero l = keeps_account m pages lawful (x ∷ life) o.good.kept
+      keeps_on : (back : ℕ) → back < length (x ∷ life) → KeepsAccount (drop back (x ∷ life)) (in_front o.good.kept.account v.promise.account back)
+      keeps_on zero l = keeps_account speech (x ∷ life) o.good.kept
       keeps_on (suc back) l = v.promise.keeps back (omega (arith, l))
+
+      tells_on : (back : ℕ) → back < length (x ∷ life) → KeepsText speech (drop back (x ∷ life)) (in_front o.good.kept.account v.promise.account back)
+      tells_on zero l = keeps_text m port speech laws (x ∷ life) o.good.kept
+      tells_on (suc back) l = v.promise.tells back (omega (arith, l))
 
       grows_on : (back : ℕ) → suc back < length (x ∷ life) → GrowsInto (in_front o.good.kept.account v.promise.account (suc back)) (in_front o.good.kept.account v.promise.account back)
       grows_on zero l = subst (λ a. GrowsInto a o.good.kept.account) (sym v.newest) o.grew
@@ -183,7 +198,7 @@ module _ (m : Meaning) (pages : Pages) (lawful : IsPaged m pages) (served : ℕ 
     single : Single n.connections
     fit : FitNode n
     current : (life before : List Exchange) → so_far ≡ life ++ before → is_life life ≡ true → Current (serving p n.connections) life
-    ever : (later life before : List Exchange) → so_far ≡ later ++ (life ++ before) → is_life life ≡ true → KeepsLife pages life
+    ever : (later life before : List Exchange) → so_far ≡ later ++ (life ++ before) → is_life life ≡ true → KeepsLife speech life
     lives : is_live (serving p n.connections).state ≡ true → LivesOn so_far
     asked : NothingUnasked so_far
     ports : OpensServed served p so_far
@@ -198,37 +213,31 @@ module _ (m : Meaning) (pages : Pages) (lawful : IsPaged m pages) (served : ℕ 
       subst (λ z. Current d (z ∷ older)) head
       (both_ways (is_opening y)
       (λ o. let none : older ≡ [] = empty_is older (sym (ap (λ b. if b then is_empty older else is_life older) o) ∙ l) in
-      subst (λ z. Current d (x ∷ z)) (sym none) (born_current d x (begins_by m pages lawful served p c d x does (ap (λ z. is_opening z) head ∙ o))))
+      subst (λ z. Current d (x ∷ z)) (sym none) (born_current d x (begins_by m steady port speech laws served p here c d x does (ap (λ z. is_opening z) head ∙ o))))
       (λ o. let lives : is_life older ≡ true = sym (ap (λ b. if b then is_empty older else is_life older) o) ∙ l in
       let v : Current c older = h older before tail lives in
-      current_longer c d x older v (goes_on m pages lawful served p c d x older does (ap (λ z. is_opening z) head ∙ o) v.good)))
+      current_longer c d x older v (goes_on m steady port speech laws served p here c d x older does (ap (λ z. is_opening z) head ∙ o) v.good)))
 
   ever_on : (d : Connection) (x : Exchange) (so_far : List Exchange) → ((life before : List Exchange) → x ∷ so_far ≡ life ++ before → is_life life ≡ true → Current d life) →
-      ((later life before : List Exchange) → so_far ≡ later ++ (life ++ before) → is_life life ≡ true → KeepsLife pages life) →
-      (later life before : List Exchange) → x ∷ so_far ≡ later ++ (life ++ before) → is_life life ≡ true → KeepsLife pages life
+      ((later life before : List Exchange) → so_far ≡ later ++ (life ++ before) → is_life life ≡ true → KeepsLife speech life) →
+      (later life before : List Exchange) → x ∷ so_far ≡ later ++ (life ++ before) → is_life life ≡ true → KeepsLife speech life
   ever_on d x so_far h g [] life before e l = (h life before e l).promise
   ever_on d x so_far h g (y ∷ later) life before e l = g later life before (cons_tail x y so_far (later ++ (life ++ before)) e) l
 
   step_inv : (n : AbstractNode) (so_far : List Exchange) (event : Event) → IsEvent event → Inv n so_far → Inv (step m served n event).node (exchange p event (step m served n event).sent ∷ so_far)
   step_inv n so_far event is i =
-      let c : Comes m served n event (step m served n event) = comes m served (steady_of m pages lawful) n event is i.single i.fit in
+      let c : Comes m served n event (step m served n event) = comes m served steady n event is i.single i.fit in
       let x : Exchange = exchange p event (step m served n event).sent in
       let now = current_on (serving p n.connections) (serving p (step m served n event).node.connections) x so_far (c.each p) i.current in
       record {
         single = c.single;
-        fit = event_fits m (steady_of m pages lawful) served n event is i.fit;
+        fit = event_fits m steady served n event is i.fit;
         current = now;
         ever = ever_on (serving p (step m served n event).node.connections) x so_far now i.ever;
         lives = lives_on m served p (serving p n.connections) (serving p (step m served n event).node.connections) x so_far (c.each p) i.lives;
         asked = asked_on m served p x so_far (asked_for m served p (serving p n.connections) (serving p (step m served n event).node.connections) x so_far (c.each p) i.lives) i.asked;
         ports = ports_on m served p x so_far (opens_served m served p (serving p n.connections) (serving p (step m served n event).node.connections) x (c.each p)) i.ports;
       }
-
-  -- what the whole run comes to
-  pub record Ends (so_far : List Exchange) : Type 0 where
-    pub lives : (life : List Exchange) → IsLifeIn so_far life → KeepsLife pages life
-    pub asked : NothingUnasked so_far
-    pub ports : OpensServed served p so_far
 
   -- the numbers of the application were changed
   changed_inv : (n : AbstractNode) (so_far : List Exchange) (change : List ℕ → List ℕ) → ((numbers : List ℕ) → All IsWord numbers → All IsWord (change numbers))
@@ -243,7 +252,7 @@ module _ (m : Meaning) (pages : Pages) (lawful : IsPaged m pages) (served : ℕ 
     ports = i.ports;
   }
 
-  run_inv : (own : Addr) (steps : List LineStep) (n : AbstractNode) (so_far : List Exchange) → All (IsStep own) steps → Inv n so_far → Ends (talk_behind p (turns_over m served steps n) so_far)
+  run_inv : (own : Addr) (steps : List LineStep) (n : AbstractNode) (so_far : List Exchange) → All (IsStep own) steps → Inv n so_far → Ends speech served p (talk_behind p (turns_over m served steps n) so_far)
   run_inv own [] n so_far a i = record { lives = λ life l. i.ever l.later life l.before l.split l.is; asked = i.asked; ports = i.ports }
   run_inv own (Happens e ∷ steps) n so_far a i =
       run_inv own steps (step m served n e).node (exchange p e (step m served n e).sent ∷ so_far) (All-tail (IsStep own) (Happens e) steps a)
@@ -275,6 +284,8 @@ module _ (m : Meaning) (pages : Pages) (lawful : IsPaged m pages) (served : ℕ 
     ports = λ later x before e o. absurd (no_exchange later x before e);
   }
 
-pub talk_ends : (m : Meaning) (pages : Pages) (lawful : IsPaged m pages) (served : ℕ → Bool) (own : Addr) (numbers : List ℕ) → All IsWord numbers → (steps : List LineStep) → All (IsStep own) steps → (p : Sockets)
-    → Ends m pages lawful served p (talk_of p (turns_over m served steps (opening own numbers)))
-talk_ends m pages lawful served own numbers w steps a p = run_inv m pages lawful served p own steps (opening own numbers) [] a (opening_inv m pages lawful served p own numbers w)
+pub talk_ends : (m : Meaning) (speech : ℕ → Speech) → IsSteady m → (speaks : Speaks m speech) (served : ℕ → Bool) (own : Addr) (numbers : List ℕ) → All IsWord numbers → (steps : List LineStep) → All (IsStep own) steps → (p : Sockets)
+    → Ends (speech p.own_port.0) served p (talk_of p (turns_over m served steps (opening own numbers)))
+talk_ends m speech steady speaks served own numbers w steps a p =
+    let port : ℕ = p.own_port.0 in
+    run_inv m steady port (speech port) (speaks port) served p refl own steps (opening own numbers) [] a (opening_inv m steady port (speech port) (speaks port) served p refl own numbers w)

@@ -30,7 +30,7 @@ use Rattle.node_laws.specs.Wire.IsOfLine.{of_bytes, of_overlong, of_call}
 
 -- what a segment that came has
 abbrev pub IsWire : Event → Type 0
-IsWire (Arrived p s) = IsAddr p.peer × (p.peer_port.0 < 65536) × (p.own_port.0 < 65536) × (s.ack < 4294967296)
+IsWire (Arrived p s) = IsAddr p.peer × (p.peer_port.0 < 65536) × (p.own_port.0 < 65536) × (s.ack < 4294967296) × All IsByte s.text
 IsWire (IpRefused fate) = Unit {0}
 IsWire (IcmpRefused fate) = Unit {0}
 IsWire (TcpRefused fate) = Unit {0}
@@ -62,14 +62,16 @@ addr_fits xs at h = record {
 payload_low : (head : IpHead) (bytes : List ℕ) → All IsByte bytes → All IsByte (payload_of head bytes)
 payload_low head bytes h = All-take IsByte (head.total - 20) (drop 20 bytes) (All-drop IsByte 20 bytes h)
 
-segment_wire : (head : IpHead) (bytes payload : List ℕ) (source target : List ℕ) → IsAddr head.source → All IsByte payload → IsWire (by_segment head bytes (segment_in source target payload))
+segment_wire : (head : IpHead) (bytes payload : List ℕ) (source target : List ℕ) → IsAddr head.source → All IsByte bytes → All IsByte payload → IsWire (by_segment head bytes (segment_in source target payload))
 unfolding segment_in
-segment_wire head bytes payload source target a h =
+segment_wire head bytes payload source target a are h =
+    let at : ℕ = 20 + header_len payload in
+    let size : ℕ = length payload - header_len payload in
     let P : Result Segment TcpFate → Type 0 = λ r. IsWire (by_segment head bytes r) in
     choose P (ltb (length payload) 20) _ _ (λ e. tt)
     (λ e. choose P (ltb (header_len payload) 20 || ltb (length payload) (header_len payload)) _ _ (λ f. tt)
     (λ f. choose P (not (eqb (checksum_of (pseudo_header source target (length payload) ++ payload)) 0)) _ _ (λ g. tt)
-    (λ g. (a, word_low payload 0 h, word_low payload 2 h, long_low payload 8 h))))
+    (λ g. (a, word_low payload 0 h, word_low payload 2 h, long_low payload 8 h, All-take IsByte (at + size - at) (drop at bytes) (All-drop IsByte at bytes are)))))
 
 echo_wire : (fate : Option IcmpFate) (request : List ℕ) → IsWire (option_map_or IcmpRefused fate (EchoAsked request))
 echo_wire None request = tt
@@ -77,7 +79,7 @@ echo_wire (Some fate) request = tt
 
 proto_wire : (proto : Proto) (head : IpHead) (bytes : List ℕ) → IsAddr head.source → All IsByte bytes → IsWire (by_proto proto head bytes)
 proto_wire Icmp head bytes a h = echo_wire (echo_fate (payload_of head bytes)) (take head.total bytes)
-proto_wire Tcp head bytes a h = segment_wire head bytes (payload_of head bytes) head.source.0 head.target.0 a (payload_low head bytes h)
+proto_wire Tcp head bytes a h = segment_wire head bytes (payload_of head bytes) head.source.0 head.target.0 a h (payload_low head bytes h)
 
 head_wire : (proto : Option Proto) (bytes : List ℕ) → All IsByte bytes → IsWire (by_head bytes (head_by proto bytes))
 head_wire None bytes h = tt

@@ -1,14 +1,22 @@
 -- Wrong lives are refused by the promise alone.
-use Rattle.std.proofs.Common.{◌≡◌, ◌+◌, ◌≤◌, ℕ, zero, suc, Bool, true, false, List, [], ◌∷◌, ◌++◌, length, take, refl, sym, ap, ◌∙◌, arith, inl, inr, Some, if◌then◌else◌}
+use Rattle.std.proofs.Common.{◌≡◌, ◌+◌, ◌<◌, ◌≤◌, ◌⊎◌, ℕ, zero, suc, Bool, true, false, List, [], ◌∷◌, ◌++◌, length, take, refl, sym, ap, ◌∙◌, subst, arith, inl, inr, Some, if◌then◌else◌}
 use Rattle.uip_wire.specs.Numbers.{wrap}
 use Rattle.tcp_segment.specs.Segments.{PlainSegment}
 use Rattle.app_events.specs.FixedMeaning.{hello, fixed_text, some_heard}
 use Rattle.uip_node.specs.Events.Event.{EchoAsked}
-use Rattle.uip_node.proofs.Basics.{only_some}
-use Rattle.node_laws.specs.Talks.{came_at}
+use Rattle.uip_node.proofs.Basics.{only_some, prefix_length, prefix_refl}
+use Rattle.app_events.specs.Laws.{IsPrefixOf}
+use Rattle.node_laws.specs.Promise.{Speech}
+use Rattle.node_laws.specs.Promise.Speech.{Paged, Talked, Free}
+use Rattle.node_laws.specs.Receivers.{Carries, IsReceived}
+use Rattle.node_laws.specs.Talks.{came_at, said_at}
+use Rattle.node_laws.proofs.Texts.{element, get_inside, most_or_more}
 use Rattle.node_laws.specs.Asked.{IsEchoed}
-use Rattle.node_laws.specs.Promise.{Account, Opening, IsTaken, KeepsAccount, KeepsLife, IsAcknowledged}
-use Rattle.node_laws.specs.WrongLives.{hello_pages, mirror_pages, opened, segment, cut_again, ends_early, repeats_byte, acknowledges_refused, two_under_way, tells_another, echoes_before, WrongLivesFall}
+use Rattle.node_laws.specs.Promise.{Account, Opening, IsTaken, KeepsAccount, KeepsLife, NumbersTell, IsAcknowledged}
+use Rattle.app_events.specs.Pages.{Pages}
+use Rattle.node_laws.specs.Talks.{Exchange}
+use Rattle.node_laws.specs.Promise.{IsOfPage, KeepsText}
+use Rattle.node_laws.specs.WrongLives.{SpeaksBy, hello_pages, mirror_pages, opened, segment, cut_again, ends_early, repeats_byte, acknowledges_refused, two_under_way, tells_another, echoes_before, WrongLivesFall}
 
 -- where the life begins
 record Numbers (a : Account) : Type 0 where
@@ -29,34 +37,74 @@ whole_length : (heard : List ℕ) → some_heard heard ≡ true → length (fixe
 whole_length [] h = absurd (cc)
 whole_length (x ∷ xs) h = refl
 
-cut_resend : KeepsLife hello_pages cut_again → ⊥
-cut_resend k =
-    let g : KeepsAccount hello_pages cut_again (k.account 0) = k.keeps 0 (omega arith) in
-    let z = g.same 0 1 _ _ (omega arith) refl refl refl refl refl in
+-- what is said there is at most the six bytes at one number
+said_short : (place : ℕ) (s : PlainSegment) → said_at cut_again place ≡ Some s → ((s.seq ≡ 1) × (length s.text ≤ 6)) ⊎ (s.text ≡ [])
+said_short zero s h = inl (only_some (λ z. (z.seq ≡ 1) × (length z.text ≤ 6)) (segment 1 1002 24 (take 5 hello)) s h (refl, omega arith))
+said_short (suc zero) s h = inl (only_some (λ z. (z.seq ≡ 1) × (length z.text ≤ 6)) (segment 1 1002 24 hello) s h (refl, omega arith))
+said_short (suc (suc zero)) s h = inr (only_some (λ z. z.text ≡ []) (segment 0 1001 18 []) s h refl)
+said_short (suc (suc (suc place))) s h = absurd (cc)
+
+none_there : (first byte : ℕ) → wrap first ≡ 0 → Carries first cut_again 1073741823 byte → ⊥
+none_there first byte z c =
+    let inside : c.within < length c.segment.text = get_inside c.segment.text byte c.within c.is in
+    elim (said_short c.place c.segment c.said) [
+      | inl q ↦ (let seq : 1 ≡ wrap (first + 1 + c.from) = sym q.0 ∙ c.seq in let sum = c.sum in omega (arith, q.1, inside, z, seq, sum))
+      | inr q ↦ (let none : length c.segment.text ≡ 0 = ap length q in omega (arith, none, inside))
+    ]
+
+sent_short : (first : ℕ) (sent : List ℕ) → wrap first ≡ 0 → IsReceived first cut_again sent → length sent < 1073741824
+sent_short first sent z h = elim (most_or_more (length sent) 1073741823) [
+  | inl l ↦ omega (arith, l)
+  | inr l ↦ absurd (let g = element sent 1073741823 l in none_there first g.0 z (h 1073741823 g.0 g.1))
+]
+
+few_sent : (speech : Speech) (k : KeepsLife speech cut_again) → length (k.account 0).sent < 1073741824
+few_sent speech k =
+    let g : KeepsAccount cut_again (k.account 0) = k.keeps 0 (omega arith) in
+    sent_short (k.account 0).first (k.account 0).sent (numbers_of (k.account 0) g.begins).first g.sent
+
+numbers_tell : (speech : Speech) (k : KeepsLife speech cut_again) → NumbersTell cut_again (k.account 0)
+numbers_tell Free k = k.tells 0 (omega arith) (few_sent Free k)
+numbers_tell (Talked talks) k = (k.tells 0 (omega arith)).1 (few_sent (Talked talks) k)
+numbers_tell (Paged pages) k = (k.tells 0 (omega arith)).1
+
+cut_resend : (speech : Speech) → KeepsLife speech cut_again → ⊥
+cut_resend speech k =
+    let z = (numbers_tell speech k).same 0 1 _ _ (omega arith) refl refl refl refl refl in
     let y : 6 ≡ 5 = ap length z.text in
     omega (arith, y)
 
-early_fin : KeepsLife hello_pages ends_early → ⊥
-early_fin k =
-    let g : KeepsAccount hello_pages ends_early (k.account 0) = k.keeps 0 (omega arith) in
+-- what was sent is of a page of something that was taken
+of_some_page : (pages : Pages) (speech : Speech) (life : List Exchange) (a : Account) → SpeaksBy pages speech → KeepsText speech life a
+    → (heard : List ℕ) × IsPrefixOf heard a.text × IsOfPage pages heard life a
+of_some_page pages speech life a (inl e) h = (let g : KeepsText (Paged pages) life a = subst (λ z. KeepsText z life a) e h in (a.text, prefix_refl a.text, g.0))
+of_some_page pages speech life a (inr e) h = (let g : KeepsText (Talked pages) life a = subst (λ z. KeepsText z life a) e h in g.0)
+
+early_fin : (speech : Speech) → SpeaksBy hello_pages speech → KeepsLife speech ends_early → ⊥
+early_fin speech by k =
+    let g : KeepsAccount ends_early (k.account 0) = k.keeps 0 (omega arith) in
     let n = numbers_of (k.account 0) g.begins in
     let f = (g.says 0 _ refl).fin refl in
-    let l : length (fixed_text (k.account 0).text) ≡ 6 = whole_length (k.account 0).text f.0 in
+    let h = of_some_page hello_pages speech ends_early (k.account 0) by (k.tells 0 (omega arith)) in
+    let e = h.2.ends 0 _ refl refl in
+    let l : length (k.account 0).sent ≡ 6 = ap length e.0 ∙ whole_length h.0 e.1 in
     let a : wrap (k.account 0).first ≡ 0 = n.first in
-    let q : 4 ≡ wrap ((k.account 0).first + 1 + length (fixed_text (k.account 0).text)) = f.2 in
+    let q : 4 ≡ wrap ((k.account 0).first + 1 + length (k.account 0).sent) = f.1 in
     omega (arith, a, l, q)
 
-repeated_byte : KeepsLife hello_pages repeats_byte → ⊥
-repeated_byte k =
-    let g : KeepsAccount hello_pages repeats_byte (k.account 0) = k.keeps 0 (omega arith) in
-    let t = (g.says 0 _ refl).text (omega arith) in
-    let l = text_short (k.account 0).text in
-    let f : t.at + 7 ≤ length (fixed_text (k.account 0).text) = t.slice.fits in
-    omega (arith, l, f)
+repeated_byte : (speech : Speech) → SpeaksBy hello_pages speech → KeepsLife speech repeats_byte → ⊥
+repeated_byte speech by k =
+    let g : KeepsAccount repeats_byte (k.account 0) = k.keeps 0 (omega arith) in
+    let t = (g.says 0 _ refl).bytes (omega arith) in
+    let h = of_some_page hello_pages speech repeats_byte (k.account 0) by (k.tells 0 (omega arith)) in
+    let n = prefix_length (k.account 0).sent (fixed_text h.0) h.2.front in
+    let l = text_short h.0 in
+    let f : t.at + 7 ≤ length (k.account 0).sent = t.slice.fits in
+    omega (arith, l, n, f)
 
-second_segment : KeepsLife hello_pages two_under_way → ⊥
-second_segment k =
-    let g : KeepsAccount hello_pages two_under_way (k.account 0) = k.keeps 0 (omega arith) in
+second_segment : (speech : Speech) → KeepsLife speech two_under_way → ⊥
+second_segment speech k =
+    let g : KeepsAccount two_under_way (k.account 0) = k.keeps 0 (omega arith) in
     none_came (g.one 0 1 _ _ (omega arith) refl refl refl refl (λ e. (let z : 4 ≡ 1 = e in omega (arith, z))))
   where
     none_at : (s : PlainSegment) (place : ℕ) → place ≡ 0 → came_at two_under_way place ≡ Some s → ⊥
@@ -82,9 +130,9 @@ refused_taken n text ended e h = elim h [
       let b : length t.taken ≡ 0 = ap length (opening_taken n t.taken false e t.before).0 in omega (arith, a, b, e))
 ]
 
-refused : KeepsLife hello_pages acknowledges_refused → ⊥
-refused k =
-    let g : KeepsAccount hello_pages acknowledges_refused (k.account 0) = k.keeps 0 (omega arith) in
+refused : (speech : Speech) → KeepsLife speech acknowledges_refused → ⊥
+refused speech k =
+    let g : KeepsAccount acknowledges_refused (k.account 0) = k.keeps 0 (omega arith) in
     let n = numbers_of (k.account 0) g.begins in
     let p : (k.account 0).peer_first ≡ 1000 = n.peer_first in
     let a = g.acknowledges 0 _ refl refl in
@@ -100,14 +148,17 @@ nothing_taken n text ended e h = elim h [
   | inr t ↦ t.joined ∙ ap (λ l. l ++ t.segment.text) (opening_taken n t.taken false e t.before).0 ∙ only_some (λ s. s.text ≡ []) (segment 1001 1 16 []) t.segment t.came refl
 ]
 
-other_page : KeepsLife mirror_pages tells_another → ⊥
-other_page k =
-    let g : KeepsAccount mirror_pages tells_another (k.account 0) = k.keeps 0 (omega arith) in
+other_page : (speech : Speech) → SpeaksBy mirror_pages speech → KeepsLife speech tells_another → ⊥
+other_page speech by k =
+    let g : KeepsAccount tells_another (k.account 0) = k.keeps 0 (omega arith) in
     let n = numbers_of (k.account 0) g.begins in
-    let t = (g.says 0 _ refl).text (omega arith) in
+    let t = (g.says 0 _ refl).bytes (omega arith) in
+    let h = of_some_page mirror_pages speech tells_another (k.account 0) by (k.tells 0 (omega arith)) in
+    let m = prefix_length (k.account 0).sent h.0 h.2.front in
+    let o = prefix_length h.0 (k.account 0).text h.1 in
     let l : length (k.account 0).text ≡ 0 = ap length (nothing_taken (k.account 0).peer_first (k.account 0).text (k.account 0).ended n.peer_first g.taken) in
-    let f : t.at + 1 ≤ length (k.account 0).text = t.slice.fits in
-    omega (arith, l, f)
+    let f : t.at + 1 ≤ length (k.account 0).sent = t.slice.fits in
+    omega (arith, l, m, o, f)
 
 echo_before : IsEchoed echoes_before → ⊥
 echo_before h = let z : EchoAsked (2 ∷ []) ≡ EchoAsked (1 ∷ []) = h (1 ∷ []) refl in cc

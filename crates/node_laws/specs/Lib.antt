@@ -4,5 +4,6 @@ pub mod Promise
 pub mod Asked
 pub mod Wire
 pub mod Turns
+pub mod Speakers
 pub mod KeepsTurns
 pub mod WrongLives

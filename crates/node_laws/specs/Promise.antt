@@ -11,10 +11,10 @@ use Rattle.tcp_machine.specs.OnSegment.{first_mss}
 use Rattle.tcp_machine.specs.Segments.{has_place}
 use Rattle.uip_node.specs.Laws.{Alike, IsSlice}
 use Rattle.node_laws.specs.Talks.{Exchange, said_at, came_at}
-use Rattle.node_laws.specs.Receivers.{IsReceived, EndsBehind, receives}
+use Rattle.node_laws.specs.Receivers.{IsReceived, EndsBehind}
 
 -- What a life comes to: the first numbers of the peer and of the node, the segment size that the peer's SYN says, what was taken of the
--- peer and whether its FIN was, and what the application captured.
+-- peer and whether its FIN was, what the application captured, and the text that was sent.
 pub record Account : Type 0 where
   pub peer_first : ℕ
   pub first : ℕ
@@ -22,13 +22,7 @@ pub record Account : Type 0 where
   pub text : List ℕ
   pub ended : Bool
   pub captures : List Moment
-
--- the page of what was taken and captured, and whether it is whole
-abbrev pub account_page : Pages → Account → List ℕ
-account_page pages a = pages.text a.text a.captures
-
-abbrev pub account_is_whole : Pages → Account → Bool
-account_is_whole pages a = pages.whole a.text a.captures
+  pub sent : List ℕ
 
 -- ---- how it begins
 
@@ -70,17 +64,17 @@ IsTaken peer_first (x ∷ older) text ended =
 
 -- ---- what is sent
 
-pub record IsAtPlace (first : ℕ) (page : List ℕ) (s : PlainSegment) : Type 0 where
+pub record IsAtPlace (first : ℕ) (text : List ℕ) (s : PlainSegment) : Type 0 where
   pub at : ℕ
-  pub slice : IsSlice page s.text at
+  pub slice : IsSlice text s.text at
   pub seq : s.seq ≡ wrap (first + 1 + at)
 
--- A segment says a part of a page: a SYN stands at the first number, text is a slice of the page at its place, and a FIN stands alone
--- behind the page, which is whole then.
-pub record SaysPart (first : ℕ) (page : List ℕ) (whole : Bool) (s : PlainSegment) : Type 0 where
+-- A segment says a part of a text: a SYN stands at the first number, bytes are a slice of the text at its place, and a FIN stands alone
+-- behind the text.
+pub record SaysPart (first : ℕ) (text : List ℕ) (s : PlainSegment) : Type 0 where
   pub syn : has_syn s.flags ≡ true → (s.seq ≡ wrap first) × (s.text ≡ [])
-  pub text : 0 < length s.text → IsAtPlace first page s
-  pub fin : has_fin s.flags ≡ true → (whole ≡ true) × (s.text ≡ []) × (s.seq ≡ wrap (first + 1 + length page))
+  pub bytes : 0 < length s.text → IsAtPlace first text s
+  pub fin : has_fin s.flags ≡ true → (s.text ≡ []) × (s.seq ≡ wrap (first + 1 + length text))
 
 -- it acknowledges what was taken in these exchanges, its own among them: a front of the text
 pub record Acknowledges (peer_first : ℕ) (by_then : List Exchange) (text : List ℕ) (s : PlainSegment) : Type 0 where
@@ -106,29 +100,47 @@ pub record IsAcknowledged (life : List Exchange) (i j : ℕ) (s : PlainSegment) 
 
 -- ---- the promise
 
--- The life comes to this account, the newest exchange first.
-pub record KeepsAccount (pages : Pages) (life : List Exchange) (a : Account) : Type 0 where
+-- The life comes to this account, the newest exchange first. Each byte of its text was sent; all that is sent is a part of this one text,
+-- and no text is longer than the peer takes. What is acknowledged was taken. One segment is under way: another number is used only once
+-- the earlier one was acknowledged.
+pub record KeepsAccount (life : List Exchange) (a : Account) : Type 0 where
   pub begins : Begins life a
   pub taken : IsTaken a.peer_first life a.text a.ended
   pub moments : All IsMoment a.captures
-  -- all that is sent is a part of one page, and no text is longer than the peer takes
-  pub says : (k : ℕ) (s : PlainSegment) → said_at life k ≡ Some s → SaysPart a.first (account_page pages a) (account_is_whole pages a) s
+  pub sent : IsReceived a.first life a.sent
+  pub says : (k : ℕ) (s : PlainSegment) → said_at life k ≡ Some s → SaysPart a.first a.sent s
   pub short : (k : ℕ) (s : PlainSegment) → said_at life k ≡ Some s → length s.text ≤ first_mss a.peer_mss
-  -- what is acknowledged was taken
   pub acknowledges : (k : ℕ) (s : PlainSegment) → said_at life k ≡ Some s → has_rst s.flags ≡ false
       → Acknowledges a.peer_first (drop k life) a.text s
-  -- same bytes: two that carry SYN, text or FIN at one number are the same
-  pub same : (i j : ℕ) (s t : PlainSegment) → i < j → said_at life i ≡ Some s → said_at life j ≡ Some t
-      → has_place s ≡ true → has_place t ≡ true → s.seq ≡ t.seq → Alike t s
-  -- one segment: at another number only once the earlier one was acknowledged
   pub one : (i j : ℕ) (s t : PlainSegment) → i < j → said_at life i ≡ Some s → said_at life j ≡ Some t
       → has_place s ≡ true → has_place t ≡ true → (s.seq ≡ t.seq → ⊥) → IsAcknowledged life i j t
-  -- what the plainest receiver has, and any other, is a prefix of that page
-  pub in_order : (places : List ℕ) → IsPrefixOf (receives a.first life places []) (account_page pages a)
-  pub prefix : (got : List ℕ) → IsReceived a.first life got → IsPrefixOf got (account_page pages a)
-  -- and all of it, the page being whole, where the FIN stands behind it
-  pub all : (got : List ℕ) → IsReceived a.first life got → EndsBehind a.first life (length got)
-      → (got ≡ account_page pages a) × (account_is_whole pages a ≡ true)
+
+-- A number tells a place of the text. So two segments that carry SYN, text or FIN at one number are the same; what any receiver has is
+-- a front of the text, and all of it where the FIN stands behind it.
+pub record NumbersTell (life : List Exchange) (a : Account) : Type 0 where
+  pub same : (i j : ℕ) (s t : PlainSegment) → i < j → said_at life i ≡ Some s → said_at life j ≡ Some t
+      → has_place s ≡ true → has_place t ≡ true → s.seq ≡ t.seq → Alike t s
+  pub prefix : (got : List ℕ) → IsReceived a.first life got → IsPrefixOf got a.sent
+  pub all : (got : List ℕ) → IsReceived a.first life got → EndsBehind a.first life (length got) → got ≡ a.sent
+
+-- The text is a front of the page of what was heard and captured, and where a FIN was sent it is that page, which is whole.
+pub record IsOfPage (pages : Pages) (heard : List ℕ) (life : List Exchange) (a : Account) : Type 0 where
+  pub front : IsPrefixOf a.sent (pages.text heard a.captures)
+  pub ends : (k : ℕ) (s : PlainSegment) → said_at life k ≡ Some s → has_fin s.flags ≡ true
+      → (a.sent ≡ pages.text heard a.captures) × (pages.whole heard a.captures ≡ true)
+
+-- How an application speaks at a port: by the page of all that was taken, by a talk of a front of it, which has no bound, or freely.
+pub data Speech : Type 0 where
+  Paged : (pages : Pages) → Speech
+  Talked : (talks : Pages) → Speech
+  Free : Speech
+
+-- The text is such; numbers tell places in a page, and in any other text while it is shorter than 2^30.
+abbrev pub KeepsText : Speech → List Exchange → Account → Type 0
+KeepsText (Paged pages) life a = IsOfPage pages a.text life a × NumbersTell life a
+KeepsText (Talked talks) life a =
+    ((heard : List ℕ) × IsPrefixOf heard a.text × IsOfPage talks heard life a) × (length a.sent < 1073741824 → NumbersTell life a)
+KeepsText Free life a = length a.sent < 1073741824 → NumbersTell life a
 
 -- a later account of the same life
 pub record GrowsInto (older newer : Account) : Type 0 where
@@ -137,9 +149,11 @@ pub record GrowsInto (older newer : Account) : Type 0 where
   pub peer_mss : older.peer_mss ≡ newer.peer_mss
   pub text : IsPrefixOf older.text newer.text
   pub captures : (more : List Moment) × (older.captures ++ more ≡ newer.captures)
+  pub sent : IsPrefixOf older.sent newer.sent
 
 -- The promise of a life: at each of its moments, told by how many exchanges it lies back, it comes to an account, and that grows.
-pub record KeepsLife (pages : Pages) (life : List Exchange) : Type 0 where
+pub record KeepsLife (speech : Speech) (life : List Exchange) : Type 0 where
   pub account : ℕ → Account
-  pub keeps : (back : ℕ) → back < length life → KeepsAccount pages (drop back life) (account back)
+  pub keeps : (back : ℕ) → back < length life → KeepsAccount (drop back life) (account back)
+  pub tells : (back : ℕ) → back < length life → KeepsText speech (drop back life) (account back)
   pub grows : (back : ℕ) → suc back < length life → GrowsInto (account (suc back)) (account back)

@@ -38,3 +38,7 @@ abbrev pub receives : ℕ → List Exchange → List ℕ → List ℕ → List �
 receives first life [] got = got
 receives first life (place ∷ places) got =
     receives first life places (option_map_or (λ s. takes_next first got s) (said_at life place) got)
+
+-- It is one of those above.
+abbrev pub PlainestReceives : Type 0
+PlainestReceives = (first : ℕ) (life : List Exchange) (places : List ℕ) → IsReceived first life (receives first life places [])

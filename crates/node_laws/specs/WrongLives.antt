@@ -1,6 +1,6 @@
 -- What wrong nodes would do, as worked lives that the promise refuses. The peer's SYN has the number 1000 and the node's 0, and the page
 -- is `hello` and a line feed once a byte was heard.
-use Rattle.std.specs.Prelude.{◌+◌, ℕ, List, [], ◌∷◌, ◌++◌, Option, Some, None, take, drop, false}
+use Rattle.std.specs.Prelude.{◌≡◌, ◌⊎◌, ◌+◌, ℕ, List, [], ◌∷◌, ◌++◌, Option, Some, None, take, drop, false}
 use Rattle.tcp_segment.specs.Segments.{PlainSegment}
 use Rattle.tcp_segment.specs.declared.flags.TheConstants.{FIN, SYN, PSH, ACK}
 use Rattle.app_events.specs.FixedMeaning.{hello, fixed_text, some_heard}
@@ -8,7 +8,8 @@ use Rattle.app_events.specs.Pages.{Pages}
 use Rattle.uip_node.specs.Events.Event.{EchoAsked}
 use Rattle.uip_node.specs.Events.Reply.{Echo}
 use Rattle.node_laws.specs.Talks.{Exchange, Turn}
-use Rattle.node_laws.specs.Promise.{KeepsLife}
+use Rattle.node_laws.specs.Promise.{KeepsLife, Speech}
+use Rattle.node_laws.specs.Promise.Speech.{Paged, Talked}
 use Rattle.node_laws.specs.Asked.{IsEchoed}
 
 abbrev pub hello_pages : Pages
@@ -59,12 +60,16 @@ tells_another = exchanged (Some (segment 1001 1 ACK [])) (Some (segment 1 1001 (
 abbrev pub echoes_before : Turn
 echoes_before = record { event = EchoAsked (2 ∷ []); sent = Some (Echo (1 ∷ [])) }
 
--- None of them keeps the promise.
+-- by these pages, or by them as talks
+abbrev pub SpeaksBy : Pages → Speech → Type 0
+SpeaksBy pages speech = (speech ≡ Paged pages) ⊎ (speech ≡ Talked pages)
+
+-- None of them keeps the promise; the first three do not, however the application speaks.
 pub record WrongLivesFall : Type 0 where
-  pub cut_resend : KeepsLife hello_pages cut_again → ⊥
-  pub early_fin : KeepsLife hello_pages ends_early → ⊥
-  pub repeated_byte : KeepsLife hello_pages repeats_byte → ⊥
-  pub refused : KeepsLife hello_pages acknowledges_refused → ⊥
-  pub second_segment : KeepsLife hello_pages two_under_way → ⊥
-  pub other_page : KeepsLife mirror_pages tells_another → ⊥
+  pub cut_resend : (speech : Speech) → KeepsLife speech cut_again → ⊥
+  pub refused : (speech : Speech) → KeepsLife speech acknowledges_refused → ⊥
+  pub second_segment : (speech : Speech) → KeepsLife speech two_under_way → ⊥
+  pub early_fin : (speech : Speech) → SpeaksBy hello_pages speech → KeepsLife speech ends_early → ⊥
+  pub repeated_byte : (speech : Speech) → SpeaksBy hello_pages speech → KeepsLife speech repeats_byte → ⊥
+  pub other_page : (speech : Speech) → SpeaksBy mirror_pages speech → KeepsLife speech tells_another → ⊥
   pub echo_before : IsEchoed echoes_before → ⊥

@@ -6,6 +6,9 @@ pub mod Opened
 pub mod Asking
 pub mod DeskParts
 pub mod TwoApplications
+pub mod DeskSteady
+pub mod TalkBytes
+pub mod DeskLines
 pub mod TalkLaws
 pub mod ExactLaws
 pub mod SequenceLaws

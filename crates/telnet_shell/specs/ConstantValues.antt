@@ -1,5 +1,5 @@
 -- The constants of the code that definitions cite, with their values: a definition that names one says this number.
-use Rattle.std.specs.Prelude.{◌≡◌, ℕ}
+use Rattle.std.specs.Prelude.{◌≡◌}
 use Rattle.telnet_shell.specs.declared.TheConstants.{MOST_SILENT_POLLS, MOST_COMMANDS, LONGEST_LINE}
 use Rattle.telnet_shell.specs.declared.shell.TheConstants.{TELNET_PORT}
 use Rattle.telnet_shell.specs.declared.hearing.TheConstants.{IAC, DONT, DO, WONT, WILL}

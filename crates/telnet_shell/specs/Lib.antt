@@ -8,6 +8,7 @@ pub mod ShellStands
 pub mod DeskMeaning
 pub mod DeskStands
 pub mod DeskPorts
+pub mod DeskLines
 pub mod Talks
 pub mod Lemmas
 pub mod ConstantValues

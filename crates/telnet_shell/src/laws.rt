@@ -2,6 +2,7 @@
 
 ghost use Rattle.telnet_shell.specs.WorkedTalks.{AreWorkedTalks, KeepsLaws};
 ghost use Rattle.telnet_shell.specs.DeskPorts.{IsTwoApplications};
+ghost use Rattle.telnet_shell.specs.DeskLines.{DeskSpeaksOnLines};
 ghost use Rattle.telnet_shell.specs.Talks.{KeepsTalk};
 ghost use Rattle.telnet_shell.specs.ConstantValues.{ConstantValues};
 ghost use Rattle.telnet_shell.specs.Exactly.{IsExact};
@@ -22,6 +23,11 @@ pub fn shell_laws()
 #[tactic(auto, using(crate::proofs::TwoApplications::two_applications))]
 pub fn desk_is_two_applications()
     ensures { IsTwoApplications }
+{}
+
+/// On a line the desk takes back no text, and what it says is bytes: at port 80 the pages of its files, at port 23 the shell's talk.
+pub fn desk_speaks_on_lines()
+    ensures { DeskSpeaksOnLines }
 {}
 
 /// A talk only grows, a whole one stays whole, and a connection is closed at the end of a whole talk alone.

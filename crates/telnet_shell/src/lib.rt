@@ -11,8 +11,8 @@ mod shell;
 pub use command::Command;
 pub use desk::Desk;
 pub use laws::{
-    constant_values, desk_is_two_applications, sequences_are_read, shell_is_exact,
-    shell_keeps_its_talk, shell_laws, worked_talks,
+    constant_values, desk_is_two_applications, desk_speaks_on_lines, sequences_are_read,
+    shell_is_exact, shell_keeps_its_talk, shell_laws, worked_talks,
 };
 pub use shell::{Shell, TELNET_PORT};
 

@@ -10,10 +10,11 @@ use Rattle.uip_node.specs.Laws.{HasBytes}
 use Rattle.uip_node.specs.Node.{AbstractNode, opening}
 use Rattle.serve_loop.specs.Turns.{IsNode}
 use Rattle.node_laws.specs.KeepsTurns.{KeepsTurns}
+use Rattle.node_laws.specs.Speakers.{at_every_port}
 use Rattle.node_laws.specs.Talks.{Turn}
 use Rattle.node_laws.specs.Turns.{turns_of}
 use Rattle.node_laws.specs.Wire.{IsReadByPeer}
-use Rattle.node_laws.proofs.EveryTurn.{every_step}
+use Rattle.node_laws.proofs.EveryTurn.{every_step_of_pages}
 use Rattle.node_laws.proofs.Steps.{LineStep, turns_over, turns_then}
 use Rattle.node_laws.proofs.TurnRuns.{sends, turn_events}
 use Rattle.uip_device.specs.Calls.{events_by}
@@ -78,12 +79,12 @@ module _ {A S : Type 0} (g : Ghosts A S) where
         let steps : List LineStep = steps_of own gives [] (moves_of all) in
         let node : AbstractNode = opening own numbers in
         let t = in_turns m own gives [] all old new node fresh.stands fresh.heard answered in
-        let kept = every_step m pages lawful page g.served own is numbers words steps (steps_are own gives low (moves_of all) bytes) in
+        let kept = every_step_of_pages m pages lawful page g.served own is numbers words steps (steps_are own gives low (moves_of all) bytes) in
         record {
           moves = t.moves;
           answered = t.answered;
           left = t.left;
           each = subst (λ (l : List ℕ). AllHandOutSent own [] l t.moves) (none_left old fresh.none) t.each;
-          keeps = subst (λ (l : List Turn). KeepsTurns pages g.served l) (sym t.turns) kept.0;
+          keeps = subst (λ (l : List Turn). KeepsTurns (at_every_port pages) g.served l) (sym t.turns) kept.0;
           read = subst (λ (l : List Turn). All (IsReadByPeer own) l) (sym t.turns) kept.1;
         }

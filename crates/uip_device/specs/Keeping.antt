@@ -4,6 +4,7 @@ use Rattle.std.specs.Prelude.{◌≡◌, ◌≤◌, ℕ, Bool, length, List, [],
 use Rattle.app_events.specs.Pages.{IsByte, IsWord, Pages}
 use Rattle.uip_wire.specs.declared.addr.Addr.{Addr}
 use Rattle.node_laws.specs.KeepsTurns.{KeepsTurns}
+use Rattle.node_laws.specs.Speakers.{at_every_port}
 use Rattle.node_laws.specs.Talks.{Turn, replies_of}
 use Rattle.node_laws.specs.Wire.{IsReadByPeer}
 use Rattle.uip_device.specs.Calls.{Hears, HearsDatagram}
@@ -48,5 +49,5 @@ pub record KeepsCalls (pages : Pages) (served : ℕ → Bool) (own : Addr) (all 
   pub answered : map (λ it. it.answered) moves ≡ all
   pub left : map (λ it. it.left) moves ≡ lefts
   pub each : AllHandOutSent own [] [] moves
-  pub keeps : KeepsTurns pages served (flat_map (λ it. it.turns) moves)
+  pub keeps : KeepsTurns (at_every_port pages) served (flat_map (λ it. it.turns) moves)
   pub read : All (IsReadByPeer own) (flat_map (λ it. it.turns) moves)

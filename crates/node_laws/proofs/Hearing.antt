@@ -1,0 +1,84 @@
+-- What an application has heard is bytes, where bytes come.
+use Rattle.std.specs.List.{All}
+use Rattle.std.proofs.Common.{◌≡◌, ℕ, ◌+◌, Bool, true, false, not, ◌&&◌, List, [], ◌∷◌, length, ltb, subst, arith}
+use Rattle.tcp_segment.specs.Segments.{PlainSegment, has_fin, has_rst}
+use Rattle.rexmit_timer.specs.declared.timer.Beat.{Beat}
+use Rattle.app_events.specs.Pages.{IsByte}
+use Rattle.app_events.specs.Part.{Part, Meaning}
+use Rattle.app_events.specs.declared.now.Now.{Now}
+use Rattle.app_events.specs.declared.state.State.{State}
+use Rattle.app_events.specs.declared.state.State.TheVariants.{Closed, SynRcvd, Established, CloseWait, FinWait1, FinWait2, Closing, TimeWait, LastAck}
+use Rattle.tcp_machine.specs.Connection.{Connection}
+use Rattle.tcp_machine.specs.Ask.{Outcome, does_as_wanted, prepared, asked}
+use Rattle.tcp_machine.specs.OnSegment.{hears, is_out_of_order, is_acked, rests, has_text, with_part, peer_closes, goes_on, in_established, fin_acked, fin_waits, by_state, on_segment}
+use Rattle.tcp_machine.specs.OnTick.{by_beat, on_tick}
+use Rattle.uip_node.proofs.Basics.{choose}
+use Rattle.uip_node.proofs.Cases.{Unmoved, asked_by, on_tick_by, wanted_unmoved}
+use Rattle.node_laws.specs.Speakers.{SaysBytes}
+
+-- its part has heard bytes
+abbrev pub HeardBytes : Connection → Type 0
+HeardBytes c = All IsByte c.part.heard
+
+module _ (m : Meaning) (bytes : SaysBytes m) where
+  abbrev Out : Outcome → Type 0
+  Out o = HeardBytes o.connection
+
+  hears_bytes : (numbers : List ℕ) (p : Part) (piece : List ℕ) → All IsByte p.heard → All IsByte piece → All IsByte (hears m numbers p piece).part.heard
+  hears_bytes numbers p [] h are = h
+  hears_bytes numbers p (x ∷ xs) h are = bytes.newdata numbers p (x ∷ xs) h are
+
+  pub asked_bytes : (at : Connection → Now) (o : Outcome) → Out o → Out (asked m at o)
+  asked_bytes at o h =
+      asked_by m Out at o
+      (λ a fresh. (let b : Connection = prepared m (at o.connection) o.connection o.numbers in
+      let u : Unmoved b (does_as_wanted (m.want o.numbers b.part) fresh b o.numbers).connection = wanted_unmoved m (m.want o.numbers b.part) fresh b o.numbers in
+      subst (λ (p : Part). All IsByte p.heard) (Rattle.std.proofs.Common.sym u.part) (bytes.prepare o.numbers o.connection.part (at o.connection) h)))
+      h
+
+  established_bytes : (acked : Bool) (c : Connection) (numbers : List ℕ) (s : PlainSegment) → All IsByte s.text → HeardBytes c → Out (in_established m acked c numbers s)
+  unfolding in_established peer_closes goes_on
+  established_bytes acked c numbers s are h =
+      let x = hears_bytes numbers c.part s.text h are in
+      choose Out (has_fin s.flags) _ _
+      (λ e. choose Out (ltb 0 c.len) _ _ (λ f. x) (λ f. x))
+      (λ e. choose Out (not acked && not (has_text s)) _ _ (λ f. x) (λ f. choose Out (ltb 0 c.len) _ _ (λ g. x) (λ g. x)))
+
+  by_state_bytes : (st : State) (acked : Bool) (c : Connection) (numbers : List ℕ) (s : PlainSegment) → All IsByte s.text → HeardBytes c → Out (by_state m st acked c numbers s)
+  unfolding fin_acked fin_waits
+  by_state_bytes Closed acked c numbers s are h = h
+  by_state_bytes SynRcvd true c numbers s are h =
+      (let start = m.connected numbers c.sockets.own_port.0 in hears_bytes start.numbers start.part s.text (bytes.connected numbers c.sockets.own_port.0) are)
+  by_state_bytes SynRcvd false c numbers s are h = h
+  by_state_bytes Established true c numbers s are h =
+      established_bytes true (with_part (m.acked numbers c.part c.len).part (rests c)) (m.acked numbers c.part c.len).numbers s are (bytes.acked numbers c.part c.len h)
+  by_state_bytes Established false c numbers s are h = established_bytes false c numbers s are h
+  by_state_bytes CloseWait true c numbers s are h = bytes.acked numbers c.part c.len h
+  by_state_bytes CloseWait false c numbers s are h = h
+  by_state_bytes FinWait1 true c numbers s are h = choose Out (has_fin s.flags) _ _ (λ e. h) (λ e. h)
+  by_state_bytes FinWait1 false c numbers s are h = choose Out (has_fin s.flags) _ _ (λ e. h) (λ e. choose Out (has_text s) _ _ (λ f. h) (λ f. h))
+  by_state_bytes FinWait2 acked c numbers s are h = choose Out (has_fin s.flags) _ _ (λ e. h) (λ e. choose Out (has_text s) _ _ (λ f. h) (λ f. h))
+  by_state_bytes Closing true c numbers s are h = h
+  by_state_bytes Closing false c numbers s are h = h
+  by_state_bytes LastAck true c numbers s are h = h
+  by_state_bytes LastAck false c numbers s are h = h
+  by_state_bytes TimeWait acked c numbers s are h = h
+
+  pub on_segment_bytes : (c : Connection) (numbers : List ℕ) (s : PlainSegment) → All IsByte s.text → HeardBytes c → Out (on_segment m c numbers s)
+  unfolding on_segment
+  on_segment_bytes c numbers s are h =
+      choose Out (has_rst s.flags) _ _ (λ e. h) (λ e. choose Out (is_out_of_order c s) _ _ (λ f. h) (λ f. by_state_bytes c.state (is_acked c s) c numbers s are h))
+
+  by_beat_bytes : (b : Beat) (c : Connection) (numbers : List ℕ) → HeardBytes c → Out (by_beat m b c numbers)
+  by_beat_bytes Beat.Wait c numbers h = h
+  by_beat_bytes Beat.Again c numbers h = h
+  by_beat_bytes Beat.GiveUp c numbers h = h
+
+  pub on_tick_bytes : (c : Connection) (numbers : List ℕ) → HeardBytes c → Out (on_tick m c numbers)
+  on_tick_bytes c numbers h = on_tick_by m Out c numbers record {
+    none = h;
+    beats = λ r b. by_beat_bytes b c numbers h;
+    rested = λ e. h;
+    ends = h;
+    polled = λ e l. bytes.polled numbers c.part h;
+  }
