@@ -12,3 +12,9 @@ pub mod EveryTurn
 pub mod Rows
 pub mod WrongLives
 pub mod Steps
+pub mod Slots
+pub mod HonestTalks
+pub mod HonestConnections
+pub mod HonestPeers
+pub mod Beating
+pub mod Timers

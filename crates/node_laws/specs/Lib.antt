@@ -5,4 +5,6 @@ pub mod Asked
 pub mod Wire
 pub mod Turns
 pub mod KeepsTurns
+pub mod HonestPeers
+pub mod Timers
 pub mod WrongLives

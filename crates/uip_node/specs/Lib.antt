@@ -9,3 +9,4 @@ pub mod Spoken
 pub mod StandsFor
 pub mod Steady
 pub mod Laws
+pub mod Answering
