@@ -10,6 +10,7 @@ pub mod PeerReads
 pub mod TurnRuns
 pub mod EveryTurn
 pub mod Rows
+pub mod HonestRows
 pub mod WrongLives
 pub mod Steps
 pub mod Slots

@@ -1,0 +1,41 @@
+-- An honest peer, and one that is silent, computed from the definitions alone.
+use Rattle.std.proofs.Common.{◌≡◌, ◌+◌, ℕ, Bool, true, false, List, [], ◌∷◌, refl, Some, None}
+use Rattle.tcp_segment.specs.declared.flags.TheConstants.{SYN, ACK}
+use Rattle.app_events.specs.FixedMeaning.{hello}
+use Rattle.tcp_machine.specs.Ask.{idles}
+use Rattle.tcp_machine.specs.OnSegment.{peer_closes, goes_on, in_established, fin_acked, fin_waits, on_segment}
+use Rattle.tcp_machine.specs.OnTick.{rests_on, ticks_established}
+use Rattle.uip_node.specs.Events.Event.{Periodic}
+use Rattle.uip_node.specs.Node.{happened, opens_in, from_stranger}
+use Rattle.node_laws.specs.HonestPeers.{text_came, numbers_said, bare_acks, in_turn}
+use Rattle.node_laws.specs.Receivers.{receives}
+use Rattle.node_laws.specs.Talks.{Exchange}
+use Rattle.node_laws.proofs.Rows.{says, talk_over, told}
+
+-- It acknowledges the SYN, waits for a call of the slot, asks by one byte, and acknowledges the one text.
+abbrev honest : List Exchange
+honest = talk_over (says 1000 0 SYN [] ∷ says 1001 1 ACK [] ∷ Periodic 0 ∷ says 1001 1 ACK (120 ∷ []) ∷ says 1002 7 ACK [] ∷ [])
+
+-- the request is that byte, and two acknowledgements without text are more than the one text
+asked : text_came honest ≡ 120 ∷ []
+unfolding idles peer_closes goes_on in_established fin_acked fin_waits on_segment rests_on ticks_established happened opens_in from_stranger
+asked = refl
+
+acknowledged : bare_acks honest ≡ 2
+unfolding idles peer_closes goes_on in_established fin_acked fin_waits on_segment rests_on ticks_established happened opens_in from_stranger
+acknowledged = refl
+
+-- the SYN, six bytes and the FIN were said, and the receiver has the page
+said_all : numbers_said honest ≡ 8
+unfolding idles peer_closes goes_on in_established fin_acked fin_waits on_segment rests_on ticks_established happened opens_in from_stranger
+said_all = refl
+
+has_page : receives 0 honest (in_turn honest) [] ≡ hello
+unfolding idles peer_closes goes_on in_established fin_acked fin_waits on_segment rests_on ticks_established happened opens_in from_stranger
+has_page = refl
+
+-- the SYN is sent again in the fourth call of the slot
+sent_syn_twice : told (talk_over (says 1000 0 SYN [] ∷ Periodic 0 ∷ Periodic 0 ∷ Periodic 0 ∷ Periodic 0 ∷ []))
+    ≡ Some (0, []) ∷ None ∷ None ∷ None ∷ Some (0, []) ∷ []
+unfolding idles peer_closes goes_on in_established fin_acked fin_waits on_segment rests_on ticks_established happened opens_in from_stranger
+sent_syn_twice = refl
