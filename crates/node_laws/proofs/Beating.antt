@@ -206,7 +206,7 @@ module _ (m : Meaning) where
         choose LivesOrResets (peer_has_closed c.state) (leaves (closes c) numbers Step.Reset) (if fresh then leaves c numbers Step.Ack else leaves c numbers Step.Drop) (λ e. inr refl)
         (λ e. choose LivesOrResets fresh (leaves c numbers Step.Ack) (leaves c numbers Step.Drop) (λ f. inl (open_live c.state o)) (λ f. inl (open_live c.state o)))
 
-    ask_open : (c d : Connection) (s : Step) → OutTells m steady Low low_text c d s → is_ask s ≡ true → is_open d.state ≡ true
+    pub ask_open : (c d : Connection) (s : Step) → OutTells m steady Low low_text c d s → is_ask s ≡ true → is_open d.state ≡ true
     ask_open c d (Step.Ask fresh) t a = t.is_asked
     ask_open c d Step.Drop t a = absurd (cc)
     ask_open c d Step.Ack t a = absurd (cc)

@@ -19,3 +19,5 @@ pub mod HonestConnections
 pub mod HonestPeers
 pub mod Beating
 pub mod Timers
+pub mod WindowSteps
+pub mod Windows

@@ -7,4 +7,5 @@ pub mod Turns
 pub mod KeepsTurns
 pub mod HonestPeers
 pub mod Timers
+pub mod Windows
 pub mod WrongLives

@@ -1,6 +1,7 @@
 ghost use Rattle.node_laws.specs.HonestPeers.{HonestPeer};
 ghost use Rattle.node_laws.specs.KeepsTurns.{EveryTurn};
 ghost use Rattle.node_laws.specs.Timers.{TimerRunsOut};
+ghost use Rattle.node_laws.specs.Windows.{WindowsAreKept};
 ghost use Rattle.node_laws.specs.WrongLives.{WrongLivesFall};
 
 /// Whatever comes over a line, from any peers: in each turn of a node its lives keep their promises, and nothing is sent unasked.
@@ -21,4 +22,9 @@ pub fn honest_peer()
 /// What is outstanding is sent again, or given up with a RST, within 49 calls of each slot in which nothing comes from the peer.
 pub fn timer_runs_out()
     ensures { TimerRunsOut }
+{}
+
+/// Text that is sent for the first time is no longer than the newest window that the peer told and the node took.
+pub fn windows_are_kept()
+    ensures { WindowsAreKept }
 {}

@@ -4,4 +4,4 @@
 
 mod laws;
 
-pub use laws::{every_turn, honest_peer, timer_runs_out, wrong_lives_fall};
+pub use laws::{every_turn, honest_peer, timer_runs_out, windows_are_kept, wrong_lives_fall};
