@@ -183,14 +183,7 @@ module _ (m : Meaning) where
     -- nothing is outstanding in TIME-WAIT
     pub no_wait : (c : Connection) (st : State) → SafeAt c st → 0 < c.len → is_time_wait st ≡ true → ⊥
     no_wait c TimeWait h l e = (let z = h.len in omega (arith, l, z))
-    no_wait c Closed h l e = absurd (cc)
-    no_wait c SynRcvd h l e = absurd (cc)
-    no_wait c Established h l e = absurd (cc)
-    no_wait c CloseWait h l e = absurd (cc)
-    no_wait c FinWait1 h l e = absurd (cc)
-    no_wait c FinWait2 h l e = absurd (cc)
-    no_wait c Closing h l e = absurd (cc)
-    no_wait c LastAck h l e = absurd (cc)
+    no_wait c _ h l e = absurd (cc)
 
     -- ---- how it ends: by a RST, or by the acknowledgement of the last FIN
 
@@ -208,12 +201,7 @@ module _ (m : Meaning) where
 
     pub ask_open : (c d : Connection) (s : Step) → OutTells m steady Low low_text c d s → is_ask s ≡ true → is_open d.state ≡ true
     ask_open c d (Step.Ask fresh) t a = t.is_asked
-    ask_open c d Step.Drop t a = absurd (cc)
-    ask_open c d Step.Ack t a = absurd (cc)
-    ask_open c d (Step.SynAck again) t a = absurd (cc)
-    ask_open c d (Step.Text again) t a = absurd (cc)
-    ask_open c d (Step.Fin again) t a = absurd (cc)
-    ask_open c d Step.Reset t a = absurd (cc)
+    ask_open c d _ t a = absurd (cc)
 
     pub asked_lives : (at : Connection → Now) (c : Connection) (o : Outcome) → OutTells m steady Low low_text c o.connection o.step → LivesOrResets o → LivesOrResets (asked m at o)
     asked_lives at c o t l =
@@ -268,65 +256,46 @@ pub record BeatsAt (limit age : ℕ) : Type 0 where
 beats_by : (limit age at : ℕ) → age < at → at ≤ age + 49 → (beat_at limit at ≡ Beat.Wait → ⊥) → BeatsAt limit age
 beats_by limit age at l s b = record { at = at; later = l; soon = s; beats = b }
 
-syn_beats : (age : ℕ) → age < 102 → BeatsAt 5 age
-syn_beats age l =
+abbrev IsBeat : ℕ → ℕ → Type 0
+IsBeat limit at = beat_at limit at ≡ Beat.Wait → ⊥
+
+-- with five retransmissions or more the first ages are these
+early_beats : (limit age : ℕ) → IsBeat limit 4 → IsBeat limit 8 → IsBeat limit 15 → IsBeat limit 28 → IsBeat limit 53 → age < 53 → BeatsAt limit age
+early_beats limit age b4 b8 b15 b28 b53 l =
     elim (cases_lt age 4) [
-      | inl h ↦ beats_by 5 age 4 h (omega arith) (λ e. cc)
+      | inl h ↦ beats_by limit age 4 h (omega arith) b4
       | inr a ↦
           elim (cases_lt age 8) [
-            | inl h ↦ beats_by 5 age 8 h (omega arith) (λ e. cc)
+            | inl h ↦ beats_by limit age 8 h (omega arith) b8
             | inr b ↦
                 elim (cases_lt age 15) [
-                  | inl h ↦ beats_by 5 age 15 h (omega arith) (λ e. cc)
+                  | inl h ↦ beats_by limit age 15 h (omega arith) b15
                   | inr c ↦
-                      elim (cases_lt age 28) [
-                        | inl h ↦ beats_by 5 age 28 h (omega arith) (λ e. cc)
-                        | inr d ↦
-                            elim (cases_lt age 53) [ inl h ↦ beats_by 5 age 53 h (omega arith) (λ e. cc) | inr f ↦ beats_by 5 age 102 l (omega (arith, f)) (λ e. cc) ]
-                      ]
+                      elim (cases_lt age 28) [ inl h ↦ beats_by limit age 28 h (omega arith) b28 | inr d ↦ beats_by limit age 53 l (omega arith) b53 ]
                 ]
           ]
     ]
 
+syn_beats : (age : ℕ) → age < 102 → BeatsAt 5 age
+syn_beats age l =
+    elim (cases_lt age 53) [ inl h ↦ early_beats 5 age (λ e. cc) (λ e. cc) (λ e. cc) (λ e. cc) (λ e. cc) h | inr f ↦ beats_by 5 age 102 l (omega (arith, f)) (λ e. cc) ]
+
 text_beats : (age : ℕ) → age < 249 → BeatsAt 8 age
 text_beats age l =
-    elim (cases_lt age 4) [
-      | inl h ↦ beats_by 8 age 4 h (omega arith) (λ e. cc)
-      | inr a ↦
-          elim (cases_lt age 8) [
-            | inl h ↦ beats_by 8 age 8 h (omega arith) (λ e. cc)
-            | inr b ↦
-                elim (cases_lt age 15) [
-                  | inl h ↦ beats_by 8 age 15 h (omega arith) (λ e. cc)
-                  | inr c ↦
-                      elim (cases_lt age 28) [
-                        | inl h ↦ beats_by 8 age 28 h (omega arith) (λ e. cc)
-                        | inr d ↦
-                            elim (cases_lt age 53) [
-                              | inl h ↦ beats_by 8 age 53 h (omega arith) (λ e. cc)
-                              | inr f ↦
-                                  elim (cases_lt age 102) [
-                                    | inl h ↦ beats_by 8 age 102 h (omega (arith, f)) (λ e. cc)
-                                    | inr g ↦
-                                        elim (cases_lt age 151) [
-                                          | inl h ↦ beats_by 8 age 151 h (omega (arith, g)) (λ e. cc)
-                                          | inr i ↦
-                                              elim (cases_lt age 200) [ inl h ↦ beats_by 8 age 200 h (omega (arith, i)) (λ e. cc) | inr j ↦ beats_by 8 age 249 l (omega (arith, j)) (λ e. cc) ]
-                                        ]
-                                  ]
-                            ]
-                      ]
+    elim (cases_lt age 53) [
+      | inl h ↦ early_beats 8 age (λ e. cc) (λ e. cc) (λ e. cc) (λ e. cc) (λ e. cc) h
+      | inr f ↦
+          elim (cases_lt age 102) [
+            | inl h ↦ beats_by 8 age 102 h (omega (arith, f)) (λ e. cc)
+            | inr g ↦
+                elim (cases_lt age 151) [
+                  | inl h ↦ beats_by 8 age 151 h (omega (arith, g)) (λ e. cc)
+                  | inr i ↦
+                      elim (cases_lt age 200) [ inl h ↦ beats_by 8 age 200 h (omega (arith, i)) (λ e. cc) | inr j ↦ beats_by 8 age 249 l (omega (arith, j)) (λ e. cc) ]
                 ]
           ]
     ]
 
 pub next_beat : (st : State) (age : ℕ) → age < give_up_age (limit_of st) → BeatsAt (limit_of st) age
 next_beat SynRcvd age l = syn_beats age l
-next_beat Closed age l = text_beats age l
-next_beat Established age l = text_beats age l
-next_beat CloseWait age l = text_beats age l
-next_beat FinWait1 age l = text_beats age l
-next_beat FinWait2 age l = text_beats age l
-next_beat Closing age l = text_beats age l
-next_beat TimeWait age l = text_beats age l
-next_beat LastAck age l = text_beats age l
+next_beat _ age l = text_beats age l

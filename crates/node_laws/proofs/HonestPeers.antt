@@ -3,14 +3,14 @@ use Rattle.std.specs.List.{All}
 use Rattle.std.specs.Option.{option_map_or}
 use Rattle.std.proofs.Common.{◌≡◌, ℕ, zero, suc, ◌+◌, ◌<◌, ◌≤◌, ◌==◌, Bool, true, false, ◌&&◌, ◌⊎◌, inl, inr, List, [], ◌∷◌, ◌++◌, length, set, refl, sym, ap, ◌∙◌, subst, arith, Option, Some, None, slice_get, eqb, length-append, if◌then◌else◌}
 use Rattle.std.proofs.lemmas.Bool.{eq-eqb}
-use Rattle.std.proofs.lemmas.List.Elements.{All-head, All-tail}
+use Rattle.std.proofs.lemmas.List.Elements.{All-tail}
 use Rattle.uip_wire.specs.Numbers.{wrap}
 use Rattle.uip_wire.specs.declared.addr.Addr.{Addr}
 use Rattle.tcp_segment.specs.declared.flags.TheConstants.{SYN}
 use Rattle.tcp_segment.specs.Segments.{PlainSegment, has_syn, has_ack}
 use Rattle.app_events.specs.Part.{Part, Meaning}
 use Rattle.app_events.specs.Laws.{IsPrefixOf}
-use Rattle.app_events.specs.Pages.{Pages, IsPaged, IsWord}
+use Rattle.app_events.specs.Pages.{Pages, IsPaged}
 use Rattle.app_events.specs.declared.state.State.TheVariants.{SynRcvd}
 use Rattle.tcp_machine.specs.Connection.{Sockets, Connection, closed, is_live, rows_from, row_of}
 use Rattle.tcp_machine.specs.Segments.{is_plain_syn, segment_of, reset_to_none, syn_ack}
@@ -26,7 +26,7 @@ use Rattle.uip_node.proofs.Basics.{choose, eqb-eq, only_some, wrap_wrap, append_
 use Rattle.uip_node.proofs.Connections.{Single, get_set_same, is_served, none_serves, all_closed}
 use Rattle.uip_node.proofs.Connections.Served.{served, free}
 use Rattle.uip_node.proofs.Fits.{FitConn, on_segment_fits, on_tick_fits}
-use Rattle.uip_node.proofs.FitNodes.{FitNode, closed_fits, event_fits, node_moment}
+use Rattle.uip_node.proofs.FitNodes.{node_moment}
 use Rattle.uip_node.proofs.Steadiness.{steady_of}
 use Rattle.uip_node.specs.Answering.{AnswersPolled}
 use Rattle.node_laws.specs.HonestPeers.{Asker, text_came, bare_acks, Opens, SendsNext, is_quiet, IsHonest, calls_of, HasItsPage, HonestPeer}
@@ -34,6 +34,7 @@ use Rattle.node_laws.specs.Talks.{Exchange, Turn, exchange, talk_behind, talk_of
 use Rattle.node_laws.specs.Turns.{turns_of}
 use Rattle.node_laws.specs.Wire.{IsOfLine}
 use Rattle.node_laws.proofs.Beating.{mss_some}
+use Rattle.node_laws.proofs.GoodNodes.{Good, good_on, good_start, first_is}
 use Rattle.node_laws.proofs.HonestConnections.{conn_at, Counts, AtSyn, Stage, Moments, stage_quiet, answered, called, stage_serves, stage_stays, runs_out, stays_told}
 use Rattle.node_laws.proofs.HonestConnections.Stage.{at_syn}
 use Rattle.node_laws.proofs.HonestConnections.Next.{goes_on_so, ends_so}
@@ -44,7 +45,6 @@ use Rattle.node_laws.proofs.Replying.{answer_no_syn}
 use Rattle.node_laws.proofs.Slots.{Acted, acts}
 use Rattle.node_laws.proofs.Slots.Acts.{is_called, is_met, is_apart, makes_room}
 use Rattle.node_laws.proofs.Walk.{nil_of}
-use Rattle.node_laws.proofs.Wire.{line_wire, wire_event}
 
 -- where one lives the table has a row
 rows_some : (k : ℕ) (cs : List Connection) (i : ℕ) (old z : Connection) → slice_get cs i ≡ Some old → is_live z.state ≡ true → 0 < length (rows_from k (set cs i z))
@@ -82,16 +82,6 @@ module _ (m : Meaning) (pages : Pages) (lawful : IsPaged m pages) (serves_port :
   data Standing (n : AbstractNode) (life : List Exchange) (rest : List Turn) : Type 0 where
     lives : Living n life rest → Standing n life rest
     over : HasItsPage pages a life → Standing n life rest
-
-  record Good (n : AbstractNode) : Type 0 where
-    single : Single n.connections
-    fit : FitNode n
-
-  good_on : (n : AbstractNode) (event : Event) → IsEvent event → Good n → Good (step m serves_port n event).node
-  good_on n event is g = record {
-    single = (comes m serves_port (steady_of m pages lawful) n event is g.single g.fit).single;
-    fit = event_fits m (steady_of m pages lawful) serves_port n event is g.fit;
-  }
 
   module _ (n : AbstractNode) (event : Event) (good : Good n) (y : Exchange) (older : List Exchange) (rest : List Turn) where
     abbrev r : NodeStep
@@ -278,9 +268,6 @@ module _ (m : Meaning) (pages : Pages) (lawful : IsPaged m pages) (serves_port :
     abbrev OfLine : List Event → Type 0
     OfLine es = All (IsOfLine own) es
 
-    head_is : (e : Event) (es : List Event) → OfLine (e ∷ es) → IsEvent e
-    head_is e es l = wire_event e (line_wire own e (All-head (IsOfLine own) e es l))
-
     still_whole : (life : List Exchange) (x : Exchange) → text_came life ≡ a.request → is_quiet x ⊎ SendsNext a x life → text_came (x ∷ life) ≡ a.request
     still_whole life x w k = elim k [
       | inl q ↦ ap (λ z. text_came life ++ option_map_or (λ s. s.text) z []) q.0 ∙ append_nothing (text_came life) ∙ w
@@ -295,7 +282,7 @@ module _ (m : Meaning) (pages : Pages) (lawful : IsPaged m pages) (serves_port :
         let x : Exchange = exchange p e (step m serves_port n e).sent in
         let here = honest_before a p (turns_of m serves_port es (step m serves_port n e).node) x (y ∷ older) h in
         let turn : Turn = record { event = e; sent = (step m serves_port n e).sent } in
-        run_later es (step m serves_port n e).node x (y ∷ older) (All-tail (IsOfLine own) e es l) (good_on n e (head_is e es l) g) h (still_whole (y ∷ older) x w here.0)
+        run_later es (step m serves_port n e).node x (y ∷ older) (All-tail (IsOfLine own) e es l) (good_on m (steady_of m pages lawful) serves_port n e (first_is own e es l) g) h (still_whole (y ∷ older) x w here.0)
         (stands_on n e g y older [] here.0 (whole_stands n (y ∷ older) [] (turn ∷ []) w s)) few
 
     -- while it asks
@@ -313,7 +300,7 @@ module _ (m : Meaning) (pages : Pages) (lawful : IsPaged m pages) (serves_port :
         let goes = subst (λ z. IsHonest a (talk_behind p (asking ++ later) (z ∷ y ∷ older))) same h in
         let here = honest_before a p (asking ++ later) x (y ∷ older) goes in
         subst (λ z. Reaches (talk_behind p (asking ++ later) (z ∷ y ∷ older))) (sym same)
-        (run_asking asking later es (step m serves_port n e).node x (y ∷ older) tail (All-tail (IsOfLine own) e es l) (good_on n e (head_is e es l) g) goes
+        (run_asking asking later es (step m serves_port n e).node x (y ∷ older) tail (All-tail (IsOfLine own) e es l) (good_on m (steady_of m pages lawful) serves_port n e (first_is own e es l) g) goes
         (subst (λ z. text_came (talk_behind p asking (z ∷ y ∷ older)) ≡ a.request) same w)
         (stands_on n e g y older asking here.0 (subst (λ z. Standing n (y ∷ older) (z ∷ asking)) (sym head) s)))
 
@@ -324,8 +311,8 @@ module _ (m : Meaning) (pages : Pages) (lawful : IsPaged m pages) (serves_port :
         IsHonest a (talk_behind p (asking ++ later) (x ∷ [])) → text_came (talk_behind p asking (x ∷ [])) ≡ a.request → ((slot : ℕ) → calls_of slot asking ≤ patience) → Reaches (talk_behind p (asking ++ later) (x ∷ [])))
     from_opening e es n asking later l g tail h w prompt =
         let x : Exchange = exchange p e (step m serves_port n e).sent in
-        let is : IsEvent e = head_is e es l in
-        run_asking asking later es (step m serves_port n e).node x [] tail (All-tail (IsOfLine own) e es l) (good_on n e is g) h w
+        let is : IsEvent e = first_is own e es l in
+        run_asking asking later es (step m serves_port n e).node x [] tail (All-tail (IsOfLine own) e es l) (good_on m (steady_of m pages lawful) serves_port n e is g) h w
         (opens n e is g asking (honest_before a p (asking ++ later) x [] h) prompt)
 
     -- the turns from the opening on
@@ -358,13 +345,7 @@ module _ (m : Meaning) (pages : Pages) (lawful : IsPaged m pages) (serves_port :
     from_before (t ∷ before) asking later life [] n l g q j h w prompt = absurd (cc)
     from_before (t ∷ before) asking later life (e ∷ es) n l g q j h w prompt =
         let tail : turns_of m serves_port es (step m serves_port n e).node ≡ before ++ life = cc in
-        from_before before asking later life es (step m serves_port n e).node (All-tail (IsOfLine own) e es l) (good_on n e (head_is e es l) g) tail j h w prompt
-
-    at_start : (numbers : List ℕ) → All IsWord numbers → Good (opening own numbers)
-    at_start numbers words = record {
-      single = λ q i j x y b c u v. absurd (let z = none_serves 10 q i x b in cc);
-      fit = record { size = omega arith; conns = λ i x y. subst FitConn (all_closed 10 i x y) closed_fits; numbers = words };
-    }
+        from_before before asking later life es (step m serves_port n e).node (All-tail (IsOfLine own) e es l) (good_on m (steady_of m pages lawful) serves_port n e (first_is own e es l) g) tail j h w prompt
 
 -- the longest text is that of the peer's SYN
 pub record OfSyn (a : Asker) : Type 0 where
@@ -381,4 +362,4 @@ room_of a p turns h = (let o = of_syn a p turns h in let l = mss_some o.option i
 pub honest_peer : HonestPeer
 honest_peer m pages lawful ports own addr numbers words events of a p fine left texts patience answering life asks few =
     from_before m pages lawful ports p a (room_of a p life asks.honest) fine left texts patience answering own asks.before asks.asking asks.later life events (opening own numbers) of
-    (at_start m pages lawful ports p a (room_of a p life asks.honest) fine left texts patience answering own numbers words) asks.split asks.joined asks.honest asks.whole asks.prompt few
+    (good_start own numbers words) asks.split asks.joined asks.honest asks.whole asks.prompt few

@@ -14,6 +14,7 @@ pub mod HonestRows
 pub mod WrongLives
 pub mod Steps
 pub mod Slots
+pub mod GoodNodes
 pub mod HonestTalks
 pub mod HonestConnections
 pub mod HonestPeers

@@ -8,8 +8,8 @@ use Rattle.std.proofs.lemmas.List.Elements.{All-head, All-tail}
 use Rattle.uip_wire.specs.Numbers.{wrap}
 use Rattle.uip_wire.specs.declared.addr.Addr.{Addr}
 use Rattle.tcp_segment.specs.Segments.{PlainSegment, has_rst, has_ack}
-use Rattle.app_events.specs.Part.{Part, Meaning}
-use Rattle.app_events.specs.Pages.{IsMoment, IsNow}
+use Rattle.app_events.specs.Part.{Meaning}
+use Rattle.app_events.specs.Pages.{IsNow}
 use Rattle.app_events.specs.States.{is_time_wait}
 use Rattle.rexmit_timer.specs.Ages.{beat_at}
 use Rattle.rexmit_timer.specs.declared.timer.Beat.{Beat}
@@ -30,16 +30,16 @@ use Rattle.uip_node.specs.Node.{AbstractNode, NodeStep, moment, opening, step}
 use Rattle.uip_node.specs.Laws.{serving, IsEvent, Alike}
 use Rattle.uip_node.specs.Steady.{IsSteady}
 use Rattle.uip_node.proofs.Basics.{both_ways, and_true, eqb-eq, only_some}
-use Rattle.uip_node.proofs.Connections.{Single, get_set, get_set_same, is_served, serving_free, none_serves, all_closed}
+use Rattle.uip_node.proofs.Connections.{Single, get_set, get_set_same, is_served, serving_free, none_serves}
 use Rattle.uip_node.proofs.Connections.Written.{here, there}
 use Rattle.uip_node.proofs.Connections.Served.{served, free}
 use Rattle.uip_node.proofs.Fits.{FitConn, on_segment_fits, on_tick_fits}
-use Rattle.uip_node.proofs.FitNodes.{FitNode, closed_fits, event_fits, node_moment}
+use Rattle.uip_node.proofs.FitNodes.{node_moment}
 use Rattle.uip_node.proofs.Moves.{Moves, asked_moves, segment_moves, tick_moves}
 use Rattle.uip_node.proofs.Peers.{on_segment_keeps, asked_keeps, on_tick_keeps}
 use Rattle.uip_node.proofs.SocketPairs.{same_is, serves_dead, serves_yes}
 use Rattle.uip_node.proofs.Stepped.{stepped_tells}
-use Rattle.uip_node.proofs.Told.{Safe, IsDue, StepTells, OutTells, due, alike_trans, alike_sym, alike_refl, segment_tells, tick_tells}
+use Rattle.uip_node.proofs.Told.{IsDue, StepTells, OutTells, due, alike_trans, alike_sym, alike_refl, segment_tells, tick_tells}
 use Rattle.node_laws.specs.Asked.{HasNoReset}
 use Rattle.node_laws.specs.Promise.{size_of}
 use Rattle.node_laws.specs.Talks.{Exchange, Turn, said_at, exchange, came_from, talk_behind}
@@ -50,11 +50,11 @@ use Rattle.node_laws.specs.Timers.IsRetried.{sent_again, given_up}
 use Rattle.node_laws.proofs.HonestPeers.{calls_one}
 use Rattle.node_laws.specs.Wire.{IsOfLine}
 use Rattle.node_laws.proofs.Beating.{Young, asked_young, segment_young, tick_young, due_size, asked_lives, segment_lives, tick_lives, mss_some, no_wait, ticks_are, due_again, next_beat, SafeAt}
+use Rattle.node_laws.proofs.GoodNodes.{AnyLength, Good, SafeConn, first_is, good_on, good_start, low_text}
 use Rattle.node_laws.proofs.Lines.{comes, quiet, met}
 use Rattle.node_laws.proofs.Lines.Does.{passes_by, evicted, unanswered, refused, born, hears, ticks}
 use Rattle.node_laws.proofs.Slots.{Acted, acts}
 use Rattle.node_laws.proofs.Slots.Acts.{is_called, is_met, is_apart, makes_room}
-use Rattle.node_laws.proofs.Wire.{line_wire, wire_event}
 
 -- ---- one exchange more
 
@@ -90,50 +90,27 @@ get_short (y ∷ ys) (suc i) x h = (let z = get_short ys i x h in omega (arith, 
 -- what is outstanding asks the application nothing
 no_question : (m : Meaning) (at : Connection → Now) (d : Connection) (numbers : List ℕ) (st : State) → asked m at (leaves d numbers (outstanding true st)) ≡ leaves d numbers (outstanding true st)
 no_question m at d numbers SynRcvd = refl
-no_question m at d numbers Established = refl
-no_question m at d numbers CloseWait = refl
-no_question m at d numbers FinWait1 = refl
-no_question m at d numbers Closing = refl
-no_question m at d numbers LastAck = refl
-no_question m at d numbers Closed = refl
-no_question m at d numbers FinWait2 = refl
-no_question m at d numbers TimeWait = refl
+no_question m at d numbers _ = refl
 
 none_outstands : (s : PlainSegment) → IsOutstanding [] s → ⊥
 none_outstands s h = absurd (let z = h.said in cc)
 
 module _ (m : Meaning) (steady : IsSteady m) (ports : ℕ → Bool) (p : Sockets) where
-  abbrev Any : ℕ → Type 0
-  Any n = Unit {0}
-
-  low_text : (q : Part) → All IsMoment q.captures → Any (length (m.said q))
-  low_text q h = tt
-
-  abbrev SafeConn : Connection → Type 0
-  SafeConn c = Safe m steady Any low_text c
-
   abbrev Due : Connection → PlainSegment → Type 0
-  Due c s = IsDue m steady Any low_text c s
+  Due c s = IsDue m steady AnyLength (low_text m) c s
 
   record Living (n : AbstractNode) (talk : List Exchange) : Type 0 where
     i : ℕ
     c : Connection
     there : slice_get n.connections i ≡ Some c
     own : serves p c ≡ true
-    safe : SafeConn c
+    safe : SafeConn m steady c
     young : Young c
     out : (s : PlainSegment) → IsOutstanding talk s → Due c s
 
   data Standing (n : AbstractNode) (talk : List Exchange) : Type 0 where
     lives : Living n talk → Standing n talk
     gone : is_live (serving p n.connections).state ≡ false → ((s : PlainSegment) → IsOutstanding talk s → ⊥) → Standing n talk
-
-  record Good (n : AbstractNode) : Type 0 where
-    single : Single n.connections
-    fit : FitNode n
-
-  good_on : (n : AbstractNode) (event : Event) → IsEvent event → Good n → Good (step m ports n event).node
-  good_on n event is g = record { single = (comes m ports steady n event is g.single g.fit).single; fit = event_fits m steady ports n event is g.fit }
 
   -- a live connection of the peer
   live_own : (c : Connection) → serves p c ≡ true → is_live c.state ≡ true
@@ -164,7 +141,7 @@ module _ (m : Meaning) (steady : IsSteady m) (ports : ℕ → Bool) (p : Sockets
 
     -- what a step must be like
     record Stepped (c : Connection) (came : Option PlainSegment) (o : Outcome) (acked : Bool) : Type 0 where
-      tells : StepTells m steady Any low_text c o.connection (segment_of m o.connection o.step) (is_again o.step)
+      tells : StepTells m steady AnyLength (low_text m) c o.connection (segment_of m o.connection o.step) (is_again o.step)
       moves : Moves acked c o.connection
       acks : acked ≡ true → Acknowledged came c
       young : Young o.connection
@@ -180,7 +157,7 @@ module _ (m : Meaning) (steady : IsSteady m) (ports : ℕ → Bool) (p : Sockets
         -- what was outstanding, and is not acknowledged, is so still
         let unmoved : (s : PlainSegment) → Due c s → ((t : PlainSegment) → came ≡ Some t → has_ack t.flags ≡ true → t.ack ≡ wrap (s.seq + size_of s) → ⊥) → acked ≡ true → ⊥ =
         λ s q none e. (let a = h.acks e in
-        let size : size_of s ≡ c.len = due_size m steady Any low_text c c.state s v.safe.state q.len q.alike in
+        let size : size_of s ≡ c.len = due_size m steady AnyLength (low_text m) c c.state s v.safe.state q.len q.alike in
         none a.0 a.1 a.2 (a.3 ∙ ap (λ k. wrap (k + c.len)) (sym q.seq) ∙ ap (λ k. wrap (s.seq + k)) (sym size))) in
         let still : is_live d.state ≡ true → (s : PlainSegment) → IsOutstanding (met came sent ∷ talk) s → Due d s =
         λ l s q. elim (outstands (met came sent) talk s q) [
@@ -216,14 +193,14 @@ module _ (m : Meaning) (steady : IsSteady m) (ports : ℕ → Bool) (p : Sockets
         let c : Connection = v.c in
         let o : Outcome = on_tick m c n.numbers in
         let is : (z : Connection) → FitConn z → IsNow (at z) = node_moment m steady n event v.i good.fit in
-        let t = tick_tells m steady Any low_text c n.numbers v.safe in
+        let t = tick_tells m steady AnyLength (low_text m) c n.numbers v.safe in
         acted v None (asked m at o) false g record {
-          tells = stepped_tells m steady Any low_text at c o is (on_tick_fits m steady c n.numbers (fit_of v) good.fit.numbers) t;
+          tells = stepped_tells m steady AnyLength (low_text m) at c o is (on_tick_fits m steady c n.numbers (fit_of v) good.fit.numbers) t;
           moves = asked_moves m false c at o (tick_moves m c n.numbers);
           acks = λ e. absurd (cc);
-          young = asked_young m at o (tick_young m steady Any low_text c n.numbers v.safe.state v.young);
+          young = asked_young m at o (tick_young m steady AnyLength (low_text m) c n.numbers v.safe.state v.young);
           peer = asked_keeps m at c o (on_tick_keeps m c n.numbers);
-          dies = λ l some clean. elim (asked_lives m steady Any low_text at c o t (tick_lives m steady Any low_text c n.numbers v.safe.state some (live_own c v.own))) [
+          dies = λ l some clean. elim (asked_lives m steady AnyLength (low_text m) at c o t (tick_lives m steady AnyLength (low_text m) c n.numbers v.safe.state some (live_own c v.own))) [
             | inl e ↦ absurd (cc)
             | inr e ↦ absurd (resets_say (asked m at o).connection None (asked m at o).step e clean)
           ];
@@ -236,9 +213,9 @@ module _ (m : Meaning) (steady : IsSteady m) (ports : ℕ → Bool) (p : Sockets
         let o : Outcome = on_segment m c n.numbers s in
         let acked : Bool = not (has_rst s.flags) && is_acked c s in
         let is : (z : Connection) → FitConn z → IsNow (at z) = node_moment m steady n event v.i good.fit in
-        let t = segment_tells m steady Any low_text c n.numbers s v.safe in
+        let t = segment_tells m steady AnyLength (low_text m) c n.numbers s v.safe in
         acted v (Some s) (asked m at o) acked g record {
-          tells = stepped_tells m steady Any low_text at c o is (on_segment_fits m steady c n.numbers s (fit_of v) good.fit.numbers) t;
+          tells = stepped_tells m steady AnyLength (low_text m) at c o is (on_segment_fits m steady c n.numbers s (fit_of v) good.fit.numbers) t;
           moves = asked_moves m acked c at o (segment_moves m c n.numbers s);
           acks = λ e. (let a = and_true (not (has_rst s.flags)) (is_acked c s) e in
               let b = and_true (has_ack s.flags) (ltb 0 c.len && (s.ack == wrap (snd_nxt c + c.len))) a.1 in
@@ -249,7 +226,7 @@ module _ (m : Meaning) (steady : IsSteady m) (ports : ℕ → Bool) (p : Sockets
           dies = λ l some clean. (let unreset : has_rst s.flags ≡ false = clean.came s refl in
               both_ways (is_acked c s)
               (λ a. ap (λ b. not b && is_acked c s) unreset ∙ a)
-              (λ a. elim (asked_lives m steady Any low_text at c o t (segment_lives m steady Any low_text c n.numbers s (live_own c v.own) unreset a)) [
+              (λ a. elim (asked_lives m steady AnyLength (low_text m) at c o t (segment_lives m steady AnyLength (low_text m) c n.numbers s (live_own c v.own) unreset a)) [
                 | inl e ↦ absurd (cc)
                 | inr e ↦ absurd (resets_say (asked m at o).connection (Some s) (asked m at o).step e clean)
               ]));
@@ -261,7 +238,7 @@ module _ (m : Meaning) (steady : IsSteady m) (ports : ℕ → Bool) (p : Sockets
 
     -- a connection in TIME-WAIT has nothing outstanding
     rested : (v : Living n talk) → is_time_wait v.c.state ≡ true → (s : PlainSegment) → IsOutstanding talk s → ⊥
-    rested v e s q = no_wait m steady Any low_text v.c v.c.state v.safe.state (v.out s q).len e
+    rested v e s q = no_wait m steady AnyLength (low_text m) v.c v.c.state v.safe.state (v.out s q).len e
 
     living_on : (v : Living n talk) → Standing r.node (x ∷ talk)
     living_on v =
@@ -325,39 +302,25 @@ module _ (m : Meaning) (steady : IsSteady m) (ports : ℕ → Bool) (p : Sockets
   -- the number of what is outstanding
   due_seq : (st : State) (c : Connection) → (due m st c).seq ≡ snd_nxt c
   due_seq SynRcvd c = refl
-  due_seq Established c = refl
-  due_seq CloseWait c = refl
-  due_seq FinWait1 c = refl
-  due_seq Closing c = refl
-  due_seq LastAck c = refl
-  due_seq Closed c = refl
-  due_seq FinWait2 c = refl
-  due_seq TimeWait c = refl
+  due_seq _ c = refl
 
   -- what a beat of its timer leaves
   data Beats (c : Connection) (s : PlainSegment) (b : Beat) (o : Outcome) : Type 0 where
-    older : b ≡ Beat.Wait → o.connection ≡ grows_older c → SafeConn (grows_older c) → Due (grows_older c) s → Beats c s b o
+    older : b ≡ Beat.Wait → o.connection ≡ grows_older c → SafeConn m steady (grows_older c) → Due (grows_older c) s → Beats c s b o
     again : (u : PlainSegment) → segment_of m o.connection o.step ≡ Some u → is_again o.step ≡ true → u.seq ≡ s.seq → Alike u s → Beats c s b o
     ended : (u : PlainSegment) → segment_of m o.connection o.step ≡ Some u → is_again o.step ≡ false → has_rst u.flags ≡ true → Beats c s b o
 
   -- it goes on as it was
-  older_due : (c : Connection) (s : PlainSegment) → SafeConn c → Due c s → (d : Connection) (sent : Option PlainSegment) (repeated : Bool) → d.first ≡ c.first → d.acked ≡ c.acked → StepTells m steady Any low_text c d sent repeated → is_live d.state ≡ true → Due d s
+  older_due : (c : Connection) (s : PlainSegment) → SafeConn m steady c → Due c s → (d : Connection) (sent : Option PlainSegment) (repeated : Bool) → d.first ≡ c.first → d.acked ≡ c.acked → StepTells m steady AnyLength (low_text m) c d sent repeated → is_live d.state ≡ true → Due d s
   older_due c s safe h d sent repeated first same t l =
       let k = (t.onto l).kept h.len same in
       record { len = k.0; seq = h.seq ∙ ap wrap (let z : c.first + c.acked ≡ d.first + d.acked = omega (arith, first, same) in z); alike = alike_trans s _ _ h.alike (alike_sym _ _ k.1) }
 
   due_same : (st : State) (c : Connection) → Alike (due m st (grows_older c)) (due m st c)
   due_same Closed c = record { flags = refl; text = refl }
-  due_same SynRcvd c = record { flags = refl; text = refl }
-  due_same Established c = record { flags = refl; text = refl }
-  due_same CloseWait c = record { flags = refl; text = refl }
-  due_same FinWait1 c = record { flags = refl; text = refl }
-  due_same FinWait2 c = record { flags = refl; text = refl }
-  due_same Closing c = record { flags = refl; text = refl }
-  due_same TimeWait c = record { flags = refl; text = refl }
-  due_same LastAck c = record { flags = refl; text = refl }
+  due_same _ c = record { flags = refl; text = refl }
 
-  safe_same : (st : State) (c : Connection) → SafeAt m steady Any low_text c st → SafeAt m steady Any low_text (grows_older c) st
+  safe_same : (st : State) (c : Connection) → SafeAt m steady AnyLength (low_text m) c st → SafeAt m steady AnyLength (low_text m) (grows_older c) st
   safe_same Closed c h = h
   safe_same SynRcvd c h = record { len = h.len; acked = h.acked }
   safe_same Established c h = record { fits = h.fits; count = h.count }
@@ -368,17 +331,17 @@ module _ (m : Meaning) (steady : IsSteady m) (ports : ℕ → Bool) (p : Sockets
   safe_same TimeWait c h = record { len = h.len; low = h.low }
   safe_same LastAck c h = record { len = h.len; low = h.low }
 
-  older_safe : (c : Connection) → SafeConn c → SafeConn (grows_older c)
+  older_safe : (c : Connection) → SafeConn m steady c → SafeConn m steady (grows_older c)
   older_safe c h = record { mss = h.mss; initial = h.initial; state = safe_same c.state c h.state }
 
-  beat_does : (at : Connection → Now) (b : Beat) (c : Connection) (s : PlainSegment) (numbers : List ℕ) → is_live c.state ≡ true → SafeConn c → Due c s → (let o : Outcome = by_beat m b c numbers in OutTells m steady Any low_text c o.connection o.step → Beats c s b (asked m at o))
+  beat_does : (at : Connection → Now) (b : Beat) (c : Connection) (s : PlainSegment) (numbers : List ℕ) → is_live c.state ≡ true → SafeConn m steady c → Due c s → (let o : Outcome = by_beat m b c numbers in OutTells m steady AnyLength (low_text m) c o.connection o.step → Beats c s b (asked m at o))
   beat_does at Beat.Wait c s numbers l safe h t = older refl refl (t.safe l) (older_due c s safe h (grows_older c) None false refl refl t l)
   beat_does at Beat.Again c s numbers l safe h t =
       let d : Connection = grows_older c in
       let st : State = c.state in
       let still : asked m at (leaves d numbers (outstanding true st)) ≡ leaves d numbers (outstanding true st) = no_question m at d numbers st in
-      let d_safe : SafeConn d = older_safe c safe in
-      let said = due_again m steady Any low_text st d d_safe.state h.len in
+      let d_safe : SafeConn m steady d = older_safe c safe in
+      let said = due_again m steady AnyLength (low_text m) st d d_safe.state h.len in
       let same : Alike (due m st d) (due m st c) = due_same st c in
       subst (λ (o : Outcome). Beats c s Beat.Again o) (sym still)
       (again (due m st d) said.0 said.1 (due_seq st d ∙ sym h.seq) (alike_trans (due m st d) (due m st c) s same (alike_sym s (due m st c) h.alike)))
@@ -411,7 +374,7 @@ module _ (m : Meaning) (steady : IsSteady m) (ports : ℕ → Bool) (p : Sockets
   record Waits (n : AbstractNode) (s : PlainSegment) (i at : ℕ) (c : Connection) : Type 0 where
     there : slice_get n.connections i ≡ Some c
     own : serves p c ≡ true
-    safe : SafeConn c
+    safe : SafeConn m steady c
     due_now : Due c s
     later : c.age < at
     beats : beat_at (limit_of c.state) at ≡ Beat.Wait → ⊥
@@ -423,19 +386,19 @@ module _ (m : Meaning) (steady : IsSteady m) (ports : ℕ → Bool) (p : Sockets
         let r : NodeStep = step m ports n e in
         let t : Turn = record { event = e; sent = r.sent } in
         let rest : List Turn = turns_of m ports es r.node in
-        let is : IsEvent e = wire_event e (line_wire own e (All-head (IsOfLine own) e es l)) in
+        let is : IsEvent e = first_is own e es l in
         let l' : All (IsOfLine own) es = All-tail (IsOfLine own) e es l in
-        let g' : Good r.node = good_on n e is g in
+        let g' : Good r.node = good_on m steady ports n e is g in
         let none' : NoneComes rest = All-tail (λ z. came_from p z.event ≡ None) t rest none in
         let quiet_here : came_from p e ≡ None = All-head (λ z. came_from p z.event ≡ None) t rest none in
         elim (acts m ports n p i c g.single w.there w.own e) [
           | is_called f a ↦
               (let at_call : Connection → Now = moment n e i in
               let b : Beat = beat_at (limit_of c.state) (c.age + 1) in
-              let by : on_tick m c n.numbers ≡ by_beat m b c n.numbers = ticks_are m steady Any low_text c n.numbers w.safe.state w.due_now.len in
+              let by : on_tick m c n.numbers ≡ by_beat m b c n.numbers = ticks_are m steady AnyLength (low_text m) c n.numbers w.safe.state w.due_now.len in
               let o : Outcome = asked m at_call (on_tick m c n.numbers) in
               let did : Beats c s b o = subst (λ (z : Outcome). Beats c s b (asked m at_call z)) (sym by)
-              (beat_does at_call b c s n.numbers (live_own c w.own) w.safe w.due_now (subst (λ (z : Outcome). OutTells m steady Any low_text c z.connection z.step) by (tick_tells m steady Any low_text c n.numbers w.safe))) in
+              (beat_does at_call b c s n.numbers (live_own c w.own) w.safe w.due_now (subst (λ (z : Outcome). OutTells m steady AnyLength (low_text m) c z.connection z.step) by (tick_tells m steady AnyLength (low_text m) c n.numbers w.safe))) in
               elim did [
                 | older waits_on same safe due_now ↦
                     (let not_yet : c.age + 1 ≡ at → ⊥ = λ z. w.beats (ap (beat_at (limit_of c.state)) (sym z) ∙ waits_on) in
@@ -458,7 +421,7 @@ module _ (m : Meaning) (steady : IsSteady m) (ports : ℕ → Bool) (p : Sockets
           | is_apart far x at_i ↦
               (let same : calls_of i (t ∷ rest) ≡ calls_of i rest = calls_same i t rest far in
               later_on s t rest (retries es r.node i at c l' g' record { there = at_i; own = w.own; safe = w.safe; due_now = w.due_now; later = w.later; beats = w.beats } (omega (arith, few, same)) none'))
-          | makes_room x rested_so free_now ↦ absurd (no_wait m steady Any low_text c c.state w.safe.state w.due_now.len rested_so)
+          | makes_room x rested_so free_now ↦ absurd (no_wait m steady AnyLength (low_text m) c c.state w.safe.state w.due_now.len rested_so)
         ]
 
     at_end : (n : AbstractNode) (es : List Event) (talk : List Exchange) → All (IsOfLine own) es → Good n → Standing n talk → IsOutstanding talk s → NoneComes (turns_of m ports es n) → ((slot : ℕ) → slot < 10 → 49 ≤ calls_of slot (turns_of m ports es n)) → IsRetriedIn p s (turns_of m ports es n)
@@ -482,15 +445,12 @@ module _ (m : Meaning) (steady : IsSteady m) (ports : ℕ → Bool) (p : Sockets
         let turn : Turn = record { event = e; sent = r.sent } in
         let head : turn ≡ t = cc in
         let tail : turns_of m ports es r.node ≡ before ++ waiting = cc in
-        let is : IsEvent e = wire_event e (line_wire own e (All-head (IsOfLine own) e es l)) in
-        from_before before waiting es r.node (exchange p e r.sent ∷ talk) tail (All-tail (IsOfLine own) e es l) (good_on n e is g) (stands_on n e g talk is st)
+        let is : IsEvent e = first_is own e es l in
+        from_before before waiting es r.node (exchange p e r.sent ∷ talk) tail (All-tail (IsOfLine own) e es l) (good_on m steady ports n e is g) (stands_on n e g talk is st)
         (subst (λ z. IsOutstanding (talk_behind p before (z ∷ talk)) s) (ap (λ z. exchange p z.event z.sent) (sym head)) out) none calls
 
 pub timer_runs_out : TimerRunsOut
 timer_runs_out m steady ports own addr numbers words events of p s before waiting split out none calls =
     from_before m steady ports p own s before waiting events (opening own numbers) [] split of
-    record {
-      single = λ q i j x y a b u v. absurd (let z = none_serves 10 q i x a in cc);
-      fit = record { size = omega arith; conns = λ i x y. subst FitConn (all_closed 10 i x y) closed_fits; numbers = words };
-    }
+    (good_start own numbers words)
     (gone (ap (λ c. is_live c.state) (serving_free (opening own numbers).connections p (none_serves 10 p))) none_outstands) out none calls

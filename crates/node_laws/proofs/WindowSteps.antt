@@ -1,23 +1,20 @@
 -- What a step of a connection does to the longest text that may be sent.
-use Rattle.std.proofs.Common.{◌≡◌, ℕ, zero, suc, ◌+◌, ◌<◌, ◌≤◌, min, Bool, true, false, not, ◌&&◌, ◌⊎◌, inl, inr, List, length, take, drop, refl, sym, ap, ◌∙◌, subst, arith, Some, None, eqb, ltb, length-take, if◌then◌else◌}
+use Rattle.std.proofs.Common.{◌≡◌, ℕ, ◌≤◌, min, Bool, true, false, not, ◌&&◌, ◌⊎◌, inl, inr, List, refl, sym, ap, ◌∙◌, arith, eqb, ltb, if◌then◌else◌}
 use Rattle.tcp_segment.specs.Segments.{PlainSegment, has_fin, has_rst}
 use Rattle.rexmit_timer.specs.declared.timer.Beat.{Beat}
-use Rattle.app_events.specs.Part.{Part, Meaning}
+use Rattle.app_events.specs.Part.{Meaning}
 use Rattle.app_events.specs.declared.now.Now.{Now}
 use Rattle.app_events.specs.declared.state.State.{State}
 use Rattle.app_events.specs.declared.state.State.TheVariants.{Closed, SynRcvd, Established, CloseWait, FinWait1, FinWait2, Closing, TimeWait, LastAck}
 use Rattle.app_events.specs.declared.want.Want.{Want}
 use Rattle.app_events.specs.declared.want.Want.TheVariants.{Nothing, Send, Close, Abort}
-use Rattle.tcp_machine.specs.Connection.{Connection, is_live}
-use Rattle.tcp_machine.specs.Segments.{segment_of, text_segment, syn_ack, fin_of}
+use Rattle.tcp_machine.specs.Connection.{Connection}
 use Rattle.tcp_machine.specs.Ask.{Outcome, leaves, closes, after_own_fin, peer_has_closed, idles, does_as_wanted, prepared, asked}
 use Rattle.tcp_machine.specs.OnSegment.{is_out_of_order, is_acked, rests, has_text, with_part, peer_closes, goes_on, in_established, fin_acked, fin_waits, by_state, on_segment}
 use Rattle.tcp_machine.specs.OnTick.{outstanding, by_beat, on_tick}
 use Rattle.tcp_machine.specs.declared.step.Step.{Step}
-use Rattle.uip_node.specs.Laws.{Alike}
 use Rattle.uip_node.proofs.Basics.{choose, eqb-eq}
 use Rattle.uip_node.proofs.Cases.{asked_by, by_own_fin, is_ask, is_open, on_tick_by}
-use Rattle.uip_node.proofs.Told.{due}
 
 -- ---- the first text
 
@@ -35,14 +32,7 @@ NoNew o = is_new_text o.step ≡ false
 
 again_not_new : (st : State) → is_new_text (outstanding true st) ≡ false
 again_not_new Closed = refl
-again_not_new SynRcvd = refl
-again_not_new Established = refl
-again_not_new CloseWait = refl
-again_not_new FinWait1 = refl
-again_not_new FinWait2 = refl
-again_not_new Closing = refl
-again_not_new TimeWait = refl
-again_not_new LastAck = refl
+again_not_new _ = refl
 
 -- what the longest text is by
 abbrev ByWindow : ℕ → Connection → Type 0

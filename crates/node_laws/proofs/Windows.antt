@@ -1,18 +1,18 @@
 -- Every new text fits the window of the newest segment that its connection took.
 use Rattle.std.specs.List.{All}
 use Rattle.std.specs.Option.{option_map_or}
-use Rattle.std.proofs.Common.{◌≡◌, ℕ, zero, suc, ◌+◌, ◌<◌, ◌≤◌, ◌==◌, Bool, true, false, not, ◌&&◌, ◌||◌, ◌⊎◌, inl, inr, List, [], ◌∷◌, ◌++◌, length, take, drop, refl, sym, ap, ◌∙◌, subst, arith, Option, Some, None, slice_get, eqb, ltb, length-take, if◌then◌else◌}
+use Rattle.std.proofs.Common.{◌≡◌, ℕ, zero, suc, ◌+◌, ◌<◌, ◌≤◌, ◌==◌, Bool, true, false, not, ◌&&◌, ◌||◌, inl, inr, List, [], ◌∷◌, ◌++◌, length, take, drop, refl, sym, ap, ◌∙◌, subst, arith, Option, Some, None, slice_get, eqb, ltb, length-take, if◌then◌else◌}
 use Rattle.std.proofs.lemmas.Bool.{eq-eqb}
-use Rattle.std.proofs.lemmas.List.Elements.{All-head, All-tail}
+use Rattle.std.proofs.lemmas.List.Elements.{All-tail}
 use Rattle.uip_wire.specs.Numbers.{wrap}
 use Rattle.uip_wire.specs.declared.addr.Addr.{Addr}
 use Rattle.tcp_segment.specs.declared.flags.TheConstants.{SYN}
 use Rattle.tcp_segment.specs.Segments.{PlainSegment, has_syn, has_fin, has_ack}
-use Rattle.app_events.specs.Part.{Part, Meaning}
-use Rattle.app_events.specs.Pages.{IsWord, IsMoment, IsNow}
+use Rattle.app_events.specs.Part.{Meaning}
+use Rattle.app_events.specs.Pages.{IsWord, IsNow}
 use Rattle.app_events.specs.declared.now.Now.{Now}
 use Rattle.app_events.specs.declared.state.State.{State}
-use Rattle.app_events.specs.declared.state.State.TheVariants.{Closed, SynRcvd, Established, CloseWait, FinWait1, FinWait2, Closing, TimeWait, LastAck}
+use Rattle.app_events.specs.declared.state.State.TheVariants.{SynRcvd, Established, CloseWait}
 use Rattle.tcp_machine.specs.Connection.{Sockets, Connection, closed, is_live, snd_nxt, rcv_nxt}
 use Rattle.tcp_machine.specs.Segments.{has_place, segment_of, is_again, is_plain_syn, reset_to_none, bare_ack, fin_of, reset_of, syn_ack, text_segment}
 use Rattle.tcp_machine.specs.Ask.{Outcome, leaves, asked}
@@ -23,25 +23,23 @@ use Rattle.uip_node.specs.Events.{Event}
 use Rattle.uip_node.specs.Laws.{serving, IsEvent, Alike}
 use Rattle.uip_node.specs.Node.{AbstractNode, opening, step}
 use Rattle.uip_node.specs.Steady.{IsSteady}
-use Rattle.uip_node.proofs.Basics.{choose, both_ways, and_true, eqb-eq, ltb-yes, not-true, only_some}
-use Rattle.uip_node.proofs.Cases.{is_ask, is_open}
-use Rattle.uip_node.proofs.Connections.{Single, none_serves, all_closed}
+use Rattle.uip_node.proofs.Basics.{both_ways, and_true, eqb-eq, ltb-yes, not-true, only_some}
+use Rattle.uip_node.proofs.Cases.{is_open}
 use Rattle.uip_node.proofs.Fits.{FitConn, on_segment_fits, on_tick_fits}
-use Rattle.uip_node.proofs.FitNodes.{FitNode, closed_fits, event_fits}
 use Rattle.uip_node.proofs.Stepped.{stepped_tells}
-use Rattle.uip_node.proofs.Told.{Safe, SafeState, StepTells, OutTells, due, segment_tells, tick_tells}
-use Rattle.node_laws.specs.Talks.{Exchange, said_at, exchange, is_opening, is_life, is_empty, IsLifeIn, talk_behind, talk_of}
+use Rattle.uip_node.proofs.Told.{SafeState, StepTells, OutTells, due, segment_tells, tick_tells}
+use Rattle.node_laws.specs.Talks.{Exchange, said_at, exchange, is_opening, is_life, is_empty, IsLifeIn, talk_behind}
 use Rattle.node_laws.specs.Turns.{turns_of}
-use Rattle.node_laws.specs.Windows.{IsPassedOver, IsFirstToAcknowledge, IsWithin, IsNewText, FitsWindows, WindowsAreKept}
+use Rattle.node_laws.specs.Windows.{IsPassedOver, IsWithin, IsNewText, FitsWindows, WindowsAreKept}
 use Rattle.node_laws.specs.Wire.{IsOfLine}
 use Rattle.node_laws.proofs.Beating.{ask_open, mss_some}
+use Rattle.node_laws.proofs.GoodNodes.{AnyLength, Good, SafeConn, first_is, good_on, good_start, low_text}
 use Rattle.node_laws.proofs.Lines.{Does, Comes, comes, quiet, met, left_of}
 use Rattle.node_laws.proofs.Lines.Does.{passes_by, evicted, unanswered, refused, born, hears, ticks}
 use Rattle.node_laws.proofs.Replying.{answer_no_syn}
-use Rattle.node_laws.proofs.WindowSteps.{NewIsShort, is_new_text, asked_short, AskedSo, asked_so, Bounds, segment_bounds, segment_new, StaysAtSyn, segment_syn, TicksOn, tick_on}
+use Rattle.node_laws.proofs.WindowSteps.{NewIsShort, is_new_text, asked_short, asked_so, segment_bounds, segment_new, StaysAtSyn, segment_syn, tick_on}
 use Rattle.node_laws.proofs.WindowSteps.AskedSo.{unasked, spoke}
 use Rattle.node_laws.proofs.WindowSteps.Bounds.{passes, bounds, connects_it, speaks_no_more}
-use Rattle.node_laws.proofs.Wire.{line_wire, wire_event}
 
 no_text : (P : Type 0) (s t : PlainSegment) → Some s ≡ Some t → s.text ≡ [] → 0 < length t.text → P
 no_text P s t e z l = (let q : t.text ≡ [] = only_some (λ x. x.text ≡ []) s t e z in absurd (let y = ap length q in omega (arith, y, l)))
@@ -73,13 +71,7 @@ module _ (m : Meaning) where
   text_open : (st : State) (d : Connection) (s : PlainSegment) → Alike s (due m st d) → 0 < length s.text → is_open st ≡ true
   text_open Established d s a l = refl
   text_open CloseWait d s a l = refl
-  text_open Closed d s a l = absurd (let z = ap length a.text in omega (arith, z, l))
-  text_open SynRcvd d s a l = absurd (let z = ap length a.text in omega (arith, z, l))
-  text_open FinWait1 d s a l = absurd (let z = ap length a.text in omega (arith, z, l))
-  text_open FinWait2 d s a l = absurd (let z = ap length a.text in omega (arith, z, l))
-  text_open Closing d s a l = absurd (let z = ap length a.text in omega (arith, z, l))
-  text_open TimeWait d s a l = absurd (let z = ap length a.text in omega (arith, z, l))
-  text_open LastAck d s a l = absurd (let z = ap length a.text in omega (arith, z, l))
+  text_open _ d s a l = absurd (let z = ap length a.text in omega (arith, z, l))
 
 -- one exchange more: what is new then
 fits_on : (x : Exchange) (life : List Exchange) → ((s : PlainSegment) → IsNewText (x ∷ life) 0 s → IsWithin (x ∷ life) (length s.text)) → FitsWindows life → FitsWindows (x ∷ life)
@@ -91,15 +83,6 @@ fits_quietly : (x : Exchange) (life : List Exchange) → ((s : PlainSegment) →
 fits_quietly x life h g = fits_on x life (λ s n. (let e = h s n.said in let l = n.some in absurd (let z = ap length e in omega (arith, z, l)))) g
 
 module _ (m : Meaning) (steady : IsSteady m) (ports : ℕ → Bool) (p : Sockets) where
-  abbrev Any : ℕ → Type 0
-  Any n = Unit {0}
-
-  low_text : (q : Part) → All IsMoment q.captures → Any (length (m.said q))
-  low_text q h = tt
-
-  abbrev SafeConn : Connection → Type 0
-  SafeConn c = Safe m steady Any low_text c
-
   -- what is outstanding was said
   record SaidDue (life : List Exchange) (number : ℕ) : Type 0 where
     place : ℕ
@@ -108,13 +91,17 @@ module _ (m : Meaning) (steady : IsSteady m) (ports : ℕ → Bool) (p : Sockets
     placed : has_place segment ≡ true
     seq : segment.seq ≡ number
 
+  -- a SYN that this number acknowledges
+  abbrev IsSyn : PlainSegment → ℕ → Type 0
+  IsSyn t number = (has_syn t.flags ≡ true) × (wrap (t.seq + 1) ≡ number)
+
   -- in SYN-RECEIVED only the SYN was said, and what acknowledges it was passed over
   record AtSyn (life : List Exchange) (number : ℕ) : Type 0 where
-    alone : (k : ℕ) (t : PlainSegment) → said_at life k ≡ Some t → has_place t ≡ true → has_syn t.flags ≡ true
+    alone : (k : ℕ) (t : PlainSegment) → said_at life k ≡ Some t → has_place t ≡ true → IsSyn t number
     first : (k : ℕ) (y : Exchange) (t : PlainSegment) → slice_get life k ≡ Some y → y.came ≡ Some t → has_ack t.flags ≡ true → t.ack ≡ number → IsPassedOver y t
 
   record LiveWindowed (c : Connection) (life : List Exchange) : Type 0 where
-    safe : SafeConn c
+    safe : SafeConn m steady c
     within : is_open c.state ≡ true → (size : ℕ) → size ≤ c.mss → IsWithin life size
     syn : c.state ≡ SynRcvd → AtSyn life (wrap (snd_nxt c + 1))
     said : 0 < c.len → SaidDue life (wrap (c.first + c.acked))
@@ -124,23 +111,16 @@ module _ (m : Meaning) (steady : IsSteady m) (ports : ℕ → Bool) (p : Sockets
     live : is_live c.state ≡ true → LiveWindowed c life
 
   -- the SYN alone is outstanding
-  syn_len : (c : Connection) (st : State) → SafeState m steady Any low_text c st → st ≡ SynRcvd → c.len ≡ 1
+  syn_len : (c : Connection) (st : State) → SafeState m steady AnyLength (low_text m) c st → st ≡ SynRcvd → c.len ≡ 1
   syn_len c SynRcvd h e = h.len
-  syn_len c Closed h e = absurd (cc)
-  syn_len c Established h e = absurd (cc)
-  syn_len c CloseWait h e = absurd (cc)
-  syn_len c FinWait1 h e = absurd (cc)
-  syn_len c FinWait2 h e = absurd (cc)
-  syn_len c Closing h e = absurd (cc)
-  syn_len c TimeWait h e = absurd (cc)
-  syn_len c LastAck h e = absurd (cc)
+  syn_len c _ h e = absurd (cc)
 
   -- in SYN-RECEIVED, one exchange more
-  syn_on : (x : Exchange) (life : List Exchange) (number : ℕ) → ((t : PlainSegment) → x.said ≡ Some t → has_place t ≡ true → has_syn t.flags ≡ true)
+  syn_on : (x : Exchange) (life : List Exchange) (number : ℕ) → ((t : PlainSegment) → x.said ≡ Some t → has_place t ≡ true → IsSyn t number)
       → ((t : PlainSegment) → x.came ≡ Some t → has_ack t.flags ≡ true → t.ack ≡ number → IsPassedOver x t) → AtSyn life number → AtSyn (x ∷ life) number
   syn_on x life number h g a = record { alone = alone_on; first = first_on }
     where
-      alone_on : (k : ℕ) (t : PlainSegment) → said_at (x ∷ life) k ≡ Some t → has_place t ≡ true → has_syn t.flags ≡ true
+      alone_on : (k : ℕ) (t : PlainSegment) → said_at (x ∷ life) k ≡ Some t → has_place t ≡ true → IsSyn t number
       alone_on zero t e q = h t e q
       alone_on (suc k) t e q = a.alone k t e q
 
@@ -150,7 +130,7 @@ module _ (m : Meaning) (steady : IsSteady m) (ports : ℕ → Bool) (p : Sockets
 
   -- a step of a live connection
   module _ (c : Connection) (life : List Exchange) (w : Windowed c life) (alive : is_live c.state ≡ true) (came : Option PlainSegment) (r : Outcome)
-      (tells : StepTells m steady Any low_text c r.connection (segment_of m r.connection r.step) (is_again r.step)) (short : NewIsShort r)
+      (tells : StepTells m steady AnyLength (low_text m) c r.connection (segment_of m r.connection r.step) (is_again r.step)) (short : NewIsShort r)
       (within : (let x : Exchange = met came (segment_of m r.connection r.step) in is_open r.connection.state ≡ true → (size : ℕ) → size ≤ r.connection.mss → IsWithin (x ∷ life) size))
       (syn : (let x : Exchange = met came (segment_of m r.connection r.step) in r.connection.state ≡ SynRcvd → AtSyn (x ∷ life) (wrap (snd_nxt r.connection + 1)))) where
     abbrev d : Connection
@@ -207,8 +187,8 @@ module _ (m : Meaning) (steady : IsSteady m) (ports : ℕ → Bool) (p : Sockets
       abbrev y : Exchange
       y = met (Some s) (segment_of m r.connection r.step)
 
-      told : OutTells m steady Any low_text c o.connection o.step
-      told = segment_tells m steady Any low_text c numbers s now.safe
+      told : OutTells m steady AnyLength (low_text m) c o.connection o.step
+      told = segment_tells m steady AnyLength (low_text m) c numbers s now.safe
 
       is_passed : is_out_of_order c s ≡ true → o ≡ leaves c numbers Step.Ack → IsPassedOver y s
       is_passed h e =
@@ -242,12 +222,12 @@ module _ (m : Meaning) (steady : IsSteady m) (ports : ℕ → Bool) (p : Sockets
         )
         | bounds b ↦ inr (s, refl, inr (elim (b size l) [ inl k ↦ inl k | inr k ↦ inr (inl k) ]))
         | connects_it e a ↦ (let syn = now.syn e in
-            inr (s, refl, inr (inr (inr record { syn_alone = syn.alone; first = λ k z t g h f q. syn.first k z t g h f (q ∙ acks_syn e a) }))))
+            inr (s, refl, inr (inr (inr record { acks = (and_true (has_ack s.flags) (ltb 0 c.len && (s.ack == wrap (snd_nxt c + c.len))) a).0; syn_alone = λ k z g h. (let j = syn.alone k z g h in (j.0, acks_syn e a ∙ sym j.1)); first = λ k z t g h f q. syn.first k z t g h f (q ∙ acks_syn e a) }))))
         | speaks_no_more e ↦ absurd (cc)
       ]
 
       heard_within : is_open r.connection.state ≡ true → (size : ℕ) → size ≤ r.connection.mss → IsWithin (y ∷ life) size
-      heard_within open_then size l = elim (asked_so m at o (ask_open m steady Any low_text c o.connection o.step told)) [
+      heard_within open_then size l = elim (asked_so m at o (ask_open m steady AnyLength (low_text m) c o.connection o.step told)) [
         | unasked e ↦ bounded (ap (λ z. is_open z.connection.state) (sym e) ∙ open_then) size (let q : r.connection.mss ≡ o.connection.mss = ap (λ z. z.connection.mss) e in omega (arith, l, q))
         | spoke open_there same none ↦ bounded open_there size (let q = same open_then in omega (arith, l, q))
       ]
@@ -266,13 +246,13 @@ module _ (m : Meaning) (steady : IsSteady m) (ports : ℕ → Bool) (p : Sockets
           ])
 
       heard_syn : r.connection.state ≡ SynRcvd → AtSyn (y ∷ life) (wrap (snd_nxt r.connection + 1))
-      heard_syn h = elim (asked_so m at o (ask_open m steady Any low_text c o.connection o.step told)) [
+      heard_syn h = elim (asked_so m at o (ask_open m steady AnyLength (low_text m) c o.connection o.step told)) [
         | unasked e ↦ still_syn e (segment_syn m c numbers s (ap (λ z. z.connection.state) (sym e) ∙ h))
         | spoke open_there same none ↦ absurd (none h)
       ]
 
       heard : Windowed (left_of r.connection) (y ∷ life)
-      heard = windowed_step c life w alive (Some s) r (stepped_tells m steady Any low_text at c o is (on_segment_fits m steady c numbers s fit words) told) (asked_short m at o (segment_new m c numbers s)) heard_within heard_syn
+      heard = windowed_step c life w alive (Some s) r (stepped_tells m steady AnyLength (low_text m) at c o is (on_segment_fits m steady c numbers s fit words) told) (asked_short m at o (segment_new m c numbers s)) heard_within heard_syn
 
     -- the slot is called
     abbrev oo : Outcome
@@ -284,13 +264,13 @@ module _ (m : Meaning) (steady : IsSteady m) (ports : ℕ → Bool) (p : Sockets
     abbrev z : Exchange
     z = met None (segment_of m rr.connection rr.step)
 
-    tick_told : OutTells m steady Any low_text c oo.connection oo.step
-    tick_told = tick_tells m steady Any low_text c numbers now.safe
+    tick_told : OutTells m steady AnyLength (low_text m) c oo.connection oo.step
+    tick_told = tick_tells m steady AnyLength (low_text m) c numbers now.safe
 
     ticked_within : is_open rr.connection.state ≡ true → (size : ℕ) → size ≤ rr.connection.mss → IsWithin (z ∷ life) size
     ticked_within open_then size l =
         let t = tick_on m c numbers in
-        elim (asked_so m at oo (ask_open m steady Any low_text c oo.connection oo.step tick_told)) [
+        elim (asked_so m at oo (ask_open m steady AnyLength (low_text m) c oo.connection oo.step tick_told)) [
           | unasked e ↦ (let k = t.mss (ap (λ q. is_open q.connection.state) (sym e) ∙ open_then) in
               inl (refl, now.within k.1 size (let q : rr.connection.mss ≡ oo.connection.mss = ap (λ q. q.connection.mss) e in let j = k.0 in omega (arith, l, q, j))))
           | spoke open_there same none ↦ (let k = t.mss open_there in
@@ -301,25 +281,26 @@ module _ (m : Meaning) (steady : IsSteady m) (ports : ℕ → Bool) (p : Sockets
     ticked_still e h =
         let t = tick_on m c numbers in
         let k = t.at_syn h in
-        let same : snd_nxt c ≡ snd_nxt rr.connection =
-        (let j = t.numbers_same in ap wrap (let a = j.0 in let b = j.1 in let q : c.first + c.acked ≡ oo.connection.first + oo.connection.acked = omega (arith, a, b) in q)) ∙ ap (λ q. snd_nxt q.connection) (sym e) in
+        let kept : snd_nxt c ≡ snd_nxt oo.connection =
+        (let j = t.numbers_same in ap wrap (let a = j.0 in let b = j.1 in let q : c.first + c.acked ≡ oo.connection.first + oo.connection.acked = omega (arith, a, b) in q)) in
+        let same : snd_nxt c ≡ snd_nxt rr.connection = kept ∙ ap (λ q. snd_nxt q.connection) (sym e) in
         let none : (u : PlainSegment) → None ≡ Some u → has_ack u.flags ≡ true → u.ack ≡ wrap (snd_nxt c + 1) → IsPassedOver z u = λ u q f g. absurd (cc) in
         subst (λ n. AtSyn (z ∷ life) (wrap (n + 1))) same
         (syn_on z life (wrap (snd_nxt c + 1))
         (λ u q placed. elim k.1 [
           | inl g ↦ absurd (let y : None ≡ Some u = sym (ap (λ q. segment_of m q.connection q.step) e ∙ ap (λ st. segment_of m oo.connection st) g) ∙ q in cc)
-          | inr g ↦ only_some (λ y. has_syn y.flags ≡ true) (syn_ack oo.connection) u (sym (ap (λ q. segment_of m q.connection q.step) e ∙ ap (λ st. segment_of m oo.connection st) g) ∙ q) refl
+          | inr g ↦ only_some (λ y. IsSyn y (wrap (snd_nxt c + 1))) (syn_ack oo.connection) u (sym (ap (λ q. segment_of m q.connection q.step) e ∙ ap (λ st. segment_of m oo.connection st) g) ∙ q) (refl, ap (λ n. wrap (n + 1)) (sym kept))
         ])
         none (now.syn k.0))
 
     ticked_syn : rr.connection.state ≡ SynRcvd → AtSyn (z ∷ life) (wrap (snd_nxt rr.connection + 1))
-    ticked_syn h = elim (asked_so m at oo (ask_open m steady Any low_text c oo.connection oo.step tick_told)) [
+    ticked_syn h = elim (asked_so m at oo (ask_open m steady AnyLength (low_text m) c oo.connection oo.step tick_told)) [
       | unasked e ↦ ticked_still e (ap (λ q. q.connection.state) (sym e) ∙ h)
       | spoke open_there same none ↦ absurd (none h)
     ]
 
     ticked : Windowed (left_of rr.connection) (z ∷ life)
-    ticked = windowed_step c life w alive None rr (stepped_tells m steady Any low_text at c oo is (on_tick_fits m steady c numbers fit words) tick_told) (asked_short m at oo (tick_on m c numbers).new) ticked_within ticked_syn
+    ticked = windowed_step c life w alive None rr (stepped_tells m steady AnyLength (low_text m) at c oo is (on_tick_fits m steady c numbers fit words) tick_told) (asked_short m at oo (tick_on m c numbers).new) ticked_within ticked_syn
 
   -- ---- what an event does
 
@@ -364,7 +345,7 @@ module _ (m : Meaning) (steady : IsSteady m) (ports : ℕ → Bool) (p : Sockets
         live = λ l. record {
           safe = record { mss = mss_some s.mss; initial = mss_some s.mss; state = record { len = refl; acked = refl } };
           within = λ o. absurd (cc);
-          syn = λ e. syn_on x [] (wrap (snd_nxt c + 1)) (λ t q placed. only_some (λ k. has_syn k.flags ≡ true) (syn_ack c) t q refl)
+          syn = λ e. syn_on x [] (wrap (snd_nxt c + 1)) (λ t q placed. only_some (λ k. IsSyn k (wrap (snd_nxt c + 1))) (syn_ack c) t q (refl, refl))
               (λ t q f g. absurd (let same : s ≡ t = cc in let flags : s.flags ≡ SYN = eqb-eq s.flags SYN plain in
               let z : has_ack t.flags ≡ false = ap (λ k. has_ack k.flags) (sym same) ∙ ap has_ack flags in cc))
               record { alone = λ k t e q. absurd (cc); first = λ k y t e q f g. absurd (cc) };
@@ -395,8 +376,7 @@ module _ (m : Meaning) (steady : IsSteady m) (ports : ℕ → Bool) (p : Sockets
   empty_is (x ∷ life) e = absurd (cc)
 
   record Inv (n : AbstractNode) (so_far : List Exchange) : Type 0 where
-    single : Single n.connections
-    fit : FitNode n
+    good : Good n
     current : (life before : List Exchange) → so_far ≡ life ++ before → is_life life ≡ true → Windowed (serving p n.connections) life
     ever : (later life before : List Exchange) → so_far ≡ later ++ (life ++ before) → is_life life ≡ true → FitsWindows life
 
@@ -421,12 +401,11 @@ module _ (m : Meaning) (steady : IsSteady m) (ports : ℕ → Bool) (p : Sockets
 
   step_inv : (n : AbstractNode) (so_far : List Exchange) (event : Event) → IsEvent event → Inv n so_far → Inv (step m ports n event).node (exchange p event (step m ports n event).sent ∷ so_far)
   step_inv n so_far event is i =
-      let k : Comes m ports n event (step m ports n event) = comes m ports steady n event is i.single i.fit in
+      let k : Comes m ports n event (step m ports n event) = comes m ports steady n event is i.good.single i.good.fit in
       let x : Exchange = exchange p event (step m ports n event).sent in
       let after = current_on (serving p n.connections) (serving p (step m ports n event).node.connections) x so_far (k.each p) i.current in
       record {
-        single = k.single;
-        fit = event_fits m steady ports n event is i.fit;
+        good = good_on m steady ports n event is i.good;
         current = after;
         ever = ever_on (serving p (step m ports n event).node.connections) x so_far after i.ever;
       }
@@ -435,22 +414,18 @@ module _ (m : Meaning) (steady : IsSteady m) (ports : ℕ → Bool) (p : Sockets
   run_inv own [] n so_far a i life l = i.ever l.later life l.before l.split l.is
   run_inv own (e ∷ es) n so_far a i life l =
       run_inv own es (step m ports n e).node (exchange p e (step m ports n e).sent ∷ so_far) (All-tail (IsOfLine own) e es a)
-      (step_inv n so_far e (wire_event e (line_wire own e (All-head (IsOfLine own) e es a))) i) life l
+      (step_inv n so_far e (first_is own e es a) i) life l
 
-  no_life : (life before : List Exchange) → [] ≡ life ++ before → is_life life ≡ true → ⊥
-  no_life [] before e l = absurd (cc)
-  no_life (x ∷ life) before e l = absurd (cc)
-
-  no_life_later : (later life before : List Exchange) → [] ≡ later ++ (life ++ before) → is_life life ≡ true → ⊥
-  no_life_later [] life before e l = no_life life before e l
-  no_life_later (x ∷ later) life before e l = absurd (cc)
+  none_lives : (later life before : List Exchange) → [] ≡ later ++ (life ++ before) → is_life life ≡ true → ⊥
+  none_lives [] [] before e l = absurd (cc)
+  none_lives [] (x ∷ life) before e l = absurd (cc)
+  none_lives (x ∷ later) life before e l = absurd (cc)
 
 pub windows_are_kept : WindowsAreKept
 windows_are_kept m steady ports own addr numbers words events of p life l =
     run_inv m steady ports p own events (opening own numbers) [] of
     record {
-      single = λ q i j x y a b u v. absurd (let z = none_serves 10 q i x a in cc);
-      fit = record { size = omega arith; conns = λ i x y. subst FitConn (all_closed 10 i x y) closed_fits; numbers = words };
-      current = λ some before e k. absurd (no_life m steady ports p some before e k);
-      ever = λ later some before e k. absurd (no_life_later m steady ports p later some before e k);
+      good = good_start own numbers words;
+      current = λ some before e k. absurd (none_lives m steady ports p [] some before e k);
+      ever = λ later some before e k. absurd (none_lives m steady ports p later some before e k);
     } life l

@@ -1,7 +1,8 @@
 -- Text that is sent for the first time fits the peer's window (RFC 793, section 3.7, "Managing the Window"): told by what passes between
 -- the peer and the node. A window of 0 is taken for an open one, and that of the segment which acknowledges the SYN is not looked at.
 use Rattle.std.specs.List.{All}
-use Rattle.std.specs.Prelude.{◌≡◌, ℕ, ◌<◌, ◌≤◌, ◌⊎◌, Bool, true, false, List, [], ◌∷◌, length, drop, Some, None, slice_get}
+use Rattle.std.specs.Prelude.{◌≡◌, ℕ, ◌+◌, ◌<◌, ◌≤◌, ◌⊎◌, Bool, true, false, List, [], ◌∷◌, length, drop, Some, None, slice_get}
+use Rattle.uip_wire.specs.Numbers.{wrap}
 use Rattle.uip_wire.specs.declared.addr.Addr.{Addr}
 use Rattle.tcp_segment.specs.Segments.{PlainSegment, has_syn, has_ack}
 use Rattle.app_events.specs.Part.{Meaning}
@@ -26,7 +27,9 @@ pub record IsPassedOver (x : Exchange) (s : PlainSegment) : Type 0 where
 -- The segment is the first that acknowledges the SYN: no other number was said before, and no earlier one with its acknowledgement was
 -- taken.
 pub record IsFirstToAcknowledge (s : PlainSegment) (before : List Exchange) : Type 0 where
-  pub syn_alone : (k : ℕ) (t : PlainSegment) → said_at before k ≡ Some t → has_place t ≡ true → has_syn t.flags ≡ true
+  pub acks : has_ack s.flags ≡ true
+  pub syn_alone : (k : ℕ) (t : PlainSegment) → said_at before k ≡ Some t → has_place t ≡ true
+      → (has_syn t.flags ≡ true) × (s.ack ≡ wrap (t.seq + 1))
   pub first : (k : ℕ) (y : Exchange) (t : PlainSegment) → slice_get before k ≡ Some y → y.came ≡ Some t → has_ack t.flags ≡ true
       → t.ack ≡ s.ack → IsPassedOver y t
 
