@@ -29,7 +29,7 @@ use Rattle.uip_node.proofs.Fits.{FitConn, on_segment_fits, on_tick_fits}
 use Rattle.uip_node.proofs.FitNodes.{node_moment}
 use Rattle.uip_node.proofs.Steadiness.{steady_of}
 use Rattle.uip_node.specs.Answering.{AnswersPolled}
-use Rattle.node_laws.specs.HonestPeers.{Asker, text_came, bare_acks, Opens, SendsNext, is_quiet, IsHonest, calls_of, HasItsPage, HonestPeer}
+use Rattle.node_laws.specs.HonestPeers.{Asker, text_came, bare_acks, SendsSyn, SendsNext, is_quiet, IsHonest, calls_of, HasItsPage, HonestPeer}
 use Rattle.node_laws.specs.Talks.{Exchange, Turn, exchange, talk_behind, talk_of}
 use Rattle.node_laws.specs.Turns.{turns_of}
 use Rattle.node_laws.specs.Wire.{IsOfLine}
@@ -216,7 +216,7 @@ module _ (m : Meaning) (pages : Pages) (lawful : IsPaged m pages) (serves_port :
     first_exchange = exchange p event (step m serves_port n event).sent
 
     -- the connection stands in its slot
-    born_there : (first : ℕ) (s : PlainSegment) → is_plain_syn s ≡ true → first_exchange ≡ met (Some s) (Some (syn_ack (accepted first p s))) → serving p s_node.connections ≡ accepted first p s → Opens a first_exchange →
+    born_there : (first : ℕ) (s : PlainSegment) → is_plain_syn s ≡ true → first_exchange ≡ met (Some s) (Some (syn_ack (accepted first p s))) → serving p s_node.connections ≡ accepted first p s → SendsSyn a first_exchange →
         ((slot : ℕ) → calls_of slot rest ≤ patience) → Standing s_node (first_exchange ∷ []) rest
     born_there first s plain e f o prompt =
         let came : Some o.syn ≡ Some s = sym o.came ∙ ap (λ z. z.came) e in
@@ -238,7 +238,7 @@ module _ (m : Meaning) (pages : Pages) (lawful : IsPaged m pages) (serves_port :
           | free none ↦ absurd (let z : closed ≡ accepted first p s = sym (Rattle.uip_node.proofs.Connections.serving_free s_node.connections p none) ∙ f in let y : false ≡ true = ap (λ c. is_live c.state) z in cc)
         ]
 
-    opens : Opens a first_exchange → ((slot : ℕ) → calls_of slot rest ≤ patience) → Standing s_node (first_exchange ∷ []) rest
+    opens : SendsSyn a first_exchange → ((slot : ℕ) → calls_of slot rest ≤ patience) → Standing s_node (first_exchange ∷ []) rest
     opens o prompt =
         let x : Exchange = first_exchange in
         let silent : x.said ≡ None → Standing s_node (x ∷ []) rest = λ e. absurd (let z : Some o.answer ≡ None = sym o.said ∙ e in cc) in

@@ -30,7 +30,7 @@ use Rattle.uip_node.proofs.Stepped.{stepped_tells}
 use Rattle.uip_node.proofs.Told.{SafeState, StepTells, OutTells, due, segment_tells, tick_tells}
 use Rattle.node_laws.specs.Talks.{Exchange, said_at, exchange, is_opening, is_life, is_empty, IsLifeIn, talk_behind}
 use Rattle.node_laws.specs.Turns.{turns_of}
-use Rattle.node_laws.specs.Windows.{IsPassedOver, IsWithin, IsNewText, FitsWindows, WindowsAreKept}
+use Rattle.node_laws.specs.Windows.{IsPassedOver, FitsNewest, IsNewText, FitsWindows, WindowsAreKept}
 use Rattle.node_laws.specs.Wire.{IsOfLine}
 use Rattle.node_laws.proofs.Beating.{ask_open, mss_some}
 use Rattle.node_laws.proofs.GoodNodes.{AnyLength, Good, SafeConn, first_is, good_on, good_start, low_text}
@@ -74,7 +74,7 @@ module _ (m : Meaning) where
   text_open _ d s a l = absurd (let z = ap length a.text in omega (arith, z, l))
 
 -- one exchange more: what is new then
-fits_on : (x : Exchange) (life : List Exchange) → ((s : PlainSegment) → IsNewText (x ∷ life) 0 s → IsWithin (x ∷ life) (length s.text)) → FitsWindows life → FitsWindows (x ∷ life)
+fits_on : (x : Exchange) (life : List Exchange) → ((s : PlainSegment) → IsNewText (x ∷ life) 0 s → FitsNewest (x ∷ life) (length s.text)) → FitsWindows life → FitsWindows (x ∷ life)
 fits_on x life h g zero s n = h s n
 fits_on x life h g (suc k) s n = g k s record { said = n.said; some = n.some; new = λ j t l e p q. n.new (suc j) t (omega (arith, l)) e p q }
 
@@ -102,7 +102,7 @@ module _ (m : Meaning) (steady : IsSteady m) (ports : ℕ → Bool) (p : Sockets
 
   record LiveWindowed (c : Connection) (life : List Exchange) : Type 0 where
     safe : SafeConn m steady c
-    within : is_open c.state ≡ true → (size : ℕ) → size ≤ c.mss → IsWithin life size
+    within : is_open c.state ≡ true → (size : ℕ) → size ≤ c.mss → FitsNewest life size
     syn : c.state ≡ SynRcvd → AtSyn life (wrap (snd_nxt c + 1))
     said : 0 < c.len → SaidDue life (wrap (c.first + c.acked))
 
@@ -131,7 +131,7 @@ module _ (m : Meaning) (steady : IsSteady m) (ports : ℕ → Bool) (p : Sockets
   -- a step of a live connection
   module _ (c : Connection) (life : List Exchange) (w : Windowed c life) (alive : is_live c.state ≡ true) (came : Option PlainSegment) (r : Outcome)
       (tells : StepTells m steady AnyLength (low_text m) c r.connection (segment_of m r.connection r.step) (is_again r.step)) (short : NewIsShort r)
-      (within : (let x : Exchange = met came (segment_of m r.connection r.step) in is_open r.connection.state ≡ true → (size : ℕ) → size ≤ r.connection.mss → IsWithin (x ∷ life) size))
+      (within : (let x : Exchange = met came (segment_of m r.connection r.step) in is_open r.connection.state ≡ true → (size : ℕ) → size ≤ r.connection.mss → FitsNewest (x ∷ life) size))
       (syn : (let x : Exchange = met came (segment_of m r.connection r.step) in r.connection.state ≡ SynRcvd → AtSyn (x ∷ life) (wrap (snd_nxt r.connection + 1)))) where
     abbrev d : Connection
     d = r.connection
@@ -142,7 +142,7 @@ module _ (m : Meaning) (steady : IsSteady m) (ports : ℕ → Bool) (p : Sockets
     v : LiveWindowed c life
     v = w.live alive
 
-    new_fits : (s : PlainSegment) → IsNewText (x ∷ life) 0 s → IsWithin (x ∷ life) (length s.text)
+    new_fits : (s : PlainSegment) → IsNewText (x ∷ life) 0 s → FitsNewest (x ∷ life) (length s.text)
     new_fits s n =
         let told = tells.said s n.said (placed_text s n.some) in
         both_ways (is_again r.step)
@@ -210,7 +210,7 @@ module _ (m : Meaning) (steady : IsSteady m) (ports : ℕ → Bool) (p : Sockets
           cc
 
       -- where the application may speak, the next text is bounded
-      bounded : is_open o.connection.state ≡ true → (size : ℕ) → size ≤ o.connection.mss → IsWithin (y ∷ life) size
+      bounded : is_open o.connection.state ≡ true → (size : ℕ) → size ≤ o.connection.mss → FitsNewest (y ∷ life) size
       bounded open_there size l = elim (segment_bounds m c numbers s) [
         | passes h e ↦ inr (
           s,
@@ -226,7 +226,7 @@ module _ (m : Meaning) (steady : IsSteady m) (ports : ℕ → Bool) (p : Sockets
         | speaks_no_more e ↦ absurd (cc)
       ]
 
-      heard_within : is_open r.connection.state ≡ true → (size : ℕ) → size ≤ r.connection.mss → IsWithin (y ∷ life) size
+      heard_within : is_open r.connection.state ≡ true → (size : ℕ) → size ≤ r.connection.mss → FitsNewest (y ∷ life) size
       heard_within open_then size l = elim (asked_so m at o (ask_open m steady AnyLength (low_text m) c o.connection o.step told)) [
         | unasked e ↦ bounded (ap (λ z. is_open z.connection.state) (sym e) ∙ open_then) size (let q : r.connection.mss ≡ o.connection.mss = ap (λ z. z.connection.mss) e in omega (arith, l, q))
         | spoke open_there same none ↦ bounded open_there size (let q = same open_then in omega (arith, l, q))
@@ -267,7 +267,7 @@ module _ (m : Meaning) (steady : IsSteady m) (ports : ℕ → Bool) (p : Sockets
     tick_told : OutTells m steady AnyLength (low_text m) c oo.connection oo.step
     tick_told = tick_tells m steady AnyLength (low_text m) c numbers now.safe
 
-    ticked_within : is_open rr.connection.state ≡ true → (size : ℕ) → size ≤ rr.connection.mss → IsWithin (z ∷ life) size
+    ticked_within : is_open rr.connection.state ≡ true → (size : ℕ) → size ≤ rr.connection.mss → FitsNewest (z ∷ life) size
     ticked_within open_then size l =
         let t = tick_on m c numbers in
         elim (asked_so m at oo (ask_open m steady AnyLength (low_text m) c oo.connection oo.step tick_told)) [

@@ -53,7 +53,7 @@ bare_acks [] = 0
 bare_acks (x ∷ older) = if option_map_or is_bare_ack x.came false then bare_acks older + 1 else bare_acks older
 
 -- its SYN, and the answer
-pub record Opens (a : Asker) (x : Exchange) : Type 0 where
+pub record SendsSyn (a : Asker) (x : Exchange) : Type 0 where
   pub syn : PlainSegment
   pub came : x.came ≡ Some syn
   pub number : syn.seq ≡ a.peer_first
@@ -85,7 +85,7 @@ is_quiet x = (x.came ≡ None) × (x.said ≡ None)
 -- Behind its opening nothing passes, or it sends its next segment.
 abbrev pub IsHonest : Asker → List Exchange → Type 0
 IsHonest a [] = ⊥
-IsHonest a (x ∷ []) = Opens a x
+IsHonest a (x ∷ []) = SendsSyn a x
 IsHonest a (x ∷ y ∷ older) = (is_quiet x ⊎ SendsNext a x (y ∷ older)) × IsHonest a (y ∷ older)
 
 -- how often a slot is called in these turns

@@ -38,11 +38,11 @@ abbrev pub Allows : PlainSegment → List Exchange → ℕ → Type 0
 Allows s before size = (size ≤ s.window) ⊎ ((s.window ≡ 0) ⊎ IsFirstToAcknowledge s before)
 
 -- So much text fits the window of the newest segment that came and was not passed over.
-abbrev pub IsWithin : List Exchange → ℕ → Type 0
-IsWithin [] size = ⊥
-IsWithin (x ∷ older) size =
-    ((x.came ≡ None) × IsWithin older size)
-    ⊎ ((s : PlainSegment) × (x.came ≡ Some s) × ((IsPassedOver x s × IsWithin older size) ⊎ Allows s older size))
+abbrev pub FitsNewest : List Exchange → ℕ → Type 0
+FitsNewest [] size = ⊥
+FitsNewest (x ∷ older) size =
+    ((x.came ≡ None) × FitsNewest older size)
+    ⊎ ((s : PlainSegment) × (x.came ≡ Some s) × ((IsPassedOver x s × FitsNewest older size) ⊎ Allows s older size))
 
 -- text is said at a number at which nothing was said before
 pub record IsNewText (life : List Exchange) (k : ℕ) (s : PlainSegment) : Type 0 where
@@ -51,7 +51,7 @@ pub record IsNewText (life : List Exchange) (k : ℕ) (s : PlainSegment) : Type 
   pub new : (j : ℕ) (t : PlainSegment) → k < j → said_at life j ≡ Some t → has_place t ≡ true → t.seq ≡ s.seq → ⊥
 
 abbrev pub FitsWindows : List Exchange → Type 0
-FitsWindows life = (k : ℕ) (s : PlainSegment) → IsNewText life k s → IsWithin (drop k life) (length s.text)
+FitsWindows life = (k : ℕ) (s : PlainSegment) → IsNewText life k s → FitsNewest (drop k life) (length s.text)
 
 -- So it is in every life, over any events of a line, with every steady application.
 abbrev pub WindowsAreKept : Type 0
