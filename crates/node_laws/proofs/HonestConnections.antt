@@ -1,7 +1,7 @@
 -- The connection with an honest peer: at each segment of its peer it says what the application has to say next.
 use Rattle.std.specs.List.{All}
 use Rattle.std.specs.Option.{option_map_or}
-use Rattle.std.proofs.Common.{◌≡◌, ℕ, suc, ◌+◌, ◌<◌, ◌≤◌, ◌==◌, min, Bool, true, false, if◌then◌else◌, not, ◌&&◌, inl, inr, List, [], ◌∷◌, ◌++◌, length, take, drop, refl, sym, ap, ◌∙◌, subst, arith, Option, Some, None, eqb, ltb, length-append}
+use Rattle.std.proofs.Common.{◌≡◌, ℕ, suc, ◌+◌, ◌<◌, ◌≤◌, ◌==◌, min, Bool, true, false, if◌then◌else◌, not, ◌&&◌, inl, inr, List, [], ◌∷◌, ◌++◌, length, take, drop, refl, sym, ap, ◌∙◌, subst, arith, Option, Some, None, is_some, eqb, ltb, length-append}
 use Rattle.std.proofs.lemmas.Bool.{eq-eqb}
 use Rattle.std.proofs.lemmas.List.{take-append-le, take_all, length-take-le}
 use Rattle.std.proofs.lemmas.Grind.{common_steps}
@@ -20,22 +20,21 @@ use Rattle.app_events.specs.declared.state.State.TheVariants.{SynRcvd, Establish
 use Rattle.app_events.specs.declared.want.Want.{Want}
 use Rattle.app_events.specs.declared.want.Want.TheVariants.{Nothing, Send, Close, Abort}
 use Rattle.tcp_machine.specs.Connection.{Sockets, Connection, is_live, serves, snd_nxt, rcv_nxt}
-use Rattle.tcp_machine.specs.Segments.{has_place, segment_of, bare_ack, fin_of, text_segment}
+use Rattle.tcp_machine.specs.Segments.{has_place, segment_of, bare_ack, fin_of, reset_of, syn_ack, text_segment}
 use Rattle.tcp_machine.specs.Ask.{Outcome, leaves, closes, idles, does_as_wanted, ask, asked}
 use Rattle.tcp_machine.specs.OnSegment.{told_end, peer_closes, is_out_of_order, is_acked, has_text, hears, with_window, goes_on, in_established, by_state, on_segment}
 use Rattle.tcp_machine.specs.OnTick.{by_beat, limit_of, on_tick, polls as polled_by, ticks_established}
 use Rattle.tcp_machine.specs.declared.step.Step.{Step}
-use Rattle.uip_node.proofs.Basics.{choose, ltb-yes, cut_length, wrap_wrap, prefix_length, append_nothing, zero_or_more}
+use Rattle.uip_node.proofs.Basics.{choose, ltb-yes, cut_length, wrap_wrap, prefix_length, append_nothing, zero_or_more, same_place}
 use Rattle.app_events.specs.States.{is_time_wait}
 use Rattle.uip_node.proofs.SocketPairs.{same_self}
 use Rattle.uip_node.proofs.Fits.{FitOut, prepared_captures}
 use Rattle.uip_node.proofs.Steadiness.{steady_of}
 use Rattle.uip_node.proofs.Handed.{hears_is, prepare_is}
 use Rattle.node_laws.specs.Talks.{Exchange}
-use Rattle.node_laws.specs.Promise.{size_of}
 use Rattle.uip_node.specs.Answering.{AnswersPolled, GoesOnBy}
-use Rattle.node_laws.specs.HonestPeers.{Asker, text_came, numbers_said, awaits_ack, is_bare_ack, bare_acks, SendsNext, HasItsPage}
-use Rattle.node_laws.proofs.HonestTalks.{has_of, has_on, nothing_more, takes_at}
+use Rattle.node_laws.specs.HonestPeers.{Asker, text_came, awaits_ack, is_bare_ack, bare_acks, SendsNext, HasItsPage}
+use Rattle.node_laws.proofs.HonestTalks.{has_of, has_on, lets_go, nothing_more, takes_at}
 use Rattle.node_laws.proofs.Lines.{quiet, met}
 use Rattle.node_laws.proofs.Walk.{nil_of}
 
@@ -91,7 +90,6 @@ module _ (m : Meaning) (pages : Pages) (lawful : IsPaged m pages) (p : Sockets) 
 
   pub record AtSyn (life : List Exchange) : Type 0 where
     pub came : text_came life ≡ []
-    pub said : numbers_said life ≡ 1
     pub none : bare_acks life ≡ 0
     pub has : has_of a.first life ≡ []
 
@@ -101,7 +99,6 @@ module _ (m : Meaning) (pages : Pages) (lawful : IsPaged m pages) (p : Sockets) 
     pub is_taken : taken ≡ length (text_came life)
     pub asked : IsPrefixOf (text_came life) a.request
     pub is_acked : acked ≡ 1 + part.acked
-    pub said : numbers_said life ≡ acked + len
     pub fits : part.acked + len ≤ length (page part)
     pub has : has_of a.first life ≡ take (part.acked + len) (page part)
 
@@ -131,7 +128,7 @@ module _ (m : Meaning) (pages : Pages) (lawful : IsPaged m pages) (p : Sockets) 
   -- ---- nothing passes
 
   syn_quiet : (life : List Exchange) → AtSyn life → AtSyn (quiet ∷ life)
-  syn_quiet life h = record { came = append_nothing (text_came life) ∙ h.came; said = (let e = h.said in omega (arith, e)); none = h.none; has = has_on a.first quiet life ∙ h.has }
+  syn_quiet life h = record { came = append_nothing (text_came life) ∙ h.came; none = h.none; has = has_on a.first quiet life ∙ h.has }
 
   talked_quiet : (life : List Exchange) (part : Part) (taken acked len : ℕ) → Talked life part taken acked len → Talked (quiet ∷ life) part taken acked len
   talked_quiet life part taken acked len h =
@@ -141,7 +138,6 @@ module _ (m : Meaning) (pages : Pages) (lawful : IsPaged m pages) (p : Sockets) 
         is_taken = h.is_taken ∙ ap length (sym e);
         asked = subst (λ t. IsPrefixOf t a.request) (sym e) h.asked;
         is_acked = h.is_acked;
-        said = (let q = h.said in omega (arith, q));
         fits = h.fits;
         has = has_on a.first quiet life ∙ h.has;
       }
@@ -155,19 +151,22 @@ module _ (m : Meaning) (pages : Pages) (lawful : IsPaged m pages) (p : Sockets) 
 
   -- ---- the application is asked
 
+  -- what came brings
+  abbrev brought : Option PlainSegment → List ℕ
+  brought came = option_map_or (λ s. s.text) came []
+
   -- before it is asked, with what came
-  pub record Ready (s : PlainSegment) (older : List Exchange) (part : Part) (taken acked most : ℕ) : Type 0 where
-    pub heard : part.heard ≡ text_came older ++ s.text
-    pub is_taken : taken ≡ length (text_came older ++ s.text)
-    pub asked : IsPrefixOf (text_came older ++ s.text) a.request
+  pub record Ready (came : Option PlainSegment) (older : List Exchange) (part : Part) (taken acked most : ℕ) : Type 0 where
+    pub heard : part.heard ≡ text_came older ++ brought came
+    pub is_taken : taken ≡ length (text_came older ++ brought came)
+    pub asked : IsPrefixOf (text_came older ++ brought came) a.request
     pub is_acked : acked ≡ 1 + part.acked
-    pub said : numbers_said older ≡ acked
     pub fits : part.acked ≤ length (page part)
     pub has : has_of a.first older ≡ take part.acked (page part)
-    pub bound : bare_acks (met (Some s) None ∷ older) + most ≤ texts + 1
+    pub bound : bare_acks (met came None ∷ older) + most ≤ texts + 1
 
-  prepared_ready : (s : PlainSegment) (older : List Exchange) (part : Part) (taken acked most : ℕ) (numbers : List ℕ) (now : Now) → Ready s older part taken acked most → Ready s older (m.prepare numbers part now) taken acked most
-  prepared_ready s older part taken acked most numbers now h =
+  prepared_ready : (came : Option PlainSegment) (older : List Exchange) (part : Part) (taken acked most : ℕ) (numbers : List ℕ) (now : Now) → Ready came older part taken acked most → Ready came older (m.prepare numbers part now) taken acked most
+  prepared_ready came older part taken acked most numbers now h =
       let q : Part = m.prepare numbers part now in
       let is = prepare_is m pages lawful numbers part now in
       let grows : IsPrefixOf (page part) (page q) =
@@ -178,16 +177,15 @@ module _ (m : Meaning) (pages : Pages) (lawful : IsPaged m pages) (p : Sockets) 
         is_taken = h.is_taken;
         asked = h.asked;
         is_acked = h.is_acked ∙ ap (λ n. 1 + n) (sym is.acked);
-        said = h.said;
         fits = (let l = prefix_length (page part) (page q) grows in let f = h.fits in let e = is.acked in omega (arith, l, f, e));
         has = h.has ∙ front_stays (page part) (page q) part.acked grows h.fits ∙ ap (λ n. take n (page q)) (sym is.acked);
         bound = h.bound;
       }
 
   -- the page is told whole, and the FIN stands behind it
-  closes_whole : (s : PlainSegment) (older : List Exchange) (q : Part) (taken first acked most : ℕ) → Counts first → Ready s older q taken acked most → All IsMoment q.captures → MayWant pages q Close →
-      HasItsPage pages a (met (Some s) (Some (fin_of (conn_at FinWait1 taken first acked 1 0 q))) ∷ older)
-  closes_whole s older q taken first acked most k h moments may =
+  closes_whole : (came : Option PlainSegment) (older : List Exchange) (q : Part) (taken first acked most : ℕ) → Counts first → Ready came older q taken acked most → All IsMoment q.captures → MayWant pages q Close →
+      HasItsPage pages a (met came (Some (fin_of (conn_at FinWait1 taken first acked 1 0 q))) ∷ older)
+  closes_whole came older q taken first acked most k h moments may =
       let fin : PlainSegment = fin_of (conn_at FinWait1 taken first acked 1 0 q) in
       let joined : q.heard ++ h.asked.rest ≡ a.request = ap (λ t. t ++ h.asked.rest) h.heard ∙ h.asked.joined in
       let same : pages.text a.request q.captures ≡ page q =
@@ -210,13 +208,13 @@ module _ (m : Meaning) (pages : Pages) (lawful : IsPaged m pages) (p : Sockets) 
               let n : a.first + acked ≡ a.first + 1 + length (pages.text a.request q.captures) = (let i = h.is_acked in let l = ap length same in omega (arith, i, size, l)) in
               z ∙ ap wrap e ∙ y ∙ ap wrap n);
         };
-        received = has_on a.first (met (Some s) (Some fin)) older ∙ nothing_more a.first (has_of a.first older) fin refl ∙ h.has ∙ take_all q.acked (page q) (omega (arith, size)) ∙ sym same;
+        received = has_on a.first (met came (Some fin)) older ∙ nothing_more a.first (has_of a.first older) fin refl ∙ h.has ∙ take_all q.acked (page q) (omega (arith, size)) ∙ sym same;
       }
 
   -- the next text is told
-  says_text : (s : PlainSegment) (older : List Exchange) (q : Part) (taken first acked most len : ℕ) → Counts first → Ready s older q taken acked most → q.acked + len ≤ length (page q) →
-      Talked (met (Some s) (Some (text_segment m (conn_at Established taken first acked len 0 q))) ∷ older) q taken acked len
-  says_text s older q taken first acked most len k h within =
+  says_text : (came : Option PlainSegment) (older : List Exchange) (q : Part) (taken first acked most len : ℕ) → Counts first → Ready came older q taken acked most → q.acked + len ≤ length (page q) →
+      Talked (met came (Some (text_segment m (conn_at Established taken first acked len 0 q))) ∷ older) q taken acked len
+  says_text came older q taken first acked most len k h within =
       let t : PlainSegment = text_segment m (conn_at Established taken first acked len 0 q) in
       let said : t.text ≡ take len (drop q.acked (page q)) = ap (λ l. take len (drop q.acked l)) (lawful.said q) in
       let size : length t.text ≡ len = ap length said ∙ cut_length (page q) q.acked len within in
@@ -227,44 +225,42 @@ module _ (m : Meaning) (pages : Pages) (lawful : IsPaged m pages) (p : Sockets) 
         is_taken = h.is_taken;
         asked = h.asked;
         is_acked = h.is_acked;
-        said = (let i = h.said in omega (arith, i, size));
         fits = within;
-        has = has_on a.first (met (Some s) (Some t)) older ∙ takes_at a.first (has_of a.first older) t at
+        has = has_on a.first (met came (Some t)) older ∙ takes_at a.first (has_of a.first older) t at
             ∙ ap (λ l. l ++ t.text) h.has ∙ ap (λ l. take q.acked (page q) ++ l) said ∙ sym (take-add q.acked len (page q));
       }
 
   -- nothing is told
-  says_none : (s : PlainSegment) (said : Option PlainSegment) (older : List Exchange) (q : Part) (taken acked most : ℕ) → Ready s older q taken acked most →
-      has_of a.first (met (Some s) said ∷ older) ≡ has_of a.first older → option_map_or size_of said 0 ≡ 0 → Talked (met (Some s) said ∷ older) q taken acked 0
-  says_none s said older q taken acked most h e z = record {
+  says_none : (came : Option PlainSegment) (said : Option PlainSegment) (older : List Exchange) (q : Part) (taken acked most : ℕ) → Ready came older q taken acked most →
+      has_of a.first (met came said ∷ older) ≡ has_of a.first older → Talked (met came said ∷ older) q taken acked 0
+  says_none came said older q taken acked most h e = record {
     heard = h.heard;
     is_taken = h.is_taken;
     asked = h.asked;
     is_acked = h.is_acked;
-    said = (let i = h.said in omega (arith, i, z));
     fits = (let f = h.fits in omega (arith, f));
     has = e ∙ h.has ∙ ap (λ n. take n (page q)) (let y : q.acked ≡ q.acked + 0 = omega arith in y);
   }
 
-  by_want : (polls : ℕ) (s : PlainSegment) (older : List Exchange) (fresh : Bool) (numbers : List ℕ) (taken first acked age most : ℕ) (q : Part) (w : Want) → Counts first → Ready s older q taken acked most →
-      All IsMoment q.captures → MayWant pages q w → GoesOnBy m a.request a.mss (fine polls) left q most w →
-      (let o : Outcome = does_as_wanted w fresh (conn_at Established taken first acked 0 age q) numbers in Next polls (met (Some s) (segment_of m o.connection o.step) ∷ older) o.connection)
+  by_want : (polls : ℕ) (came : Option PlainSegment) (older : List Exchange) (fresh : Bool) (numbers : List ℕ) (taken first acked age most : ℕ) (q : Part) (w : Want) → Counts first → Ready came older q taken acked most →
+      All IsMoment q.captures → MayWant pages q w → GoesOnBy m a.request a.mss (fine polls) left q most w → not (is_some came) && awaits_ack older ≡ false →
+      (let o : Outcome = does_as_wanted w fresh (conn_at Established taken first acked 0 age q) numbers in Next polls (met came (segment_of m o.connection o.step) ∷ older) o.connection)
   unfolding idles
-  by_want polls s older fresh numbers taken first acked age most q Abort k h moments may g = absurd g
-  by_want polls s older fresh numbers taken first acked age most q Close k h moments may g = ends_so (closes_whole s older q taken first acked most k h moments may)
-  by_want polls s older fresh numbers taken first acked age most q (Send j) k h moments may g =
+  by_want polls came older fresh numbers taken first acked age most q Abort k h moments may g rested = absurd g
+  by_want polls came older fresh numbers taken first acked age most q Close k h moments may g rested = ends_so (closes_whole came older q taken first acked most k h moments may)
+  by_want polls came older fresh numbers taken first acked age most q (Send j) k h moments may g rested =
       let len : ℕ = min j a.mss in
       let some : 0 < len = (let l = may.0 in omega (arith, l, room)) in
       let within : q.acked + len ≤ length (page q) = (let l = may.1 in omega (arith, l)) in
-      goes_on_so (told taken first acked len 0 most q k refl (says_text s older q taken first acked most len k h within) record { some = some; next = g } h.bound)
-  by_want polls s older fresh numbers taken first acked age most q Nothing k h moments may g =
+      goes_on_so (told taken first acked len 0 most q k refl (says_text came older q taken first acked most len k h within) record { some = some; next = g } h.bound)
+  by_want polls came older fresh numbers taken first acked age most q Nothing k h moments may g rested =
       let d : Connection = conn_at Established taken first acked 0 age q in
-      let P : Outcome → Type 0 = λ o. Next polls (met (Some s) (segment_of m o.connection o.step) ∷ older) o.connection in
+      let P : Outcome → Type 0 = λ o. Next polls (met came (segment_of m o.connection o.step) ∷ older) o.connection in
       let r : Rests polls q most = record { good = g.0; few = g.1; more = g.2 } in
       choose P fresh (leaves d numbers Step.Ack) (leaves d numbers Step.Drop)
       (λ f. goes_on_so (waits taken first acked age most q k refl
-      (says_none s (segment_of m d Step.Ack) older q taken acked most h (has_on a.first (met (Some s) (segment_of m d Step.Ack)) older ∙ nothing_more a.first (has_of a.first older) (bare_ack d) refl) refl) refl r h.bound))
-      (λ f. goes_on_so (waits taken first acked age most q k refl (says_none s None older q taken acked most h (has_on a.first (met (Some s) None) older) refl) refl r h.bound))
+      (says_none came (segment_of m d Step.Ack) older q taken acked most h (has_on a.first (met came (segment_of m d Step.Ack)) older ∙ nothing_more a.first (has_of a.first older) (bare_ack d) refl)) refl r h.bound))
+      (λ f. goes_on_so (waits taken first acked age most q k refl (says_none came None older q taken acked most h (has_on a.first (met came None) older)) rested r h.bound))
 
   -- as many texts are left, or more
   at_most_more : (polls : ℕ) (q : Part) (few most : ℕ) (w : Want) → few ≤ most → GoesOnBy m a.request a.mss (fine polls) left q few w → GoesOnBy m a.request a.mss (fine polls) left q most w
@@ -279,13 +275,13 @@ module _ (m : Meaning) (pages : Pages) (lawful : IsPaged m pages) (p : Sockets) 
   wants_so polls l numbers now part rest most words is rows good few joined =
       at_most_more polls (m.prepare numbers part now) (left part) most (m.want numbers (m.prepare numbers part now)) few ((answering.answers polls l).goes_on numbers part now rest good joined words is rows)
 
-  asks : (polls : ℕ) → polls ≤ patience → (s : PlainSegment) (older : List Exchange) (fresh : Bool) (numbers : List ℕ) (now : Now) (taken first acked age most : ℕ) (part : Part) → All IsWord numbers → IsNow now → 0 < length now.rows →
-      Counts first → Ready s older part taken acked most → fine polls part ≡ true → left part ≤ most → All IsMoment part.captures →
-      (let o : Outcome = ask m now fresh (conn_at Established taken first acked 0 age part) numbers in Next polls (met (Some s) (segment_of m o.connection o.step) ∷ older) o.connection)
-  asks polls l s older fresh numbers now taken first acked age most part words is rows k h good few moments =
+  asks : (polls : ℕ) → polls ≤ patience → (came : Option PlainSegment) (older : List Exchange) (fresh : Bool) (numbers : List ℕ) (now : Now) (taken first acked age most : ℕ) (part : Part) → All IsWord numbers → IsNow now → 0 < length now.rows →
+      Counts first → Ready came older part taken acked most → fine polls part ≡ true → left part ≤ most → All IsMoment part.captures → not (is_some came) && awaits_ack older ≡ false →
+      (let o : Outcome = ask m now fresh (conn_at Established taken first acked 0 age part) numbers in Next polls (met came (segment_of m o.connection o.step) ∷ older) o.connection)
+  asks polls l came older fresh numbers now taken first acked age most part words is rows k h good few moments rested =
       let q : Part = m.prepare numbers part now in
-      by_want polls s older fresh numbers taken first acked age most q (m.want numbers q) k (prepared_ready s older part taken acked most numbers now h) (prepared_captures m (steady_of m pages lawful) numbers part now words is moments) (lawful.wants numbers q)
-      (wants_so polls l numbers now part h.asked.rest most words is rows good few (ap (λ t. t ++ h.asked.rest) h.heard ∙ h.asked.joined))
+      by_want polls came older fresh numbers taken first acked age most q (m.want numbers q) k (prepared_ready came older part taken acked most numbers now h) (prepared_captures m (steady_of m pages lawful) numbers part now words is moments) (lawful.wants numbers q)
+      (wants_so polls l numbers now part h.asked.rest most words is rows good few (ap (λ t. t ++ h.asked.rest) h.heard ∙ h.asked.joined)) rested
 
   -- ---- a segment of the peer is heard
 
@@ -294,12 +290,11 @@ module _ (m : Meaning) (pages : Pages) (lawful : IsPaged m pages) (p : Sockets) 
     pub heard : part.heard ≡ text_came older
     pub is_taken : taken ≡ length (text_came older)
     pub is_acked : acked ≡ 1 + part.acked
-    pub said : numbers_said older ≡ acked
     pub fits : part.acked ≤ length (page part)
     pub has : has_of a.first older ≡ take part.acked (page part)
 
   heard_ready : (s : PlainSegment) (older : List Exchange) (numbers : List ℕ) (part : Part) (taken acked most : ℕ) → IsPrefixOf (text_came older ++ s.text) a.request → Acked older part taken acked → bare_acks (met (Some s) None ∷ older) + most ≤ texts + 1 →
-      Ready s older (hears m numbers part s.text).part (taken + length s.text) acked most
+      Ready (Some s) older (hears m numbers part s.text).part (taken + length s.text) acked most
   heard_ready s older numbers part taken acked most front h bound =
       let q : Part = (hears m numbers part s.text).part in
       let is = hears_is m pages lawful numbers part s.text in
@@ -311,7 +306,6 @@ module _ (m : Meaning) (pages : Pages) (lawful : IsPaged m pages) (p : Sockets) 
         is_taken = ap (λ n. n + length s.text) h.is_taken ∙ sym (length-append (text_came older) s.text);
         asked = front;
         is_acked = h.is_acked ∙ ap (λ n. 1 + n) (sym is.acked);
-        said = h.said;
         fits = (let l = prefix_length (page part) (page q) grows in let f = h.fits in let e = is.acked in omega (arith, l, f, e));
         has = h.has ∙ front_stays (page part) (page q) part.acked grows h.fits ∙ ap (λ n. take n (page q)) (sym is.acked);
         bound = bound;
@@ -346,8 +340,8 @@ module _ (m : Meaning) (pages : Pages) (lawful : IsPaged m pages) (p : Sockets) 
       let z : Outcome = leaves d heard.numbers (Step.Ask (has_text s)) in
       let given : Moments at z = subst (λ (y : Outcome). Moments at y) e moments in
       subst (λ (y : Outcome). (let r : Outcome = asked m at y in Next polls (met (Some s) (segment_of m r.connection r.step) ∷ older) r.connection)) (sym e)
-      (asks polls l s older (has_text s) heard.numbers (at d) (taken + length s.text) first acked age most heard.part given.fit.numbers given.is (given.rows d refl) k
-      (heard_ready s older next part taken acked most front b bound) f.0 f.1 given.fit.conn.captures)
+      (asks polls l (Some s) older (has_text s) heard.numbers (at d) (taken + length s.text) first acked age most heard.part given.fit.numbers given.is (given.rows d refl) k
+      (heard_ready s older next part taken acked most front b bound) f.0 f.1 given.fit.conn.captures refl)
 
   -- ---- its next segment
 
@@ -358,6 +352,13 @@ module _ (m : Meaning) (pages : Pages) (lawful : IsPaged m pages) (p : Sockets) 
       (eq-eqb s.ack (wrap (snd_nxt c + c.len))
       (h ∙ sym (k said) ∙ ap wrap (let z : first + said ≡ c.first + c.acked + c.len = omega (arith, e, f, g, n) in z) ∙ sym (wrap_wrap (c.first + c.acked) c.len)))
 
+  acks_all : (s : PlainSegment) (older : List Exchange) (h : SendsNext a (met (Some s) None) older) → h.segment ≡ s → s.ack ≡ wrap (a.first + (1 + length (has_of a.first older)))
+  acks_all s older h same = ap (λ t. t.ack) (sym same) ∙ h.ack ∙ ap wrap (let z : a.first + 1 + length (has_of a.first older) ≡ a.first + (1 + length (has_of a.first older)) = omega arith in z)
+
+  -- how much the receiver has
+  has_length : (older : List Exchange) (part : Part) (taken acked len : ℕ) → Talked older part taken acked len → length (has_of a.first older) ≡ part.acked + len
+  has_length older part taken acked len t = ap length t.has ∙ length-take-le (part.acked + len) (page part) t.fits
+
   -- the first one acknowledges the SYN
   first_row : (numbers : List ℕ) (first age : ℕ) (part : Part) (s : PlainSegment) (older : List Exchange) → Counts first → AtSyn older → (h : SendsNext a (met (Some s) None) older) → h.segment ≡ s →
       let start : After = m.connected numbers p.own_port.0 in
@@ -366,7 +367,7 @@ module _ (m : Meaning) (pages : Pages) (lawful : IsPaged m pages) (p : Sockets) 
   first_row numbers first age part s older k syn h same =
       let c : Connection = conn_at SynRcvd 0 first 0 1 age part in
       let placed : s.seq ≡ rcv_nxt c = ap (λ t. t.seq) (sym same) ∙ h.seq ∙ ap (λ t. wrap (a.peer_first + 1 + length t)) syn.came in
-      let acked : is_acked c s ≡ true = all_acked first 0 1 (numbers_said older) c s k refl refl refl (omega arith) (let z = syn.said in omega (arith, z)) (ap (λ t. has_ack t.flags) (sym same) ∙ h.acks) (ap (λ t. t.ack) (sym same) ∙ h.ack) in
+      let acked : is_acked c s ≡ true = all_acked first 0 1 (1 + length (has_of a.first older)) c s k refl refl refl (omega arith) (let z = ap length syn.has in omega (arith, z)) (ap (λ t. has_ack t.flags) (sym same) ∙ h.acks) (acks_all s older h same) in
       taken_in m c numbers s (ap (λ t. has_rst t.flags) (sym same) ∙ h.rst) placed ∙ ap (λ y. by_state m SynRcvd y c numbers s) acked
 
   -- in ESTABLISHED what a segment brings is heard, and the application is asked
@@ -390,7 +391,7 @@ module _ (m : Meaning) (pages : Pages) (lawful : IsPaged m pages) (p : Sockets) 
       let c : Connection = conn_at Established taken first acked len age part in
       let told : After = m.acked numbers part len in
       let placed : s.seq ≡ rcv_nxt c = ap (λ t. t.seq) (sym same) ∙ h.seq ∙ ap (λ n. wrap (a.peer_first + 1 + n)) (sym t.is_taken) in
-      let is : is_acked c s ≡ true = all_acked first acked len (numbers_said older) c s k refl refl refl l t.said (ap (λ t. has_ack t.flags) (sym same) ∙ h.acks) (ap (λ t. t.ack) (sym same) ∙ h.ack) in
+      let is : is_acked c s ≡ true = all_acked first acked len (1 + length (has_of a.first older)) c s k refl refl refl l (let z = has_length older part taken acked len t in let y = t.is_acked in omega (arith, z, y)) (ap (λ t. has_ack t.flags) (sym same) ∙ h.acks) (acks_all s older h same) in
       taken_in m c numbers s (ap (λ t. has_rst t.flags) (sym same) ∙ h.rst) placed ∙ ap (λ y. by_state m Established y c numbers s) is
       ∙ row_of true told.numbers taken first (acked + len) 0 told.part s (ap (λ t. has_fin t.flags) (sym same) ∙ h.fin) (subst (λ t. a.mss ≤ t.window) same h.window) refl
 
@@ -428,7 +429,6 @@ module _ (m : Meaning) (pages : Pages) (lawful : IsPaged m pages) (p : Sockets) 
           heard = lawful.connected_heard numbers p.own_port.0 ∙ sym syn.came;
           is_taken = ap length (sym syn.came);
           is_acked = ap (λ n. 1 + n) (sym (lawful.connected_acked numbers p.own_port.0));
-          said = syn.said;
           fits = (let z = lawful.connected_acked numbers p.own_port.0 in omega (arith, z));
           has = syn.has ∙ ap (λ n. take n (page start.part)) (sym (lawful.connected_acked numbers p.own_port.0));
         }
@@ -445,7 +445,6 @@ module _ (m : Meaning) (pages : Pages) (lawful : IsPaged m pages) (p : Sockets) 
           heard = lawful.acked_like numbers part len ∙ t.heard;
           is_taken = t.is_taken;
           is_acked = (let z = t.is_acked in omega (arith, z, moved));
-          said = t.said;
           fits = (let z = t.fits in let y = ap length page_same in omega (arith, z, moved, y));
           has = t.has ∙ ap (λ n. take n (page part)) (sym moved) ∙ ap (λ z. take told_it.part.acked z) (sym page_same);
         }
@@ -459,7 +458,6 @@ module _ (m : Meaning) (pages : Pages) (lawful : IsPaged m pages) (p : Sockets) 
           heard = t.heard;
           is_taken = t.is_taken;
           is_acked = t.is_acked;
-          said = (let z = t.said in omega (arith, z));
           fits = (let z = t.fits in omega (arith, z));
           has = t.has ∙ ap (λ n. take n (page part)) (let z : part.acked + 0 ≡ part.acked = omega arith in z);
         }
@@ -471,102 +469,112 @@ module _ (m : Meaning) (pages : Pages) (lawful : IsPaged m pages) (p : Sockets) 
 
   -- ---- a call of the slot
 
-  -- nothing is said at it
-  abbrev Silent : (Connection → Now) → Connection → List ℕ → Type 0
-  Silent at c numbers = (let r : Outcome = asked m at (on_tick m c numbers) in segment_of m r.connection r.step ≡ None)
+  -- the connection is not given up
+  abbrev Keeps : (Connection → Now) → Connection → List ℕ → Type 0
+  Keeps at c numbers = (let r : Outcome = asked m at (on_tick m c numbers) in (u : PlainSegment) → segment_of m r.connection r.step ≡ Some u → has_rst u.flags ≡ false)
 
-  abbrev Called : ℕ → (Connection → Now) → Connection → List ℕ → List Exchange → Type 0
-  Called polls at c numbers older = Stage polls (quiet ∷ older) (asked m at (on_tick m c numbers)).connection
-
-  waits_syn : (at : Connection → Now) (b : Beat) (first age : ℕ) (part : Part) (numbers : List ℕ) → let c : Connection = conn_at SynRcvd 0 first 0 1 age part in let r : Outcome = asked m at (by_beat m b c numbers) in
-      segment_of m r.connection r.step ≡ None → r.connection ≡ conn_at SynRcvd 0 first 0 1 (age + 1) part
-  waits_syn at Beat.Wait first age part numbers h = refl
-  waits_syn at Beat.Again first age part numbers h = absurd (cc)
-  waits_syn at Beat.GiveUp first age part numbers h = absurd (cc)
-
-  waits_text : (at : Connection → Now) (b : Beat) (taken first acked len age : ℕ) (part : Part) (numbers : List ℕ) → let c : Connection = conn_at Established taken first acked len age part in let r : Outcome = asked m at (by_beat m b c numbers) in
-      segment_of m r.connection r.step ≡ None → r.connection ≡ conn_at Established taken first acked len (age + 1) part
-  waits_text at Beat.Wait taken first acked len age part numbers h = refl
-  waits_text at Beat.Again taken first acked len age part numbers h = absurd (cc)
-  waits_text at Beat.GiveUp taken first acked len age part numbers h = absurd (cc)
-
-  -- the part has heard and said the same
-  talked_like : (life : List Exchange) (part q : Part) (taken acked len : ℕ) → q.heard ≡ part.heard → q.acked ≡ part.acked → IsPrefixOf (page part) (page q) → Talked life part taken acked len → Talked life q taken acked len
-  talked_like life part q taken acked len h e grows t = record {
-    heard = h ∙ t.heard;
-    is_taken = t.is_taken;
-    asked = t.asked;
-    is_acked = t.is_acked ∙ ap (λ n. 1 + n) (sym e);
-    said = t.said;
-    fits = (let l = prefix_length (page part) (page q) grows in let f = t.fits in omega (arith, l, f, e));
-    has = t.has ∙ front_stays (page part) (page q) (part.acked + len) grows t.fits ∙ ap (λ n. take (n + len) (page q)) (sym e);
+  -- the SYN is sent again
+  syn_again : (life : List Exchange) (d : Connection) → AtSyn life → AtSyn (met None (Some (syn_ack d)) ∷ life)
+  syn_again life d h = record {
+    came = append_nothing (text_came life) ∙ h.came;
+    none = h.none;
+    has = has_on a.first (met None (Some (syn_ack d))) life ∙ nothing_more a.first (has_of a.first life) (syn_ack d) refl ∙ h.has;
   }
+
+  -- text is sent again, and the receiver lets it go
+  text_again : (life : List Exchange) (taken first acked len age : ℕ) (part : Part) → Counts first → All IsMoment part.captures → 0 < len → Talked life part taken acked len →
+      Talked (met None (Some (text_segment m (conn_at Established taken first acked len age part))) ∷ life) part taken acked len
+  text_again life taken first acked len age part k moments some h =
+      let t : PlainSegment = text_segment m (conn_at Established taken first acked len age part) in
+      let got : List ℕ = has_of a.first life in
+      let own : length got ≡ part.acked + len = has_length life part taken acked len h in
+      let few : length (page part) < 1073741824 = lawful.short part.heard part.captures moments in
+      let passed : t.seq ≡ wrap (a.first + 1 + length got) → ⊥ =
+      λ e. (let f = h.fits in let i = h.is_acked in
+      let same : acked ≡ 1 + length got = same_place a.first acked (1 + length got) (omega (arith, f, i, few)) (omega (arith, f, own, few))
+      (sym (k acked) ∙ e ∙ ap wrap (let z : a.first + 1 + length got ≡ a.first + (1 + length got) = omega arith in z)) in
+      omega (arith, same, own, i, some)) in
+      let e : text_came (quiet ∷ life) ≡ text_came life = append_nothing (text_came life) in
+      record {
+        heard = h.heard ∙ sym e;
+        is_taken = h.is_taken ∙ ap length (sym e);
+        asked = subst (λ z. IsPrefixOf z a.request) (sym e) h.asked;
+        is_acked = h.is_acked;
+        fits = h.fits;
+        has = has_on a.first (met None (Some t)) life ∙ lets_go a.first got t passed ∙ h.has;
+      }
+
+  syn_beat : (polls : ℕ) (at : Connection → Now) (b : Beat) (first age : ℕ) (part : Part) (numbers : List ℕ) (older : List Exchange) → Counts first → AtSyn older →
+      let c : Connection = conn_at SynRcvd 0 first 0 1 age part in let r : Outcome = asked m at (by_beat m b c numbers) in
+      ((u : PlainSegment) → segment_of m r.connection r.step ≡ Some u → has_rst u.flags ≡ false) → Stage polls (met None (segment_of m r.connection r.step) ∷ older) r.connection
+  syn_beat polls at Beat.Wait first age part numbers older k syn h = at_syn first (age + 1) part k refl (syn_quiet older syn)
+  syn_beat polls at Beat.Again first age part numbers older k syn h = at_syn first (age + 1) part k refl (syn_again older (conn_at SynRcvd 0 first 0 1 (age + 1) part) syn)
+  syn_beat polls at Beat.GiveUp first age part numbers older k syn h = absurd (let c : Connection = conn_at SynRcvd 0 first 0 1 age part in let z = h (reset_of (closes c)) refl in cc)
+
+  text_beat : (polls : ℕ) (at : Connection → Now) (b : Beat) (taken first acked len age most : ℕ) (part : Part) (numbers : List ℕ) (older : List Exchange) → Counts first → All IsMoment part.captures → Talked older part taken acked len → Awaits polls part len most → bare_acks older + most ≤ texts + 1 →
+      let c : Connection = conn_at Established taken first acked len age part in let r : Outcome = asked m at (by_beat m b c numbers) in
+      ((u : PlainSegment) → segment_of m r.connection r.step ≡ Some u → has_rst u.flags ≡ false) → Stage polls (met None (segment_of m r.connection r.step) ∷ older) r.connection
+  text_beat polls at Beat.Wait taken first acked len age most part numbers older k moments t w b h = told taken first acked len (age + 1) most part k refl (talked_quiet older part taken acked len t) w b
+  text_beat polls at Beat.Again taken first acked len age most part numbers older k moments t w b h = told taken first acked len (age + 1) most part k refl (text_again older taken first acked len (age + 1) part k moments w.some t) w b
+  text_beat polls at Beat.GiveUp taken first acked len age most part numbers older k moments t w b h = absurd (let c : Connection = conn_at Established taken first acked len age part in let z = h (reset_of (closes c)) refl in cc)
 
   -- what a call leaves: the polls so far
   pub record Polled (polls : ℕ) (life : List Exchange) (c : Connection) : Type 0 where
     pub now : ℕ
     pub least : now ≤ polls + 1
     pub most : now ≤ patience
-    pub stage : Stage now life c
+    pub next : Next now life c
 
-  by_silence : (polls : ℕ) (older : List Exchange) (numbers : List ℕ) (taken first acked age most : ℕ) (q : Part) (w : Want) → suc polls ≤ patience → Counts first → Talked older q taken acked 0 → awaits_ack older ≡ false → bare_acks older + most ≤ texts + 1 →
-      GoesOnBy m a.request a.mss (fine (suc polls)) left q most w →
-      (let r : Outcome = does_as_wanted w false (conn_at Established taken first acked 0 age q) numbers in segment_of m r.connection r.step ≡ None → Polled polls (quiet ∷ older) r.connection)
-  unfolding idles
-  by_silence polls older numbers taken first acked age most q Abort l k t n b g e = absurd g
-  by_silence polls older numbers taken first acked age most q Close l k t n b g e = absurd (cc)
-  by_silence polls older numbers taken first acked age most q (Send j) l k t n b g e = absurd (cc)
-  by_silence polls older numbers taken first acked age most q Nothing l k t n b g e = record {
-    now = suc polls;
-    least = omega arith;
-    most = l;
-    stage = waits taken first acked age most q k refl (talked_quiet older q taken acked 0 t) n record { good = g.0; few = g.1; more = g.2 } b;
-  }
-
+  -- the application is polled, and asked
   polled_waits : (polls : ℕ) (at : Connection → Now) (older : List Exchange) (numbers : List ℕ) (taken first acked age most : ℕ) (part : Part) → suc polls ≤ patience → Counts first → Talked older part taken acked 0 → awaits_ack older ≡ false → Rests polls part most → bare_acks older + most ≤ texts + 1 →
-      (let c : Connection = conn_at Established taken first acked 0 age part in Moments at (on_tick m c numbers) → Silent at c numbers → Polled polls (quiet ∷ older) (asked m at (on_tick m c numbers)).connection)
+      (let c : Connection = conn_at Established taken first acked 0 age part in Moments at (on_tick m c numbers) →
+      (let r : Outcome = asked m at (on_tick m c numbers) in Polled polls (met None (segment_of m r.connection r.step) ∷ older) r.connection))
   unfolding ticks_established
-  polled_waits polls at older numbers taken first acked age most part l k t n r b moments silent =
-      let c : Connection = conn_at Established taken first acked 0 age part in
+  polled_waits polls at older numbers taken first acked age most part l k t n r b moments =
       let heard : After = m.polled numbers part in
       let d : Connection = conn_at Established taken first acked 0 age heard.part in
-      let now : Now = at d in
-      let q : Part = m.prepare heard.numbers heard.part now in
       let alike = lawful.polled_like numbers part in
-      let is = prepare_is m pages lawful heard.numbers heard.part now in
-      let captures : q.captures ≡ part.captures ++ is.more = is.captures ∙ ap (λ z. z ++ is.more) alike.captures in
-      let same : q.heard ≡ part.heard = is.heard ∙ alike.heard in
-      let acked_same : q.acked ≡ part.acked = is.acked ∙ alike.acked in
-      let grows : IsPrefixOf (page part) (page q) =
-      subst (λ z. IsPrefixOf (page part) (pages.text q.heard z)) (sym captures)
-      (subst (λ z. IsPrefixOf (page part) (pages.text z (part.captures ++ is.more))) (append_nothing part.heard ∙ sym same) (lawful.grows part.heard [] part.captures is.more)) in
       let f = answering.waits polls numbers part l r.good in
-      let joined : heard.part.heard ++ t.asked.rest ≡ a.request = ap (λ z. z ++ t.asked.rest) (alike.heard ∙ t.heard) ∙ t.asked.joined in
-      by_silence polls older heard.numbers taken first acked age most q (m.want heard.numbers q) l k (talked_like older part q taken acked 0 same acked_same grows t) n b
-      (wants_so (suc polls) l heard.numbers now heard.part t.asked.rest most moments.fit.numbers moments.is (moments.rows d refl) f.0 (let z = r.few in let y = f.1 in omega (arith, z, y)) joined) silent
+      let same : page heard.part ≡ page part = ap (λ z. pages.text z heard.part.captures) alike.heard ∙ ap (λ z. pages.text part.heard z) alike.captures in
+      let none : text_came older ++ [] ≡ text_came older = append_nothing (text_came older) in
+      let ready : Ready None older heard.part taken acked most = record {
+        heard = alike.heard ∙ t.heard ∙ sym none;
+        is_taken = t.is_taken ∙ ap length (sym none);
+        asked = subst (λ z. IsPrefixOf z a.request) (sym none) t.asked;
+        is_acked = t.is_acked ∙ ap (λ j. 1 + j) (sym alike.acked);
+        fits = (let z = t.fits in let y = ap length same in let x = alike.acked in omega (arith, z, y, x));
+        has = t.has ∙ ap (λ j. take j (page part)) (let x = alike.acked in let z : part.acked + 0 ≡ heard.part.acked = omega (arith, x) in z) ∙ ap (λ z. take heard.part.acked z) (sym same);
+        bound = b;
+      } in
+      record {
+        now = suc polls;
+        least = omega arith;
+        most = l;
+        next = asks (suc polls) l None older false heard.numbers (at d) taken first acked age most heard.part moments.fit.numbers moments.is (moments.rows d refl) k ready f.0 (let z = r.few in let y = f.1 in omega (arith, z, y)) moments.fit.conn.captures n;
+      }
 
-  pub called : (polls : ℕ) → polls ≤ patience → (at : Connection → Now) (numbers : List ℕ) (older : List Exchange) (c : Connection) → ((text_came older ≡ a.request → ⊥) → polls < patience) → Moments at (on_tick m c numbers) → Silent at c numbers → Stage polls older c →
-      Polled polls (quiet ∷ older) (asked m at (on_tick m c numbers)).connection
+  pub called : (polls : ℕ) → polls ≤ patience → (at : Connection → Now) (numbers : List ℕ) (older : List Exchange) (c : Connection) → ((text_came older ≡ a.request → ⊥) → polls < patience) → All IsMoment c.part.captures → Moments at (on_tick m c numbers) → Keeps at c numbers → Stage polls older c →
+      (let r : Outcome = asked m at (on_tick m c numbers) in Polled polls (met None (segment_of m r.connection r.step) ∷ older) r.connection)
   unfolding ticks_established
-  called polls l at numbers older c room_left moments silent stage = elim stage [
+  called polls l at numbers older c room_left captures moments keeps stage = elim stage [
     | at_syn first age part k e syn ↦
         (let d : Connection = conn_at SynRcvd 0 first 0 1 age part in
-        let now : Silent at d numbers = subst (λ (z : Connection). Silent at z numbers) e silent in
-        subst (λ (z : Connection). Polled polls (quiet ∷ older) (asked m at (on_tick m z numbers)).connection) (sym e)
-        record { now = polls; least = omega arith; most = l; stage = at_syn first (age + 1) part k (waits_syn at (beat_at (limit_of SynRcvd) (age + 1)) first age part numbers now) (syn_quiet older syn) })
+        let now : Keeps at d numbers = subst (λ (z : Connection). Keeps at z numbers) e keeps in
+        subst (λ (z : Connection). (let r : Outcome = asked m at (on_tick m z numbers) in Polled polls (met None (segment_of m r.connection r.step) ∷ older) r.connection)) (sym e)
+        record { now = polls; least = omega arith; most = l; next = goes_on_so (syn_beat polls at (beat_at (limit_of SynRcvd) (age + 1)) first age part numbers older k syn now) })
     | told taken first acked len age most part k e t w b ↦
         (let d : Connection = conn_at Established taken first acked len age part in
-        let now : Silent at d numbers = subst (λ (z : Connection). Silent at z numbers) e silent in
+        let now : Keeps at d numbers = subst (λ (z : Connection). Keeps at z numbers) e keeps in
         let beat : Beat = beat_at (limit_of Established) (age + 1) in
         let ticks : on_tick m d numbers ≡ by_beat m beat d numbers = ap (λ (y : Bool). if y then by_beat m beat d numbers else polled_by m d numbers) (ltb-yes len w.some) in
-        let still : (let r : Outcome = asked m at (by_beat m beat d numbers) in segment_of m r.connection r.step ≡ None) = subst (λ (y : Outcome). (let r : Outcome = asked m at y in segment_of m r.connection r.step ≡ None)) ticks now in
-        subst (λ (z : Connection). Polled polls (quiet ∷ older) (asked m at (on_tick m z numbers)).connection) (sym e)
-        (subst (λ (y : Outcome). Polled polls (quiet ∷ older) (asked m at y).connection) (sym ticks)
-        record { now = polls; least = omega arith; most = l; stage = told taken first acked len (age + 1) most part k (waits_text at beat taken first acked len age part numbers still) (talked_quiet older part taken acked len t) w b }))
+        let still = subst (λ (y : Outcome). (let r : Outcome = asked m at y in (u : PlainSegment) → segment_of m r.connection r.step ≡ Some u → has_rst u.flags ≡ false)) ticks now in
+        subst (λ (z : Connection). (let r : Outcome = asked m at (on_tick m z numbers) in Polled polls (met None (segment_of m r.connection r.step) ∷ older) r.connection)) (sym e)
+        (subst (λ (y : Outcome). (let r : Outcome = asked m at y in Polled polls (met None (segment_of m r.connection r.step) ∷ older) r.connection)) (sym ticks)
+        record { now = polls; least = omega arith; most = l; next = goes_on_so (text_beat polls at beat taken first acked len age most part numbers older k (subst (λ (z : Connection). All IsMoment z.part.captures) e captures) t w b still) }))
     | waits taken first acked age most part k e t n r b ↦
         (let left_some : polls < patience = room_left (λ z. r.more (t.heard ∙ z)) in
-        subst (λ (z : Connection). Polled polls (quiet ∷ older) (asked m at (on_tick m z numbers)).connection) (sym e)
-        (polled_waits polls at older numbers taken first acked age most part (omega (arith, left_some)) k t n r b (subst (λ (z : Connection). Moments at (on_tick m z numbers)) e moments) (subst (λ (z : Connection). Silent at z numbers) e silent)))
+        subst (λ (z : Connection). (let r : Outcome = asked m at (on_tick m z numbers) in Polled polls (met None (segment_of m r.connection r.step) ∷ older) r.connection)) (sym e)
+        (polled_waits polls at older numbers taken first acked age most part (omega (arith, left_some)) k t n r b (subst (λ (z : Connection). Moments at (on_tick m z numbers)) e moments)))
   ]
 
   -- ---- what stands at each stage

@@ -7,7 +7,7 @@ use Rattle.std.proofs.lemmas.List.Elements.{All-tail}
 use Rattle.uip_wire.specs.Numbers.{wrap}
 use Rattle.uip_wire.specs.declared.addr.Addr.{Addr}
 use Rattle.tcp_segment.specs.declared.flags.TheConstants.{SYN}
-use Rattle.tcp_segment.specs.Segments.{PlainSegment, has_syn, has_ack}
+use Rattle.tcp_segment.specs.Segments.{PlainSegment, has_syn, has_rst, has_ack}
 use Rattle.app_events.specs.Part.{Part, Meaning}
 use Rattle.app_events.specs.Laws.{IsPrefixOf}
 use Rattle.app_events.specs.Pages.{Pages, IsPaged}
@@ -29,7 +29,7 @@ use Rattle.uip_node.proofs.Fits.{FitConn, on_segment_fits, on_tick_fits}
 use Rattle.uip_node.proofs.FitNodes.{node_moment}
 use Rattle.uip_node.proofs.Steadiness.{steady_of}
 use Rattle.uip_node.specs.Answering.{AnswersPolled}
-use Rattle.node_laws.specs.HonestPeers.{Asker, text_came, bare_acks, SendsSyn, SendsNext, is_quiet, IsHonest, calls_of, HasItsPage, HonestPeer}
+use Rattle.node_laws.specs.HonestPeers.{Asker, text_came, bare_acks, SendsSyn, SendsNext, IsWaitedFor, IsHonest, calls_of, HasItsPage, HonestPeer}
 use Rattle.node_laws.specs.Talks.{Exchange, Turn, exchange, talk_behind, talk_of}
 use Rattle.node_laws.specs.Turns.{turns_of}
 use Rattle.node_laws.specs.Wire.{IsOfLine}
@@ -110,25 +110,27 @@ module _ (m : Meaning) (pages : Pages) (lawful : IsPaged m pages) (serves_port :
     stepped i c d there e = ap (λ l. slice_get l i) e ∙ get_set_same n.connections i c d there
 
     -- the slot is called
-    at_call : (v : Living n life (turn ∷ rest)) → event ≡ Periodic v.i → Acted m serves_port n p v.i v.c event r None (asked m (moment n event v.i) (on_tick m v.c n.numbers)) → is_quiet x → Standing r.node (x ∷ life) rest
+    at_call : (v : Living n life (turn ∷ rest)) → event ≡ Periodic v.i → Acted m serves_port n p v.i v.c event r None (asked m (moment n event v.i) (on_tick m v.c n.numbers)) → IsWaitedFor x → Standing r.node (x ∷ life) rest
     at_call v e g q =
         let at = moment n event v.i in
         let o : Outcome = asked m at (on_tick m v.c n.numbers) in
-        let silent : segment_of m o.connection o.step ≡ None = sym (ap (λ z. z.said) g.exchanged) ∙ q.1 in
-        let still : x ≡ quiet = g.exchanged ∙ ap (λ z. met None z) silent in
+        let keeps : (u : PlainSegment) → segment_of m o.connection o.step ≡ Some u → has_rst u.flags ≡ false = λ u e. q.1 u (ap (λ z. z.said) g.exchanged ∙ e) in
         let calls : calls_of v.i (turn ∷ rest) ≡ calls_of v.i rest + 1 = calls_one v.i turn rest e in
         let may : (text_came life ≡ a.request → ⊥) → v.polls < patience = λ z. elim v.can_wait [ inl w ↦ absurd (z w) | inr w ↦ omega (arith, w, calls) ] in
-        let h = called m pages lawful p a room fine left texts patience answering v.polls v.few at n.numbers life v.c may
-        (moments v.i v.c (on_tick m v.c n.numbers) v.there (on_tick_fits m (steady_of m pages lawful) v.c n.numbers (good.fit.conns v.i v.c v.there) good.fit.numbers)) silent v.stage in
-        subst After (sym still) (lives record {
-          i = v.i;
-          c = o.connection;
-          there = stepped v.i v.c o.connection v.there g.table;
-          polls = h.now;
-          few = h.most;
-          can_wait = elim v.can_wait [ inl w ↦ inl (append_nothing (text_came life) ∙ w) | inr w ↦ inr (let l = h.least in omega (arith, w, calls, l)) ];
-          stage = h.stage;
-        })
+        let h = called m pages lawful p a room fine left texts patience answering v.polls v.few at n.numbers life v.c may (good.fit.conns v.i v.c v.there).captures
+        (moments v.i v.c (on_tick m v.c n.numbers) v.there (on_tick_fits m (steady_of m pages lawful) v.c n.numbers (good.fit.conns v.i v.c v.there) good.fit.numbers)) keeps v.stage in
+        subst After (sym g.exchanged) (elim h.next [
+          | ends_so told ↦ over told
+          | goes_on_so stage ↦ lives record {
+            i = v.i;
+            c = o.connection;
+            there = stepped v.i v.c o.connection v.there g.table;
+            polls = h.now;
+            few = h.most;
+            can_wait = elim v.can_wait [ inl w ↦ inl (append_nothing (text_came life) ∙ w) | inr w ↦ inr (let l = h.least in omega (arith, w, calls, l)) ];
+            stage = stage;
+          }
+        ])
 
     -- a segment of the peer comes
     at_segment : (v : Living n life (turn ∷ rest)) (s : PlainSegment) → Acted m serves_port n p v.i v.c event r (Some s) (asked m (moment n event v.i) (on_segment m v.c n.numbers s)) → SendsNext a x life → Standing r.node (x ∷ life) rest
@@ -169,7 +171,7 @@ module _ (m : Meaning) (pages : Pages) (lawful : IsPaged m pages) (serves_port :
           stage = stage_quiet m pages lawful p a room fine left texts patience answering v.polls life v.c v.stage;
         })
 
-    at_living : (v : Living n life (turn ∷ rest)) → is_quiet x ⊎ SendsNext a x life → Standing r.node (x ∷ life) rest
+    at_living : (v : Living n life (turn ∷ rest)) → IsWaitedFor x ⊎ SendsNext a x life → Standing r.node (x ∷ life) rest
     at_living v h =
         elim (acts m serves_port n p v.i v.c good.single v.there (stage_serves m pages lawful p a room fine left texts patience answering v.polls life v.c v.stage) event) [
           | is_called e g ↦ elim h [
@@ -184,7 +186,7 @@ module _ (m : Meaning) (pages : Pages) (lawful : IsPaged m pages) (serves_port :
           | makes_room e rested none ↦ absurd (let z = stage_stays m pages lawful p a room fine left texts patience answering v.polls life v.c v.stage in cc)
         ]
 
-    stands_on : is_quiet x ⊎ SendsNext a x life → Standing n life (turn ∷ rest) → Standing r.node (x ∷ life) rest
+    stands_on : IsWaitedFor x ⊎ SendsNext a x life → Standing n life (turn ∷ rest) → Standing r.node (x ∷ life) rest
     stands_on h s = elim s [ lives v ↦ at_living v h | over told ↦ over (stays_told m pages lawful p a room fine left texts patience answering x life told) ]
 
   -- ---- the opening
@@ -202,7 +204,6 @@ module _ (m : Meaning) (pages : Pages) (lawful : IsPaged m pages) (serves_port :
   at_opening : (first : ℕ) (s : PlainSegment) → is_plain_syn s ≡ true → s.text ≡ [] → AtSyn m pages lawful p a room fine left texts patience answering (met (Some s) (Some (syn_ack (accepted first p s))) ∷ [])
   at_opening first s plain none = record {
     came = none;
-    said = refl;
     none = (let flags : s.flags ≡ SYN = eqb-eq s.flags SYN plain in
         ap (λ b. if b then 0 + 1 else 0) (ap (λ k. has_ack k && eqb (length s.text) 0) flags));
     has = has_on a.first (met (Some s) (Some (syn_ack (accepted first p s)))) [] ∙ nothing_more a.first [] (syn_ack (accepted first p s)) refl;
@@ -268,7 +269,7 @@ module _ (m : Meaning) (pages : Pages) (lawful : IsPaged m pages) (serves_port :
     abbrev OfLine : List Event → Type 0
     OfLine es = All (IsOfLine own) es
 
-    still_whole : (life : List Exchange) (x : Exchange) → text_came life ≡ a.request → is_quiet x ⊎ SendsNext a x life → text_came (x ∷ life) ≡ a.request
+    still_whole : (life : List Exchange) (x : Exchange) → text_came life ≡ a.request → IsWaitedFor x ⊎ SendsNext a x life → text_came (x ∷ life) ≡ a.request
     still_whole life x w k = elim k [
       | inl q ↦ ap (λ z. text_came life ++ option_map_or (λ s. s.text) z []) q.0 ∙ append_nothing (text_came life) ∙ w
       | inr s ↦ ap (λ z. text_came life ++ option_map_or (λ s. s.text) z []) s.came ∙ nothing_behind (text_came life) s.segment.text a.request w s.part

@@ -4,7 +4,7 @@ use Rattle.std.proofs.Common.{◌≡◌, ℕ, suc, ◌+◌, List, [], ◌∷◌,
 use Rattle.std.proofs.lemmas.Bool.{eq-eqb}
 use Rattle.uip_wire.specs.Numbers.{wrap}
 use Rattle.tcp_segment.specs.Segments.{PlainSegment}
-use Rattle.uip_node.proofs.Basics.{choose, append_nothing}
+use Rattle.uip_node.proofs.Basics.{choose, eqb-eq, append_nothing}
 use Rattle.node_laws.specs.Talks.{Exchange, Turn, said_at, talk_behind}
 use Rattle.node_laws.specs.Receivers.{receives, takes_next}
 use Rattle.node_laws.specs.HonestPeers.{Asker, in_turn, IsHonest}
@@ -35,6 +35,10 @@ nothing_more first got s e =
 -- text at its number is taken
 pub takes_at : (first : ℕ) (got : List ℕ) (s : PlainSegment) → s.seq ≡ wrap (first + 1 + length got) → takes_next first got s ≡ got ++ s.text
 takes_at first got s e = ap (λ b. if b then got ++ s.text else got) (eq-eqb s.seq (wrap (first + 1 + length got)) e)
+
+-- at another number it is let go
+pub lets_go : (first : ℕ) (got : List ℕ) (s : PlainSegment) → (s.seq ≡ wrap (first + 1 + length got) → ⊥) → takes_next first got s ≡ got
+lets_go first got s n = choose (λ l. l ≡ got) (eqb s.seq (wrap (first + 1 + length got))) (got ++ s.text) got (λ y. absurd (n (eqb-eq s.seq (wrap (first + 1 + length got)) y))) (λ y. refl)
 
 -- the exchanges before are honest too
 pub honest_before : (a : Asker) (p : Sockets) (turns : List Turn) (y : Exchange) (older : List Exchange) → IsHonest a (talk_behind p turns (y ∷ older)) → IsHonest a (y ∷ older)

@@ -1,8 +1,8 @@
--- A peer that asks, acknowledges each segment and loses nothing, and answers before anything is sent again (RFC 793, section 3.9):
--- told by what passes between it and the node. It has its whole page and a FIN after so many of its segments.
+-- A peer that asks, acknowledges each segment, loses nothing, and answers before it is given up (RFC 793, section 3.9): told by what
+-- passes between it and the node. It has its whole page and a FIN after so many of its segments.
 use Rattle.std.specs.List.{All}
 use Rattle.std.specs.Option.{option_map_or}
-use Rattle.std.specs.Prelude.{◌≡◌, ℕ, ◌+◌, ◌<◌, ◌≤◌, ◌==◌, ◌&&◌, ◌⊎◌, Bool, true, false, List, [], ◌∷◌, ◌++◌, length, map, suc, drop, Some, None, is_some, if◌then◌else◌}
+use Rattle.std.specs.Prelude.{◌≡◌, ℕ, ◌+◌, ◌<◌, ◌≤◌, ◌==◌, ◌&&◌, ◌⊎◌, Bool, true, false, not, List, [], ◌∷◌, ◌++◌, length, map, suc, drop, Some, None, is_some, if◌then◌else◌}
 use Rattle.uip_wire.specs.Numbers.{wrap}
 use Rattle.uip_wire.specs.declared.addr.Addr.{Addr}
 use Rattle.tcp_segment.specs.Segments.{PlainSegment, has_syn, has_fin, has_rst, has_ack}
@@ -16,7 +16,6 @@ use Rattle.uip_node.specs.Events.{Event}
 use Rattle.uip_node.specs.Counters.{called_by}
 use Rattle.uip_node.specs.Node.{opening}
 use Rattle.uip_node.specs.Answering.{AnswersPolled}
-use Rattle.node_laws.specs.Promise.{size_of}
 use Rattle.node_laws.specs.Receivers.{EndsBehind, receives}
 use Rattle.node_laws.specs.Talks.{Exchange, Turn, talk_of}
 use Rattle.node_laws.specs.Turns.{turns_of}
@@ -34,15 +33,19 @@ abbrev pub text_came : List Exchange → List ℕ
 text_came [] = []
 text_came (x ∷ older) = text_came older ++ option_map_or (λ s. s.text) x.came []
 
--- how many numbers were said in them: a SYN, text and a FIN
-abbrev pub numbers_said : List Exchange → ℕ
-numbers_said [] = 0
-numbers_said (x ∷ older) = numbers_said older + option_map_or size_of x.said 0
+-- the places of these exchanges, the oldest first
+abbrev pub in_turn : List Exchange → List ℕ
+in_turn [] = []
+in_turn (x ∷ older) = map suc (in_turn older) ++ 0 ∷ []
 
--- the last segment that came was answered by something that wants an acknowledgement
+-- what the plainest receiver has of all that was said in them, in its order
+abbrev pub receives_all : ℕ → List Exchange → List ℕ
+receives_all first life = receives first life (in_turn life) []
+
+-- what was said last, and behind what came last, wants an acknowledgement
 abbrev pub awaits_ack : List Exchange → Bool
 awaits_ack [] = false
-awaits_ack (x ∷ older) = if is_some x.came then option_map_or has_place x.said false else awaits_ack older
+awaits_ack (x ∷ older) = option_map_or has_place x.said (not (is_some x.came) && awaits_ack older)
 
 abbrev pub is_bare_ack : PlainSegment → Bool
 is_bare_ack s = has_ack s.flags && (length s.text == 0)
@@ -64,8 +67,8 @@ pub record SendsSyn (a : Asker) (x : Exchange) : Type 0 where
   pub answers : has_syn answer.flags ≡ true
   pub seq : answer.seq ≡ wrap a.first
 
--- Its next segment: the next part of the request, behind what it sent before, and an acknowledgement of all that was said before, with
--- a window for the longest text. Without text it acknowledges something.
+-- Its next segment: the next part of the request, behind what it sent before, and an acknowledgement of all that a receiver has of what
+-- was said before, with a window for the longest text. Without text it acknowledges something.
 pub record SendsNext (a : Asker) (x : Exchange) (before : List Exchange) : Type 0 where
   pub segment : PlainSegment
   pub came : x.came ≡ Some segment
@@ -75,18 +78,19 @@ pub record SendsNext (a : Asker) (x : Exchange) (before : List Exchange) : Type 
   pub acks : has_ack segment.flags ≡ true
   pub seq : segment.seq ≡ wrap (a.peer_first + 1 + length (text_came before))
   pub part : IsPrefixOf (text_came before ++ segment.text) a.request
-  pub ack : segment.ack ≡ wrap (a.first + numbers_said before)
+  pub ack : segment.ack ≡ wrap (a.first + 1 + length (receives_all a.first before))
   pub window : a.mss ≤ segment.window
   pub some : segment.text ≡ [] → awaits_ack before ≡ true
 
-abbrev pub is_quiet : Exchange → Type 0
-is_quiet x = (x.came ≡ None) × (x.said ≡ None)
+-- Nothing comes from it, and it is not given up.
+abbrev pub IsWaitedFor : Exchange → Type 0
+IsWaitedFor x = (x.came ≡ None) × ((s : PlainSegment) → x.said ≡ Some s → has_rst s.flags ≡ false)
 
--- Behind its opening nothing passes, or it sends its next segment.
+-- Behind its opening it is waited for, or it sends its next segment.
 abbrev pub IsHonest : Asker → List Exchange → Type 0
 IsHonest a [] = ⊥
 IsHonest a (x ∷ []) = SendsSyn a x
-IsHonest a (x ∷ y ∷ older) = (is_quiet x ⊎ SendsNext a x (y ∷ older)) × IsHonest a (y ∷ older)
+IsHonest a (x ∷ y ∷ older) = (IsWaitedFor x ⊎ SendsNext a x (y ∷ older)) × IsHonest a (y ∷ older)
 
 -- how often a slot is called in these turns
 abbrev pub calls_of : ℕ → List Turn → ℕ
@@ -104,18 +108,13 @@ pub record AsksHonestly (a : Asker) (p : Sockets) (patience : ℕ) (turns life :
   pub whole : text_came (talk_of p asking) ≡ a.request
   pub prompt : (slot : ℕ) → calls_of slot asking ≤ patience
 
--- the places of these exchanges, the oldest first
-abbrev pub in_turn : List Exchange → List ℕ
-in_turn [] = []
-in_turn (x ∷ older) = map suc (in_turn older) ++ 0 ∷ []
-
 -- The peer has its whole page: the FIN stands behind it, and the plainest receiver had it all when the FIN came.
 pub record HasItsPage (pages : Pages) (a : Asker) (life : List Exchange) : Type 0 where
   pub captures : List Moment
   pub moments : All IsMoment captures
   pub whole : pages.whole a.request captures ≡ true
   pub ends : EndsBehind a.first life (length (pages.text a.request captures))
-  pub received : receives a.first (drop ends.place life) (in_turn (drop ends.place life)) [] ≡ pages.text a.request captures
+  pub received : receives_all a.first (drop ends.place life) ≡ pages.text a.request captures
 
 -- An honest peer has its whole page with a FIN once its whole request came, in whatever parts, and more segments without text than the
 -- application needs texts, whatever other peers do meanwhile.
