@@ -130,17 +130,22 @@ module _ (m : Meaning) (pages : Pages) (lawful : IsPaged m pages) (p : Sockets) 
   syn_quiet : (life : List Exchange) → AtSyn life → AtSyn (quiet ∷ life)
   syn_quiet life h = record { came = append_nothing (text_came life) ∙ h.came; none = h.none; has = has_on a.first quiet life ∙ h.has }
 
-  talked_quiet : (life : List Exchange) (part : Part) (taken acked len : ℕ) → Talked life part taken acked len → Talked (quiet ∷ life) part taken acked len
-  talked_quiet life part taken acked len h =
-      let e : text_came (quiet ∷ life) ≡ text_came life = append_nothing (text_came life) in
+  -- what is said adds nothing for the receiver
+  talked_still : (life : List Exchange) (said : Option PlainSegment) (part : Part) (taken acked len : ℕ) → has_of a.first (met None said ∷ life) ≡ has_of a.first life → Talked life part taken acked len →
+      Talked (met None said ∷ life) part taken acked len
+  talked_still life said part taken acked len same h =
+      let e : text_came (met None said ∷ life) ≡ text_came life = append_nothing (text_came life) in
       record {
         heard = h.heard ∙ sym e;
         is_taken = h.is_taken ∙ ap length (sym e);
         asked = subst (λ t. IsPrefixOf t a.request) (sym e) h.asked;
         is_acked = h.is_acked;
         fits = h.fits;
-        has = has_on a.first quiet life ∙ h.has;
+        has = same ∙ h.has;
       }
+
+  talked_quiet : (life : List Exchange) (part : Part) (taken acked len : ℕ) → Talked life part taken acked len → Talked (quiet ∷ life) part taken acked len
+  talked_quiet life part taken acked len h = talked_still life None part taken acked len (has_on a.first quiet life) h
 
   pub stage_quiet : (polls : ℕ) (life : List Exchange) (c : Connection) → Stage polls life c → Stage polls (quiet ∷ life) c
   stage_quiet polls life c h = elim h [
@@ -494,15 +499,7 @@ module _ (m : Meaning) (pages : Pages) (lawful : IsPaged m pages) (p : Sockets) 
       let same : acked ≡ 1 + length got = same_place a.first acked (1 + length got) (omega (arith, f, i, few)) (omega (arith, f, own, few))
       (sym (k acked) ∙ e ∙ ap wrap (let z : a.first + 1 + length got ≡ a.first + (1 + length got) = omega arith in z)) in
       omega (arith, same, own, i, some)) in
-      let e : text_came (quiet ∷ life) ≡ text_came life = append_nothing (text_came life) in
-      record {
-        heard = h.heard ∙ sym e;
-        is_taken = h.is_taken ∙ ap length (sym e);
-        asked = subst (λ z. IsPrefixOf z a.request) (sym e) h.asked;
-        is_acked = h.is_acked;
-        fits = h.fits;
-        has = has_on a.first (met None (Some t)) life ∙ lets_go a.first got t passed ∙ h.has;
-      }
+      talked_still life (Some t) part taken acked len (has_on a.first (met None (Some t)) life ∙ lets_go a.first got t passed) h
 
   syn_beat : (polls : ℕ) (at : Connection → Now) (b : Beat) (first age : ℕ) (part : Part) (numbers : List ℕ) (older : List Exchange) → Counts first → AtSyn older →
       let c : Connection = conn_at SynRcvd 0 first 0 1 age part in let r : Outcome = asked m at (by_beat m b c numbers) in

@@ -11,6 +11,7 @@ pub mod TurnRuns
 pub mod EveryTurn
 pub mod Rows
 pub mod HonestRows
+pub mod WindowRows
 pub mod WrongLives
 pub mod Steps
 pub mod Slots
