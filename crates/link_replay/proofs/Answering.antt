@@ -1,7 +1,8 @@
 -- The web server answers a request in as many texts as its pieces need.
 use Rattle.std.specs.Int.{div_ceil}
-use Rattle.std.proofs.Common.{◌≡◌, ◌≢◌, ℕ, ◌+◌, ◌-◌, ◌<◌, ◌≤◌, ◌==◌, min, Bool, true, false, if◌then◌else◌, ◌&&◌, not, ◌⊎◌, inl, inr, List, [], ◌∷◌, ◌++◌, length, decimal, replicate, flat_map, refl, sym, ap, ◌∙◌, subst, arith, nat_lt, nat_le, length-append, true≢false}
+use Rattle.std.proofs.Common.{◌≡◌, ◌≢◌, ℕ, suc, ◌+◌, ◌-◌, ◌<◌, ◌≤◌, ◌==◌, min, Bool, true, false, if◌then◌else◌, ◌&&◌, not, ◌⊎◌, inl, inr, List, [], ◌∷◌, ◌++◌, length, decimal, replicate, flat_map, refl, sym, ap, ◌∙◌, subst, arith, nat_lt, nat_le, length-append, true≢false}
 use Rattle.std.proofs.lemmas.Bool.{and_parts, eqb-true, eq-eqb, ltb-true, leb-true, le-leb, cases_lt}
+use Rattle.std.proofs.lemmas.Grind.{common_steps}
 use Rattle.std.proofs.lemmas.List.{length-replicate}
 use Rattle.std.proofs.lemmas.List.Sums.{sum_by-cons}
 use Rattle.app_events.specs.Part.{Part, Moment}
@@ -26,11 +27,14 @@ use Rattle.web_pages.specs.Lemmas.WebLaws.{newdata_grows, with_capture}
 use Rattle.web_pages.specs.WebMeaning.{web_meaning, web_want, is_acknowledged, waits_for_capture, left_of}
 use Rattle.web_pages.proofs.Bounds.{silent_none, text_bound}
 use Rattle.web_pages.proofs.Limits.{uip_short}
-use Rattle.link_world.specs.Honest.{GoesOnBy, AnswersIn}
+use Rattle.uip_node.specs.Answering.{GoesOnBy, AnswersIn, AnswersPolled}
 use Rattle.uip_node.proofs.Basics.{prefix_length, both_ways, ltb-zero, not-true}
 use Rattle.uip_node.proofs.Fits.{all_nil, all_cons}
 use Rattle.link_replay.specs.Web.{most_of, texts_for, pieces_for}
 use Rattle.link_replay.proofs.TextCounts.{left_in, behind, counted, shorter, one_less}
+
+not_twenty : (n : ℕ) → n < 20 → (n == 20) ≡ false
+not_twenty n l = grind (arith, common_steps)
 
 -- ---- what a call says is something, and no more than its greatest length
 
@@ -206,25 +210,13 @@ module _ (files : List File) (request : List ℕ) (decided : wanted request ≢ 
   abbrev wanted_pieces : List (Say Function)
   wanted_pieces = pieces_for files (wanted request)
 
-  -- nothing came between that was not heard, and no more is acknowledged than said
-  abbrev pub fine : Part → Bool
-  fine p = (p.polls == 0) && nat_le p.acked (length (page files p.heard p.captures))
+  -- it was polled so often, and no more is acknowledged than said
+  abbrev pub fine : ℕ → Part → Bool
+  fine waited p = nat_le p.polls waited && nat_le p.acked (length (page files p.heard p.captures))
 
   -- the texts that are left
   abbrev pub left : Part → ℕ
   left p = left_in mss some (sizes files wanted_pieces p.captures) p.acked
-
-  record IsFine (p : Part) : Type 0 where
-    polls : p.polls ≡ 0
-    acked : p.acked ≤ length (page files p.heard p.captures)
-
-  is_fine : (p : Part) → fine p ≡ true → IsFine p
-  is_fine p e =
-      let both = and_parts (p.polls == 0) (nat_le p.acked (length (page files p.heard p.captures))) e in
-      record { polls = eqb-true p.polls 0 both.0; acked = leb-true p.acked (length (page files p.heard p.captures)) both.1 }
-
-  as_fine : (p : Part) → p.polls ≡ 0 → p.acked ≤ length (page files p.heard p.captures) → fine p ≡ true
-  as_fine p e h = ap (λ b. b && nat_le p.acked (length (page files p.heard p.captures))) (eq-eqb p.polls 0 e) ∙ le-leb p.acked (length (page files p.heard p.captures)) h
 
   -- what is said is said of the pieces of the whole request
   record SaysPieces (p : Part) : Type 0 where
@@ -244,83 +236,108 @@ module _ (files : List File) (request : List ℕ) (decided : wanted request ≢ 
   says_some p rest joined Refused e h = absurd (let z : ⊥ = omega (arith, h, ap (λ w. length (page_for files w p.captures)) e) in z)
   says_some p rest joined (Name name) e h = says_named p rest name joined e
 
-  -- what it wants, where nothing would be wrong
-  wants_on : (q : Part) (most : ℕ) (rest : List ℕ) → q.heard ++ rest ≡ request → fine q ≡ true → left q ≤ most →
-      (left_of files q ≡ 0 → is_page_whole files q.heard q.captures && is_acknowledged files q ≡ false → q.heard ≡ request → ⊥) → GoesOnBy (web_meaning files) request mss fine left q most (web_want files q)
-  wants_on q most rest joined f few none =
-      let is = is_fine q f in
-      let P : Want → Type 0 = GoesOnBy (web_meaning files) request mss fine left q most in
-      let by_end : Want = if is_page_whole files q.heard q.captures && is_acknowledged files q then Close else (if nat_lt 0 (left_of files q) then Send (min 1460 (left_of files q)) else Nothing) in
-      subst P (sym (ap (λ b. if b then Abort else by_end) (let z : (q.polls == 20) ≡ false = ap (λ n. n == 20) is.polls in z)))
-      (both_ways (is_page_whole files q.heard q.captures && is_acknowledged files q)
-      (λ e. subst P (sym (ap (λ b. if b then Close else (if nat_lt 0 (left_of files q) then Send (min 1460 (left_of files q)) else Nothing)) e)) tt)
-      (λ e. subst P (sym (ap (λ b. if b then Close else (if nat_lt 0 (left_of files q) then Send (min 1460 (left_of files q)) else Nothing)) e))
-      (both_ways (nat_lt 0 (left_of files q))
-      (λ l. subst P (sym (ap (λ b. if b then Send (min 1460 (left_of files q)) else Nothing) l)) (sends q most rest joined is few (ltb-true 0 (left_of files q) l)))
-      (λ l. subst P (sym (ap (λ b. if b then Send (min 1460 (left_of files q)) else Nothing) l)) (f, few, none (ltb-zero (left_of files q) l) e)))))
-    where
-      sends : (q : Part) (most : ℕ) (rest : List ℕ) → q.heard ++ rest ≡ request → IsFine q → left q ≤ most → 0 < left_of files q → GoesOnBy (web_meaning files) request mss fine left q most (Send (min 1460 (left_of files q)))
-      sends q most rest joined is few l =
-          let x : ℕ = min (min 1460 (left_of files q)) mss in
-          let says = says_some q rest joined (wanted q.heard) refl (omega (arith, l)) in
-          let size : length (page files q.heard q.captures) ≡ length (page_text files wanted_pieces q.captures) = ap length says.text in
-          let whole : (x ≡ mss) ⊎ (q.acked + x ≡ length (page_text files wanted_pieces q.captures)) =
-          elim (cases_lt (left_of files q) mss) [ inl h ↦ inr (omega (arith, h, low, is.acked, size)) | inr h ↦ inl (omega (arith, h, low)) ] in
-          let less = less_left files mss some wanted_pieces q.captures q.acked x (omega (arith, l, some)) (omega (arith, l, is.acked, size)) whole in
-          λ ns. (as_fine (record q { acked = q.acked + x; polls = 0 }) refl (omega (arith, l, is.acked)), omega (arith, less, few))
+  -- after so many polls
+  module _ (waited : ℕ) (patient : waited < 20) where
+    record IsFine (p : Part) : Type 0 where
+      polls : p.polls ≤ waited
+      acked : p.acked ≤ length (page files p.heard p.captures)
 
-  -- nothing is wanted only while the request is not decided
-  never_rests : (p : Part) → is_acknowledged files p && waits_for_capture files (wanted p.heard) p ≡ false → IsFine p → left_of files p ≡ 0 → is_page_whole files p.heard p.captures && is_acknowledged files p ≡ false → p.heard ≡ request → ⊥
-  never_rests p waits is z rests all =
-      let acked : is_acknowledged files p ≡ true = eq-eqb p.acked (length (page files p.heard p.captures)) (omega (arith, z, is.acked)) in
-      let part_whole : is_page_whole files p.heard p.captures ≡ false = unless_right (is_page_whole files p.heard p.captures) (is_acknowledged files p) rests acked in
-      let no_call : waits_for_capture files (wanted p.heard) p ≡ false = unless_left (is_acknowledged files p) (waits_for_capture files (wanted p.heard) p) waits acked in
-      by_wanted (wanted p.heard) refl part_whole no_call
-    where
-      unless_right : (a b : Bool) → a && b ≡ false → b ≡ true → a ≡ false
-      unless_right true b e f = absurd (cc)
-      unless_right false b e f = refl
+    is_fine : (p : Part) → fine waited p ≡ true → IsFine p
+    is_fine p e =
+        let both = and_parts (nat_le p.polls waited) (nat_le p.acked (length (page files p.heard p.captures))) e in
+        record { polls = leb-true p.polls waited both.0; acked = leb-true p.acked (length (page files p.heard p.captures)) both.1 }
 
-      unless_left : (a b : Bool) → a && b ≡ false → a ≡ true → b ≡ false
-      unless_left true b e f = e
-      unless_left false b e f = absurd (cc)
+    as_fine : (p : Part) → p.polls ≤ waited → p.acked ≤ length (page files p.heard p.captures) → fine waited p ≡ true
+    as_fine p e h = ap (λ b. b && nat_le p.acked (length (page files p.heard p.captures))) (le-leb p.polls waited e) ∙ le-leb p.acked (length (page files p.heard p.captures)) h
 
-      by_wanted : (w : Wanted) → wanted p.heard ≡ w → is_page_whole files p.heard p.captures ≡ false → waits_for_capture files w p ≡ false → ⊥
-      by_wanted NotYet e open_end no_call = decided (ap wanted (sym all) ∙ e)
-      by_wanted Refused e open_end no_call = true≢false (sym (ap (λ w. whole_for files w p.captures) e) ∙ open_end)
-      by_wanted (Name name) e open_end no_call = true≢false (sym (ap not open_end) ∙ no_call)
+    -- what it wants, where nothing would be wrong
+    wants_on : (q : Part) (most : ℕ) (rest : List ℕ) → q.heard ++ rest ≡ request → fine waited q ≡ true → left q ≤ most →
+        (left_of files q ≡ 0 → is_page_whole files q.heard q.captures && is_acknowledged files q ≡ false → q.heard ≡ request → ⊥) → GoesOnBy (web_meaning files) request mss (fine waited) left q most (web_want files q)
+    wants_on q most rest joined f few none =
+        let is = is_fine q f in
+        let P : Want → Type 0 = GoesOnBy (web_meaning files) request mss (fine waited) left q most in
+        let by_end : Want = if is_page_whole files q.heard q.captures && is_acknowledged files q then Close else (if nat_lt 0 (left_of files q) then Send (min 1460 (left_of files q)) else Nothing) in
+        subst P (sym (ap (λ b. if b then Abort else by_end) (let z : (q.polls == 20) ≡ false = not_twenty q.polls (let y = is.polls in omega (arith, y, patient)) in z)))
+        (both_ways (is_page_whole files q.heard q.captures && is_acknowledged files q)
+        (λ e. subst P (sym (ap (λ b. if b then Close else (if nat_lt 0 (left_of files q) then Send (min 1460 (left_of files q)) else Nothing)) e)) tt)
+        (λ e. subst P (sym (ap (λ b. if b then Close else (if nat_lt 0 (left_of files q) then Send (min 1460 (left_of files q)) else Nothing)) e))
+        (both_ways (nat_lt 0 (left_of files q))
+        (λ l. subst P (sym (ap (λ b. if b then Send (min 1460 (left_of files q)) else Nothing) l)) (sends q most rest joined is few (ltb-true 0 (left_of files q) l)))
+        (λ l. subst P (sym (ap (λ b. if b then Send (min 1460 (left_of files q)) else Nothing) l)) (f, few, none (ltb-zero (left_of files q) l) e)))))
+      where
+        sends : (q : Part) (most : ℕ) (rest : List ℕ) → q.heard ++ rest ≡ request → IsFine q → left q ≤ most → 0 < left_of files q → GoesOnBy (web_meaning files) request mss (fine waited) left q most (Send (min 1460 (left_of files q)))
+        sends q most rest joined is few l =
+            let x : ℕ = min (min 1460 (left_of files q)) mss in
+            let says = says_some q rest joined (wanted q.heard) refl (omega (arith, l)) in
+            let size : length (page files q.heard q.captures) ≡ length (page_text files wanted_pieces q.captures) = ap length says.text in
+            let whole : (x ≡ mss) ⊎ (q.acked + x ≡ length (page_text files wanted_pieces q.captures)) =
+            elim (cases_lt (left_of files q) mss) [ inl h ↦ inr (omega (arith, h, low, is.acked, size)) | inr h ↦ inl (omega (arith, h, low)) ] in
+            let less = less_left files mss some wanted_pieces q.captures q.acked x (omega (arith, l, some)) (omega (arith, l, is.acked, size)) whole in
+            λ ns. (as_fine (record q { acked = q.acked + x; polls = 0 }) (omega arith) (omega (arith, l, is.acked)), omega (arith, less, few))
 
-  -- with a capture that is needed, there is more to say
-  after_capture : (p : Part) (capture : Moment) (rest : List ℕ) → p.heard ++ rest ≡ request → fine p ≡ true → IsMoment capture → 0 < length capture.now.rows → (w : Wanted) → wanted p.heard ≡ w →
-      is_acknowledged files p ≡ true → waits_for_capture files w p ≡ true → GoesOnBy (web_meaning files) request mss fine left (with_capture p capture) (left p) (web_want files (with_capture p capture))
-  after_capture p capture rest joined f is l NotYet named acked waits = absurd (cc)
-  after_capture p capture rest joined f is l Refused named acked waits = absurd (cc)
-  after_capture p capture rest joined f is l (Name name) named acked waits =
-      let q : Part = with_capture p capture in
-      let fine_p = is_fine p f in
-      let at_end : p.acked ≡ length (page files p.heard p.captures) = eqb-true p.acked (length (page files p.heard p.captures)) acked in
-      let says = says_named p rest name joined named in
-      let says_more = says_named q rest name joined named in
-      let stops : reach_end wanted_pieces p.captures ≡ false = sym says.whole ∙ not-true (is_page_whole files p.heard p.captures) waits in
-      let more = text_longer files mss some wanted_pieces p.captures capture is l stops in
-      let longer : p.acked < length (page files q.heard q.captures) = omega (arith, at_end, ap length says.text, ap length says_more.text, more) in
-      let goes : p.acked ≤ length (page files q.heard q.captures) = omega (arith, longer) in
-      wants_on q (left p) rest joined (as_fine q fine_p.polls goes)
-      (fewer_left files mss some wanted_pieces p.captures capture p.acked is stops (at_end ∙ ap length says.text))
-      (λ z e all. let y : ⊥ = omega (arith, z, longer) in y)
+    -- nothing is wanted only while the request is not decided
+    never_rests : (p : Part) → is_acknowledged files p && waits_for_capture files (wanted p.heard) p ≡ false → IsFine p → left_of files p ≡ 0 → is_page_whole files p.heard p.captures && is_acknowledged files p ≡ false → p.heard ≡ request → ⊥
+    never_rests p waits is z rests all =
+        let acked : is_acknowledged files p ≡ true = eq-eqb p.acked (length (page files p.heard p.captures)) (omega (arith, z, is.acked)) in
+        let part_whole : is_page_whole files p.heard p.captures ≡ false = unless_right (is_page_whole files p.heard p.captures) (is_acknowledged files p) rests acked in
+        let no_call : waits_for_capture files (wanted p.heard) p ≡ false = unless_left (is_acknowledged files p) (waits_for_capture files (wanted p.heard) p) waits acked in
+        by_wanted (wanted p.heard) refl part_whole no_call
+      where
+        unless_right : (a b : Bool) → a && b ≡ false → b ≡ true → a ≡ false
+        unless_right true b e f = absurd (cc)
+        unless_right false b e f = refl
 
-  pub answers : AnswersIn (web_meaning files) request mss fine left (texts_for mss wanted_pieces)
-  answers = record {
-    starts = λ hits port. (refl, counted_all files mss some wanted_pieces);
-    hears = λ hits p piece rest f joined. (
-      as_fine (record p { heard = p.heard ++ piece; polls = 0 }) refl
-          (let h = prefix_length (page files p.heard p.captures) (page files (p.heard ++ piece) p.captures) (newdata_grows uip files p piece) in omega (arith, (is_fine p f).acked, h)),
+        unless_left : (a b : Bool) → a && b ≡ false → a ≡ true → b ≡ false
+        unless_left true b e f = e
+        unless_left false b e f = absurd (cc)
+
+        by_wanted : (w : Wanted) → wanted p.heard ≡ w → is_page_whole files p.heard p.captures ≡ false → waits_for_capture files w p ≡ false → ⊥
+        by_wanted NotYet e open_end no_call = decided (ap wanted (sym all) ∙ e)
+        by_wanted Refused e open_end no_call = true≢false (sym (ap (λ w. whole_for files w p.captures) e) ∙ open_end)
+        by_wanted (Name name) e open_end no_call = true≢false (sym (ap not open_end) ∙ no_call)
+
+    -- with a capture that is needed, there is more to say
+    after_capture : (p : Part) (capture : Moment) (rest : List ℕ) → p.heard ++ rest ≡ request → fine waited p ≡ true → IsMoment capture → 0 < length capture.now.rows → (w : Wanted) → wanted p.heard ≡ w →
+        is_acknowledged files p ≡ true → waits_for_capture files w p ≡ true → GoesOnBy (web_meaning files) request mss (fine waited) left (with_capture p capture) (left p) (web_want files (with_capture p capture))
+    after_capture p capture rest joined f is l NotYet named acked waits = absurd (cc)
+    after_capture p capture rest joined f is l Refused named acked waits = absurd (cc)
+    after_capture p capture rest joined f is l (Name name) named acked waits =
+        let q : Part = with_capture p capture in
+        let fine_p = is_fine p f in
+        let at_end : p.acked ≡ length (page files p.heard p.captures) = eqb-true p.acked (length (page files p.heard p.captures)) acked in
+        let says = says_named p rest name joined named in
+        let says_more = says_named q rest name joined named in
+        let stops : reach_end wanted_pieces p.captures ≡ false = sym says.whole ∙ not-true (is_page_whole files p.heard p.captures) waits in
+        let more = text_longer files mss some wanted_pieces p.captures capture is l stops in
+        let longer : p.acked < length (page files q.heard q.captures) = omega (arith, at_end, ap length says.text, ap length says_more.text, more) in
+        let goes : p.acked ≤ length (page files q.heard q.captures) = omega (arith, longer) in
+        wants_on q (left p) rest joined (as_fine q fine_p.polls goes)
+        (fewer_left files mss some wanted_pieces p.captures capture p.acked is stops (at_end ∙ ap length says.text))
+        (λ z e all. let y : ⊥ = omega (arith, z, longer) in y)
+
+    pub answers : AnswersIn (web_meaning files) request mss (fine waited) left (texts_for mss wanted_pieces)
+    answers = record {
+      starts = λ hits port. (as_fine (record { port = port; heard = []; captures = []; acked = 0; polls = 0; own = 0 }) (omega arith) (omega arith), counted_all files mss some wanted_pieces);
+      hears = λ hits p piece rest f joined. (
+        as_fine (record p { heard = p.heard ++ piece; polls = 0 }) (omega arith)
+            (let h = prefix_length (page files p.heard p.captures) (page files (p.heard ++ piece) p.captures) (newdata_grows uip files p piece) in omega (arith, (is_fine p f).acked, h)),
+        omega arith,
+      );
+      goes_on = λ hits p now rest f joined words is l.
+          (let capture : Moment = record { numbers = hits; now = now } in
+          let P : Part → Type 0 = λ q. GoesOnBy (web_meaning files) request mss (fine waited) left q (left p) (web_want files q) in
+          both_ways (is_acknowledged files p && waits_for_capture files (wanted p.heard) p)
+          (λ e. subst P (sym (ap (λ b. if b then with_capture p capture else p) e)) (let both = and_parts (is_acknowledged files p) (waits_for_capture files (wanted p.heard) p) e in after_capture p capture rest joined f record { numbers = words; now = is } l (wanted p.heard) refl both.0 both.1))
+          (λ e. subst P (sym (ap (λ b. if b then with_capture p capture else p) e)) (wants_on p (left p) rest joined f (omega arith) (never_rests p e (is_fine p f)))));
+    }
+
+  -- polled up to nineteen times it answers all the same
+  pub answers_polled : AnswersPolled (web_meaning files) request mss fine left (texts_for mss wanted_pieces) 19
+  answers_polled = record {
+    answers = λ waited l. answers waited (omega (arith, l));
+    waits = λ waited hits p l f. (
+      (let is = is_fine waited (omega (arith, l)) p f in
+          let polls = is.polls in as_fine (suc waited) (omega (arith, l)) (record p { polls = min 20 (p.polls + 1) }) (omega (arith, polls)) is.acked),
       omega arith,
     );
-    goes_on = λ hits p now rest f joined words is l.
-        (let capture : Moment = record { numbers = hits; now = now } in
-        let P : Part → Type 0 = λ q. GoesOnBy (web_meaning files) request mss fine left q (left p) (web_want files q) in
-        both_ways (is_acknowledged files p && waits_for_capture files (wanted p.heard) p)
-        (λ e. subst P (sym (ap (λ b. if b then with_capture p capture else p) e)) (let both = and_parts (is_acknowledged files p) (waits_for_capture files (wanted p.heard) p) e in after_capture p capture rest joined f record { numbers = words; now = is } l (wanted p.heard) refl both.0 both.1))
-        (λ e. subst P (sym (ap (λ b. if b then with_capture p capture else p) e)) (wants_on p (left p) rest joined f (omega arith) (never_rests p e (is_fine p f)))));
   }

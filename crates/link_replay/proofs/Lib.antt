@@ -27,6 +27,7 @@ pub mod Counted
 pub mod WorkedSummaries
 pub mod HexBytes
 pub mod Honest
+mod HonestPeers
 pub mod Kept
 pub mod PlayedText
 pub mod Quads

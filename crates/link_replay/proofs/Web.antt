@@ -51,5 +51,5 @@ honest_pages site loaded served addr hits p a words plan port decided room =
     let some : 0 < mss = mss_low (offered p.setup.mss) in
     let low : mss ≤ 1460 = first_low (offered p.setup.mss) in
     honest_link (web_meaning files) (pages_of files) (keeps_page_laws site loaded) served addr hits p a words plan port
-    (fine files p.request decided mss some low) (left files p.request decided mss some low) (parts_of p) (texts_of files p) (answers files p.request decided mss some low)
+    (fine files p.request decided mss some low 0) (left files p.request decided mss some low) (parts_of p) (texts_of files p) (answers files p.request decided mss some low 0 (omega arith))
     (has_come p.request decided) (div_ceil_times (length p.request) p.setup.seg planned.seg.0).0 room

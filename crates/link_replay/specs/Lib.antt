@@ -21,6 +21,7 @@ pub mod Promises
 pub mod Due
 pub mod Web
 pub mod Honest
+pub mod HonestPeers
 pub mod Worked
 pub mod Hits
 pub mod Apart

@@ -3,6 +3,7 @@
 
 ghost use Rattle.link_replay.specs.Apart.{AbortAndCloseApart};
 ghost use Rattle.link_replay.specs.Hits.{HitsAreCounted};
+ghost use Rattle.link_replay.specs.HonestPeers.{HonestWebPeer};
 ghost use Rattle.link_replay.specs.Laws.{HonestReplay, LoadIsTold, OnlyFull, ReplayIsTold};
 ghost use Rattle.link_replay.specs.Reaching.{DamageLoses};
 ghost use Rattle.link_replay.specs.WorkedReports.{AreWorkedReports};
@@ -55,4 +56,9 @@ pub fn hits_are_counted()
 /// never meet.
 pub fn abort_and_close_apart()
     ensures { AbortAndCloseApart }
+{}
+
+/// Whatever other peers do meanwhile, a peer that asks, acknowledges each segment and loses nothing gets its whole page.
+pub fn honest_web_peer()
+    ensures { HonestWebPeer }
 {}

@@ -46,8 +46,8 @@ pub use file_tree::{SiteError, SiteWhy};
 pub use headline::{honest_pages, pages_are_received, worked_replays};
 pub use kind::Kind;
 pub use laws::{
-    abort_and_close_apart, damage_loses, hits_are_counted, honest_replay, load_is_told, only_full,
-    replay_is_told, worked_reports, worked_summaries,
+    abort_and_close_apart, damage_loses, hits_are_counted, honest_replay, honest_web_peer,
+    load_is_told, only_full, replay_is_told, worked_reports, worked_summaries,
 };
 pub use link::Link;
 pub use link_schedule::{ClientPlan, Event, Line, ReadSchedule, Schedule, Why};

@@ -22,7 +22,8 @@ use Rattle.link_world.specs.History.{Planned, IsPlanned, IsPlan, opening_world}
 use Rattle.link_schedule.specs.declared.event.Event.{Event}
 use Rattle.link_schedule.specs.declared.event.Event.TheVariants.{Opens, Round}
 use Rattle.link_world.specs.Headline.{IsAct, IsPlainAct, OfLine, IsSchedulePlayed, IsServed}
-use Rattle.link_world.specs.Honest.{AnswersIn, IsServedWhole, HonestLink}
+use Rattle.uip_node.specs.Answering.{AnswersIn}
+use Rattle.link_world.specs.Honest.{IsServedWhole, HonestLink}
 use Rattle.link_world.proofs.Doing.{goes_on_with}
 use Rattle.uip_node.proofs.Basics.{wrap_wrap}
 use Rattle.uip_node.proofs.Fits.{FitConn, all_nil, all_cons}

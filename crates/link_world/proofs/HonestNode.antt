@@ -35,7 +35,7 @@ use Rattle.link_client.specs.Client.{offered, syn_of}
 use Rattle.link_client.specs.declared.client_state.ClientState.TheVariants as Is
 use Rattle.link_client.specs.declared.fin_at.FinAt.{FinAt}
 use Rattle.link_client.specs.declared.setup.Setup.{Setup}
-use Rattle.link_world.specs.Honest.{GoesOnBy, AnswersIn}
+use Rattle.uip_node.specs.Answering.{GoesOnBy, AnswersIn}
 use Rattle.uip_node.proofs.Steadiness.{steady_of}
 use Rattle.uip_node.proofs.Basics.{choose, both_ways, zero_or_more, ltb-yes, cut_length, wrap_wrap}
 use Rattle.uip_node.proofs.SocketPairs.{same_self}

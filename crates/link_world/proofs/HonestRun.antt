@@ -22,7 +22,7 @@ use Rattle.link_world.specs.World.{World, Sent, client_sockets, becomes_opened}
 use Rattle.link_world.specs.Schedule.{plays_line, plays_from, BadLine}
 use Rattle.link_schedule.specs.declared.event.Event.TheVariants.{Round}
 use Rattle.link_world.specs.declared.who.Who.TheVariants.{FromClient, FromNode}
-use Rattle.link_world.specs.Honest.{AnswersIn}
+use Rattle.uip_node.specs.Answering.{AnswersIn}
 use Rattle.link_world.proofs.Doing.{goes_on_with}
 use Rattle.uip_node.proofs.Basics.{wrap_wrap}
 use Rattle.uip_node.proofs.Fits.{FitConn}

@@ -13,5 +13,16 @@ pub mod PeerReads
 pub mod TurnRuns
 pub mod EveryTurn
 pub mod Rows
+pub mod HonestRows
+pub mod WindowRows
 pub mod WrongLives
 pub mod Steps
+pub mod Slots
+pub mod GoodNodes
+pub mod HonestTalks
+pub mod HonestConnections
+pub mod HonestPeers
+pub mod Beating
+pub mod Timers
+pub mod WindowSteps
+pub mod Windows

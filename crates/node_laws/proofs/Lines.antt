@@ -55,21 +55,21 @@ pub record Comes (m : Meaning) (served : ℕ → Bool) (n : AbstractNode) (event
   pub single : Single r.node.connections
   pub each : (p : Sockets) → Does m served p (serving p n.connections) (serving p r.node.connections) (exchange p event r.sent)
 
-came_here : (p q : Sockets) (s : PlainSegment) → q ≡ p → came_from p (Arrived q s) ≡ Some s
+pub came_here : (p q : Sockets) (s : PlainSegment) → q ≡ p → came_from p (Arrived q s) ≡ Some s
 came_here p q s e = ap (λ b. if b then Some s else None) (is_same q p e)
 
-came_elsewhere : (p q : Sockets) (s : PlainSegment) → same_sockets q p ≡ false → came_from p (Arrived q s) ≡ None
+pub came_elsewhere : (p q : Sockets) (s : PlainSegment) → same_sockets q p ≡ false → came_from p (Arrived q s) ≡ None
 came_elsewhere p q s e = ap (λ b. if b then Some s else None) e
 
-said_here : (p q : Sockets) (id : ℕ) (again : Bool) (said : Option PlainSegment) → q ≡ p → said_to p (option_map (λ s. Tcp q id again s) said) ≡ said
+pub said_here : (p q : Sockets) (id : ℕ) (again : Bool) (said : Option PlainSegment) → q ≡ p → said_to p (option_map (λ s. Tcp q id again s) said) ≡ said
 said_here p q id again None e = refl
 said_here p q id again (Some s) e = ap (λ b. if b then Some s else None) (is_same q p e)
 
-said_elsewhere : (p q : Sockets) (id : ℕ) (again : Bool) (said : Option PlainSegment) → same_sockets q p ≡ false → said_to p (option_map (λ s. Tcp q id again s) said) ≡ None
+pub said_elsewhere : (p q : Sockets) (id : ℕ) (again : Bool) (said : Option PlainSegment) → same_sockets q p ≡ false → said_to p (option_map (λ s. Tcp q id again s) said) ≡ None
 said_elsewhere p q id again None e = refl
 said_elsewhere p q id again (Some s) e = ap (λ b. if b then Some s else None) e
 
-meets : (a b : Option PlainSegment) (x y : Option PlainSegment) → a ≡ x → b ≡ y → met a b ≡ met x y
+pub meets : (a b : Option PlainSegment) (x y : Option PlainSegment) → a ≡ x → b ≡ y → met a b ≡ met x y
 meets a b x y e f = ap (λ z. met z b) e ∙ ap (λ z. met x z) f
 
 module _ (m : Meaning) (served : ℕ → Bool) where

@@ -14,16 +14,16 @@ use Rattle.node_laws.specs.Talks.{Exchange, talk_of, is_life, is_opening}
 use Rattle.uip_node.specs.Node.{opening}
 use Rattle.node_laws.specs.Turns.{turns_of}
 
-abbrev web : ℕ → Bool
+abbrev pub web : ℕ → Bool
 web port = port == 80
 
-abbrev peer : Sockets
+abbrev pub peer : Sockets
 peer = record { peer = record { 0 = 10 ∷ 0 ∷ 0 ∷ 2 ∷ [] }; peer_port = record { 0 = 1025 }; own_port = record { 0 = 80 } }
 
-abbrev says : ℕ → ℕ → ℕ → List ℕ → Event
+abbrev pub says : ℕ → ℕ → ℕ → List ℕ → Event
 says seq ack flags text = Arrived peer (record { seq = seq; ack = ack; flags = flags; window = 8192; mss = None; text = text })
 
-abbrev talk_over : List Event → List Exchange
+abbrev pub talk_over : List Event → List Exchange
 talk_over events = talk_of peer (turns_of fixed_meaning web events (opening (record { 0 = 10 ∷ 0 ∷ 0 ∷ 1 ∷ [] }) []))
 
 -- a SYN, a byte, the acknowledgement of the text and of the FIN, and the peer's FIN are one life
@@ -42,7 +42,7 @@ unfolding idles peer_closes goes_on in_established fin_acked fin_waits on_segmen
 one_still = refl
 
 -- what is said in these exchanges, the newest first
-abbrev told : List Exchange → List (Option (ℕ × List ℕ))
+abbrev pub told : List Exchange → List (Option (ℕ × List ℕ))
 told [] = []
 told (x ∷ older) = option_map (λ s. (s.seq, s.text)) x.said ∷ told older
 

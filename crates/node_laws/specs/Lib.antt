@@ -6,4 +6,7 @@ pub mod Wire
 pub mod Turns
 pub mod Speakers
 pub mod KeepsTurns
+pub mod HonestPeers
+pub mod Timers
+pub mod Windows
 pub mod WrongLives

@@ -4,4 +4,7 @@
 
 mod laws;
 
-pub use laws::{every_turn, every_turn_of_pages, plainest_receives, wrong_lives_fall};
+pub use laws::{
+    every_turn, every_turn_of_pages, honest_peer, plainest_receives, timer_runs_out,
+    windows_are_kept, wrong_lives_fall,
+};

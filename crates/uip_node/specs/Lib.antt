@@ -12,3 +12,4 @@ pub mod StandsFor
 pub mod Inner
 pub mod Steady
 pub mod Laws
+pub mod Answering
