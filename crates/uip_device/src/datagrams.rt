@@ -1,7 +1,6 @@
 //! What is sent over a link that carries datagrams.
 
 ghost use Rattle.std.specs.Prelude.{◌≡◌, ◌≤◌, ◌∷◌, [], length, map, take, Option};
-ghost use Rattle.std.specs.Option.{option_map_or};
 ghost use Rattle.uip_wire.specs.declared.addr.Addr.{Addr as Address};
 ghost use Rattle.uip_node.specs.Events.{Reply};
 ghost use Rattle.uip_node.specs.Node.{joined};
