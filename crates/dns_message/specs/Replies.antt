@@ -1,5 +1,6 @@
 -- Who asks whom for an address, with which datagrams, and what a datagram answers.
 use Rattle.std.specs.Prelude.{ℕ, List, Option, option_and_then}
+use Rattle.uip_wire.specs.declared.addr.Addr.{Addr}
 use Rattle.udp_datagram.specs.Udp.{udp_data, udp_datagram}
 use Rattle.udp_datagram.specs.declared.way.Way.{Way}
 use Rattle.dns_message.specs.Messages.{answer_by_message, query_message}
@@ -7,23 +8,21 @@ use Rattle.dns_message.specs.declared.answer.Answer.{Answer}
 use Rattle.dns_message.specs.declared.asking.Asking.{Asking}
 use Rattle.dns_message.specs.declared.asking.TheConstants.{ASKING_PORT, SERVER_PORT}
 
--- from the one that asks to the server
-abbrev pub way_there : Asking → Way
-way_there asking = record {
-  source = asking.own;
-  target = asking.server;
-  from = record { 0 = ASKING_PORT };
-  to = record { 0 = SERVER_PORT };
+-- from a port of a host to a port of another
+abbrev pub way_between : Addr → ℕ → Addr → ℕ → Way
+way_between source from target to = record {
+  source = source;
+  target = target;
+  from = record { 0 = from };
+  to = record { 0 = to };
 }
 
--- and back
+-- from the one that asks to the server, and back
+abbrev pub way_there : Asking → Way
+way_there asking = way_between asking.own ASKING_PORT asking.server SERVER_PORT
+
 abbrev pub way_back : Asking → Way
-way_back asking = record {
-  source = asking.server;
-  target = asking.own;
-  from = record { 0 = SERVER_PORT };
-  to = record { 0 = ASKING_PORT };
-}
+way_back asking = way_between asking.server SERVER_PORT asking.own ASKING_PORT
 
 -- the datagram that asks for a name, under an identification of its Internet header
 unfoldable pub query_datagram : Asking → List ℕ → ℕ → List ℕ

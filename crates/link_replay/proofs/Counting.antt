@@ -32,7 +32,7 @@ record Told (n : AbstractNode) (r : NodeStep) : Type 0 where
 
 -- no event raises the counter of what is sent again
 abbrev was_again : Answer → Bool
-was_again answer = list_any (λ n. n == 19) (raised_by_answer answer)
+was_again answer = list_any (λ n. n == 18) (raised_by_answer answer)
 
 by_answer : (event : Event) (answer : Answer) → raises 18 (record { event = event; answer = answer }) ≡ was_again answer
 by_answer (IpRefused Ip.Short) answer = refl

@@ -45,7 +45,7 @@ module _ (Is : Option Files → List ℕ → ReplayEnd → Type 0) (Missing : Op
   written_ends text end result is (inl done) = subst (EndsWith Is Missing old new) (sym done.0) (whole_ends text end is done.1)
   written_ends text end result is (inr failed) =
       subst (EndsWith Is Missing old new) (sym failed.0)
-      (record { text = text; end = end; is = is; wrote = failed.1; shelf = shelf })
+      (record { text = text; is = (end, is); wrote = failed.1; shelf = shelf })
 
   pub short_ends : (result : ReplayEnd) → IsShort old.sink new.sink result → EndsWith Is Missing old new result
   short_ends result short = subst (EndsWith Is Missing old new) (sym short.0) (same_work old new held short.1 shelf)

@@ -12,21 +12,13 @@ use Rattle.link_replay.specs.declared.replay_end.ReplayEnd.{ReplayEnd}
 use Rattle.link_replay.specs.declared.replay_end.ReplayEnd.TheVariants as ends
 use Rattle.link_replay.specs.declared.told_as.Telling.TheVariants.{Summary}
 use Rattle.workload.specs.Workload.{workload_of}
-use Rattle.uip_edge.specs.Told.{WorkTold}
+use Rattle.uip_edge.specs.Told.{SinkTold, WorkTold}
 
--- the whole text was written, and no count rose
-pub record Told (Is : List ℕ → ReplayEnd → Type 0) (old new : WorkTold) (end : ReplayEnd) : Type 0 where
+-- a text that is due was written so, and the shelf's count did not rise
+pub record Tells (Wrote : SinkTold → SinkTold → List ℕ → Type 0) (Is : List ℕ → Type 0) (old new : WorkTold) : Type 0 where
   pub text : List ℕ
-  pub is : Is text end
-  pub wrote : WritesAll old.sink new.sink text
-  pub shelf : new.shelf.faults ≡ old.shelf.faults
-
--- the sink failed: a front of the text was written
-pub record BrokeOff (Is : List ℕ → ReplayEnd → Type 0) (old new : WorkTold) : Type 0 where
-  pub text : List ℕ
-  pub end : ReplayEnd
-  pub is : Is text end
-  pub wrote : WritesFront old.sink new.sink text
+  pub is : Is text
+  pub wrote : Wrote old.sink new.sink text
   pub shelf : new.shelf.faults ≡ old.shelf.faults
 
 -- the shelf failed, or lacks a file: nothing was written
@@ -35,12 +27,12 @@ pub record Lacks (Missing : Type 0) (old new : WorkTold) : Type 0 where
   pub later : old.shelf.faults ≤ new.shelf.faults
   pub sink : new.sink ≡ old.sink
 
--- how a command ends, by the text that is due with an end, and by when a file is missing
+-- how a command ends, by the text that is due with an end, of which a failed write leaves a front, and by when a file is missing
 abbrev pub EndsWith : (Option Files → List ℕ → ReplayEnd → Type 0) → (Option Files → Type 0) → WorkTold → WorkTold → ReplayEnd → Type 0
-EndsWith Is Missing old new ends.WriteFault = BrokeOff (Is old.shelf.held) old new
+EndsWith Is Missing old new ends.WriteFault = Tells WritesFront (λ text. (end : ReplayEnd) × Is old.shelf.held text end) old new
 EndsWith Is Missing old new ends.ShelfFault = Lacks (Missing old.shelf.held) old new
 EndsWith Is Missing old new ends.NoMemory = new ≡ old
-EndsWith Is Missing old new end = Told (Is old.shelf.held) old new end
+EndsWith Is Missing old new end = Tells WritesAll (λ text. Is old.shelf.held text end) old new
 
 -- The text that is due for these files, with the end that goes with it: the line of a bad image, or what the site's server and the
 -- schedule's text give.

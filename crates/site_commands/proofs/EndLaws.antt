@@ -9,9 +9,9 @@ use Rattle.file_tree.specs.Opening.{LacksFile}
 use Rattle.uip_edge.specs.Told.{WorkTold, WorkUnfailed}
 
 pub as_due : (due : Files → Option Due) (old new : WorkTold) (end : SiteEnd) → Ends due old new end → WorkUnfailed old new → ¬ (LacksFile due old.shelf.held) → EndsAsDue due old.shelf.held end
-as_due due old new ends.Done e calm there = inr (record { text = e.0; fault = None }, e.1, refl)
-as_due due old new (ends.Bad error) e calm there = inr (record { text = e.0; fault = Some error }, e.1, refl)
+as_due due old new ends.Done e calm there = inr (record { text = e.0; fault = None }, e.1.0, refl)
+as_due due old new (ends.Bad error) e calm there = inr (record { text = e.0; fault = Some error }, e.1.0, refl)
 as_due due old new ends.ShelfFault e calm there =
     elim e.0 [ inl rose ↦ absurd (omega (arith, rose, calm.shelf.same, calm.shelf.below)) | inr lacks ↦ absurd (there lacks) ]
-as_due due old new ends.WriteFault e calm there = absurd (omega (arith, e.2.rose, calm.sink.same, calm.sink.below))
+as_due due old new ends.WriteFault e calm there = absurd (omega (arith, e.1.1.rose, calm.sink.same, calm.sink.below))
 as_due due old new ends.NoMemory e calm there = inl refl

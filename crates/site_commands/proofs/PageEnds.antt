@@ -26,6 +26,6 @@ page_ends name target old new site end opened wrote =
     let due = page_is_due name target old.shelf.held (Ok (files_of site)) opened.0 in
     let text = zero_page (files_of site) target in
     elim wrote [
-      | inl done ↦ subst (Ends (page_due name target) old new) (sym done.0) (text, due, done.1, opened.1)
-      | inr failed ↦ subst (Ends (page_due name target) old new) (sym failed.0) (record { text = text; fault = None }, due, failed.1, opened.1)
+      | inl done ↦ subst (Ends (page_due name target) old new) (sym done.0) (text, (due, done.1, opened.1))
+      | inr failed ↦ subst (Ends (page_due name target) old new) (sym failed.0) (record { text = text; fault = None }, (due, failed.1, opened.1))
     ]

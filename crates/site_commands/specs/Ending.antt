@@ -12,24 +12,19 @@ use Rattle.site_commands.specs.declared.site_end.SiteEnd.{SiteEnd}
 use Rattle.site_commands.specs.declared.site_end.SiteEnd.TheVariants as ends
 use Rattle.site_commands.specs.Due.{Due}
 
--- the whole text was written, and this was the first fault
-abbrev pub Finishes : (Files → Option Due) → WorkTold → WorkTold → Option SiteError → Type 0
-Finishes due old new fault = (text : List ℕ)
-    × FindsInFiles due old.shelf.held (record { text = text; fault = fault })
-    × WritesAll old.sink new.sink text
-    × (new.shelf.faults ≡ old.shelf.faults)
+-- this was due for the shelf's files, and its text was written so
+abbrev pub Finishes : (Files → Option Due) → (SinkTold → SinkTold → List ℕ → Type 0) → WorkTold → WorkTold → Due → Type 0
+Finishes due Wrote old new made =
+    FindsInFiles due old.shelf.held made × Wrote old.sink new.sink made.text × (new.shelf.faults ≡ old.shelf.faults)
 
--- how the work ends
+-- how the work ends: the whole text is written with its first fault or none, or nothing, or a front of the text
 abbrev pub Ends : (Files → Option Due) → WorkTold → WorkTold → SiteEnd → Type 0
-Ends due old new ends.Done = Finishes due old new None
-Ends due old new (ends.Bad error) = Finishes due old new (Some error)
+Ends due old new ends.Done = (text : List ℕ) × Finishes due WritesAll old new (record { text = text; fault = None })
+Ends due old new (ends.Bad error) = (text : List ℕ) × Finishes due WritesAll old new (record { text = text; fault = Some error })
 Ends due old new ends.ShelfFault =
     (Rose old.shelf.faults new.shelf.faults ⊎ LacksFile due old.shelf.held) × (old.shelf.faults ≤ new.shelf.faults)
     × (new.sink ≡ old.sink)
-Ends due old new ends.WriteFault = (made : Due)
-    × FindsInFiles due old.shelf.held made
-    × WritesFront old.sink new.sink made.text
-    × (new.shelf.faults ≡ old.shelf.faults)
+Ends due old new ends.WriteFault = (made : Due) × Finishes due WritesFront old new made
 Ends due old new ends.NoMemory = new ≡ old
 
 -- what was made of the shelf's files, or why nothing was

@@ -11,7 +11,7 @@ use Rattle.uip_edge.proofs.Told.{bytes_among-append, bytes_among-map}
 use Rattle.uip_edge.specs.Told.{LineTold, IsCalm, SinkTold}
 use Rattle.trace.specs.CaptureReading.{Captured, IsReadAs, Reading, cut_in, captured_in, fault_in, lines_of}
 use Rattle.trace.specs.CaptureReading.Reading.{BadHeader, BadLength, InRecord, InHeader, Whole}
-use Rattle.trace.specs.Converting.{Converts, HasNewFault, IsFoundSoon, SlipEndsBy}
+use Rattle.trace.specs.Converting.{Converts, HasNewFault, IsFoundSoon, SlipEndsBy, WroteLine}
 use Rattle.trace.specs.Gathering.{IsReadTo, IsOpen, IsReadSound, StopBy, Stopped, StopsAt, end_at}
 use Rattle.trace.specs.declared.reader.Stop.{Stop}
 use Rattle.trace.specs.declared.reader.Stop.TheVariants as stops
@@ -120,51 +120,40 @@ never_cut (BadLength records) number e = let w : whys.Length ≡ whys.Cut = ap w
 module _ (n : ℕ) (taken : List Item) (old new : LineTold) (stage : Stage) (number : ℕ) (part : List ℕ) (want : ℕ)
     (c : Consumes old.link.coming new.link.coming taken)
     (at : IsReadTo old.sink.written new.sink.written (bytes_among taken) stage number part) (is : IsOpen stage part want) where
+  -- the reading goes with an end at which no write failed
+  converted : (end cut : SlipEnd) (s : IsSoundAt old.sink.written new.sink.written (bytes_among taken) cut) → SlipEndsBy n old new taken s.reading end
+      → (end ≡ ends.WriteFault → ⊥) → WroteLine end old.sink.written new.sink.written (lines_of (captured_in s.reading)) → Converts n old new end
+  converted end cut s by fine wrote = record {
+    taken = taken;
+    consumed = c;
+    reading = s.reading;
+    read = s.read;
+    some = λ is. absurd (fine is);
+    ends = by;
+    wrote = wrote;
+  }
+
   ended_so : (end : SlipEnd) → IsSoundAt old.sink.written new.sink.written (bytes_among taken) end → EndsBy n old new taken line.End → Converts n old new end
-  ended_so ends.End s e = record {
-    taken = taken;
-    consumed = c;
-    reading = s.reading;
-    read = s.read;
-    some = λ is. absurd (cc is);
-    ends = (e.0, e.1, record { link = e.2; sink = e.3 }, s.sound, s.cut);
-    wrote = s.written;
-  }
-  ended_so (ends.Bad number whys.Cut) s e = record {
-    taken = taken;
-    consumed = c;
-    reading = s.reading;
-    read = s.read;
-    some = λ is. absurd (cc is);
-    ends = (e.0, e.1, record { link = e.2; sink = e.3 }, s.sound, s.cut);
-    wrote = s.written;
-  }
+  ended_so ends.End s e = converted ends.End ends.End s (e, s.sound, s.cut) (λ is. cc is) s.written
+  ended_so (ends.Bad number whys.Cut) s e =
+      converted (ends.Bad number whys.Cut) (ends.Bad number whys.Cut) s (e, s.sound, s.cut) (λ is. cc is) s.written
   ended_so ends.LinkFault s e = absurd s.cut
   ended_so ends.WriteFault s e = absurd s.cut
   ended_so ends.Budget s e = absurd s.cut
   ended_so (ends.Bad number whys.Head) s e = absurd s.cut
   ended_so (ends.Bad number whys.Length) s e = absurd s.cut
 
+  abbrev sound : IsSoundAt old.sink.written new.sink.written (bytes_among taken) (end_at stage part number)
+  sound = sound_at _ _ _ stage number part want at is
+
   pub ended : EndsBy n old new taken line.End → Converts n old new (end_at stage part number)
-  ended e = ended_so (end_at stage part number) (sound_at _ _ _ stage number part want at is) e
+  ended e = ended_so (end_at stage part number) sound e
 
   pub link_failed : EndsBy n old new taken line.LinkFault → Converts n old new ends.LinkFault
-  link_failed e =
-      let s = sound_at _ _ _ stage number part want at is in
-      record { taken = taken; consumed = c; reading = s.reading; read = s.read; some = λ is. absurd (cc is); ends = (e.0, e.1, e.2, s.sound); wrote = s.written }
+  link_failed e = converted ends.LinkFault (end_at stage part number) sound (e, sound.sound) (λ is. cc is) sound.written
 
   pub spent : EndsBy n old new taken line.Budget → Converts n old new ends.Budget
-  spent e =
-      let s = sound_at _ _ _ stage number part want at is in
-      record {
-        taken = taken;
-        consumed = c;
-        reading = s.reading;
-        read = s.read;
-        some = λ is. absurd (cc is);
-        ends = (e.0, record { link = e.1; sink = e.2 }, s.sound);
-        wrote = s.written;
-      }
+  spent e = converted ends.Budget (end_at stage part number) sound (e, sound.sound) (λ is. cc is) sound.written
 
 -- the reader stopped among bytes that came in one answer
 module _ (n : ℕ) (before : List Item) (bytes : List ℕ) (old new : LineTold) (number : ℕ)

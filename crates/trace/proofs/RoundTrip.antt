@@ -55,30 +55,30 @@ same_bad o one other p q = ap bad_end (same_fault o one other p q)
 -- the answer that must come where nothing failed
 module _ (n : ℕ) (old new : LineTold) (taken : List Item) (reading : Reading) (calm : LineUnfailed old new) where
   told_bad : (end : SlipEnd) → SlipEndsBy n old new taken reading end → (number : ℕ) (why : CaptureWhy) → fault_in reading ≡ Some (number, why) → end ≡ ends.Bad number why
-  told_bad ends.End by number why f = absurd (none_is_not _ by.3 f)
-  told_bad ends.Budget by number why f = absurd (none_is_not _ by.2 f)
-  told_bad ends.LinkFault by number why f = absurd (none_is_not _ by.3 f)
+  told_bad ends.End by number why f = absurd (none_is_not _ by.1 f)
+  told_bad ends.Budget by number why f = absurd (none_is_not _ by.1 f)
+  told_bad ends.LinkFault by number why f = absurd (none_is_not _ by.1 f)
   told_bad ends.WriteFault by number why f = absurd (omega (arith, by.2, calm.sink, calm.sink.below))
-  told_bad (ends.Bad m whys.Cut) by number why f = absurd (none_is_not _ by.3 f)
+  told_bad (ends.Bad m whys.Cut) by number why f = absurd (none_is_not _ by.1 f)
   told_bad (ends.Bad m whys.Head) by number why f = same_bad _ (m, whys.Head) (number, why) by.2 f
   told_bad (ends.Bad m whys.Length) by number why f = same_bad _ (m, whys.Length) (number, why) by.2 f
 
   told_budget : (end : SlipEnd) → SlipEndsBy n old new taken reading end → fault_in reading ≡ None → length taken ≡ n → end ≡ ends.Budget
-  told_budget ends.End by none all = absurd (omega (arith, by.1))
+  told_budget ends.End by none all = absurd (omega (arith, by.0.1))
   told_budget ends.Budget by none all = refl
-  told_budget ends.LinkFault by none all = absurd (omega (arith, by.0))
+  told_budget ends.LinkFault by none all = absurd (omega (arith, by.0.0))
   told_budget ends.WriteFault by none all = absurd (omega (arith, by.2, calm.sink, calm.sink.below))
-  told_budget (ends.Bad m whys.Cut) by none all = absurd (omega (arith, by.1))
+  told_budget (ends.Bad m whys.Cut) by none all = absurd (omega (arith, by.0.1))
   told_budget (ends.Bad m whys.Head) by none all = absurd (none_is_not _ none by.2)
   told_budget (ends.Bad m whys.Length) by none all = absurd (none_is_not _ none by.2)
 
   told_over : (end : SlipEnd) → SlipEndsBy n old new taken reading end → (all : List Item) → fault_in reading ≡ None → old.link.coming ≡ Some all → length all < n
       → Consumes old.link.coming new.link.coming taken → end ≡ end_by_cut (cut_in reading)
-  told_over ends.End by all none told short c = ap (λ o. end_by_cut o) (sym by.4)
-  told_over ends.Budget by all none told short c = absurd (omega (arith, taken_within old.link.coming new.link.coming all taken told c, by.0))
-  told_over ends.LinkFault by all none told short c = absurd (omega (arith, by.1, calm.link, calm.link.below))
+  told_over ends.End by all none told short c = ap (λ o. end_by_cut o) (sym by.2)
+  told_over ends.Budget by all none told short c = absurd (omega (arith, taken_within old.link.coming new.link.coming all taken told c, by.0.0))
+  told_over ends.LinkFault by all none told short c = absurd (omega (arith, by.0.1, calm.link, calm.link.below))
   told_over ends.WriteFault by all none told short c = absurd (omega (arith, by.2, calm.sink, calm.sink.below))
-  told_over (ends.Bad m whys.Cut) by all none told short c = ap (λ o. end_by_cut o) (sym by.4)
+  told_over (ends.Bad m whys.Cut) by all none told short c = ap (λ o. end_by_cut o) (sym by.2)
   told_over (ends.Bad m whys.Head) by all none told short c = absurd (none_is_not _ none by.2)
   told_over (ends.Bad m whys.Length) by all none told short c = absurd (none_is_not _ none by.2)
 
@@ -268,14 +268,14 @@ module _ (items : List Item) (n : ℕ) (old new : LineTold) (told : old.link.com
 
   back : (end : SlipEnd) → Converts n old new end → Back end
   back ends.End c =
-      let same = read_all c.reading c.taken c.read c.ends.0 in
+      let same = read_all c.reading c.taken c.read c.ends.0.0 in
       (refl, appends_by _ _ _ _ (sym (ap (λ r. lines_of (captured_in r)) same ∙ line_is items)) c.wrote)
   back ends.Budget c =
-      absurd (omega (arith, taken_within old.link.coming new.link.coming (map Byte (capture_file items)) c.taken told c.consumed, c.ends.0, whole_size))
-  back ends.LinkFault c = absurd (omega (arith, c.ends.1, calm.link, calm.link.below))
+      absurd (omega (arith, taken_within old.link.coming new.link.coming (map Byte (capture_file items)) c.taken told c.consumed, c.ends.0.0, whole_size))
+  back ends.LinkFault c = absurd (omega (arith, c.ends.0.1, calm.link, calm.link.below))
   back ends.WriteFault c = absurd (omega (arith, c.ends.2, calm.sink, calm.sink.below))
   back (ends.Bad m whys.Cut) c =
-      let same = read_all c.reading c.taken c.read c.ends.0 in absurd (uncut (cut_in c.reading) (ap (λ r. cut_in r) same) c.ends.4)
+      let same = read_all c.reading c.taken c.read c.ends.0.0 in absurd (uncut (cut_in c.reading) (ap (λ r. cut_in r) same) c.ends.2)
   back (ends.Bad m whys.Head) c = absurd (no_fault c.reading c.taken (m, whys.Head) c.read c.consumed c.ends.2)
   back (ends.Bad m whys.Length) c = absurd (no_fault c.reading c.taken (m, whys.Length) c.read c.consumed c.ends.2)
 

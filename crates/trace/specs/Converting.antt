@@ -1,11 +1,12 @@
 -- What a call that makes a capture file a serial line has taken and written, and how it ends.
 use Rattle.std.specs.Prelude.{◌≡◌, ◌<◌, ◌≤◌, ℕ, List, ◌++◌, map, Option, Some, None, length, ⊤}
 use Rattle.std.specs.Io.KnownBytes.{Appends}
-use Rattle.uip_edge.specs.Causes.{Rose}
-use Rattle.uip_edge.specs.Coming.{Consumes, bytes_among, TookAll}
+use Rattle.uip_edge.specs.Coming.{Consumes, bytes_among}
+use Rattle.uip_edge.specs.Ending.{EndsBy}
 use Rattle.uip_edge.specs.Writing.{AppendsPrefix}
 use Rattle.uip_edge.specs.declared.item.Item.{Item}
 use Rattle.uip_edge.specs.declared.item.Item.TheVariants.{Byte}
+use Rattle.uip_edge.specs.declared.serve_end.ServeEnd.TheVariants as line
 use Rattle.trace.specs.CaptureReading.{IsReadAs, Reading, cut_in, captured_in, fault_in, lines_of}
 use Rattle.trace.specs.declared.slip_end.CaptureWhy.{CaptureWhy}
 use Rattle.trace.specs.declared.slip_end.CaptureWhy.TheVariants as whys
@@ -22,17 +23,15 @@ pub record HasNewFault (taken : List Item) : Type 0 where
   pub read : IsReadAs (bytes_among front) reading
   pub sound : fault_in reading ≡ None
 
--- the cause of each end of a call that took these items, of which there were to be n at most, and read them so
+-- the cause of each end of a call that took these items, of which there were to be n at most, and read them so: how the line ended, and
+-- what the reading says
 abbrev pub SlipEndsBy : ℕ → LineTold → LineTold → List Item → Reading → SlipEnd → Type 0
-SlipEndsBy n old new taken reading ends.End =
-    TookAll old.link.coming taken × (length taken < n) × IsCalm old new × (fault_in reading ≡ None) × (cut_in reading ≡ None)
-SlipEndsBy n old new taken reading ends.Budget = (length taken ≡ n) × IsCalm old new × (fault_in reading ≡ None)
-SlipEndsBy n old new taken reading ends.LinkFault =
-    (length taken < n) × Rose old.link.faults new.link.faults × (new.sink.faults ≡ old.sink.faults) × (fault_in reading ≡ None)
-SlipEndsBy n old new taken reading ends.WriteFault =
-    (length taken ≤ n) × (new.link.faults ≡ old.link.faults) × Rose old.sink.faults new.sink.faults
+SlipEndsBy n old new taken reading ends.End = EndsBy n old new taken line.End × (fault_in reading ≡ None) × (cut_in reading ≡ None)
+SlipEndsBy n old new taken reading ends.Budget = EndsBy n old new taken line.Budget × (fault_in reading ≡ None)
+SlipEndsBy n old new taken reading ends.LinkFault = EndsBy n old new taken line.LinkFault × (fault_in reading ≡ None)
+SlipEndsBy n old new taken reading ends.WriteFault = EndsBy n old new taken line.WriteFault
 SlipEndsBy n old new taken reading (ends.Bad number whys.Cut) =
-    TookAll old.link.coming taken × (length taken < n) × IsCalm old new × (fault_in reading ≡ None) × (cut_in reading ≡ Some number)
+    EndsBy n old new taken line.End × (fault_in reading ≡ None) × (cut_in reading ≡ Some number)
 SlipEndsBy n old new taken reading (ends.Bad number why) =
     (length taken ≤ n) × IsCalm old new × (fault_in reading ≡ Some (number, why)) × HasNewFault taken
 

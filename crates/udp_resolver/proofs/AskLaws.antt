@@ -49,7 +49,7 @@ stopped asked n taken more run old mid new room ends.End is_open c more_c few si
   consumed = consumed_none old.link.coming mid.link.coming new.link.coming taken more why.0 c more_c;
   needed = needed;
   by = record {
-    done = inr (record { is_open = is_open; all = took_all old.link.coming mid.link.coming taken c why.1; few = few });
+    done = inr (is_open, took_all old.link.coming mid.link.coming taken c why.1, few);
     calm = calm_then old mid new calm why.2;
     knows = t.knows;
     out = kept_out old.sink.written mid.sink.written new.sink.written (line_text asked (events taken)) t.out wrote;

@@ -36,7 +36,7 @@ dry_told asked n old new all taken ends.WriteFault e calm told short c = absurd 
 
 not_done : (asked : List Question) (n : ℕ) (coming : Option (List Item)) (taken : List Item) → IsDone asked n coming taken ends.End → IsOpen asked taken → length taken ≡ n → ⊥
 not_done asked n coming taken (inl settled) is_open all = clash (sym settled ∙ is_open)
-not_done asked n coming taken (inr dry) is_open all = omega (arith, dry.few, all)
+not_done asked n coming taken (inr dry) is_open all = omega (arith, dry.2, all)
 
 pub budget_told : (asked : List Question) (n : ℕ) (old new : Streams) (taken : List Item) (end : ServeEnd) → ResolvesBy asked n old new taken end
     → StreamsUnfailed old new → IsOpen asked taken → length taken ≡ n → end ≡ ends.Budget

@@ -1,5 +1,5 @@
 -- How the asking and the telling make a whole.
-use Rattle.std.proofs.Common.{◌≡◌, ◌<◌, ℕ, length, List, Option, map, refl, ap, ◌∙◌, inr}
+use Rattle.std.proofs.Common.{◌≡◌, ◌<◌, ℕ, length, List, Option, map, refl, sym, ap, ◌∙◌, inr, subst}
 use Rattle.std.specs.Io.KnownBytes.{Appends}
 use Rattle.dns_message.specs.declared.answer.Answer.{Answer}
 use Rattle.dns_message.specs.declared.asking.Asking.{Asking}
@@ -8,6 +8,7 @@ use Rattle.uip_edge.specs.declared.serve_end.ServeEnd.{ServeEnd}
 use Rattle.uip_edge.specs.declared.serve_end.ServeEnd.TheVariants as ends
 use Rattle.uip_edge.specs.Causes.{Rose}
 use Rattle.uip_edge.specs.Writing.{AppendsPrefix}
+use Rattle.uip_edge.proofs.Told.{appends_by, prefix_by}
 use Rattle.udp_resolver.specs.Fates.{Question, answer_among, questions}
 use Rattle.udp_resolver.specs.LineEvents.{events}
 use Rattle.udp_resolver.specs.Lines.{lines}
@@ -70,3 +71,19 @@ module _ (asked : List Question) (n : ℕ) (run : Run) (old new : Streams) where
   told_part ends.Budget l w a rose told some = resolves ends.Budget ends.WriteFault a (inr (part ends.Budget a.taken a.by rose told some))
   told_part ends.LinkFault l w a rose told some = absurd (l refl)
   told_part ends.WriteFault l w a rose told some = absurd (w refl)
+
+-- of the names that were asked for all was told, or a front of it where the telling failed
+module _ (asking : Asking) (names : List (List ℕ)) (n : ℕ) (run : Run) (old new : Streams) (answers : List (Option Answer)) (same : answers ≡ run.answers.items)
+    (end : ServeEnd) (l : end ≡ ends.LinkFault → ⊥) (w : end ≡ ends.WriteFault → ⊥) (a : Asks (questions asking names) n run old.line new.line end) where
+  told_text : (taken : List Item) → Knows (questions asking names) taken run → lines_by names answers run.clock.given_up ≡ lines (questions asking names) (events taken)
+  told_text taken k = lines_known asking names taken run answers same k
+
+  pub names_told : new.tell.faults ≡ old.tell.faults → Appends old.tell.written new.tell.written (lines_by names answers run.clock.given_up)
+      → Resolves (questions asking names) n old new end
+  names_told calm whole = told_all (questions asking names) n run old new end l w a calm (λ taken k. appends_by _ _ _ _ (sym (told_text taken k)) whole)
+
+  pub names_part : Rose old.tell.faults new.tell.faults → AppendsPrefix old.tell.written new.tell.written (lines_by names answers run.clock.given_up)
+      → 0 < length (lines_by names answers run.clock.given_up) → Resolves (questions asking names) n old new ends.WriteFault
+  names_part rose front some =
+      told_part (questions asking names) n run old new end l w a rose (λ taken k. prefix_by _ _ _ _ (sym (told_text taken k)) front)
+      (λ taken k. subst (λ (text : List ℕ). 0 < length text) (told_text taken k) some)

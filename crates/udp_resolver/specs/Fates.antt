@@ -68,8 +68,7 @@ fate_of happened q = fate_by (answer_among happened q) (is_given_up happened)
 
 abbrev pub is_settled : Fate → Bool
 is_settled Open = false
-is_settled Timeout = true
-is_settled (Answered answer) = true
+is_settled _ = true
 
 abbrev pub all_settled : List Question → List LineEvent → Bool
 all_settled asked happened = list_all (λ q. is_settled (fate_of happened q)) asked

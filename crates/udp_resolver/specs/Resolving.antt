@@ -20,18 +20,11 @@ IsSettled asked taken = all_settled asked (events taken) ≡ true
 abbrev pub IsOpen : List Question → List Item → Type 0
 IsOpen asked taken = all_settled asked (events taken) ≡ false
 
--- the link ended while a question was open, before n items
-pub record RanDry (asked : List Question) (n : ℕ) (coming : Option (List Item)) (taken : List Item) : Type 0 where
-  pub is_open : IsOpen asked taken
-  pub all : TookAll coming taken
-  pub few : length taken < n
-
--- why no more items are taken: all questions are settled or the link ended, or else n items were taken
+-- why no more items are taken: all questions are settled, or one is open and the link ended before n items, or n items were taken
 abbrev pub IsDone : List Question → ℕ → Option (List Item) → List Item → ServeEnd → Type 0
-IsDone asked n coming taken ends.End = IsSettled asked taken ⊎ RanDry asked n coming taken
+IsDone asked n coming taken ends.End = IsSettled asked taken ⊎ (IsOpen asked taken × TookAll coming taken × (length taken < n))
 IsDone asked n coming taken ends.Budget = IsOpen asked taken × (length taken ≡ n)
-IsDone asked n coming taken ends.LinkFault = ⊥
-IsDone asked n coming taken ends.WriteFault = ⊥
+IsDone asked n coming taken _ = ⊥
 
 -- all was asked and told
 pub record WroteAll (asked : List Question) (n : ℕ) (old new : Streams) (taken : List Item) (end : ServeEnd) : Type 0 where
@@ -46,16 +39,14 @@ pub record LinkFailed (asked : List Question) (n : ℕ) (old new : Streams) (tak
   pub few : length taken < n
   pub rose : Rose old.line.link.faults new.line.link.faults
   pub out : WritesAll old.line.sink new.line.sink (line_text asked (events taken))
-  pub told : new.tell.written ≡ old.tell.written
-  pub tell_same : new.tell.faults ≡ old.tell.faults
+  pub tell : new.tell ≡ old.tell
 
 -- the line out failed where there was something to write, and nothing was told
 pub record OutFailed (asked : List Question) (old new : Streams) (taken : List Item) : Type 0 where
   pub link_same : new.line.link.faults ≡ old.line.link.faults
   pub some : 0 < length (line_text asked (events taken))
   pub out : WritesFront old.line.sink new.line.sink (line_text asked (events taken))
-  pub told : new.tell.written ≡ old.tell.written
-  pub tell_same : new.tell.faults ≡ old.tell.faults
+  pub tell : new.tell ≡ old.tell
 
 -- all was asked, and the telling failed where there was something to tell
 pub record TellFailed (asked : List Question) (n : ℕ) (old new : Streams) (taken : List Item) : Type 0 where
@@ -67,10 +58,9 @@ pub record TellFailed (asked : List Question) (n : ℕ) (old new : Streams) (tak
   pub told : WritesFront old.tell new.tell (lines asked (events taken))
 
 abbrev pub ResolvesBy : List Question → ℕ → Streams → Streams → List Item → ServeEnd → Type 0
-ResolvesBy asked n old new taken ends.End = WroteAll asked n old new taken ends.End
-ResolvesBy asked n old new taken ends.Budget = WroteAll asked n old new taken ends.Budget
 ResolvesBy asked n old new taken ends.LinkFault = LinkFailed asked n old new taken
 ResolvesBy asked n old new taken ends.WriteFault = OutFailed asked old new taken ⊎ TellFailed asked n old new taken
+ResolvesBy asked n old new taken end = WroteAll asked n old new taken end
 
 -- what one answer of a link gives: bytes, or one silence
 abbrev pub IsOneAnswer : List Item → Type 0

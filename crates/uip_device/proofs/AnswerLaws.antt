@@ -7,21 +7,22 @@ use Rattle.uip_edge.specs.declared.item.Item.{Item}
 use Rattle.uip_slip.specs.Decoding.{WasFed}
 use Rattle.uip_node.specs.Events.{Reply}
 use Rattle.uip_node.specs.Node.{AbstractNode, opening}
+use Rattle.uip_node.specs.declared.node.Node.{Node}
 use Rattle.uip_wire.specs.declared.addr.Addr.{Addr}
 use Rattle.serve_loop.specs.LineOutput.{opening_at, output_by}
 use Rattle.serve_loop.specs.SlipWay.{slip_way}
 use Rattle.serve_loop.specs.Texts.{text_of}
 use Rattle.serve_loop.specs.Turns.{IsNode}
 use Rattle.serve_loop.proofs.SlipServeLaws.{said_on_line}
-use Rattle.uip_device.specs.Calls.{DoesNothing, HandsOn}
+use Rattle.uip_device.specs.Calls.{Call, DoesNothing, HandsOn, bytes_of_call, events_by, is_by_datagram}
 use Rattle.uip_device.specs.Devices.{Answered, Answers, AnswersAll, AnswersMove, HasHeard, IsFreshDevice, datagrams_handed, left_text_of, line_handed, moves_of}
 use Rattle.uip_device.specs.Handing.{text_to_come}
 use Rattle.uip_device.specs.Moves.{Bring, Gives, Makes, Move, Writing, bytes_of_move, goes_by_datagram, run_move}
 use Rattle.uip_device.specs.Output.{datagrams_sent, line_sent, node_behind}
-use Rattle.uip_device.specs.Sending.{HandsOut, datagram_sent}
+use Rattle.uip_device.specs.Sending.{HandsOut, SendsOver, datagram_sent}
 use Rattle.uip_device.specs.declared.device.Device.{Device}
 use Rattle.uip_device.proofs.CallLaws.{line_text}
-use Rattle.uip_device.proofs.SendLaws.{sends_none}
+use Rattle.uip_device.proofs.SendLaws.{by_datagram, sends_none}
 
 -- what one call hands out over the line, and then the others
 line_step : (v : Bool) (own : Addr) (replies : List Reply) (before handed left rest more last : List ℕ) → HandsOut v own before handed left replies → left ++ rest ≡ more ++ last
@@ -56,6 +57,18 @@ module _ {A S : Type 0} (g : Ghosts A S) where
     sends = λ before h.
         sends_none g (λ own. []) d.node (λ own replies. HandsOut false own (left_text_of d) handed (text_to_come (datagram_in d.node.packet) left) replies)
         (λ own. refl) (λ own. append-nil (left_text_of d) ∙ e);
+  }
+
+  -- a call with a datagram, where nothing is left of a text: what its node sends is handed out whole
+  pub answers_whole : (call : Call) (old : Device A S) (new : Node A S) (handed : List ℕ) → old.left ≡ None → is_by_datagram call ≡ true → bytes_of_call call ≡ []
+      → ((before : List ℕ) → SendsOver g (events_by before call) old.node new (λ own replies. handed ≡ datagram_sent own replies))
+      → Answers g call old (record old { node = new }) handed
+  answers_whole call old new handed none whole nothing sends = record {
+    heard = λ before h. subst (λ (l : List ℕ). WasFed l old.decoder) (sym (ap (λ (l : List ℕ). before ++ l) nothing ∙ append-nil before)) h;
+    sends = λ before h.
+        subst (λ (b : Bool). SendsOver g (events_by before call) old.node new (λ own replies. HandsOut b own (left_text_of old) handed (left_text_of (record old { node = new })) replies)) (sym whole)
+        (by_datagram g (events_by before call) old.node new (left_text_of old) handed (left_text_of (record old { node = new }))
+        (none_left (record old { node = new }) none ∙ sym (none_left old none)) (sends before));
   }
 
   module _ (m : Meaning) (own : Addr) (gives : Writing) where

@@ -77,11 +77,11 @@ serving site line old new result (inr none) u there = no_site site line old new 
 
 image_by : (due : Files → Option Due) (old new : Outside) (result : Status) (end : SiteEnd) → status_of_site end ≡ result → Ends due (work_in old) (work_in new) end → WorkUnfailed (work_in old) (work_in new)
     → ¬ (LacksFile due old.shelf.held) → OrShort result (ImageDone due old new result)
-image_by due old new result sites.Done e t c there = inr (record { text = t.0; fault = None }, t.1, t.2.whole, sym e)
-image_by due old new result (sites.Bad error) e t c there = inr (record { text = t.0; fault = Some error }, t.1, t.2.whole, sym e)
+image_by due old new result sites.Done e t c there = inr (record { text = t.0; fault = None }, t.1.0, t.1.1.whole, sym e)
+image_by due old new result (sites.Bad error) e t c there = inr (record { text = t.0; fault = Some error }, t.1.0, t.1.1.whole, sym e)
 image_by due old new result sites.ShelfFault e t c there =
     elim t.0 [ inl rose ↦ absurd (stayed old.shelf.faults new.shelf.faults c.shelf.same c.shelf.below rose) | inr lacks ↦ absurd (there lacks) ]
-image_by due old new result sites.WriteFault e t c there = absurd (stayed old.sink.faults new.sink.faults c.sink.same c.sink.below t.2.rose)
+image_by due old new result sites.WriteFault e t c there = absurd (stayed old.sink.faults new.sink.faults c.sink.same c.sink.below t.1.1.rose)
 image_by due old new result sites.NoMemory e t c there = inl (sym e)
 
 image : (due : Files → Option Due) (old new : Outside) (result : Status) → RunsAs status_of_site (Ends due (work_in old) (work_in new)) result → IsUndisturbed old new → ¬ (LacksFile due old.shelf.held) → OrShort result (ImageDone due old new result)
@@ -103,7 +103,7 @@ capture_by : (n : ℕ) (old new : Outside) (result : Status) (end : SlipEnd) →
 capture_by n old new result slips.End e t u = (slips.End, tt, t, e)
 capture_by n old new result slips.Budget e t u = (slips.Budget, tt, t, e)
 capture_by n old new result (slips.Bad number why) e t u = (slips.Bad number why, tt, t, e)
-capture_by n old new result slips.LinkFault e t u = absurd (stayed old.link.faults new.link.faults u.link.same u.link.below t.ends.1)
+capture_by n old new result slips.LinkFault e t u = absurd (stayed old.link.faults new.link.faults u.link.same u.link.below t.ends.0.1)
 capture_by n old new result slips.WriteFault e t u = absurd (stayed old.sink.faults new.sink.faults u.sink.same u.sink.below t.ends.2)
 
 -- ---- by the words

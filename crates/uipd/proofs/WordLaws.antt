@@ -1,21 +1,23 @@
 -- Numbers and commands in words.
 use Rattle.std.proofs.Common.{◌≡◌, ℕ, ◌-◌, ◌^◌, ◌<◌, true, false, cond, List, [], ◌∷◌, length, nat_lt, Option, None, Some, rules, Result, Ok, Err, refl, sym, ap, ◌∙◌, arith, map, string_bytes, String, Global}
-use Rattle.std.specs.Prelude.{option_map, slice_get}
+use Rattle.std.specs.Prelude.{Bool, codes, option_map, slice_get}
 use Rattle.std.proofs.lemmas.List.{length-map}
 use Rattle.std.proofs.lemmas.Option.{slice_get-map}
-use Rattle.std.specs.Char.{is_ascii_digit}
+use Rattle.std.specs.Option.{option_map_or}
+use Rattle.std.specs.Str.{bytes_eq}
 use Rattle.std.specs.List.{list_all}
 use Rattle.std.specs.Result.{result_ok, OkIff}
 use Rattle.std.specs.Str.Parse.{digits_value, ParsesUnsigned}
 use Rattle.std.proofs.lemmas.Bool.{ltb-true, lt-ltb}
 use Rattle.std.proofs.lemmas.Str.Parse.{IsNumeralModel, numerals_by_value, parse_digits}
-use Rattle.uipd.specs.Words.{ether_words, is_tty, limits_at, limits_of, says_tty}
+use Rattle.uipd.specs.Words.{ether_words, optionally, says_tty}
 
--- fewer than two words name no pace
-pub few : {A : Type 0} (f : A → List ℕ) (words : List A) → length words < 2 → limits_at 0 (map f words) ≡ limits_of (map f words)
-few f [] h = refl
-few f (a ∷ []) h = refl
-few f (a ∷ b ∷ words) h = absurd (omega arith)
+-- fewer than two words name no number
+pub few : {A X : Type 0} (f : A → List ℕ) (name : List ℕ) (otherwise : ℕ) (further : ℕ → List (List ℕ) → Option X) (words : List A) → length words < 2
+    → further otherwise (map f words) ≡ optionally name otherwise further (map f words)
+few f name otherwise further [] h = refl
+few f name otherwise further (a ∷ []) h = refl
+few f name otherwise further (a ∷ b ∷ words) h = absurd (omega arith)
 
 -- and fewer than three no hardware address
 pub few_for_ether : {A : Type 0} (f : A → List ℕ) (words : List A) → length words < 3 → None ≡ ether_words (map f words)
@@ -23,6 +25,10 @@ few_for_ether f [] h = refl
 few_for_ether f (a ∷ []) h = refl
 few_for_ether f (a ∷ b ∷ []) h = refl
 few_for_ether f (a ∷ b ∷ c ∷ words) h = absurd (omega arith)
+
+-- whether this is the word of a terminal
+abbrev pub is_tty : Option (List ℕ) → Bool
+is_tty word = option_map_or (λ text. bytes_eq text (codes "tty")) word false
 
 -- the last word says whether the line is a terminal
 pub last_told : (words : List (String Global)) (found : Option (String Global)) → found ≡ slice_get words (length words - 1) → is_tty (option_map string_bytes found) ≡ says_tty (map string_bytes words)

@@ -1,13 +1,12 @@
 -- The words of `resolve`.
-use Rattle.std.specs.Prelude.{ℕ, ◌-◌, ◌&&◌, nat_le, nat_lt, if◌then◌else◌, Bool, List, [], ◌∷◌, Option, None, Some, codes, length, take}
+use Rattle.std.specs.Prelude.{ℕ, ◌-◌, ◌&&◌, nat_le, if◌then◌else◌, Bool, List, [], ◌∷◌, Option, None, Some, codes, length, take}
 use Rattle.std.specs.List.{list_all}
 use Rattle.std.specs.Str.{bytes_eq}
 use Rattle.uip_wire.specs.Addr.{◌>>=◌, quad_of}
 use Rattle.uip_wire.specs.declared.addr.Addr.{Addr}
 use Rattle.dns_message.specs.Names.{is_domain}
 use Rattle.udp_resolver.specs.declared.TheConstants.{MOST_NAMES}
-use Rattle.uip_wire.specs.Numerals.{numeral}
-use Rattle.uipd.specs.Words.{all_items, says_tty}
+use Rattle.uipd.specs.Words.{all_items, number_within, optionally, says_tty}
 
 -- what the words ask for: to ask a server at an address for names, the first of them under this id, up to so many items
 pub record Resolving : Type 0 where
@@ -17,39 +16,27 @@ pub record Resolving : Type 0 where
   pub names : List (List ℕ)
   pub items : ℕ
 
--- an id is a number below 65536
-abbrev pub id_of : List ℕ → Option ℕ
-id_of text = do
-  id ← numeral text
-  if nat_lt id 65536 then Some id else None
-
 -- the words in front of a last `tty`, which says only what a read of nothing means
 abbrev pub without_tty : List (List ℕ) → List (List ℕ)
 without_tty words = if says_tty words then take (length words - 1) words else words
 
 -- one to four names, each of the form of a name
-abbrev pub are_names : List (List ℕ) → Bool
-are_names words = nat_le 1 (length words) && nat_le (length words) MOST_NAMES && list_all is_domain words
-
 abbrev pub names_of : List (List ℕ) → Option (List (List ℕ))
-names_of words = if are_names words then Some words else None
+names_of words =
+    if nat_le 1 (length words) && nat_le (length words) MOST_NAMES && list_all is_domain words then Some words else None
 
--- `OWN SERVER ID`, the number of items, and the words behind it
-abbrev pub asked_at : List ℕ → List ℕ → List ℕ → Option ℕ → List (List ℕ) → Option Resolving
+-- `OWN SERVER ID`, where the id is a number below 65536, the number of items, and the words behind it
+abbrev pub asked_at : List ℕ → List ℕ → List ℕ → ℕ → List (List ℕ) → Option Resolving
 asked_at own server id items words = do
   own ← quad_of own
   server ← quad_of server
-  id ← id_of id
-  items ← items
+  id ← number_within 0 65535 id
   names ← names_of (without_tty words)
   Some (record { own = record { 0 = own }; server = record { 0 = server }; id = id; names = names; items = items })
 
 -- optionally `items N`, then the names, then optionally `tty`
 abbrev pub asked_by : List ℕ → List ℕ → List ℕ → List (List ℕ) → Option Resolving
-asked_by own server id (word ∷ number ∷ words) =
-    if bytes_eq word (codes "items") then asked_at own server id (numeral number) words
-    else asked_at own server id (Some all_items) (word ∷ number ∷ words)
-asked_by own server id words = asked_at own server id (Some all_items) words
+asked_by own server id words = optionally (codes "items") all_items (asked_at own server id) words
 
 -- `OWN SERVER ID`, and further words
 abbrev pub resolve_words : List (List ℕ) → Option Resolving

@@ -1,5 +1,6 @@
 -- The words of the command line.
 use Rattle.std.specs.Prelude.{ℕ, ◌-◌, ◌^◌, ◌==◌, ◌&&◌, nat_le, nat_lt, if◌then◌else◌, Bool, true, false, List, [], ◌∷◌, Option, None, Some, option_map, codes, length, map, slice_get, string_bytes}
+use Rattle.std.specs.Option.{option_map_or}
 use Rattle.std.specs.List.{list_all, list_any, before_first, after_first}
 use Rattle.std.specs.Str.{bytes_eq}
 use Rattle.std.specs.Str.Parse.{digits_value}
@@ -77,14 +78,9 @@ task_meant (Show text) = ShowsText text.now
 abbrev pub all_items : ℕ
 all_items = 2 ^ 64 - 1
 
--- whether a word is `tty`, which says what a read of nothing means
-abbrev pub is_tty : Option (List ℕ) → Bool
-is_tty None = false
-is_tty (Some word) = bytes_eq word (codes "tty")
-
--- the last word says it
+-- the last word is `tty`, which says what a read of nothing means
 abbrev pub says_tty : List (List ℕ) → Bool
-says_tty words = is_tty (slice_get words (length words - 1))
+says_tty words = option_map_or (λ word. bytes_eq word (codes "tty")) (slice_get words (length words - 1)) false
 
 -- no more words, or `tty` alone, which says only what a read of nothing means
 abbrev pub ends_here : List (List ℕ) → Bool
@@ -92,20 +88,22 @@ ends_here [] = true
 ends_here (word ∷ []) = bytes_eq word (codes "tty")
 ends_here words = false
 
-abbrev pub limited : ℕ → Option ℕ → Bool → Option Limits
-limited pace items whole = items >>= λ n. if whole then Some (record { pace = pace; items = n }) else None
+-- optionally this word and a number behind it, which without them is another; and then further words
+abbrev pub optionally : {X : Type 0} → List ℕ → ℕ → (ℕ → List (List ℕ) → Option X) → List (List ℕ) → Option X
+optionally name otherwise further (word ∷ number ∷ words) =
+    if bytes_eq word name then (numeral number >>= λ n. further n words) else further otherwise (word ∷ number ∷ words)
+optionally name otherwise further words = further otherwise words
+
+abbrev pub limited : ℕ → ℕ → List (List ℕ) → Option Limits
+limited pace items words = if ends_here words then Some (record { pace = pace; items = items }) else None
 
 -- behind the pace: optionally `items N`, then the end
 abbrev pub limits_at : ℕ → List (List ℕ) → Option Limits
-limits_at pace (word ∷ number ∷ words) =
-    if bytes_eq word (codes "items") then limited pace (numeral number) (ends_here words) else None
-limits_at pace words = limited pace (Some all_items) (ends_here words)
+limits_at pace words = optionally (codes "items") all_items (limited pace) words
 
 -- optionally `pace K`, then what stands behind the pace, which is 0 without these words
 abbrev pub limits_of : List (List ℕ) → Option Limits
-limits_of (word ∷ number ∷ words) =
-    if bytes_eq word (codes "pace") then (numeral number >>= λ pace. limits_at pace words) else limits_at 0 (word ∷ number ∷ words)
-limits_of words = limits_at 0 words
+limits_of words = optionally (codes "pace") 0 limits_at words
 
 -- `SITE ADDR`, and further words: over a serial line
 abbrev pub serve_words : Application → List (List ℕ) → Option Task
@@ -131,8 +129,7 @@ check_words words = None
 
 -- `NAME=FILE ..`, of which there is at least one
 abbrev pub pack_words : List (List ℕ) → Option Task
-pack_words [] = None
-pack_words (word ∷ words) = if list_all has_parts (word ∷ words) then Some (Packs (map named_file (word ∷ words))) else None
+pack_words words = if nat_lt 0 (length words) && list_all has_parts words then Some (Packs (map named_file words)) else None
 
 -- `SITE NAME=TYPE ..`
 abbrev pub upgrade_words : List (List ℕ) → Option Task
@@ -150,23 +147,29 @@ replay_words (site ∷ schedule ∷ []) = Some (Replays site schedule false)
 replay_words (site ∷ schedule ∷ word ∷ []) = if bytes_eq word (codes "show") then Some (Replays site schedule true) else None
 replay_words words = None
 
+-- a number of a range
+abbrev pub number_within : ℕ → ℕ → List ℕ → Option ℕ
+number_within low high word = numeral word >>= λ n. if nat_le low n && nat_le n high then Some n else None
+
 -- `SITE SEED CLIENTS`, where a schedule is made for 1 to 64 clients
 abbrev pub load_words : List (List ℕ) → Option Task
 load_words (site ∷ seed ∷ clients ∷ []) = do
   seed ← numeral seed
-  clients ← numeral clients
-  if nat_le 1 clients && nat_le clients 64 then Some (Loads site seed clients) else None
+  clients ← number_within 1 64 clients
+  Some (Loads site seed clients)
 load_words words = None
 
 -- optionally `items N`, then optionally `tty`
 abbrev pub items_named : List (List ℕ) → Option ℕ
 items_named words = option_map (λ limits. limits.items) (limits_at 0 words)
 
+-- a capture is made a line again, with no further words
+abbrev pub plays_back : ℕ → List (List ℕ) → Option Task
+plays_back items words = if length words == 0 then Some (PlaysBack items) else None
+
 -- optionally `items N`
 abbrev pub slip_words : List (List ℕ) → Option Task
-slip_words [] = Some (PlaysBack all_items)
-slip_words (word ∷ number ∷ []) = if bytes_eq word (codes "items") then option_map PlaysBack (numeral number) else None
-slip_words words = None
+slip_words words = optionally (codes "items") all_items plays_back words
 
 -- no further words
 abbrev pub shown : List ℕ → List (List ℕ) → Option Task

@@ -1,6 +1,6 @@
 // The adapters over readers and writers in memory, and over a reader that fails; runs over them.
 use crate::adapters::{ReaderLink, WriterSink, run_over};
-use crate::harness::{bytes_of, words_of};
+use crate::harness::{both_of, words_of};
 use crate::resolve_tests::{QUERY, REPLY, WORDS};
 use crate::status::Status;
 use crate::tests::{PING, PONG};
@@ -68,8 +68,7 @@ fn a_write_of_nothing_is_a_fault(rt: HostRuntime) -> Result<(), Fail> {
 #[test]
 fn the_last_word_makes_the_reader_a_terminal(rt: HostRuntime) -> Result<(), Fail> {
     let alloc = rt.alloc();
-    let ping = bytes_of(alloc, &[PING])?;
-    let pong = bytes_of(alloc, &[PONG])?;
+    let (ping, pong) = both_of(alloc, &[PING], &[PONG])?;
     let rows: [(&[&str], Status); 2] = [
         (
             &["serve", "-", "10.0.0.1", "items", "32", "tty"],
@@ -100,8 +99,7 @@ fn the_last_word_makes_the_reader_a_terminal(rt: HostRuntime) -> Result<(), Fail
 #[test]
 fn names_are_told_beside_the_output(rt: HostRuntime) -> Result<(), Fail> {
     let alloc = rt.alloc();
-    let query = bytes_of(alloc, &[QUERY])?;
-    let reply = bytes_of(alloc, &[REPLY])?;
+    let (query, reply) = both_of(alloc, &[QUERY], &[REPLY])?;
     let words = words_of(alloc, &WORDS)?;
     let mut shelf = MemShelf::new(Vec::new(alloc), Vec::new(alloc));
     let (mut room, mut errors) = ([0; 128], [0; 32]);

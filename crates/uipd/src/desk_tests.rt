@@ -1,5 +1,5 @@
 // The desk over a line: talks with the shell worked by hand, pages beside them, and its words.
-use crate::harness::{Talk, Trial, bytes_of, check_bad_words, check_talks};
+use crate::harness::{Talk, Trial, both_of, check_bad_words, check_talks};
 use crate::status::Status;
 use crate::tests::{GET, PAGE, PING, PONG, SERVE, SYN as WEB_SYN, SYN_ACK as WEB_SYN_ACK};
 use std::test::Fail;
@@ -91,8 +91,7 @@ fn knows_the_words_of_the_desk(rt: HostRuntime) -> Result<(), Fail> {
         &["desk", "-", "10.0.0.1", "items", "2", "pace", "3"],
     ];
     check_bad_words(&rt, alloc, PING, &bad)?;
-    let ping = bytes_of(alloc, &[PING])?;
-    let pong = bytes_of(alloc, &[PONG])?;
+    let (ping, pong) = both_of(alloc, &[PING], &[PONG])?;
     let words = ["desk", "-", "10.0.0.1", "pace", "62", "items", "30", "tty"];
     Trial::new(&words, &ping, &pong)
         .ending(Status::Budget)

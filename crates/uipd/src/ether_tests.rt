@@ -1,5 +1,5 @@
 // Lines of Ethernet frames, over a link and a sink in memory, with the items cut in every way.
-use crate::harness::{Talk, Trial, bytes_of, check_bad_words, check_talks, front};
+use crate::harness::{Talk, Trial, both_of, bytes_of, check_bad_words, check_talks, front};
 use crate::status::Status;
 use std::test::Fail;
 
@@ -86,8 +86,7 @@ fn drops_a_long_frame(rt: HostRuntime) -> Result<(), Fail> {
 #[test]
 fn counts_all_bytes(rt: HostRuntime) -> Result<(), Fail> {
     let alloc = rt.alloc();
-    let asked = bytes_of(alloc, &[REQUEST, PING])?;
-    let known = bytes_of(alloc, &[REPLY, PONG])?;
+    let (asked, known) = both_of(alloc, &[REQUEST, PING], &[REPLY, PONG])?;
     // At each byte a tick: behind 2400 more the address is forgotten.
     let request = bytes_of(alloc, &[REQUEST])?;
     let mut later = request.clone()?;

@@ -1,7 +1,7 @@
 // Each call of the shelf, of the link and of the sink fails in turn, from the first on until none fails, and what a datagram is
 // answered with is written before anything more is asked of the line.
 use crate::ether_tests::{ETHER, REPLY, REQUEST};
-use crate::harness::{IMAGE, Trial, bytes_of, words_of};
+use crate::harness::{IMAGE, Trial, both_of, bytes_of, words_of};
 use crate::run::run;
 use crate::status::Status;
 use crate::tests::{ESCAPED_PING, ESCAPED_PONG, PING, SERVE};
@@ -36,10 +36,8 @@ fn due(call: u64, calls: u64, status: Status) -> Status {
 #[test]
 fn each_call_fails_in_turn(rt: HostRuntime) -> Result<(), Fail> {
     let alloc = rt.alloc();
-    let ping = bytes_of(alloc, &[ESCAPED_PING])?;
-    let pong = bytes_of(alloc, &[ESCAPED_PONG])?;
-    let request = bytes_of(alloc, &[REQUEST])?;
-    let replied = bytes_of(alloc, &[REPLY])?;
+    let (ping, pong) = both_of(alloc, &[ESCAPED_PING], &[ESCAPED_PONG])?;
+    let (request, replied) = both_of(alloc, &[REQUEST], &[REPLY])?;
     let replayed = Trial {
         i: PAGE,
         ..Trial::new(

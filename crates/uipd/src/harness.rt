@@ -25,6 +25,11 @@ pub fn bytes_of(alloc: Global, texts: &[&str]) -> Result<Vec<u8>, Fail> {
     )
 }
 
+/// The bytes of two such lists, mostly of what comes and of what is written for it.
+pub fn both_of(alloc: Global, one: &[&str], other: &[&str]) -> Result<(Vec<u8>, Vec<u8>), Fail> {
+    Ok((bytes_of(alloc, one)?, bytes_of(alloc, other)?))
+}
+
 /// So many bytes of the front of a text.
 pub fn front(text: &[u8], len: usize) -> &[u8] {
     &text[..len.min(text.len())]
@@ -195,8 +200,7 @@ pub fn check_talks<'w>(
     talks: &[Talk<'_>],
 ) -> Result<(), Fail> {
     for (heard, sent) in talks {
-        let heard = bytes_of(alloc, heard)?;
-        let sent = bytes_of(alloc, sent)?;
+        let (heard, sent) = both_of(alloc, heard, sent)?;
         Trial::new(words, &heard, &sent).check_cuts(rt, alloc)?;
     }
     Ok(())

@@ -1,5 +1,5 @@
 // The words of `resolve`, over a line in memory.
-use crate::harness::{Trial, bytes_of, check_bad_words, words_of};
+use crate::harness::{Trial, both_of, bytes_of, check_bad_words, words_of};
 use crate::run::run;
 use crate::status::Status;
 use std::alloc::Global;
@@ -20,8 +20,7 @@ pub const WORDS: [&str; 5] = ["resolve", "10.0.0.1", "10.0.0.2", "1", "a.b"];
 #[test]
 fn tells_the_address_for_every_cut(rt: HostRuntime) -> Result<(), Fail> {
     let alloc = rt.alloc();
-    let query = bytes_of(alloc, &[QUERY])?;
-    let reply = bytes_of(alloc, &[REPLY])?;
+    let (query, reply) = both_of(alloc, &[QUERY], &[REPLY])?;
     let good = Trial {
         told: b"a.b 192.0.2.7\n",
         ..Trial::new(&WORDS, &reply, &query)

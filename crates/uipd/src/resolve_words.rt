@@ -1,7 +1,7 @@
 ghost use Rattle.std.specs.Prelude.{◌≡◌, map, option_map, string_bytes};
 ghost use Rattle.uipd.specs.ResolveWords as meant;
 
-use crate::words::{number_of, says_tty};
+use crate::words::{number_of, says_tty, within};
 use arrayvec::ArrayVec;
 use std::marker::Model;
 use udp_resolver::{MOST_NAMES, Name};
@@ -53,39 +53,25 @@ fn asked_by(own: &str, server: &str, id: &str, words: &[String]) -> Option<Resol
     match words {
         [word, number, rest @ ..] => {
             if word.as_str() == "items" {
-                return asked_at(own, server, id, number_of(number), rest);
+                return asked_at(own, server, id, number_of(number)?, rest);
             }
-            asked_at(own, server, id, Some(u64::MAX), words)
+            asked_at(own, server, id, u64::MAX, words)
         }
-        _ => asked_at(own, server, id, Some(u64::MAX), words),
+        _ => asked_at(own, server, id, u64::MAX, words),
     }
 }
 
 /// The addresses, the id, the number of items and the words behind it.
-fn asked_at(
-    own: &str,
-    server: &str,
-    id: &str,
-    items: Option<u64>,
-    words: &[String],
-) -> Option<Resolving>
+fn asked_at(own: &str, server: &str, id: &str, items: u64, words: &[String]) -> Option<Resolving>
     ensures { result ≡ meant.asked_at own.now server.now id.now items (map string_bytes words.now) }
 {
     Some(Resolving {
         own: Addr::parse(own.as_bytes())?,
         server: Addr::parse(server.as_bytes())?,
-        id: id_of(id)?,
-        items: items?,
+        id: within(0, 65535, id)? as u16,
+        items,
         names: names_of(without_tty(words))?,
     })
-}
-
-/// An id: a number below 65536.
-fn id_of(text: &str) -> Option<u16>
-    ensures { result ≡ meant.id_of text.now }
-{
-    let id = number_of(text)?;
-    if id < 65536 { Some(id as u16) } else { None }
 }
 
 /// The words in front of a last `tty`, at which `main` looks.

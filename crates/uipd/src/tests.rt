@@ -1,5 +1,7 @@
 // The worked exchanges, over a line in memory, with the items cut in every way.
-use crate::harness::{Talk, Trial, bad, bytes_of, check_all, check_bad_words, check_talks, front};
+use crate::harness::{
+    Talk, Trial, bad, both_of, bytes_of, check_all, check_bad_words, check_talks, front,
+};
 use crate::help::{HELP, VERSION};
 use crate::status::Status;
 use site_commands::SiteWhy;
@@ -135,8 +137,7 @@ fn takes_the_largest_frame(rt: HostRuntime) -> Result<(), Fail> {
 fn serves_a_connection(rt: HostRuntime) -> Result<(), Fail> {
     let alloc = rt.alloc();
     check_talks(&rt, alloc, &SERVE, &[(&[SYN, REQUEST], &[SYN_ACK, TAKEN])])?;
-    let syn = bytes_of(alloc, &[SYN])?;
-    let answered = bytes_of(alloc, &[SYN_ACK])?;
+    let (syn, answered) = both_of(alloc, &[SYN], &[SYN_ACK])?;
     let again = bytes_of(alloc, &[SYN_ACK, SENT_AGAIN])?;
     // 186 bytes without a frame: with the 62 of the SYN four times as many.
     let mut longer = syn.clone()?;
@@ -163,8 +164,7 @@ fn serves_a_connection(rt: HostRuntime) -> Result<(), Fail> {
 #[test]
 fn serves_a_site(rt: HostRuntime) -> Result<(), Fail> {
     let alloc = rt.alloc();
-    let asked = bytes_of(alloc, &[SYN, GET])?;
-    let paged = bytes_of(alloc, &[SYN_ACK, PAGE])?;
+    let (asked, paged) = both_of(alloc, &[SYN, GET], &[SYN_ACK, PAGE])?;
     let served = Trial::new(&["serve", "h", "10.0.0.1"], &asked, &paged);
     served.check(&rt, alloc, 4096)?;
     Trial::new(&["serve", "missing", "10.0.0.1"], &asked, &[])
@@ -245,8 +245,7 @@ fn shows_its_own_texts(rt: HostRuntime) -> Result<(), Fail> {
 #[test]
 fn stops_as_asked(rt: HostRuntime) -> Result<(), Fail> {
     let alloc = rt.alloc();
-    let ping = bytes_of(alloc, &[PING])?;
-    let pong = bytes_of(alloc, &[PONG])?;
+    let (ping, pong) = both_of(alloc, &[PING], &[PONG])?;
     let budgets: [(&str, &[u8], Status); 4] = [
         ("29", &[], Status::Budget),
         ("30", &pong, Status::Budget),
@@ -276,8 +275,7 @@ fn stops_as_asked(rt: HostRuntime) -> Result<(), Fail> {
 #[test]
 fn tells_a_line(rt: HostRuntime) -> Result<(), Fail> {
     let alloc = rt.alloc();
-    let line = bytes_of(alloc, &[PING, PONG, STRAY_SYN])?;
-    let ping = bytes_of(alloc, &[PING])?;
+    let (line, ping) = both_of(alloc, &[PING, PONG, STRAY_SYN], &[PING])?;
     let capture = bytes_of(alloc, &[CAPTURE_HEAD, PING_RECORD, PING_ALONE])?;
     let lines: &[u8] =
         b"1 28 icmp 10.0.0.2 10.0.0.1 8 0\n2 28 icmp 10.0.0.1 10.0.0.2 0 0\n3 40 tcp 10.0.0.2:1025 10.0.0.1:81 S 1000 0 0\n";

@@ -1,8 +1,8 @@
-ghost use Rattle.std.specs.Prelude.{◌≡◌, Option, ℕ, Some, map, option_map, string_bytes, IfSome};
+ghost use Rattle.std.specs.Prelude.{◌≡◌, ◌≤◌, Option, ℕ, Some, map, option_map, string_bytes, IfSome};
 ghost use Rattle.uipd.specs.Words.{task_meant, task_of, check_words as words_of_check, pack_words as words_of_pack, serve_words as words_of_serve, ether_words as words_of_ether};
 ghost use Rattle.uipd.specs.Words.{upgrade_words as words_of_upgrade};
 ghost use Rattle.uipd.specs.Words.{load_words as words_of_load, page_words as words_of_page, replay_words as words_of_replay};
-ghost use Rattle.uipd.specs.Words.{Captures, Dumps, slip_words as words_of_slip, items_named as items_spelled};
+ghost use Rattle.uipd.specs.Words.{Captures, Dumps, slip_words as words_of_slip, plays_back as played_back, number_within as number_meant_within, items_named as items_spelled};
 ghost use Rattle.uipd.specs.Words.{shown as text_asked};
 ghost use Rattle.uipd.specs.Words.{ends_here as no_more, limited as limits_meant, limits_at as limits_behind, limits_of as limits_spelled, says_tty as terminal_told};
 ghost use Rattle.uipd.specs.Allowed.{IsAllowed};
@@ -161,19 +161,23 @@ fn limits_at(pace: u64, words: &[String]) -> Option<Limits>
     ensures { result ≡ limits_behind pace (map string_bytes words.now) }
 {
     match words {
-        [word, number, words @ ..] if word.as_str() == "items" => {
-            limited(pace, number_of(number), ends_here(words))
+        [word, number, rest @ ..] => {
+            if word.as_str() == "items" {
+                return limited(pace, number_of(number)?, rest);
+            }
+            limited(pace, u64::MAX, words)
         }
-        _ => limited(pace, Some(u64::MAX), ends_here(words)),
+        _ => limited(pace, u64::MAX, words),
     }
 }
 
-fn limited(pace: u64, items: Option<u64>, whole: bool) -> Option<Limits>
-    ensures { result ≡ limits_meant pace items whole }
+fn limited(pace: u64, items: u64, words: &[String]) -> Option<Limits>
+    ensures { result ≡ limits_meant pace items (map string_bytes words.now) }
 {
-    match items {
-        Some(items) if whole => Some(Limits { pace, items }),
-        _ => None,
+    if ends_here(words) {
+        Some(Limits { pace, items })
+    } else {
+        None
     }
 }
 
@@ -259,11 +263,8 @@ fn load_words(words: &[String]) -> Option<Command<'_>>
 {
     match words {
         [site, seed, clients] => {
-            let (seed, clients) = (number_of(seed)?, number_of(clients)?);
-            if 1 <= clients && clients <= 64 {
-                return Some(Command::Load(site, seed, clients as u8));
-            }
-            None
+            let (seed, clients) = (number_of(seed)?, within(1, 64, clients)?);
+            Some(Command::Load(site, seed, clients as u8))
         }
         _ => None,
     }
@@ -295,9 +296,20 @@ fn slip_words(words: &[String]) -> Option<Command<'_>>
     ensures { option_map task_meant result ≡ words_of_slip (map string_bytes words.now) }
 {
     match words {
-        [] => Some(Command::Slip(u64::MAX)),
-        [word, number] if word.as_str() == "items" => Some(Command::Slip(number_of(number)?)),
-        _ => None,
+        [word, number, words @ ..] if word.as_str() == "items" => {
+            plays_back(number_of(number)?, words)
+        }
+        _ => plays_back(u64::MAX, words),
+    }
+}
+
+fn plays_back<'a>(items: u64, words: &[String]) -> Option<Command<'a>>
+    ensures { option_map task_meant result ≡ played_back items (map string_bytes words.now) }
+{
+    if words.is_empty() {
+        Some(Command::Slip(items))
+    } else {
+        None
     }
 }
 
@@ -309,6 +321,19 @@ fn shown<'a>(text: &'a [u8], words: &[String]) -> Option<Command<'a>>
     match words {
         [] => Some(Command::Show(text)),
         _ => None,
+    }
+}
+
+/// A number of a range.
+pub(crate) fn within(low: u64, high: u64, text: &str) -> Option<u64>
+    ensures number { result ≡ number_meant_within low high text.now }
+    ensures range { IfSome result (λ n. (low ≤ n) × (n ≤ high)) }
+{
+    let number = number_of(text)?;
+    if low <= number && number <= high {
+        Some(number)
+    } else {
+        None
     }
 }
 

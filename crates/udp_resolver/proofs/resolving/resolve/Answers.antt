@@ -1,33 +1,26 @@
-use Rattle.std.proofs.Common.{◌<◌, List, length, ℕ, sym, subst}
+use Rattle.std.proofs.Common.{List, ℕ, subst}
 use Rattle.dns_message.specs.declared.asking.Asking.{Asking}
-use Rattle.uip_edge.proofs.Told.{appends_by, prefix_by}
 use Rattle.udp_resolver.specs.Fates.{questions}
 use Rattle.udp_resolver.specs.Resolving.{Resolves}
 use Rattle.udp_resolver.specs.Streams.{streams}
-use Rattle.udp_resolver.proofs.ResolveLaws.{lines_known, told_all, told_part}
+use Rattle.udp_resolver.proofs.ResolveLaws.{names_part, names_told}
 use Rattle.udp_resolver.proofs.resolving.resolve.Goals as goal
 
 pub returns-in-Ok-clause-resolves : goal.returns-in-Ok-clause-resolves
 returns-in-Ok-clause-resolves g c =
     let asking : Asking = record { own = c.args.own; server = c.args.server; id = c.args.id } in
-    let names = c.as_slice-names.result.now in
-    let run = c.ask-end.new.run in
     let old = streams g.L.Link g.K.Sink g.T.Sink c.args.link.now c.args.out.now c.args.tell.now in
     let new = streams g.L.Link g.K.Sink g.T.Sink c.ask-end.new.link c.ask-end.new.out c.tell_all.new.tell in
     subst (λ (l : List (List ℕ)). Resolves (questions asking l) c.args.items old new c.ask-end.result) c.as_slice-names.ensures.value
-    (told_all (questions asking names) c.args.items run old new c.ask-end.result c.in_default.not-LinkFault c.in_default.not-WriteFault c.ask-end.ensures.asks
-    c.in-Ok.ensures.writes.cause.same
-    (λ taken k. appends_by _ _ _ _ (sym (lines_known asking names taken run c.as_slice.result.now c.as_slice.ensures.value k)) c.in-Ok.ensures.writes.whole))
+    (names_told asking c.as_slice-names.result.now c.args.items c.ask-end.new.run old new c.as_slice.result.now c.as_slice.ensures.value c.ask-end.result
+    c.in_default.not-LinkFault c.in_default.not-WriteFault c.ask-end.ensures.asks c.in-Ok.ensures.writes.cause.same c.in-Ok.ensures.writes.whole)
 
 pub returns-in-Err-clause-resolves : goal.returns-in-Err-clause-resolves
 returns-in-Err-clause-resolves g c =
     let asking : Asking = record { own = c.args.own; server = c.args.server; id = c.args.id } in
-    let names = c.as_slice-names.result.now in
-    let run = c.ask-end.new.run in
     let old = streams g.L.Link g.K.Sink g.T.Sink c.args.link.now c.args.out.now c.args.tell.now in
     let new = streams g.L.Link g.K.Sink g.T.Sink c.ask-end.new.link c.ask-end.new.out c.tell_all.new.tell in
     subst (λ (l : List (List ℕ)). Resolves (questions asking l) c.args.items old new _) c.as_slice-names.ensures.value
-    (told_part (questions asking names) c.args.items run old new c.ask-end.result c.in_default.not-LinkFault c.in_default.not-WriteFault c.ask-end.ensures.asks
-    c.in-Err.ensures.writes.cause.failed
-    (λ taken k. prefix_by _ _ _ _ (sym (lines_known asking names taken run c.as_slice.result.now c.as_slice.ensures.value k)) c.in-Err.ensures.writes.front)
-    (λ taken k. subst (λ (l : List ℕ). 0 < length l) (lines_known asking names taken run c.as_slice.result.now c.as_slice.ensures.value k) c.in-Err.ensures.some))
+    (names_part asking c.as_slice-names.result.now c.args.items c.ask-end.new.run old new c.as_slice.result.now c.as_slice.ensures.value c.ask-end.result
+    c.in_default.not-LinkFault c.in_default.not-WriteFault c.ask-end.ensures.asks c.in-Err.ensures.writes.cause.failed c.in-Err.ensures.writes.front
+    c.in-Err.ensures.some)

@@ -1,6 +1,8 @@
-use Rattle.std.proofs.Common.{◌∙◌}
+use Rattle.std.proofs.Common.{◌∙◌, string_bytes}
+use Rattle.std.specs.Prelude.{codes}
+use Rattle.uipd.specs.Words.{limits_at}
 use Rattle.uipd.proofs.WordLaws.{few}
 use Rattle.uipd.proofs.words.limits_of.Goals as goal
 
 pub returns-in_default : goal.returns-in_default
-returns-in_default c = c.limits_at.ensures ∙ few _ c.args.words.now c.in_default.len_below
+returns-in_default c = c.limits_at.ensures ∙ few string_bytes (codes "pace") 0 limits_at c.args.words.now c.in_default.len_below
