@@ -1,12 +1,12 @@
--- A serving of the pages of a site keeps the promise.
+-- A serving of a site keeps the promise.
 use Rattle.std.specs.List.{All}
 use Rattle.std.proofs.Common.{ℕ, List, Option, length, lit<, inl, inr}
 use Rattle.std.proofs.lemmas.List.Elements.{All-replicate}
-use Rattle.app_events.specs.Pages.{IsAddr, IsByte, IsWord}
+use Rattle.app_events.specs.Pages.{IsAddr, IsByte, IsPaged, IsWord}
 use Rattle.site_image.specs.Files.{File}
 use Rattle.file_tree.specs.Site.{IsLoaded, SiteContent, files_of}
 use Rattle.web_pages.specs.Pages.{pages_of}
-use Rattle.web_pages.specs.Serving.{is_served, no_hits}
+use Rattle.web_pages.specs.Serving.{no_hits}
 use Rattle.web_pages.specs.WebMeaning.{web_meaning}
 use Rattle.web_pages.proofs.ByteLaws.{made_of_bytes}
 use Rattle.web_pages.proofs.PageLaws.{keeps_page_laws}
@@ -22,8 +22,13 @@ use Rattle.serve_loop.proofs.ByteLaws.{slip_brings_bytes}
 use Rattle.ethernet_arp.specs.EtherWay.{ether_way}
 use Rattle.ethernet_arp.proofs.ByteLaws.{ether_brings_bytes}
 use Rattle.line_promise.proofs.Lines.{every_line}
-use Rattle.uipd.specs.Output.{host_at, meaning_of, output_over, ports_of}
-use Rattle.uipd.specs.Serving.{KeepsOver, KeepsPages, RunsBy, ServeRuns, WritesKept}
+use Rattle.node_laws.specs.Speakers.{SaysBytes, Speaks}
+use Rattle.node_laws.proofs.EveryTurn.{page_bytes, paged_everywhere}
+use Rattle.telnet_shell.proofs.DeskLines.{speaks_on_lines}
+use Rattle.uip_node.specs.Steady.{IsSteady}
+use Rattle.uip_node.proofs.Steadiness.{steady_of}
+use Rattle.uipd.specs.Output.{host_at, meaning_of, output_over, ports_of, speech_of}
+use Rattle.uipd.specs.Serving.{KeepsOver, RunsBy, ServeRuns, WritesKept}
 use Rattle.uipd.specs.declared.status.Status.{Status}
 use Rattle.uipd.specs.declared.words.Application.{Application}
 use Rattle.uipd.specs.declared.words.Application.TheVariants.{Web, Desk}
@@ -31,34 +36,48 @@ use Rattle.uipd.specs.declared.words.LineKind.{LineKind}
 use Rattle.uipd.specs.declared.words.LineKind.TheVariants.{Ethernet, Serial}
 use Rattle.uipd.specs.declared.words.ServedLine.{ServedLine}
 
+-- what is asked of an application on a line
+record IsOnLines (application : Application) (files : List File) : Type 0 where
+  steady : IsSteady (meaning_of application files)
+  bytes : SaysBytes (meaning_of application files)
+  speaks : Speaks (meaning_of application files) (speech_of application files)
+
 module _ (site : SiteContent) (loaded : IsLoaded site) (image : All IsByte site.image) (line : ServedLine) (is : IsAddr line.own) where
   abbrev files : List File
   files = files_of site
 
-  -- what the web server of the site writes
+  on_lines : (application : Application) → IsOnLines application files
+  on_lines Web =
+      let laws : IsPaged (web_meaning files) (pages_of files) = keeps_page_laws site loaded in
+      record {
+        steady = steady_of (web_meaning files) (pages_of files) laws;
+        bytes = page_bytes (web_meaning files) (pages_of files) laws (λ heard captures c. made_of_bytes site image heard captures c);
+        speaks = paged_everywhere (web_meaning files) (pages_of files) laws;
+      }
+  on_lines Desk = (let s = speaks_on_lines site loaded image in record { steady = s.steady; bytes = s.bytes; speaks = s.speaks })
+
+  abbrev output_by_way : {A : Type 0} → Way A → List Item → List ℕ
+  output_by_way w taken = output_by w (meaning_of line.application files) (ports_of line.application) (no_hits files) line.own line.limits.pace taken
+
+  -- what the application writes with the site
   kept_by : {A : Type 0} (w : Way A) → BringsBytes w → (taken : List Item) → All IsItem taken → (end : ServeEnd) (a b : Option (List ℕ))
-      → WrittenBy end a b (output_by w (web_meaning files) is_served (no_hits files) line.own line.limits.pace taken) → WritesKept w files line taken end a b
-  kept_by w brings taken are end a b written = record {
-    output = output_by w (web_meaning files) is_served (no_hits files) line.own line.limits.pace taken;
-    keeps = every_line w brings (web_meaning files) (pages_of files) (keeps_page_laws site loaded) (λ heard captures c. made_of_bytes site image heard captures c)
-        is_served (no_hits files) (All-replicate IsWord (length files) 0 (lit< tt)) line.own is line.limits.pace taken are;
-    written = written;
-  }
+      → WrittenBy end a b (output_by_way w taken) → WritesKept w files line taken end a b
+  kept_by w brings taken are end a b written =
+      let s : IsOnLines line.application files = on_lines line.application in
+      record {
+        output = output_by_way w taken;
+        keeps = every_line w brings (meaning_of line.application files) (speech_of line.application files) s.steady s.bytes s.speaks
+            (ports_of line.application) (no_hits files) (All-replicate IsWord (length files) 0 (lit< tt)) line.own is line.limits.pace taken are;
+        written = written;
+      }
 
   kept_over : (kind : LineKind) (taken : List Item) → All IsItem taken → (end : ServeEnd) (a b : Option (List ℕ))
-      → WrittenBy end a b (output_over kind (web_meaning files) is_served (no_hits files) line.own line.limits.pace taken) → KeepsOver kind files line taken end a b
+      → WrittenBy end a b (output_over kind (meaning_of line.application files) (ports_of line.application) (no_hits files) line.own line.limits.pace taken) → KeepsOver kind files line taken end a b
   kept_over Serial taken are end a b written = kept_by slip_way slip_brings_bytes taken are end a b written
   kept_over (Ethernet mac) taken are end a b written = kept_by (ether_way (host_at line.own mac)) (ether_brings_bytes (host_at line.own mac)) taken are end a b written
-
-  -- by any application, of which the web server alone has pages
-  kept_pages : (application : Application) (taken : List Item) → All IsItem taken → (end : ServeEnd) (a b : Option (List ℕ))
-      → WrittenBy end a b (output_over line.kind (meaning_of application files) (ports_of application) (no_hits files) line.own line.limits.pace taken)
-      → KeepsPages application files line taken end a b
-  kept_pages Web taken are end a b written = kept_over line.kind taken are end a b written
-  kept_pages Desk taken are end a b written = tt
 
   pub site_runs : (old new : LineTold) (result : Status) → RunsBy (meaning_of line.application files) (ports_of line.application) (no_hits files) line old new result
       → ServeRuns files line old new result
   site_runs old new result (inl run) =
-      inl (run.0, run.1, record { serves = run.2; keeps = kept_pages line.application run.2.taken run.2.are run.0 _ _ run.2.written })
+      inl (run.0, run.1, record { serves = run.2; keeps = kept_over line.kind run.2.taken run.2.are run.0 _ _ run.2.written })
   site_runs old new result (inr short) = inr short

@@ -2,8 +2,12 @@
 use Rattle.std.specs.Prelude.{ℕ, Bool, List}
 use Rattle.app_events.specs.Part.{Meaning}
 use Rattle.site_image.specs.Files.{File}
+use Rattle.node_laws.specs.Promise.{Speech}
+use Rattle.node_laws.specs.Speakers.{at_every_port}
+use Rattle.web_pages.specs.Pages.{pages_of}
 use Rattle.web_pages.specs.Serving.{is_served, no_hits}
 use Rattle.web_pages.specs.WebMeaning.{web_meaning}
+use Rattle.telnet_shell.specs.DeskLines.{desk_speech}
 use Rattle.telnet_shell.specs.DeskMeaning.{desk_meaning, is_served_at}
 use Rattle.uip_edge.specs.declared.item.Item.{Item}
 use Rattle.uip_wire.specs.declared.addr.Addr.{Addr}
@@ -27,6 +31,11 @@ meaning_of Desk files = desk_meaning files
 abbrev pub ports_of : Application → ℕ → Bool
 ports_of Web = is_served
 ports_of Desk = is_served_at
+
+-- what it says at a port
+abbrev pub speech_of : Application → List File → ℕ → Speech
+speech_of Web files = at_every_port (pages_of files)
+speech_of Desk files = desk_speech files
 
 -- the host of a node at a hardware address
 abbrev pub host_at : Addr → Mac → Host

@@ -1,6 +1,6 @@
 -- What serving a line does to the outside, and how it ends.
 use Rattle.std.specs.List.{All}
-use Rattle.std.specs.Prelude.{◌≡◌, ◌<◌, ◌⊎◌, ℕ, Bool, List, Option, length, ⊤}
+use Rattle.std.specs.Prelude.{◌≡◌, ◌<◌, ◌⊎◌, ℕ, Bool, List, Option, length}
 use Rattle.app_events.specs.Part.{Meaning}
 use Rattle.site_image.specs.Files.{File}
 use Rattle.uip_edge.specs.declared.item.Item.{Item}
@@ -17,11 +17,8 @@ use Rattle.line_promise.specs.Lines.{KeepsLineRead}
 use Rattle.ethernet_arp.specs.EtherWay.{ether_way}
 use Rattle.uipd.specs.declared.status.Status.{Status}
 use Rattle.uipd.specs.declared.status.Status.TheVariants.{NoMemory}
-use Rattle.web_pages.specs.Pages.{pages_of}
-use Rattle.web_pages.specs.Serving.{is_served, no_hits}
-use Rattle.uipd.specs.Output.{host_at, meaning_of, output_over, ports_of}
-use Rattle.uipd.specs.declared.words.Application.{Application}
-use Rattle.uipd.specs.declared.words.Application.TheVariants.{Web, Desk}
+use Rattle.web_pages.specs.Serving.{no_hits}
+use Rattle.uipd.specs.Output.{host_at, meaning_of, output_over, ports_of, speech_of}
 use Rattle.uipd.specs.declared.words.LineKind.{LineKind}
 use Rattle.uipd.specs.declared.words.LineKind.TheVariants.{Ethernet, Serial}
 use Rattle.uipd.specs.declared.words.ServedLine.{ServedLine}
@@ -43,12 +40,13 @@ abbrev pub RunsBy : Meaning → (ℕ → Bool) → List ℕ → ServedLine → L
 RunsBy m ports numbers line old new result =
     RunsAs status_of_serving (ServesBy m ports numbers line old new) result ⊎ ((result ≡ NoMemory) × (new ≡ old))
 
--- Of the items that were taken, what was written is the text of a line that keeps the promise of the pages of these files, or a front of
--- it where a write failed.
+-- Of the items that were taken, what was written is the text of a line that keeps the promise, by how the application speaks at each
+-- port with these files, or a front of it where a write failed.
 pub record WritesKept {A : Type 0} (w : Way A) (files : List File) (line : ServedLine) (taken : List Item)
     (end : ServeEnd) (old new : Option (List ℕ)) : Type 0 where
   pub output : List ℕ
-  pub keeps : KeepsLineRead w (pages_of files) is_served line.own (line_deeds w line.own line.limits.pace taken) output
+  pub keeps : KeepsLineRead w (speech_of line.application files) (ports_of line.application) line.own
+      (line_deeds w line.own line.limits.pace taken) output
   pub written : WrittenBy end old new output
 
 -- so over a line of this kind
@@ -56,15 +54,10 @@ abbrev pub KeepsOver : LineKind → List File → ServedLine → List Item → S
 KeepsOver Serial files line taken end old new = WritesKept slip_way files line taken end old new
 KeepsOver (Ethernet mac) files line taken end old new = WritesKept (ether_way (host_at line.own mac)) files line taken end old new
 
--- by the web server; the shell at the desk has no page
-abbrev pub KeepsPages : Application → List File → ServedLine → List Item → ServeEnd → Option (List ℕ) → Option (List ℕ) → Type 0
-KeepsPages Web files line taken end old new = KeepsOver line.kind files line taken end old new
-KeepsPages Desk files line taken end old new = ⊤
-
 -- The line is served by the application that it names, with the files of a site, of which none was asked for yet, and the promise is kept.
 pub record ServesSite (files : List File) (line : ServedLine) (old new : LineTold) (end : ServeEnd) : Type 0 where
   pub serves : ServesBy (meaning_of line.application files) (ports_of line.application) (no_hits files) line old new end
-  pub keeps : KeepsPages line.application files line serves.taken end old.sink.written new.sink.written
+  pub keeps : KeepsOver line.kind files line serves.taken end old.sink.written new.sink.written
 
 -- a run ends as this serving does, or had not enough memory and left the line and its output as they were
 abbrev pub ServeRuns : List File → ServedLine → LineTold → LineTold → Status → Type 0
