@@ -1,5 +1,5 @@
 -- An honest peer of the web server has its page.
-use Rattle.std.proofs.Common.{ℕ, ◌<◌, ◌≤◌, List, arith}
+use Rattle.std.proofs.Common.{◌<◌, ◌≤◌, List, arith}
 use Rattle.site_image.specs.Files.{File}
 use Rattle.file_tree.specs.Site.{files_of}
 use Rattle.uip_node.proofs.SoundSegments.{first_low}
