@@ -18,7 +18,7 @@ use Rattle.tcp_machine.specs.Ask.{Outcome, asked}
 use Rattle.tcp_machine.specs.OnSegment.{first_mss, accepted, is_acked, on_segment}
 use Rattle.tcp_machine.specs.OnTick.{on_tick}
 use Rattle.uip_node.specs.Laws.{Alike, IsSlice}
-use Rattle.uip_node.proofs.Basics.{choose, both_ways, only_some, same_place, append_nothing, IsPart, part_grows, cut_length, prefix_refl, prefix_length, and_true, eqb-eq}
+use Rattle.uip_node.proofs.Basics.{choose, both_ways, only_some, same_place, append_nothing, IsPart, part_grows, prefix_refl, prefix_length, and_true, eqb-eq}
 use Rattle.uip_node.proofs.Fits.{FitConn, FitOut, all_nil, on_segment_fits, on_tick_fits}
 use Rattle.uip_node.proofs.Moves.{Moves, asked_moves, segment_moves, tick_moves}
 use Rattle.uip_node.specs.Steady.{IsSteady}
@@ -34,7 +34,8 @@ use Rattle.node_laws.proofs.Texts.{get_append}
 use Rattle.node_laws.proofs.Texts.InBoth.{in_first, in_second}
 use Rattle.node_laws.proofs.Kept.{HasEnded, Kept, Unended, grows_refl, received_on}
 use Rattle.app_events.specs.declared.now.Now.{Now}
-use Rattle.node_laws.proofs.Walk.{numbers_for, IsBare, bare, Reading, AtPage, AtOpen, AtEnd, Page, Moved, Spoke, segment_moved, tick_moved, accepted_page}
+use Rattle.node_laws.proofs.Walk.{IsBare, bare, Reading, AtPage, AtOpen, AtEnd, Page, Moved, Spoke, segment_moved, tick_moved, accepted_page}
+use Rattle.node_laws.proofs.Beating.{due_size}
 use Rattle.node_laws.proofs.Replying.{answer_no_syn, said_ack, step_short}
 use Rattle.uip_node.proofs.SoundSegments.{LensWithin, asked_within, on_segment_within, on_tick_within}
 use Rattle.node_laws.proofs.Lines.{Does, met, left_of}
@@ -273,21 +274,6 @@ module _ (m : Meaning) (steady : IsSteady m) (port : ℕ) (speech : Speech) (law
 
   -- ---- what is outstanding
 
-  size_is : (s t : PlainSegment) (n : ℕ) → Alike s t → size_of t ≡ n → size_of s ≡ n
-  size_is s t n a e = ap (λ f. length s.text + numbers_for (has_syn f) + numbers_for (has_fin f)) a.flags ∙ ap (λ l. length l + numbers_for (has_syn t.flags) + numbers_for (has_fin t.flags)) a.text ∙ e
-
-  -- how many numbers it takes up
-  due_size : (d : Connection) (st : State) (s : PlainSegment) → SafeState m steady AnyLength any_length d st → 0 < d.len → Alike s (due m st d) → size_of s ≡ d.len
-  due_size d Closed s h l a = absurd h
-  due_size d SynRcvd s h l a = size_is s (syn_ack d) d.len a (sym h.len)
-  due_size d Established s h l a = size_is s (text_segment m d) d.len a (let z : length (text_segment m d).text ≡ d.len = cut_length (m.said d.part) d.part.acked d.len h.fits in omega (arith, z))
-  due_size d CloseWait s h l a = size_is s (text_segment m d) d.len a (let z : length (text_segment m d).text ≡ d.len = cut_length (m.said d.part) d.part.acked d.len h.text.fits in omega (arith, z))
-  due_size d FinWait1 s h l a = size_is s (fin_of d) d.len a (sym h.len)
-  due_size d FinWait2 s h l a = absurd (let z = h.len in omega (arith, l, z))
-  due_size d Closing s h l a = size_is s (fin_of d) d.len a (sym h.len)
-  due_size d TimeWait s h l a = absurd (let z = h.len in omega (arith, l, z))
-  due_size d LastAck s h l a = size_is s (fin_of d) d.len a (sym h.len)
-
   -- what it says of the text
   says_text : (life : List Exchange) (d : Connection) (now : List ℕ) (over fin : Bool) (sent : List ℕ) (s : PlainSegment) → AtOpen m port speech laws (Unended life) fin d now over sent → s.seq ≡ wrap (d.first + d.acked) → Alike s (text_segment m d) → SaysPart d.first sent s
   says_text life d now over fin sent s h q a =
@@ -520,7 +506,7 @@ module _ (m : Meaning) (steady : IsSteady m) (port : ℕ) (speech : Speech) (law
               alike = alike_trans t (due m c.state c) (due m d.state d) q.alike (alike_sym (due m d.state d) (due m c.state c) z.1);
             })
             | inr more ↦ (let a = hears_ack more.0 in
-                let size : size_of t ≡ c.len = due_size c c.state t lv.safe.state q.len q.alike in
+                let size : size_of t ≡ c.len = due_size m steady AnyLength any_length c c.state t lv.safe.state q.len q.alike in
                 inl record {
                   at = c.acked;
                   seq = q.seq ∙ ap (λ n. wrap (n + c.acked)) (sym o.first);
