@@ -9,3 +9,4 @@ pub mod Streams
 pub mod Told
 pub mod ConstantValues
 pub mod FromLine
+pub mod ToldEnds

@@ -94,6 +94,7 @@ optionally name otherwise further (word ∷ number ∷ words) =
     if bytes_eq word name then (numeral number >>= λ n. further n words) else further otherwise (word ∷ number ∷ words)
 optionally name otherwise further words = further otherwise words
 
+-- at a pace so many items, and no further words but `tty`
 abbrev pub limited : ℕ → ℕ → List (List ℕ) → Option Limits
 limited pace items words = if ends_here words then Some (record { pace = pace; items = items }) else None
 

@@ -4,6 +4,7 @@ use crate::harness::{both_of, words_of};
 use crate::resolve_tests::{QUERY, REPLY, WORDS};
 use crate::status::Status;
 use crate::tests::{PING, PONG};
+use std::alloc::Global;
 use std::io;
 use std::io::Read;
 use std::test::Fail;
@@ -64,6 +65,18 @@ fn a_write_of_nothing_is_a_fault(rt: HostRuntime) -> Result<(), Fail> {
     Ok(())
 }
 
+/// Runs over these bytes, with no file on the shelf.
+fn run_on(
+    alloc: Global,
+    words: &[String],
+    input: &[u8],
+    room: &mut [u8],
+    errors: &mut [u8],
+) -> Status {
+    let mut shelf = MemShelf::new(Vec::new(alloc), Vec::new(alloc));
+    run_over(alloc, words, &mut shelf, input, room, errors)
+}
+
 // Two reads of nothing are two silences of a terminal, and so the 31st and the 32nd item; a file ends at the first.
 #[test]
 fn the_last_word_makes_the_reader_a_terminal(rt: HostRuntime) -> Result<(), Fail> {
@@ -78,16 +91,8 @@ fn the_last_word_makes_the_reader_a_terminal(rt: HostRuntime) -> Result<(), Fail
     ];
     for (words, status) in rows {
         let words = words_of(alloc, words)?;
-        let mut shelf = MemShelf::new(Vec::new(alloc), Vec::new(alloc));
         let (mut room, mut errors) = ([0; 64], [0; 8]);
-        let ended = run_over(
-            alloc,
-            &words,
-            &mut shelf,
-            &ping[..],
-            &mut room[..],
-            &mut errors[..],
-        );
+        let ended = run_on(alloc, &words, &ping, &mut room, &mut errors);
         assert_eq!(rt; ended, status);
         assert!(rt; room.starts_with(&pong));
         assert_eq!(rt; room[30], 0);
@@ -101,16 +106,8 @@ fn names_are_told_beside_the_output(rt: HostRuntime) -> Result<(), Fail> {
     let alloc = rt.alloc();
     let (query, reply) = both_of(alloc, &[QUERY], &[REPLY])?;
     let words = words_of(alloc, &WORDS)?;
-    let mut shelf = MemShelf::new(Vec::new(alloc), Vec::new(alloc));
     let (mut room, mut errors) = ([0; 128], [0; 32]);
-    let ended = run_over(
-        alloc,
-        &words,
-        &mut shelf,
-        &reply[..],
-        &mut room[..],
-        &mut errors[..],
-    );
+    let ended = run_on(alloc, &words, &reply, &mut room, &mut errors);
     assert_eq!(rt; ended, Status::Done);
     assert!(rt; room.starts_with(&query));
     assert!(rt; errors.starts_with(b"a.b 192.0.2.7\n\0"));
