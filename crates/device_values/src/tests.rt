@@ -33,30 +33,20 @@ fn said(word: Word, argument: &[u8]) -> ValueCapture {
 }
 
 #[test]
-fn a_value_as_it_is(rt: HostRuntime) {
-    let record = said(Word::Value(Spelling::Plain), b"3");
-    let mut out = [0; 7];
-    assert_eq!(rt; record.text_len(), 7);
-    record.fill_at(0, &mut out);
-    assert_eq!(rt; &out, b"5 > \"4\"");
-}
-
-#[test]
-fn a_value_in_json(rt: HostRuntime) {
-    let record = said(Word::Value(Spelling::Json), b"3");
-    let mut out = [0; 9];
-    assert_eq!(rt; record.text_len(), 9);
-    record.fill_at(0, &mut out);
-    assert_eq!(rt; &out, b"5 > \\\"4\\\"");
-}
-
-#[test]
-fn a_value_in_html(rt: HostRuntime) {
-    let record = said(Word::Value(Spelling::Html), b"3");
-    let mut out = [0; 20];
-    assert_eq!(rt; record.text_len(), 20);
-    record.fill_at(0, &mut out);
-    assert_eq!(rt; &out, b"5 &gt; &quot;4&quot;");
+fn a_value_is_spelled(rt: HostRuntime) {
+    let rows: [(Spelling, &[u8]); 3] = [
+        (Spelling::Plain, b"5 > \"4\""),
+        (Spelling::Json, b"5 > \\\"4\\\""),
+        (Spelling::Html, b"5 &gt; &quot;4&quot;"),
+    ];
+    for (spelling, text) in rows {
+        let record = said(Word::Value(spelling), b"3");
+        let mut out = [0; 20];
+        let len = record.text_len();
+        assert_eq!(rt; len, text.len());
+        record.fill_at(0, &mut out[..len]);
+        assert_eq!(rt; &out[..len], text);
+    }
 }
 
 #[test]

@@ -17,6 +17,7 @@ use Rattle.uip_ipv4.specs.declared.head.IpHead.{IpHead}
 use Rattle.uip_ipv4.specs.declared.proto.Proto.{Proto}
 use Rattle.uip_ipv4.specs.declared.proto.Proto.TheVariants.{Icmp, Tcp}
 use Rattle.uip_ipv4.proofs.Back.{length-head_bytes}
+use Rattle.uip_ipv4.proofs.Facts.{facts_at}
 use Rattle.icmp_echo.specs.Echo.{echo_fate, echo_message, echo_reply}
 use Rattle.icmp_echo.specs.declared.fate.IcmpFate.{IcmpFate}
 use Rattle.tcp_segment.specs.Received.{segment_or_fate}
@@ -37,6 +38,8 @@ use Rattle.uip_node.specs.Events.Reply.{Echo as EchoSent, Tcp as TcpSent}
 use Rattle.uip_node.specs.Node.{AbstractNode, NodeStep, arrives_at, connection_in, from_stranger, happened, moment, opening, opens, opens_in, slot_for_syn, step}
 use Rattle.uip_node.proofs.Basics.{choose, only_some}
 use Rattle.uip_node.proofs.Connections.{get_set}
+use Rattle.uip_node.proofs.DatagramsBack.{small_size}
+use Rattle.uip_node.proofs.Stepping.{reply_length}
 use Rattle.uip_node.proofs.Connections.Written.{here, there}
 use Rattle.uip_node.proofs.Peers.{asked_keeps, on_segment_keeps, on_tick_keeps}
 use Rattle.uip_node.proofs.SoundSegments.{Lens, accepted_lens, asked_lens, closed_lens, on_segment_lens, on_tick_lens}
@@ -47,7 +50,7 @@ use Rattle.serve_loop.specs.Pace.{is_beat}
 use Rattle.ethernet_arp.specs.EtherWay.{closed_by, ether_way, is_taken, is_whole, open_from}
 use Rattle.ethernet_arp.specs.Frames.{Host, broadcast, frame_brings, is_arp, is_arp_for, is_datagram, is_sendable, mac_at}
 use Rattle.ethernet_arp.specs.Learning.{Act}
-use Rattle.ethernet_arp.specs.Sendable.{AllSendable}
+use Rattle.ethernet_arp.specs.Sendable.{DatagramsFitFrames}
 
 within : (d : List ℕ) → 20 ≤ length d → length d ≤ 1500 → is_sendable d ≡ true
 within d least most = and_from (nat_le 20 (length d)) (nat_le (length d) 1500) (le-leb 20 (length d) least) (le-leb (length d) 1500 most)
@@ -59,42 +62,11 @@ record IsSmall (s : PlainSegment) : Type 0 where
   short : length s.text ≤ 1460
   alone : (s.mss ≡ None) ⊎ (s.text ≡ [])
 
-options_len : (mss : Option ℕ) → length (option_words mss) ≤ 2
-options_len None = omega arith
-options_len (Some mss) = omega arith
-
-segment_len : (d : Segmented) → length (segment_bytes d) ≡ 20 + 2 * length (option_words d.segment.mss) + length d.segment.text
-segment_len d =
-    let words : List ℕ = fixed_words (segment_sum d) d.from d.to d.segment ++ option_words d.segment.mss in
-    let a : length (segment_bytes d) ≡ length (bytes_of words) + length d.segment.text = length-append (bytes_of words) d.segment.text in
-    let b : length (bytes_of words) ≡ 2 * length words = length-bytes_of words in
-    let c : length words ≡ 10 + length (option_words d.segment.mss) = length-append (fixed_words (segment_sum d) d.from d.to d.segment) (option_words d.segment.mss) in
-    omega (arith, a, b, c)
-
-small_size : (d : Segmented) → IsSmall d.segment → length (segment_bytes d) ≤ 1480
-small_size d h = elim h.alone [
-  | inl none ↦ (let e : length (segment_bytes d) ≡ 20 + length d.segment.text = segment_len d ∙ ap (λ (x : Option ℕ). 20 + 2 * length (option_words x) + length d.segment.text) none in omega (arith, e, h.short))
-  | inr nothing ↦ (let e : length (segment_bytes d) ≡ 20 + 2 * length (option_words d.segment.mss) + 0 = segment_len d ∙ ap (λ (x : List ℕ). 20 + 2 * length (option_words d.segment.mss) + length x) nothing in
-      let o : length (option_words d.segment.mss) ≤ 2 = options_len d.segment.mss in omega (arith, e, o))
-]
-
 whole_length : (d : Segmented) → length d.source ≡ 4 → length d.target ≡ 4 → length (datagram_bytes d) ≡ 20 + length (segment_bytes d)
 unfolding datagram_bytes
 whole_length d s t =
     length-append (head_bytes (20 + length (segment_bytes d)) d.id Tcp d.source d.target) (segment_bytes d)
     ∙ ap (λ n. n + length (segment_bytes d)) (length-head_bytes (20 + length (segment_bytes d)) d.id Tcp d.source d.target s t)
-
--- ---- an echo reply
-
-reply_length : (request : List ℕ) → 24 ≤ length request → length (echo_reply request) ≡ length request
-reply_length request long =
-    let a : List ℕ = take 12 request in
-    let b : List ℕ = slice_range request 16 20 in
-    let c : List ℕ = slice_range request 12 16 in
-    let d : List ℕ = echo_message (drop 24 request) in
-    let message : length d ≡ 4 + length (drop 24 request) = omega arith in
-    let whole : length (echo_reply request) ≡ length (((a ++ b) ++ c) ++ d) = refl in
-    whole ∙ omega (arith, long, message, length-append ((a ++ b) ++ c) d, length-append (a ++ b) c, length-append a b, length-append a (b ++ (c ++ d)), length-append b (c ++ d), length-append c d, length-take 12 request, length-drop 16 request, length-take 4 (drop 16 request), length-drop 12 request, length-take 4 (drop 12 request), length-drop 24 request)
 
 -- ---- what comes
 
@@ -102,11 +74,7 @@ reply_length request long =
 abbrev EventFits : Event → Type 0
 EventFits (EchoAsked d) = (24 ≤ length d) × (length d ≤ 1500)
 EventFits (Arrived sockets s) = length sockets.peer.0 ≡ 4
-EventFits (IpRefused fate) = ⊤
-EventFits (IcmpRefused fate) = ⊤
-EventFits (TcpRefused fate) = ⊤
-EventFits Overlong = ⊤
-EventFits (Periodic slot) = ⊤
+EventFits _ = ⊤
 
 segment_fits : (head : IpHead) (bytes : List ℕ) (r : Result Segment TcpFate) → length head.source.0 ≡ 4 → EventFits (by_segment head bytes r)
 segment_fits head bytes (Ok s) h = h
@@ -133,23 +101,14 @@ proto_fits : (proto : Proto) (head : IpHead) (bytes : List ℕ) → head.total �
 proto_fits Icmp head bytes total most h = echo_fits head bytes total most
 proto_fits Tcp head bytes total most h = segment_fits head bytes (segment_or_fate head bytes) h
 
-head_fits : (proto : Option Proto) (bytes : List ℕ) → word_at bytes 2 ≤ length bytes → length bytes ≤ 1500 → EventFits (by_head bytes (head_by proto bytes))
-head_fits None bytes total most = tt
-head_fits (Some proto) bytes total most =
-    proto_fits proto (record { total = word_at bytes 2; proto = proto; source = record { 0 = address_at bytes 12 }; target = record { 0 = address_at bytes 16 } }) bytes total most refl
+head_fits : (own : Addr) (bytes : List ℕ) → length bytes ≤ 1500 → (r : Result IpHead IpFate) → head_or_fate bytes own.0 ≡ r → EventFits (by_head bytes r)
+head_fits own bytes most (Err fate) is = tt
+head_fits own bytes most (Ok head) is =
+    let facts = facts_at own.0 bytes head is in
+    proto_fits head.proto head bytes facts.most most (ap (λ (address : List ℕ). length address) facts.source)
 
 bytes_fit : (own : Addr) (bytes : List ℕ) → length bytes ≤ 1500 → EventFits (event_of own bytes)
-unfolding head_or_fate
-bytes_fit own bytes most =
-    let P : Result IpHead IpFate → Type 0 = λ r. EventFits (by_head bytes r) in
-    choose P (ltb (length bytes) 20) _ _ (λ e. tt)
-    (λ e. choose P (not (eqb (slice_index bytes 0) 69)) _ _ (λ f. tt)
-    (λ f. choose P (ltb (word_at bytes 2) 20 || ltb (length bytes) (word_at bytes 2)) _ _ (λ g. tt)
-    (λ g. choose P (not (eqb (word_at bytes 6 % 16384) 0)) _ _ (λ i. tt)
-    (λ i. choose P (not (eqb (checksum_of (take 20 bytes)) 0)) _ _ (λ j. tt)
-    (λ j. choose P (not (bytes_eq (address_at bytes 16) own.0)) _ _ (λ k. tt)
-    (λ k. head_fits (proto_of (slice_index bytes 9)) bytes
-    (let fits = ltb-false (length bytes) (word_at bytes 2) (or_parts (ltb (word_at bytes 2) 20) (ltb (length bytes) (word_at bytes 2)) g).1 in omega (arith, fits)) most))))))
+bytes_fit own bytes most = head_fits own bytes most (head_or_fate bytes own.0) refl
 
 -- ---- the connections
 
@@ -202,7 +161,7 @@ module _ (own : Addr) (four : length own.0 ≡ 4) where
   tcp_fits : (sockets : Sockets) (id : ℕ) (again : Bool) (s : PlainSegment) → length sockets.peer.0 ≡ 4 → IsSmall s → Fits own (TcpSent sockets id again s)
   tcp_fits sockets id again s peer small =
       let whole = whole_length (datagram_to own sockets id s) four peer in
-      let most = small_size (datagram_to own sockets id s) small in
+      let most = small_size (datagram_to own sockets id s) small.short small.alone in
       within (datagram_bytes (datagram_to own sockets id s)) (omega (arith, whole)) (omega (arith, whole, most))
 
   said_fits : (said : Option PlainSegment) (sockets : Sockets) (id : ℕ) (again : Bool) → length sockets.peer.0 ≡ 4 → ((s : PlainSegment) → said ≡ Some s → IsSmall s)
@@ -358,8 +317,7 @@ module _ (own : Addr) (four : length own.0 ≡ 4) where
     line_fits k pace before (Quiet ∷ items) =
         deeds_join (tick_on (ether_way k)) (deeds_behind (ether_way k) own pace before items) (tick_fits k) (line_fits k pace before items)
 
-pub all_sendable : (m : Meaning) (served : ℕ → Bool) (k : Host) (own : Addr) (pace : ℕ) (items : List Item) (numbers : List ℕ) → length own.0 ≡ 4
-    → AllSendable m served own (line_deeds (ether_way k) own pace items) (record { acts = []; node = opening own numbers })
+pub all_sendable : DatagramsFitFrames
 all_sendable m served k own pace items numbers four = record {
   each = each_fits own four m served (line_deeds (ether_way k) own pace items) (record { acts = []; node = opening own numbers })
       (line_fits own four m k pace [] items) (λ i c e. all_closed 10 i c e);

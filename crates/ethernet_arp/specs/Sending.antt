@@ -2,10 +2,13 @@
 -- taught last.
 use Rattle.std.specs.Prelude.{◌≡◌, ℕ, Bool, true, if◌then◌else◌, List, [], ◌∷◌, ◌++◌, length, drop, Some, slice_get}
 use Rattle.app_events.specs.Part.{Meaning}
+use Rattle.uip_edge.specs.declared.item.Item.{Item}
+use Rattle.uip_node.specs.Node.{AbstractNode}
 use Rattle.uip_wire.specs.Addr.{address_at}
 use Rattle.uip_wire.specs.Fields.{word_at}
 use Rattle.uip_wire.specs.declared.addr.Addr.{Addr}
 use Rattle.serve_loop.specs.DeedRuns.{Deed, Station, after_deeds, said, said_by_deed}
+use Rattle.serve_loop.specs.LineDeeds.{line_deeds}
 use Rattle.ethernet_arp.specs.EtherWay.{ether_way, is_whole}
 use Rattle.ethernet_arp.specs.Frames.{Host, framed, is_datagram, mac_at}
 use Rattle.ethernet_arp.specs.Learning.{Act, known}
@@ -37,3 +40,10 @@ pub record AllGoHome (m : Meaning) (served : ℕ → Bool) (k : Host) (own : Add
   pub each : (i : ℕ) (frame : List ℕ) → slice_get (frames_from [] (said m served (ether_way k) own deeds s)) i ≡ Some frame
       → is_datagram (word_at frame 12) ≡ true
       → GoesHome m served k own deeds s i frame
+
+-- In all that is said for a whole line each frame with a datagram goes to the hardware address that its target taught last.
+abbrev pub DatagramsGoHome : Type 0
+DatagramsGoHome =
+    (m : Meaning) (served : ℕ → Bool) (k : Host) (own : Addr) (pace : ℕ) (items : List Item) (n : AbstractNode)
+    → length k.mac ≡ 6 → length k.addr ≡ 4
+    → AllGoHome m served k own (line_deeds (ether_way k) own pace items) (record { acts = []; node = n })

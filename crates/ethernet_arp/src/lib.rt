@@ -15,9 +15,9 @@ mod taking;
 mod wrapping;
 
 pub use arp::Arp;
-pub use laws::constant_values;
+pub use laws::{constant_values, datagrams_fit_frames, datagrams_go_home, frames_bring_bytes};
 pub use mac::Mac;
-pub use serving::{datagrams_fit_frames, datagrams_go_home, frames_bring_bytes, serve_ether};
+pub use serving::serve_ether;
 pub use sizes::{ARP_ENTRIES, ARP_FRAME, ARP_TICKS, LARGEST_FRAME, SMALLEST_FRAME};
 pub use taking::{Taken, take};
 pub use wrapping::wrap;

@@ -1,17 +1,7 @@
-ghost use Rattle.std.specs.Prelude.{◌≡◌, [], Bool, List, ℕ, length};
-ghost use Rattle.app_events.specs.Part.{Meaning};
-ghost use Rattle.uip_edge.specs.declared.item.Item.{Item};
+ghost use Rattle.std.specs.Prelude.{◌≡◌};
 ghost use Rattle.serve_loop.specs.DeedServing.{ServesOver};
-ghost use Rattle.serve_loop.specs.Items.{BringsBytes};
-ghost use Rattle.serve_loop.specs.LineDeeds.{line_deeds};
-ghost use Rattle.uip_node.specs.Node.{AbstractNode, opening};
 ghost use Rattle.uip_node.specs.StandsFor.{IsWhole};
-ghost use Rattle.uip_wire.specs.declared.addr.Addr.{Addr as Address};
 ghost use Rattle.ethernet_arp.specs.EtherWay.{ether_way};
-ghost use Rattle.ethernet_arp.specs.Frames.{Host};
-ghost use Rattle.ethernet_arp.specs.Learning.{Act};
-ghost use Rattle.ethernet_arp.specs.Sendable.{AllSendable};
-ghost use Rattle.ethernet_arp.specs.Sending.{AllGoHome};
 ghost use Rattle.ethernet_arp.specs.Table.{Knows, host_of};
 ghost use Rattle.uip_edge.specs.Telling.{line_told};
 
@@ -47,24 +37,3 @@ pub fn serve_ether<A: App, L: Link, K: Sink>(
     arp.learn_all(&line.arp);
     end
 }
-
-/// In all that is written for a whole line, each frame with a datagram goes to the hardware address that the datagram's target
-/// taught last.
-pub fn datagrams_go_home()
-    ensures { (m : Meaning) (served : ℕ → Bool) (k : Host) (own : Address) (pace : ℕ) (items : List Item) (n : AbstractNode)
-        → length k.mac ≡ 6 → length k.addr ≡ 4
-        → AllGoHome m served k own (line_deeds (ether_way k) own pace items) (record { acts = []; node = n }) }
-{}
-
-/// Whatever the node answers on a line has 20 to 1500 bytes, and goes out in a frame.
-#[tactic(auto, using(crate::proofs::SendableLaws::all_sendable))]
-pub fn datagrams_fit_frames()
-    ensures { (m : Meaning) (served : ℕ → Bool) (k : Host) (own : Address) (pace : ℕ) (items : List Item) (numbers : List ℕ)
-        → length own.0 ≡ 4
-        → AllSendable m served own (line_deeds (ether_way k) own pace items) (record { acts = []; node = opening own numbers }) }
-{}
-
-/// Frames that are fed bytes bring bytes.
-pub fn frames_bring_bytes()
-    ensures { (k : Host) → BringsBytes (ether_way k) }
-{}

@@ -6,44 +6,32 @@ use Rattle.rexmit_timer.specs.declared.timer.Beat.TheVariants.{Wait, Again, Give
 use Rattle.rexmit_timer.specs.declared.timer.Timer.{Timer}
 use Rattle.rexmit_timer.specs.Ages.{give_up_age, beat_at, tries_at, count_at, IsAtAge, IsBeatOfAge}
 
-abbrev pub is_wait : Beat → Bool
-is_wait Wait = true
-is_wait Again = false
-is_wait GiveUp = false
+-- whether two beats are the same
+abbrev pub is_beat : Beat → Beat → Bool
+is_beat Wait Wait = true
+is_beat Again Again = true
+is_beat GiveUp GiveUp = true
+is_beat _ _ = false
 
-abbrev pub is_again : Beat → Bool
-is_again Wait = false
-is_again Again = true
-is_again GiveUp = false
-
-abbrev pub is_give_up : Beat → Bool
-is_give_up Wait = false
-is_give_up Again = false
-is_give_up GiveUp = true
-
-wait_is : (b : Beat) → is_wait b ≡ true → Wait ≡ b
-wait_is Wait e = refl
-wait_is Again e = cc
-wait_is GiveUp e = cc
-
-again_is : (b : Beat) → is_again b ≡ true → Again ≡ b
-again_is Wait e = cc
-again_is Again e = refl
-again_is GiveUp e = cc
-
-give_up_is : (b : Beat) → is_give_up b ≡ true → GiveUp ≡ b
-give_up_is Wait e = cc
-give_up_is Again e = cc
-give_up_is GiveUp e = refl
+beat_is : (one other : Beat) → is_beat one other ≡ true → one ≡ other
+beat_is Wait Wait e = refl
+beat_is Wait Again e = cc
+beat_is Wait GiveUp e = cc
+beat_is Again Wait e = cc
+beat_is Again Again e = refl
+beat_is Again GiveUp e = cc
+beat_is GiveUp Wait e = cc
+beat_is GiveUp Again e = cc
+beat_is GiveUp GiveUp e = refl
 
 unfoldable pub waits_at : ℕ → ℕ → Bool
-waits_at limit age = is_wait (beat_at limit (age + 1)) && ((count_at (age + 1) == count_at age - 1) && (tries_at (age + 1) == tries_at age))
+waits_at limit age = is_beat Wait (beat_at limit (age + 1)) && ((count_at (age + 1) == count_at age - 1) && (tries_at (age + 1) == tries_at age))
 
 unfoldable pub repeats_at : ℕ → ℕ → Bool
-repeats_at limit age = is_again (beat_at limit (age + 1)) && ((count_at (age + 1) == 3 * 2 ^ min (tries_at age) 4) && (tries_at (age + 1) == tries_at age + 1))
+repeats_at limit age = is_beat Again (beat_at limit (age + 1)) && ((count_at (age + 1) == 3 * 2 ^ min (tries_at age) 4) && (tries_at (age + 1) == tries_at age + 1))
 
 unfoldable pub gives_up_at : ℕ → ℕ → Bool
-gives_up_at limit age = is_give_up (beat_at limit (age + 1))
+gives_up_at limit age = is_beat GiveUp (beat_at limit (age + 1))
 
 -- what holds of an age, by whether it is below the last, whether ticks are waited, and whether retransmissions are left
 abbrev pub fits_by : Bool → Bool → Bool → ℕ → ℕ → Bool
@@ -98,11 +86,11 @@ unfolding waits_at
 waits limit age t few early at waited =
     let w : nat_lt 0 (count_at age) ≡ true = lt-ltb 0 (count_at age) (let h : 0 < count_at age = omega (arith, at.count) in h) in
     let e = waits_from (nat_lt age (give_up_age limit)) (nat_lt 0 (count_at age)) (tries_at age == limit) limit age (all_fit_at limit age few early) (lt-ltb age (give_up_age limit) early) w in
-    let p = and_parts (is_wait (beat_at limit (age + 1))) ((count_at (age + 1) == count_at age - 1) && (tries_at (age + 1) == tries_at age)) e in
+    let p = and_parts (is_beat Wait (beat_at limit (age + 1))) ((count_at (age + 1) == count_at age - 1) && (tries_at (age + 1) == tries_at age)) e in
     let q = and_parts (count_at (age + 1) == count_at age - 1) (tries_at (age + 1) == tries_at age) p.1 in
     let counts : count_at (age + 1) ≡ count_at age - 1 = eqb-true (count_at (age + 1)) (count_at age - 1) q.0 in
     let tries : tries_at (age + 1) ≡ tries_at age = eqb-true (tries_at (age + 1)) (tries_at age) q.1 in
-    record { beat = wait_is (beat_at limit (age + 1)) p.0; goes_on = record { count = omega (arith, at.count, counts); tries = at.tries ∙ sym tries } }
+    record { beat = beat_is Wait (beat_at limit (age + 1)) p.0; goes_on = record { count = omega (arith, at.count, counts); tries = at.tries ∙ sym tries } }
 
 -- a tick that asks for a retransmission
 pub repeats : (limit age : ℕ) (t : Timer) → limit ≤ 8 → age < give_up_age limit → IsAtAge t age → t.count ≡ 0 → t.tries < limit →
@@ -112,11 +100,11 @@ repeats limit age t few early at none left =
     let w : nat_lt 0 (count_at age) ≡ false = le-ltb 0 (count_at age) (let h : count_at age ≤ 0 = omega (arith, at.count) in h) in
     let u : (tries_at age == limit) ≡ false = ne_eqb (tries_at age) limit (λ h. omega (arith, at.tries, h, left)) in
     let e = repeats_from (nat_lt age (give_up_age limit)) (nat_lt 0 (count_at age)) (tries_at age == limit) limit age (all_fit_at limit age few early) (lt-ltb age (give_up_age limit) early) w u in
-    let p = and_parts (is_again (beat_at limit (age + 1))) ((count_at (age + 1) == 3 * 2 ^ min (tries_at age) 4) && (tries_at (age + 1) == tries_at age + 1)) e in
+    let p = and_parts (is_beat Again (beat_at limit (age + 1))) ((count_at (age + 1) == 3 * 2 ^ min (tries_at age) 4) && (tries_at (age + 1) == tries_at age + 1)) e in
     let q = and_parts (count_at (age + 1) == 3 * 2 ^ min (tries_at age) 4) (tries_at (age + 1) == tries_at age + 1) p.1 in
     let counts : count_at (age + 1) ≡ 3 * 2 ^ min (tries_at age) 4 = eqb-true (count_at (age + 1)) (3 * 2 ^ min (tries_at age) 4) q.0 in
     let tries : tries_at (age + 1) ≡ tries_at age + 1 = eqb-true (tries_at (age + 1)) (tries_at age + 1) q.1 in
-    record { beat = again_is (beat_at limit (age + 1)) p.0; goes_on = record { count = ap (λ n. 3 * 2 ^ min n 4) at.tries ∙ sym counts; tries = omega (arith, at.tries, tries) } }
+    record { beat = beat_is Again (beat_at limit (age + 1)) p.0; goes_on = record { count = ap (λ n. 3 * 2 ^ min n 4) at.tries ∙ sym counts; tries = omega (arith, at.tries, tries) } }
 
 -- a tick with no retransmission left
 pub gives_up : (limit age : ℕ) (t : Timer) → limit ≤ 8 → age < give_up_age limit → IsAtAge t age → t.count ≡ 0 → t.tries ≡ limit →
@@ -126,4 +114,4 @@ gives_up limit age t few early at none used =
     let w : nat_lt 0 (count_at age) ≡ false = le-ltb 0 (count_at age) (let h : count_at age ≤ 0 = omega (arith, at.count) in h) in
     let u : (tries_at age == limit) ≡ true = eq-eqb (tries_at age) limit (sym at.tries ∙ used) in
     let e = gives_up_from (nat_lt age (give_up_age limit)) (nat_lt 0 (count_at age)) (tries_at age == limit) limit age (all_fit_at limit age few early) (lt-ltb age (give_up_age limit) early) w u in
-    record { beat = give_up_is (beat_at limit (age + 1)) e; goes_on = tt }
+    record { beat = beat_is GiveUp (beat_at limit (age + 1)) e; goes_on = tt }

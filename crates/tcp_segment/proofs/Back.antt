@@ -12,7 +12,7 @@ use Rattle.uip_ipv4.proofs.Back.{passes, not_less, equal, neither, length-head_b
 use Rattle.uip_ipv4.specs.Head.{head_bytes, head_or_fate, payload_of}
 use Rattle.uip_ipv4.specs.declared.proto.Proto.TheVariants.{Tcp}
 use Rattle.tcp_segment.specs.Options.{mss_in, value_of}
-use Rattle.tcp_segment.specs.ReadBack.{IsSoundDatagram, IsReadBack, ReadsBack, head_of}
+use Rattle.tcp_segment.specs.ReadBack.{IsSoundDatagram, IsReadBack, ReadsBack, head_of, fields_sent}
 use Rattle.tcp_segment.specs.Received.{header_len, segment_in}
 use Rattle.tcp_segment.specs.Segments.{Datagram, datagram_bytes, pseudo_header, segment_bytes}
 use Rattle.tcp_segment.specs.declared.fate.TcpFate.{TcpFate}
@@ -85,17 +85,7 @@ received : (offset : ℕ) (options : List ℕ) (d : Datagram) (mss : Option ℕ)
     → mss_in (slice_range (with_words offset options (checksum_of (pseudo_header d.source d.target (length (with_words offset options 0 d)) ++ with_words offset options 0 d)) d) 20 (4 * offset)) ≡ mss
     → segment_in d.source d.target
     (with_words offset options (checksum_of (pseudo_header d.source d.target (length (with_words offset options 0 d)) ++ with_words offset options 0 d)) d)
-    ≡ Ok (record {
-      from = record { 0 = d.from };
-      to = record { 0 = d.to };
-      seq = record { 0 = d.segment.seq };
-      ack = record { 0 = d.segment.ack };
-      flags = d.segment.flags;
-      window = d.segment.window;
-      mss = mss;
-      text_at = 20 + 4 * offset;
-      text_len = length d.segment.text;
-    })
+    ≡ Ok (record (fields_sent d) { mss = mss; text_at = 20 + 4 * offset })
 unfolding segment_in
 received offset options d mss s t small least size told =
     let k : ℕ = checksum_of (pseudo_header d.source d.target (length (with_words offset options 0 d)) ++ with_words offset options 0 d) in

@@ -1,6 +1,6 @@
 -- A datagram of a sound segment is read back as what was meant.
 use Rattle.std.specs.List.{All}
-use Rattle.std.proofs.Common.{◌≡◌, ℕ, ◌+◌, ◌*◌, ◌/◌, ◌%◌, ◌<◌, ◌≤◌, inl, inr, List, [], ◌∷◌, ◌++◌, length, ap, ◌∙◌, arith, Option, Some, None, IfSome, length-append}
+use Rattle.std.proofs.Common.{◌≡◌, ◌⊎◌, ℕ, ◌+◌, ◌*◌, ◌/◌, ◌%◌, ◌<◌, ◌≤◌, inl, inr, List, [], ◌∷◌, ◌++◌, length, ap, ◌∙◌, arith, Option, Some, None, IfSome, length-append}
 use Rattle.std.proofs.lemmas.List.Elements.{All-append}
 use Rattle.uip_wire.specs.Checksum.{checksum_of}
 use Rattle.uip_wire.specs.Fields.{bytes_of}
@@ -88,12 +88,16 @@ segment_len d =
     let c : length words ≡ 10 + length (option_words d.segment.mss) = length-append (fixed_words (segment_sum d) d.from d.to d.segment) (option_words d.segment.mss) in
     omega (arith, a, b, c)
 
-size_low : (d : Datagram) → IsSoundSegment d.segment → 20 + length (segment_bytes d) ≤ 1500
-size_low d h = elim h.alone [
-  | inl none ↦ (let e : length (segment_bytes d) ≡ 20 + length d.segment.text = segment_len d ∙ ap (λ (x : Option ℕ). 20 + 2 * length (option_words x) + length d.segment.text) none in omega (arith, e, h.short))
+-- a segment without a text, or with at most 1460 bytes of it and without the option
+pub small_size : (d : Datagram) → length d.segment.text ≤ 1460 → (d.segment.mss ≡ None) ⊎ (d.segment.text ≡ []) → length (segment_bytes d) ≤ 1480
+small_size d short alone = elim alone [
+  | inl none ↦ (let e : length (segment_bytes d) ≡ 20 + length d.segment.text = segment_len d ∙ ap (λ (x : Option ℕ). 20 + 2 * length (option_words x) + length d.segment.text) none in omega (arith, e, short))
   | inr nothing ↦ (let e : length (segment_bytes d) ≡ 20 + 2 * length (option_words d.segment.mss) + 0 = segment_len d ∙ ap (λ (x : List ℕ). 20 + 2 * length (option_words d.segment.mss) + length x) nothing in
       let o : length (option_words d.segment.mss) ≤ 2 = options_len d.segment.mss in omega (arith, e, o))
 ]
+
+size_low : (d : Datagram) → IsSoundSegment d.segment → 20 + length (segment_bytes d) ≤ 1500
+size_low d h = omega (arith, small_size d h.short h.alone)
 
 -- addresses, ports and an identification that fit their fields
 pub record IsPlace (d : Datagram) : Type 0 where

@@ -109,7 +109,7 @@ long_enough : (message : List ℕ) → echo_fate message ≡ None → 8 ≤ leng
 long_enough message h = by_short (nat_lt (length message) 8) message refl h
 
 -- a reply is as long as its request
-reply_length : (request : List ℕ) → 24 ≤ length request → length (echo_reply request) ≡ length request
+pub reply_length : (request : List ℕ) → 24 ≤ length request → length (echo_reply request) ≡ length request
 reply_length request long =
     let a : List ℕ = take 12 request in
     let b : List ℕ = slice_range request 16 20 in

@@ -6,17 +6,12 @@ use Rattle.app_events.specs.Part.{Moment}
 use Rattle.app_events.specs.Pages.{Pages, IsMoment, IsByte, IsAddr}
 use Rattle.tcp_machine.specs.Connection.{Sockets, Connection, closed, serves}
 use Rattle.uip_node.specs.Events.{Event}
-use Rattle.uip_node.specs.Events.Event.{IpRefused, IcmpRefused, TcpRefused, EchoAsked, Arrived, Overlong, Periodic}
+use Rattle.uip_node.specs.Events.Event.{Arrived}
 
 -- an event whose addresses and ports fit their types
 abbrev pub IsEvent : Event → Type 0
 IsEvent (Arrived sockets s) = IsAddr sockets.peer × (sockets.peer_port.0 < 65536)
-IsEvent (IpRefused fate) = Unit {0}
-IsEvent (IcmpRefused fate) = Unit {0}
-IsEvent (TcpRefused fate) = Unit {0}
-IsEvent (EchoAsked datagram) = Unit {0}
-IsEvent Overlong = Unit {0}
-IsEvent (Periodic slot) = Unit {0}
+IsEvent _ = Unit {0}
 
 -- the first connection that serves these sockets; one that is CLOSED where none does
 abbrev pub serving : Sockets → List Connection → Connection

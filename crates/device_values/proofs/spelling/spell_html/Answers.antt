@@ -1,16 +1,10 @@
-use Rattle.std.proofs.Common.{◌++◌, ap, ◌∙◌, arith, get_or}
-use Rattle.std.proofs.lemmas.List.{get_or_default}
+use Rattle.std.proofs.Common.{arith}
 use Rattle.device_values.specs.Spellings.{html_byte}
-use Rattle.generators.proofs.Pasting.{flat_map_next}
+use Rattle.device_values.proofs.Spelt.{one_more}
 use Rattle.device_values.proofs.spelling.spell_html.Goals as goal
 
 pub loop-byte-preserved : goal.loop-byte-preserved
-loop-byte-preserved c =
-    let text = c.args.text.now in
-    let at = c.loop-byte.byte-index in
-    let byte = get_or text at 0 in (
-      c.push_html.ensures.items
-          ∙ ap (λ front. front ++ html_byte byte) c.loop-byte.invariant.0
-          ∙ flat_map_next html_byte text at byte c.loop-byte-test.true (get_or_default text at 0 byte c.loop-byte-test.true),
-      omega (arith, c.push_html.ensures.short, c.loop-byte.invariant.1),
-    )
+loop-byte-preserved c = (
+  one_more html_byte c.args.text.now _ _ c.loop-byte.byte-index c.loop-byte.invariant.0 c.push_html.ensures.items c.loop-byte-test.true,
+  omega (arith, c.push_html.ensures.short, c.loop-byte.invariant.1),
+)

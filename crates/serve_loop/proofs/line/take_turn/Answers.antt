@@ -10,12 +10,11 @@ pub returns-in-Ok-take_bytes-clause-turns : goal.returns-in-Ok-take_bytes-clause
 returns-in-Ok-take_bytes-clause-turns g c = λ k pace before h.
     let told = rw c.in-Ok-Bytes.field-0-is at c.in-Ok-Bytes.ensures in
     let done = c.in-Ok-take_bytes.ensures in
-    let n = c.in-Ok-Bytes.count in
-    let buf = c.next.new.buf in
-    let count : length (map Byte (take n buf)) ≡ n = counted n buf told.count.1 in
+    let bytes = take c.in-Ok-Bytes.count c.next.new.buf in
+    let count : length (map Byte bytes) ≡ c.in-Ok-Bytes.count = counted c.in-Ok-Bytes.count c.next.new.buf told.count.1 in
     record {
-      items = map Byte (take n buf);
-      are = All-map IsItem Byte (take n buf) done.are;
+      items = map Byte bytes;
+      are = All-map IsItem Byte bytes done.are;
       consumed = told.items;
       within = omega (arith, count, told.count.1, c.next.auto.buf);
       cause = (count, record { link = told.cause.same; sink = done.cause.same });
@@ -27,13 +26,12 @@ pub returns-in-Err-take_bytes-clause-turns : goal.returns-in-Err-take_bytes-clau
 returns-in-Err-take_bytes-clause-turns g c = λ k pace before h.
     let told = rw c.in-Ok-Bytes.field-0-is at c.in-Ok-Bytes.ensures in
     let done = c.in-Err-take_bytes.ensures in
-    let n = c.in-Ok-Bytes.count in
-    let buf = c.next.new.buf in
+    let bytes = take c.in-Ok-Bytes.count c.next.new.buf in
     record {
-      items = map Byte (take n buf);
-      are = All-map IsItem Byte (take n buf) done.are;
+      items = map Byte bytes;
+      are = All-map IsItem Byte bytes done.are;
       consumed = told.items;
-      within = (let count : length (map Byte (take n buf)) ≡ n = counted n buf told.count.1 in omega (arith, count, told.count.1, c.next.auto.buf));
+      within = (let count : length (map Byte bytes) ≡ c.in-Ok-Bytes.count = counted c.in-Ok-Bytes.count c.next.new.buf told.count.1 in omega (arith, count, told.count.1, c.next.auto.buf));
       cause = (told.cause.same, done.cause.failed);
       on = tt;
       wrote = done.err k pace before h;

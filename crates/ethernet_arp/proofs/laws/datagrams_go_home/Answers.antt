@@ -1,5 +1,5 @@
 use Rattle.ethernet_arp.proofs.SendingLaws.{all_go_home}
-use Rattle.ethernet_arp.proofs.serving.datagrams_go_home.Goals as goal
+use Rattle.ethernet_arp.proofs.laws.datagrams_go_home.Goals as goal
 
 pub returns : goal.returns
 returns c = all_go_home
