@@ -41,7 +41,7 @@ pub record Kept (speech : Speech) (life : List Exchange) : Type 0 where
   pub of_page : IsTold speech (HasEnded life) account.text account.captures account.sent
 
 pub grows_refl : (a : Account) → GrowsInto a a
-grows_refl a = record { peer_first = refl; first = refl; peer_mss = refl; text = prefix_refl a.text; captures = ([], append_nothing a.captures); sent = prefix_refl a.sent }
+grows_refl a = record { peer_first = refl; first = refl; peer_mss = refl; text = prefix_refl a.text; ended = λ e. e; captures = ([], append_nothing a.captures); sent = prefix_refl a.sent }
 
 -- the exchange in which something was said
 pub record SaidIn (life : List Exchange) (k : ℕ) (s : PlainSegment) : Type 0 where

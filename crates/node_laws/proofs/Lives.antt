@@ -399,6 +399,9 @@ module _ (m : Meaning) (steady : IsSteady m) (port : ℕ) (speech : Speech) (law
       | inr r ↦ record { rest = r.segment.text; joined = sym r.joined }
     ]
 
+    step_ended : a.ended ≡ true → w.over ≡ true
+    step_ended e = elim read [ inl q ↦ q.1 ∙ e | inr r ↦ absurd (let f = r.unended in cc) ]
+
     captures_on : a.captures ++ w.more ≡ d.part.captures
     captures_on = ap (λ l. l ++ w.more) (sym lv.captures_are) ∙ sym w.captures
 
@@ -552,7 +555,7 @@ module _ (m : Meaning) (steady : IsSteady m) (port : ℕ) (speech : Speech) (law
     }
 
     pub on_step : Onward c life g c' x
-    on_step = record { good = step_good; grew = record { peer_first = refl; first = refl; peer_mss = refl; text = step_front; captures = (w.more, captures_on); sent = more_sent } }
+    on_step = record { good = step_good; grew = record { peer_first = refl; first = refl; peer_mss = refl; text = step_front; ended = step_ended; captures = (w.more, captures_on); sent = more_sent } }
 
   -- ---- it begins
 

@@ -115,8 +115,8 @@ pub record KeepsAccount (life : List Exchange) (a : Account) : Type 0 where
   pub one : (i j : ℕ) (s t : PlainSegment) → i < j → said_at life i ≡ Some s → said_at life j ≡ Some t
       → has_place s ≡ true → has_place t ≡ true → (s.seq ≡ t.seq → ⊥) → IsAcknowledged life i j t
 
--- A number tells a place of the text. So two segments that carry SYN, text or FIN at one number are the same; what any receiver has is
--- a front of the text, and all of it where the FIN stands behind it.
+-- A number tells a place of the text. So two segments that carry SYN, text or FIN at one number have the same flags and text; what any
+-- receiver has is a front of the text, and all of it where the FIN stands behind it.
 pub record NumbersTell (life : List Exchange) (a : Account) : Type 0 where
   pub same : (i j : ℕ) (s t : PlainSegment) → i < j → said_at life i ≡ Some s → said_at life j ≡ Some t
       → has_place s ≡ true → has_place t ≡ true → s.seq ≡ t.seq → Alike t s
@@ -129,7 +129,7 @@ pub record IsOfPage (pages : Pages) (heard : List ℕ) (life : List Exchange) (a
   pub ends : (k : ℕ) (s : PlainSegment) → said_at life k ≡ Some s → has_fin s.flags ≡ true
       → (a.sent ≡ pages.text heard a.captures) × (pages.whole heard a.captures ≡ true)
 
--- How an application speaks at a port: by the page of all that was taken, by a talk of a front of it, which has no bound, or freely.
+-- How an application speaks at a port: by the page of all that was taken, by a talk of a front of it, and a talk has no bound, or freely.
 pub data Speech : Type 0 where
   Paged : (pages : Pages) → Speech
   Talked : (talks : Pages) → Speech
@@ -148,6 +148,7 @@ pub record GrowsInto (older newer : Account) : Type 0 where
   pub first : older.first ≡ newer.first
   pub peer_mss : older.peer_mss ≡ newer.peer_mss
   pub text : IsPrefixOf older.text newer.text
+  pub ended : older.ended ≡ true → newer.ended ≡ true
   pub captures : (more : List Moment) × (older.captures ++ more ≡ newer.captures)
   pub sent : IsPrefixOf older.sent newer.sent
 
