@@ -21,7 +21,7 @@ use Rattle.link_replay.specs.Noting.{pair_at}
 use Rattle.link_replay.specs.Stands.{WorldStands, LinkStands, IsLink}
 use Rattle.link_replay.specs.Telling.{AnswersTo, AreTo, client_told, pair_at_side, sees}
 use Rattle.link_replay.specs.declared.link.Link.{Link}
-use Rattle.link_replay.specs.declared.world.WorldOf.{WorldOf as CodeWorld}
+use Rattle.link_replay.specs.State.{CodeWorld}
 use Rattle.link_replay.proofs.Handling.{arrived_to, linked}
 use Rattle.link_replay.proofs.Pairs.{reads}
 

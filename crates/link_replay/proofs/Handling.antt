@@ -18,11 +18,11 @@ use Rattle.link_world.specs.World.Content.{OfSegment}
 use Rattle.link_world.specs.declared.who.Who.TheVariants.{FromClient}
 use Rattle.link_world.proofs.Doing.{where_there}
 use Rattle.link_replay.specs.Noting.{owner, pair_at}
-use Rattle.link_replay.specs.Stands.{WorldStands, LinkStands, IsKept, IsLink}
+use Rattle.link_replay.specs.Stands.{WorldStands, LinkStands, IsLink}
 use Rattle.link_replay.specs.Telling.{AreTo, IsTo}
 use Rattle.link_replay.specs.declared.socket_pair.SocketPair.{SocketPair}
 use Rattle.link_replay.specs.declared.link.Link.{Link}
-use Rattle.link_replay.specs.declared.world.WorldOf.{WorldOf as CodeWorld}
+use Rattle.link_replay.specs.State.{CodeWorld}
 use Rattle.link_replay.proofs.Pairs.{left_is}
 use Rattle.link_replay.proofs.Replies.{SaidTo, arrived_reply, periodic_reply}
 use Rattle.link_replay.proofs.Staying.{step_addr}
@@ -108,11 +108,11 @@ handed_stays w number bytes =
     (λ side e. where_there (StaysAt w) (λ s. client_stepped w number side (client_takes side.client s)) (hears_datagram side.client.setup bytes) w (stays w)
     (λ s f. stepped_stays w number side (client_takes side.client s)))
 
-module _ {A S : Type 0} (g : Ghosts A S) where
-  -- what a world keeps, with another link
-  pub still_kept : (world : CodeWorld A S) (before : Link) → (addr : Addr) × IsLink addr before → ((addr : Addr) → IsLink addr before → IsLink addr world.link) → IsKept g world
-  still_kept world before link keeps = record { link = (link.0, keeps link.0 link.1) }
+-- clients and datagrams that keep what they have to at every address
+pub still_linked : (before after : Link) → (addr : Addr) × IsLink addr before → ((addr : Addr) → IsLink addr before → IsLink addr after) → (addr : Addr) × IsLink addr after
+still_linked before after link keeps = (link.0, keeps link.0 link.1)
 
+module _ {A S : Type 0} (g : Ghosts A S) where
   -- the node and the mark stay
   pub linked : (world : CodeWorld A S) (link : Link) (w v : World) → WorldStands g world w → v.node ≡ w.node → v.mark ≡ w.mark → LinkStands link v → IsLink w.node.addr link
       → WorldStands g (record world { link = link }) v

@@ -16,7 +16,7 @@ use Rattle.link_world.specs.declared.who.Who.TheVariants.{Pinger}
 use Rattle.link_world.specs.Headline.{IsAct, OfLine}
 use Rattle.link_world.proofs.Lines.{line_acts}
 use Rattle.link_replay.specs.Stands.{WorldStands}
-use Rattle.link_replay.specs.declared.world.WorldOf.{WorldOf as CodeWorld}
+use Rattle.link_replay.specs.State.{CodeWorld}
 use Rattle.link_replay.proofs.Places.{link_marked}
 
 length_same : {X : Type 0} (n : ℕ) (x : X) → length (replicate n x) ≡ n

@@ -30,7 +30,7 @@ use Rattle.link_replay.specs.Opening.{opening_for, plan_from, server}
 use Rattle.link_replay.specs.Playing.{LinesEnd, PlaysSchedule, Reaches, Refuses, event_at, refusal_at}
 use Rattle.link_replay.specs.Reaching.{ActsEnd, IsAt}
 use Rattle.link_replay.specs.Stands.{WorldStands}
-use Rattle.link_replay.specs.declared.world.WorldOf.{WorldOf as CodeWorld}
+use Rattle.link_replay.specs.State.{CodeWorld}
 use Rattle.link_replay.proofs.Opened.{is_plan, server_is_addr}
 use Rattle.link_replay.proofs.Reaching.{at_marked, at_run}
 

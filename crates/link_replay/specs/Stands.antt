@@ -11,7 +11,7 @@ use Rattle.link_replay.specs.Matched.{Matched}
 use Rattle.link_replay.specs.declared.sent.Sent.{Sent as CodeSent}
 use Rattle.link_replay.specs.declared.side.Side.{Side as CodeSide}
 use Rattle.link_replay.specs.declared.link.Link.{Link}
-use Rattle.link_replay.specs.declared.world.WorldOf.{WorldOf as CodeWorld}
+use Rattle.link_replay.specs.State.{CodeWorld}
 
 -- a client of the code for one over plain data
 pub record SideStands (side : CodeSide) (s : Side) : Type 0 where
@@ -49,12 +49,7 @@ pub record WorldStands {A S : Type 0} (g : Ghosts A S) (world : CodeWorld A S) (
   pub mark : world.mark ≡ w.mark
   pub fresh : world.spent ≡ false
 
--- What every world of the code keeps, one that is spent too.
-pub record IsKept {A S : Type 0} (g : Ghosts A S) (world : CodeWorld A S) : Type 0 where
-  pub link : (addr : Addr) × IsLink addr world.link
-
--- A world of the code that keeps what it has to; what its application keeps, and the mark, are those of an older one.
+-- What its application keeps, and the mark, are those of an older world.
 pub record Follows {A S : Type 0} (g : Ghosts A S) (old new : CodeWorld A S) : Type 0 where
-  pub kept : IsKept g new
   pub same : g.kept new.node.shared ≡ g.kept old.node.shared
   pub mark : new.mark ≡ old.mark

@@ -13,7 +13,7 @@ ghost use Rattle.link_world.specs.declared.who.Who.TheVariants.{Pinger};
 ghost use Rattle.link_replay.specs.Moving.{DoesAct, FromHere};
 ghost use Rattle.link_replay.specs.Owning.{own_step};
 ghost use Rattle.link_world.specs.Headline.{IsAct};
-ghost use Rattle.link_replay.specs.Stands.{IsKept, WorldStands};
+ghost use Rattle.link_replay.specs.Stands.{WorldStands};
 ghost use Rattle.link_replay.specs.Telling.{AnswersTo, AreTo, client_told};
 
 use crate::before::Before;
@@ -30,9 +30,7 @@ use uip_wire::{Addr, LARGEST_DATAGRAM};
 impl<A: App> WorldOf<A> {
     /// Bytes come to the node. What it answers goes to the client with these sockets, or is an echo reply.
     fn node_hears(&mut self, bytes: &[u8], to: Option<SocketPair>) -> Result<(), NoMemory>
-        requires kept { IsKept A.App self.old }
         requires most { length bytes.now ≤ LARGEST_DATAGRAM }
-        ensures kept { IsKept A.App self.new }
         ensures same { A.kept self.new.node.shared ≡ A.kept self.old.node.shared }
         ensures mark { self.new.mark ≡ self.old.mark }
         ensures heard { OnOk result ((w : PlainWorld) → WorldStands A.App self.old w
@@ -48,9 +46,7 @@ impl<A: App> WorldOf<A> {
 
     /// The periodic call of the connection in a slot below 10.
     fn node_ticks(&mut self, slot: usize) -> Result<(), NoMemory>
-        requires kept { IsKept A.App self.old }
         requires within { slot < 10 }
-        ensures kept { IsKept A.App self.new }
         ensures same { A.kept self.new.node.shared ≡ A.kept self.old.node.shared }
         ensures mark { self.new.mark ≡ self.old.mark }
         ensures ticked { OnOk result ((w : PlainWorld) → WorldStands A.App self.old w
@@ -64,8 +60,6 @@ impl<A: App> WorldOf<A> {
 
     /// A tick: the periodic calls of all slots in turn.
     fn tick(&mut self) -> Result<(), NoMemory>
-        requires kept { IsKept A.App self.old }
-        ensures kept { IsKept A.App self.new }
         ensures same { A.kept self.new.node.shared ≡ A.kept self.old.node.shared }
         ensures mark { self.new.mark ≡ self.old.mark }
         ensures ticked { OnOk result ((w : PlainWorld) → WorldStands A.App self.old w
@@ -79,8 +73,6 @@ impl<A: App> WorldOf<A> {
 
     /// A client does something by itself.
     fn own(&mut self, number: u8, own: Own) -> Result<(), NoMemory>
-        requires kept { IsKept A.App self.old }
-        ensures kept { IsKept A.App self.new }
         ensures same { A.kept self.new.node.shared ≡ A.kept self.old.node.shared }
         ensures mark { self.new.mark ≡ self.old.mark }
         ensures acted { OnOk result ((w : PlainWorld) → WorldStands A.App self.old w
@@ -92,8 +84,6 @@ impl<A: App> WorldOf<A> {
 
     /// An echo request is sent.
     fn ping(&mut self, source: Addr) -> Result<(), NoMemory>
-        requires kept { IsKept A.App self.old }
-        ensures kept { IsKept A.App self.new }
         ensures same { A.kept self.new.node.shared ≡ A.kept self.old.node.shared }
         ensures mark { self.new.mark ≡ self.old.mark }
         ensures sent { OnOk result ((w : PlainWorld) → WorldStands A.App self.old w
@@ -112,9 +102,7 @@ impl<A: App> WorldOf<A> {
 
     /// A datagram's bytes are handed over: to the node, or to the client that it was sent to.
     fn hand(&mut self, who: Who, bytes: &[u8]) -> Result<(), NoMemory>
-        requires kept { IsKept A.App self.old }
         requires most { length bytes.now ≤ LARGEST_DATAGRAM }
-        ensures kept { IsKept A.App self.new }
         ensures same { A.kept self.new.node.shared ≡ A.kept self.old.node.shared }
         ensures mark { self.new.mark ≡ self.old.mark }
         ensures handed { OnOk result ((w : PlainWorld) → WorldStands A.App self.old w
@@ -140,8 +128,6 @@ impl<A: App> WorldOf<A> {
 
     /// The datagram with a number, counted from 1, is delivered.
     fn give(&mut self, number: u32) -> Result<(), NoMemory>
-        requires kept { IsKept A.App self.old }
-        ensures kept { IsKept A.App self.new }
         ensures same { A.kept self.new.node.shared ≡ A.kept self.old.node.shared }
         ensures mark { self.new.mark ≡ self.old.mark }
         ensures given { OnOk result (FromHere A.App self.old
@@ -164,9 +150,7 @@ impl<A: App> WorldOf<A> {
 
     /// The datagram with a number is handed over with one byte changed.
     fn damage(&mut self, number: u32, at: u16, mask: u8) -> Result<(), NoMemory>
-        requires kept { IsKept A.App self.old }
         requires mask { 1 ≤ mask }
-        ensures kept { IsKept A.App self.new }
         ensures same { A.kept self.new.node.shared ≡ A.kept self.old.node.shared }
         ensures mark { self.new.mark ≡ self.old.mark }
         ensures damaged { OnOk result (DoesAct A.App (Act.Damage number at mask) self.old self.new) }
@@ -187,9 +171,7 @@ impl<A: App> WorldOf<A> {
 
     /// What an act does that is not refused.
     pub(crate) fn perform(&mut self, act: &Act) -> Result<(), NoMemory>
-        requires kept { IsKept A.App self.old }
         requires act { IsAct act.now }
-        ensures kept { IsKept A.App self.new }
         ensures same { A.kept self.new.node.shared ≡ A.kept self.old.node.shared }
         ensures mark { self.new.mark ≡ self.old.mark }
         ensures window { (number size : ℕ) → act.now ≡ Act.Window number size → result ≡ Ok tt }

@@ -7,7 +7,7 @@ ghost use Rattle.link_schedule.specs.Kept.{client_in_range};
 ghost use Rattle.link_schedule.specs.Stands.{plan_at};
 ghost use Rattle.link_world.specs.History.{IsPlanned, Planned};
 ghost use Rattle.link_replay.specs.Opening.{AreFresh, IsFresh, opening_for, plan_from, planned};
-ghost use Rattle.link_replay.specs.Stands.{IsKept, WorldStands};
+ghost use Rattle.link_replay.specs.Stands.{WorldStands};
 
 use crate::link::Link;
 use crate::side::Side;
@@ -100,7 +100,6 @@ impl<A: App> WorldOf<A> {
     ) -> Result<WorldOf<A>, NoMemory>
         requires few { length clients.now ≤ 64 }
         requires ranges { list_all client_in_range (map plan_at clients.now) ≡ true }
-        ensures kept { IfOk result (λ world. IsKept A.App world) }
         ensures stands { IfOk result (λ world. WorldStands A.App world (opening_for (A.numbers shared) (map plan_at clients.now))) }
         ensures shared { IfOk result (λ world. world.node.shared ≡ shared) }
         ensures planned { IfOk result (λ world. (k : ℕ) (p : Planned) → slice_get (plan_from 1 (map plan_at clients.now)) k ≡ Some p
@@ -135,7 +134,6 @@ impl World {
     /// The opening world of a schedule's clients and the web server of a site: the node at 10.0.0.1, every client idle, and no
     /// datagram sent. On NoMemory the site is dropped.
     pub fn new(alloc: Global, schedule: &Schedule, site: Site) -> Result<World, NoMemory>
-        ensures kept { IfOk result (λ world. IsKept ghosts world) }
         ensures stands { IfOk result (λ world. WorldStands ghosts world
             (opening_for (no_hits (files_of site)) (content_at schedule.now).clients)) }
         ensures site { IfOk result (λ world. world.node.shared.site ≡ site) }

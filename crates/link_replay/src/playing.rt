@@ -16,7 +16,7 @@ ghost use Rattle.link_replay.specs.Opening.{plan_from};
 ghost use Rattle.uip_node.specs.Laws.{HasBytes};
 ghost use Rattle.link_world.specs.Schedule.{plays as played};
 ghost use Rattle.link_replay.specs.Playing.{LinesEnd, PlaysSchedule, event_at, refusal_at};
-ghost use Rattle.link_replay.specs.Stands.{IsKept, WorldStands};
+ghost use Rattle.link_replay.specs.Stands.{WorldStands};
 
 use crate::seeing::see_loaded;
 use crate::types::{is_addr, is_short};
@@ -67,9 +67,7 @@ fn refused(line: u32, fault: StepFault) -> ReadSchedule
 
 /// The lines in turn, up to the first that is refused.
 fn play_lines<A: App>(world: &mut WorldOf<A>, lines: &[Line]) -> Result<(), ReadSchedule>
-    requires kept { IsKept A.App world.old }
     requires ranges { (clients : ℕ) × (list_all (λ line. event_in_range clients line.event) lines.now ≡ true) }
-    ensures kept { IsKept A.App world.new }
     ensures played { FromHere A.App world.old (λ m served w. LinesEnd m served (λ done. WorldStands A.App world.new) lines.now result
         (played m served (map event_at lines.now) w)) }
 {
@@ -89,7 +87,6 @@ pub(crate) fn play_by<A: App>(
     schedule: &Schedule,
     shared: A::Shared,
 ) -> Result<WorldOf<A>, ReadSchedule>
-    ensures kept { IfOk result (λ world. IsKept A.App world) }
     ensures planned { IfOk result (λ world. (k : ℕ) (p : Planned)
         → slice_get (plan_from 1 (content_at schedule.now).clients) k ≡ Some p → IsPlanned p) }
     ensures plays { (pages : Pages) → IsPaged (A.meaning (A.kept shared)) pages → HasBytes pages → All IsWord (A.numbers shared)
@@ -105,7 +102,6 @@ pub(crate) fn play_by<A: App>(
 /// The world that a schedule's lines reach with the web server of a site, or the first line that is refused, with the reason. After a
 /// refusal and after NoMemory the site is dropped.
 pub fn play(alloc: Global, schedule: &Schedule, site: Site) -> Result<World, ReadSchedule>
-    ensures kept { IfOk result (λ world. IsKept ghosts world) }
     ensures planned { IfOk result (λ world. (k : ℕ) (p : Planned)
         → slice_get (plan_from 1 (content_at schedule.now).clients) k ≡ Some p → IsPlanned p) }
     ensures plays { PlaysSchedule (web_meaning (files_of site)) is_served (no_hits (files_of site)) (content_at schedule.now)

@@ -7,7 +7,7 @@ ghost use Rattle.link_world.specs.Schedule.{acts_of as lines_acts, plays_line};
 ghost use Rattle.link_world.specs.Headline.{IsAct, OfLine};
 ghost use Rattle.link_replay.specs.Moving.{FromHere};
 ghost use Rattle.link_replay.specs.Reaching.{ActsEnd, IsNamed, ActSteps, Stops};
-ghost use Rattle.link_replay.specs.Stands.{IsKept, WorldStands};
+ghost use Rattle.link_replay.specs.Stands.{WorldStands};
 
 use crate::acts::{acts_of, mark_after};
 use crate::link::Link;
@@ -15,6 +15,7 @@ use app_events::App;
 use httpd::Httpd;
 use link_schedule::Event;
 use link_world::{Act, StepFault};
+use std::marker::Model;
 use uip_node::Node;
 
 /// The world of a replay, over any application.
@@ -28,6 +29,18 @@ pub struct WorldOf<A: App> {
     pub spent: bool,
 }
 
+impl<A: App> Model for WorldOf<A> {
+    ghost use Rattle.link_replay.specs.State.{CodeWorld};
+    ghost use Rattle.link_replay.specs.Stands.{IsLink};
+    ghost use Rattle.uip_wire.specs.declared.addr.Addr.{Addr as Address};
+
+    ghost Value = { CodeWorld A A.Shared };
+
+    ghost view = { λ world. record { node = world.node; link = world.link; mark = world.mark; spent = world.spent } };
+
+    ghost invariant = { λ world. (addr : Address) × IsLink addr world.link };
+}
+
 /// The world of a replay by the web server of a site.
 pub type World = WorldOf<Httpd>;
 
@@ -35,9 +48,7 @@ impl<A: App> WorldOf<A> {
     /// One act. After a refusal that is not NoMemory the world is as it was; after NoMemory it is spent, and each later act answers
     /// NoMemory too.
     pub fn step(&mut self, act: &Act) -> Result<(), StepFault>
-        requires kept { IsKept A.App self.old }
         requires act { IsAct act.now }
-        ensures kept { IsKept A.App self.new }
         ensures same { A.kept self.new.node.shared ≡ A.kept self.old.node.shared }
         ensures mark { self.new.mark ≡ self.old.mark }
         ensures spent { self.old.spent ≡ true → result ≡ Err StepFault.NoMemory }
@@ -62,9 +73,7 @@ impl<A: App> WorldOf<A> {
 
     /// Acts in turn, up to the first that is refused.
     fn run(&mut self, acts: &[Act]) -> Result<(), StepFault>
-        requires kept { IsKept A.App self.old }
         requires acts { All IsAct acts.now }
-        ensures kept { IsKept A.App self.new }
         ensures same { A.kept self.new.node.shared ≡ A.kept self.old.node.shared }
         ensures mark { self.new.mark ≡ self.old.mark }
         ensures spends { result ≡ Err StepFault.NoMemory → self.new.spent ≡ true }
@@ -81,9 +90,7 @@ impl<A: App> WorldOf<A> {
     /// The acts of a line in turn, up to the first that is refused; then the mark moves. After a refusal that is not NoMemory the acts
     /// before it stand, and the mark is as before the line.
     pub fn line(&mut self, event: &Event) -> Result<(), StepFault>
-        requires kept { IsKept A.App self.old }
         requires event { OfLine IsAct event.now }
-        ensures kept { IsKept A.App self.new }
         ensures same { A.kept self.new.node.shared ≡ A.kept self.old.node.shared }
         ensures mark { OnErr result (self.new.mark ≡ self.old.mark) }
         ensures spent { self.old.spent ≡ true → result ≡ Err StepFault.NoMemory }

@@ -13,10 +13,12 @@ use Rattle.link_replay.specs.Stands.{WorldStands}
 use Rattle.link_replay.proofs.Played.{handed_on, same_refusal, whole_schedule}
 use Rattle.link_replay.proofs.playing.play_by.Goals as goal
 
-pub play_lines-requires-clause-ranges : goal.play_lines-requires-clause-ranges
-play_lines-requires-clause-ranges g c =
-    let n = length (map plan_at c.args.schedule.now.clients.items) in
-    (n, subst (λ (xs : List Line). list_all (λ (line : Line). event_in_range n line.event) xs ≡ true) (sym c.as_slice-2.ensures.value) c.args.schedule.now.kept.lines_in_range)
+pub play_lines-requires : goal.play_lines-requires
+play_lines-requires g c = record {
+  ranges =
+      let n = length (map plan_at c.args.schedule.now.clients.items) in
+      (n, subst (λ (xs : List Line). list_all (λ (line : Line). event_in_range n line.event) xs ≡ true) (sym c.as_slice-2.ensures.value) c.args.schedule.now.kept.lines_in_range);
+}
 
 pub returns-in_err-play_lines-clause-plays : goal.returns-in_err-play_lines-clause-plays
 returns-in_err-play_lines-clause-plays g c = λ pages lawful bytes words.

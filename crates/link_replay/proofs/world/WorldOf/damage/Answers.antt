@@ -1,4 +1,5 @@
-use Rattle.std.proofs.Common.{◌≡◌, ℕ, ◌<◌, ◌≤◌, length, List, Option, sym, ap, ◌∙◌, arith, subst, rules, tests}
+use Rattle.std.proofs.Common.{◌≡◌, ◌⊎◌, ℕ, ◌<◌, ◌≤◌, length, List, Option, sym, ap, ◌∙◌, arith, subst, rules, tests}
+use Rattle.std.proofs.lemmas.Grind.{common_steps}
 use Rattle.uip_node.specs.Edge.{event_of}
 use Rattle.uip_node.specs.Events.{Reply}
 use Rattle.uip_node.specs.Node.{step}
@@ -12,14 +13,23 @@ use Rattle.link_replay.specs.Stands.{WorldStands}
 use Rattle.link_replay.specs.Telling.{AnswersTo}
 use Rattle.link_replay.proofs.Damaging.{damage_answers}
 use Rattle.link_replay.proofs.Readable.{sent_there}
-use Rattle.link_replay.proofs.Sending.{area_is}
+use Rattle.link_replay.proofs.Sending.{area_is, none_numbered}
 use Rattle.link_replay.proofs.world.WorldOf.damage.Goals as goal
+
+pub returns-then-place-eq0-clause-damaged : goal.returns-then-place-eq0-clause-damaged
+returns-then-place-eq0-clause-damaged g c = λ w h f s.
+    let a = g.A.App in
+    let t = subst (λ x. WorldStands a x w) (sym c.self.view_is) s in
+    let many : length c.self.inside.link.sent.items ≡ length w.sent = t.link.sent.same_length in
+    let out : (c.args.number ≡ 0) ⊎ (length w.sent < c.args.number) = grind (arith, common_steps) in
+    subst (λ (x : Option Sent). WorldStands a c.args.self.now (damaged (a.meaning (a.kept c.args.self.now.node.shared)) a.served w c.args.at c.args.mask x)) (sym (none_numbered w.sent c.args.number out)) s
 
 pub returns-clause-damaged : goal.returns-clause-damaged
 returns-clause-damaged g c = λ w h f s.
     let a = g.A.App in
+    let t = subst (λ x. WorldStands a x w) (sym c.self.view_is) s in
     let m = a.meaning (a.kept c.args.self.now.node.shared) in
-    let p = sent_there c.args.self.now.link w c.args.number c.index-sent.result.now (omega arith) c.index-sent.ensures (omega arith) s.link in
+    let p = sent_there c.self.inside.link w c.args.number c.index-sent.result.now (omega arith) c.index-sent.ensures (omega arith) t.link in
     let e : Sent = p.other in
     let items : c.in-Ok.bytes.items ≡ c.as_slice.result.now = search (rules, tests) in
     let old : c.as_mut_slice.result.now ≡ sent_bytes w e = c.as_mut_slice.ensures.value ∙ items ∙ c.as_slice.ensures.value ∙ p.pair.bytes in

@@ -1,4 +1,5 @@
-use Rattle.std.proofs.Common.{◌≡◌, ℕ, ◌-◌, ◌≤◌, List, Option, Some, length, slice_get, sym, ap, ◌∙◌, arith, subst, rules, tests}
+use Rattle.std.proofs.Common.{◌≡◌, ◌⊎◌, ℕ, ◌-◌, ◌<◌, ◌≤◌, List, Option, Some, length, slice_get, sym, ap, ◌∙◌, arith, subst, rules, tests}
+use Rattle.std.proofs.lemmas.Grind.{common_steps}
 use Rattle.uip_wire.specs.declared.sizes.TheConstants.{LARGEST_DATAGRAM}
 use Rattle.uip_node.specs.Edge.{event_of}
 use Rattle.uip_node.specs.Events.{Reply}
@@ -15,34 +16,46 @@ use Rattle.link_replay.specs.declared.sent.Sent.{Sent as CodeSent}
 use Rattle.link_replay.proofs.Delivered.{answers_seen, hands, seen, speaks_to}
 use Rattle.link_replay.proofs.Pairs.{there_is}
 use Rattle.link_replay.proofs.Readable.{read_at, sent_at, sent_there}
-use Rattle.link_replay.proofs.Handling.{still_kept}
+use Rattle.link_replay.proofs.Handling.{still_linked}
+use Rattle.link_replay.proofs.Sending.{none_numbered}
 use Rattle.link_replay.proofs.world.WorldOf.give.Goals as goal
 
-pub hand-requires-clause-kept : goal.hand-requires-clause-kept
-hand-requires-clause-kept g c = still_kept g.A.App _ _ c.requires.kept.link c.see.ensures.kept
+pub invariant_of-self : goal.invariant_of-self
+invariant_of-self g c = still_linked _ _ c.self.invariant c.see.ensures.kept
 
-pub hand-requires-clause-most : goal.hand-requires-clause-most
-hand-requires-clause-most g c =
-    let sent : List CodeSent = c.args.self.now.link.sent.items in
-    let n : ℕ = c.args.number - 1 in
-    let at : slice_get sent n ≡ Some c.index-sent.result.now = there_is sent n c.index-sent.result.now c.index-sent.ensures (omega arith) in
-    let items : c.in-Ok.bytes.items ≡ c.as_slice.result.now = search (rules, tests) in
-    let all : c.as_slice-2.result.now ≡ c.index-sent.result.now.bytes.items = c.as_slice-2.ensures.value ∙ items ∙ c.as_slice.ensures.value in
-    subst (λ (xs : List ℕ). length xs ≤ LARGEST_DATAGRAM) (sym all) (c.requires.kept.link.1.sizes n c.index-sent.result.now at)
+pub hand-requires : goal.hand-requires
+hand-requires g c = record {
+  most =
+      let sent : List CodeSent = c.self.inside.link.sent.items in
+      let n : ℕ = c.args.number - 1 in
+      let at : slice_get sent n ≡ Some c.index-sent.result.now = there_is sent n c.index-sent.result.now c.index-sent.ensures (omega arith) in
+      let items : c.in-Ok.bytes.items ≡ c.as_slice.result.now = search (rules, tests) in
+      let all : c.as_slice-2.result.now ≡ c.index-sent.result.now.bytes.items = c.as_slice-2.ensures.value ∙ items ∙ c.as_slice.ensures.value in
+      subst (λ (xs : List ℕ). length xs ≤ LARGEST_DATAGRAM) (sym all) (c.self.invariant.1.sizes n c.index-sent.result.now at);
+}
 
-pub returns-clause-given : goal.returns-clause-given
-returns-clause-given g c = λ w h s.
+pub returns-then-place-eq0-clause-given : goal.returns-then-place-eq0-clause-given
+returns-then-place-eq0-clause-given g c = λ w h s.
     let a = g.A.App in
     let m = a.meaning (a.kept c.args.self.now.node.shared) in
-    let p = sent_there c.args.self.now.link w c.args.number c.index-sent.result.now (omega arith) c.index-sent.ensures (omega arith) s.link in
+    let t = subst (λ x. WorldStands a x w) (sym c.self.view_is) s in
+    let many : length c.self.inside.link.sent.items ≡ length w.sent = t.link.sent.same_length in
+    let out : (c.args.number ≡ 0) ⊎ (length w.sent < c.args.number) = grind (arith, common_steps) in
+    subst (λ (x : Option Sent). WorldStands a c.args.self.now (option_map_or (λ d. delivers m a.served w c.args.number d d.who d.content) x w)) (sym (none_numbered w.sent c.args.number out)) s
+
+pub returns-clause-given : goal.returns-clause-given
+returns-clause-given g c = rw (← c.self.view_is) (λ w h s.
+    let a = g.A.App in
+    let m = a.meaning (a.kept c.self.inside.node.shared) in
+    let p = sent_there c.self.inside.link w c.args.number c.index-sent.result.now (omega arith) c.index-sent.ensures (omega arith) s.link in
     let e : Sent = p.other in
     let items : c.in-Ok.bytes.items ≡ c.as_slice.result.now = search (rules, tests) in
     let bytes : c.as_slice-2.result.now ≡ sent_bytes w e = c.as_slice-2.ensures.value ∙ items ∙ c.as_slice.ensures.value ∙ p.pair.bytes in
     let client : c.client_of.result ≡ client_told e.who = c.client_of.ensures ∙ ap client_told p.pair.who in
     let v : World = sees w (client_told e.who) c.args.number e (numbered w.sides (client_told e.who)) in
-    let facts = hands m a.served w c.args.number e (speaks_to c.args.self.now.link w s.link s.home) e.who e.content (sent_bytes w e) (read_at m a.served w h (c.args.number - 1) e p.get) (sent_at m a.served w h (c.args.number - 1) e p.get) in
-    let stands : WorldStands a (record c.args.self.now { link = c.see.new.self }) v
-    = seen a c.args.self.now c.see.new.self w (client_told e.who) c.args.number e (numbered w.sides (client_told e.who)) s
+    let facts = hands m a.served w c.args.number e (speaks_to c.self.inside.link w s.link s.home) e.who e.content (sent_bytes w e) (read_at m a.served w h (c.args.number - 1) e p.get) (sent_at m a.served w h (c.args.number - 1) e p.get) in
+    let stands : WorldStands a (record { node = c.self.inside.node; link = c.see.new.self; mark = c.self.inside.mark; spent = c.self.inside.spent }) v
+    = seen a _ c.see.new.self w (client_told e.who) c.args.number e (numbered w.sides (client_told e.who)) s
     (subst (λ k. LinkStands c.see.new.self (sees w k c.args.number e (numbered w.sides k))) client (c.see.ensures.stands w e s.link p.pair.epoch)) (c.see.ensures.kept w.node.addr s.home) in
     let answer : Option Reply = (step m a.served v.node (event_of v.node.addr c.as_slice-2.result.now)).sent in
     let answers : AnswersTo v c.index-sent.result.now.who answer
@@ -54,4 +67,4 @@ returns-clause-given g c = λ w h s.
     ∙ ap (λ (who : Who). hands_over m a.served v (sent_bytes w e) who) p.pair.who
     ∙ facts.same
     ∙ sym (ap (λ (x : Option Sent). option_map_or (λ d. delivers m a.served w c.args.number d d.who d.content) x w) p.there) in
-    subst (λ (u : World). WorldStands a c.hand.new.self u) same (c.in_ok-hand.ensures.handed v stands answers)
+    subst (λ (u : World). WorldStands a c.hand.new.self u) same (c.in_ok-hand.ensures.handed v stands answers))

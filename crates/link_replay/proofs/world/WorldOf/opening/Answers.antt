@@ -5,16 +5,13 @@ use Rattle.link_replay.specs.Opening.{server}
 use Rattle.link_replay.proofs.Opened.{all_planned, link_opened, none_stand, sides_stand}
 use Rattle.link_replay.proofs.world.WorldOf.opening.Goals as goal
 
-pub returns-clause-kept : goal.returns-clause-kept
-returns-clause-kept g c =
-    let size : length c.in-Ok.area.items ≡ 1500 = search rules in
-    record {
-      link = (
-        server,
-        link_opened server _ (map plan_at c.args.clients.now) c.in_ok-sides.ensures (omega (arith, c.requires.few, length-map c.args.clients.now plan_at)) size
-            c.new-2.ensures.items refl,
-      );
-    }
+pub invariant_of-result : goal.invariant_of-result
+invariant_of-result g c =
+    let size : length c.in-Ok.area.items ≡ 1500 = search rules in (
+      server,
+      link_opened server _ (map plan_at c.args.clients.now) c.in_ok-sides.ensures (omega (arith, c.requires.few, length-map c.args.clients.now plan_at)) size
+          c.new-2.ensures.items refl,
+    )
 
 pub returns-clause-stands : goal.returns-clause-stands
 returns-clause-stands g c =

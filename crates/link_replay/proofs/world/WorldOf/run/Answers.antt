@@ -16,7 +16,7 @@ loop-act-preserved g c =
     let m = a.meaning (a.kept c.args.self.now.node.shared) in
     let old = c.loop-act.invariant.follows in
     record {
-      follows = record { kept = c.step.ensures.kept; same = c.step.ensures.same ∙ old.same; mark = c.step.ensures.mark ∙ old.mark };
+      follows = record { same = c.step.ensures.same ∙ old.same; mark = c.step.ensures.mark ∙ old.mark };
       gone = λ w h s.
           (let i = c.loop-act.act-index in
           let d = Act.Opens 0 in
@@ -33,7 +33,7 @@ loop-act-preserved g c =
 
 pub loop-act-init : goal.loop-act-init
 loop-act-init g c = record {
-  follows = record { kept = c.requires.kept; same = refl; mark = refl };
+  follows = record { same = refl; mark = refl };
   gone = λ w h s. record { before = []; joined = refl; world = w; reached = refl; at = h; now = s };
 }
 

@@ -1,14 +1,14 @@
-use Rattle.std.proofs.Common.{◌≡◌, ℕ, ◌-◌, ◌<◌, Some, slice_get, sym, ap, ◌∙◌, arith}
+use Rattle.std.proofs.Common.{◌≡◌, ℕ, ◌-◌, ◌<◌, Some, slice_get, length, sym, ap, ◌∙◌, arith}
 use Rattle.link_replay.specs.declared.side.Side.{Side as CodeSide}
 use Rattle.link_replay.proofs.Pairs.{numbered_at, there_is}
 use Rattle.link_replay.proofs.world.WorldOf.side.Goals as goal
 
 pub returns : goal.returns
-returns g c = λ w s h e.
+returns g c = rw (← c.self.view_is) (λ w s h e.
     let n : ℕ = c.from.result - 1 in
     let above : 0 < c.args.number = omega arith in
     let same : c.args.number - 1 ≡ n = omega arith in
     let side : CodeSide = c.index.result.now in
-    let at : slice_get c.args.self.now.link.sides.items n ≡ Some side = there_is c.args.self.now.link.sides.items n side c.index.ensures (omega arith) in
+    let at : slice_get c.self.inside.link.sides.items n ≡ Some side = there_is c.self.inside.link.sides.items n side c.index.ensures (omega (arith, c.requires.most, ap (λ x. length x.link.sides.items) c.self.view_is)) in
     let there : slice_get w.sides n ≡ Some s = ap (slice_get w.sides) (sym same) ∙ sym (numbered_at w.sides c.args.number above) ∙ e in
-    h.link.sides.each n side s at there
+    h.link.sides.each n side s at there)

@@ -14,7 +14,7 @@ loop-slot-preserved g c =
     let slot : ℕ = c.loop-slot.slot in
     let m = a.meaning (a.kept c.args.self.now.node.shared) in
     record {
-      follows = record { kept = c.node_ticks.ensures.kept; same = c.node_ticks.ensures.same ∙ inv.follows.same; mark = c.node_ticks.ensures.mark ∙ inv.follows.mark };
+      follows = record { same = c.node_ticks.ensures.same ∙ inv.follows.same; mark = c.node_ticks.ensures.mark ∙ inv.follows.mark };
       so_far = λ w s.
           (let here = inv.so_far w s in
           let v : World = node_handles m a.served here.0 (Periodic slot) in
