@@ -1,8 +1,9 @@
 -- The text of a report.
 use Rattle.std.specs.Option.{option_map_or}
-use Rattle.std.specs.Prelude.{ℕ, ◌+◌, Bool, List, [], ◌∷◌, ◌++◌, length, if◌then◌else◌, Option, codes, decimal}
+use Rattle.std.specs.Prelude.{ℕ, ◌+◌, Bool, List, [], ◌∷◌, ◌++◌, length, Option, codes, decimal}
 use Rattle.hex.specs.Hex.{encode_lower}
-use Rattle.tcp_segment.specs.Segments.{PlainSegment, has_syn, has_ack, has_psh, has_fin, has_rst}
+use Rattle.fixed_text.specs.Text.{flag_letters, word_if}
+use Rattle.tcp_segment.specs.Segments.{PlainSegment}
 use Rattle.uip_node.specs.Counters.{ticks_of}
 use Rattle.link_client.specs.declared.client_state.ClientState.{ClientState}
 use Rattle.link_client.specs.declared.client_state.ClientState.TheVariants.{Idle, Opening, Opened, Closing, Closed, Ended, Reset}
@@ -13,21 +14,11 @@ use Rattle.link_world.specs.declared.who.Who.TheVariants.{FromClient, FromNode, 
 use Rattle.link_replay.specs.declared.kind.Kind.{Kind}
 use Rattle.link_replay.specs.declared.kind.Kind.TheVariants.{Segment, EchoRequest, EchoReply}
 
-abbrev pub word_if : Bool → List ℕ → List ℕ
-word_if told word = if told then word else []
-
 -- the sender, or for a datagram of the node the client that it goes to
 abbrev pub who_word : Who → List ℕ
 who_word (FromClient number) = codes "c" ++ decimal number
 who_word (FromNode number) = codes "n" ++ decimal number
 who_word Pinger = codes "p"
-
--- the letters of the flags that are set (RFC 793, section 3.1)
-abbrev pub flag_letters : ℕ → List ℕ
-flag_letters flags =
-    word_if (has_syn flags) (codes "S") ++ word_if (has_ack flags) (codes "A") ++ word_if (has_psh flags) (codes "P")
-    ++ word_if (has_fin flags) (codes "F")
-    ++ word_if (has_rst flags) (codes "R")
 
 abbrev pub segment_kind : PlainSegment → Kind
 segment_kind s = Segment s.flags s.seq (length s.text)

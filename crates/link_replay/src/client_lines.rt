@@ -9,7 +9,7 @@ use link_client::ClientState;
 
 /// The line of a client with its number.
 pub(crate) fn client_line(show: bool, number: usize, side: &Side) -> Line
-    ensures { result.text.items ≡ client_text show number side.now.client.state (length side.now.received.items) side.now.first_stale }
+    ensures { result ≡ client_text show number side.now.client.state (length side.now.received.items) side.now.first_stale }
 {
     let mut line = Line::new();
     line.put(b"client ");
@@ -42,9 +42,9 @@ fn state_word(state: ClientState) -> &'static [u8]
 
 /// The line goes on with whether a client is clean.
 fn put_clean(line: &mut Line, show: bool, first_stale: Option<u32>)
-    requires { length line.old.text.items + 26 ≤ 256 }
-    ensures text { line.new.text.items ≡ line.old.text.items ++ clean_words show first_stale }
-    ensures len { length line.new.text.items ≤ length line.old.text.items + 26 }
+    requires { length line.old + 26 ≤ 256 }
+    ensures text { line.new ≡ line.old ++ clean_words show first_stale }
+    ensures len { length line.new ≤ length line.old + 26 }
 {
     match first_stale {
         None => line.put(b"clean"),
@@ -60,7 +60,7 @@ fn put_clean(line: &mut Line, show: bool, first_stale: Option<u32>)
 
 /// The last line.
 pub(crate) fn last_line(ticks: u32, datagrams: usize) -> Line
-    ensures { result.text.items ≡ counts_line ticks datagrams }
+    ensures { result ≡ counts_line ticks datagrams }
 {
     let mut line = Line::new();
     line.put(b"ticks ");

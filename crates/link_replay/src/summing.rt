@@ -30,17 +30,25 @@ impl<A: App> WorldOf<A> {
 
 /// The line of a tally.
 fn line_of(tally: &Tally) -> Line
-    ensures { result.text.items ≡ tally_line tally.now }
+    ensures { result ≡ tally_line tally.now }
 {
     let mut line = Line::new();
-    line.put_count(b"closed ", tally.closed);
-    line.put_count(b" open ", tally.opened);
-    line.put_count(b" reset ", tally.reset);
-    line.put_count(b" other ", tally.other);
-    line.put_count(b" stale ", tally.stale);
-    line.put_total(b" bytes ", tally.bytes);
-    line.put_count(b" datagrams ", tally.datagrams);
-    line.put_count(b" again ", tally.again);
+    line.put(b"closed ");
+    line.put_number(tally.closed as u64);
+    line.put(b" open ");
+    line.put_number(tally.opened as u64);
+    line.put(b" reset ");
+    line.put_number(tally.reset as u64);
+    line.put(b" other ");
+    line.put_number(tally.other as u64);
+    line.put(b" stale ");
+    line.put_number(tally.stale as u64);
+    line.put(b" bytes ");
+    line.put_total(tally.bytes);
+    line.put(b" datagrams ");
+    line.put_number(tally.datagrams as u64);
+    line.put(b" again ");
+    line.put_number(tally.again as u64);
     line.put(b"\n");
     line
 }

@@ -5,7 +5,8 @@ ghost use Rattle.uip_slip.specs.Frames.{Datagram, Overlong};
 ghost use Rattle.uip_ipv4.specs.Head.{IsHeadOf, head_or_fate};
 ghost use Rattle.uip_wire.specs.Addr.{address_at};
 ghost use Rattle.icmp_echo.specs.Echo.{echo_fate};
-ghost use Rattle.trace.specs.DumpText.{datagram_words, dump_line, icmp_words, ip_word, letters_of, letters_or_dash, numbers_text, payload_words, quad_text, segment_words, socket_text, tcp_word, tcp_words};
+ghost use Rattle.fixed_text.specs.Text.{flag_letters};
+ghost use Rattle.trace.specs.DumpText.{datagram_words, dump_line, icmp_words, ip_word, letters_or_dash, numbers_text, payload_words, segment_words, socket_text, tcp_word, tcp_words};
 
 use crate::area::Area;
 use tcp_segment::{Segment, TcpFate, check as check_segment};
@@ -113,9 +114,9 @@ fn put_message(area: &mut Area, head: &IpHead, message: &[u8])
     if checksum(message) != 0 {
         return area.put(b"checksum");
     }
-    put_quad(area, head.source);
+    area.put_quad(head.source);
     area.put(b" ");
-    put_quad(area, head.target);
+    area.put_quad(head.target);
     area.put(b" ");
     area.put_number(u64::from(message[0]));
     area.put(b" ");
@@ -168,41 +169,21 @@ fn put_numbers(area: &mut Area, segment: &Segment)
 fn put_socket(area: &mut Area, address: Addr, port: Port)
     requires room { length area.old ≤ 1300 }
     ensures text { area.new ≡ area.old ++ socket_text address.0 port.0 }
-    ensures len { length area.new ≤ length area.old + 104 }
+    ensures len { length area.new ≤ length area.old + 36 }
 {
-    put_quad(area, address);
+    area.put_quad(address);
     area.put(b":");
     area.put_number(u64::from(port.0));
-}
-
-/// The line goes on with an address as a dotted quad.
-fn put_quad(area: &mut Area, address: Addr)
-    requires room { length area.old ≤ 1300 }
-    ensures text { area.new ≡ area.old ++ quad_text address.0 }
-    ensures len { length area.new ≤ length area.old + 83 }
-{
-    let [first, second, third, fourth] = address.0;
-    area.put_number(u64::from(first));
-    area.put(b".");
-    area.put_number(u64::from(second));
-    area.put(b".");
-    area.put_number(u64::from(third));
-    area.put(b".");
-    area.put_number(u64::from(fourth));
 }
 
 /// The line goes on with the letters of a segment's flags, or with a dash where there are none.
 fn put_flags(area: &mut Area, segment: &Segment)
     requires room { length area.old ≤ 1300 }
-    ensures text { area.new ≡ area.old ++ letters_or_dash (letters_of segment.now.flags) }
+    ensures text { area.new ≡ area.old ++ letters_or_dash (flag_letters segment.now.flags) }
     ensures len { length area.new ≤ length area.old + 5 }
 {
     let before = area.len();
-    area.put_if(segment.has_syn(), b"S");
-    area.put_if(segment.has_ack(), b"A");
-    area.put_if(segment.has_psh(), b"P");
-    area.put_if(segment.has_fin(), b"F");
-    area.put_if(segment.has_rst(), b"R");
+    area.put_flags(segment.flags);
     if area.len() == before {
         area.put(b"-");
     }

@@ -90,7 +90,7 @@ pub(crate) fn settle<A: App>(
     slot: usize,
     step: Step,
     ticks: u32,
-    net: [u32; 20],
+    net: &[u32; 20],
 ) -> Step
     requires within { slot < length table.old.conns }
     requires fits { IsIn table.old.conns slot (λ c. StepFits c step) }
@@ -101,13 +101,17 @@ pub(crate) fn settle<A: App>(
     ensures kept { AllKept A.App (A.kept shared.now) table.new.conns }
     ensures answer { IsAnswer result }
     ensures text { IsIn table.new.conns slot (λ c. StepFits c result) }
-    ensures meets { SettlesIn A.App (A.kept shared.now) slot ticks net
+    ensures meets { SettlesIn A.App (A.kept shared.now) slot ticks net.now
         table.old.conns table.new.conns (A.numbers shared.now) step result }
 {
     match step {
         Step::Ask { fresh } => {
             let rows = rows_in(table);
-            let now = Now { ticks, net, rows };
+            let now = Now {
+                ticks,
+                net: *net,
+                rows,
+            };
             ask_in(table, shared, slot, &now, fresh)
         }
         other => other,

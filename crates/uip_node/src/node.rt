@@ -211,7 +211,7 @@ impl<A: App> Node<A> {
             slot,
             step,
             self.ticks,
-            self.net,
+            &self.net,
         );
         self.say(slot, answer)
     }
@@ -365,7 +365,7 @@ impl<A: App> Node<A> {
             slot,
             step,
             self.ticks,
-            self.net,
+            &self.net,
         );
         self.say(slot, answer)
     }
