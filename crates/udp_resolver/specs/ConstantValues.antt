@@ -1,5 +1,5 @@
 -- The constants of the code that definitions cite, with their values: a definition that names one says this number.
-use Rattle.std.specs.Prelude.{◌≡◌, ℕ}
+use Rattle.std.specs.Prelude.{◌≡◌}
 use Rattle.udp_resolver.specs.declared.TheConstants.{MOST_NAMES}
 
 pub record ConstantValues : Type 0 where

@@ -1,4 +1,4 @@
-use Rattle.std.proofs.Common.{◌∙◌, ◌++◌, refl, arith, length-append, length-take, inr}
+use Rattle.std.proofs.Common.{◌++◌, refl, arith, length-append, length-take, inr}
 use Rattle.uip_edge.proofs.Told.{Consumes-then}
 use Rattle.uip_edge.proofs.Turns.{calm_then}
 use Rattle.udp_resolver.specs.Fates.{all_settled, questions}
