@@ -7,7 +7,7 @@ use Rattle.link_replay.specs.Stands.{SideStands, SentStands}
 use Rattle.link_replay.specs.declared.sent.Sent.{Sent as CodeSent}
 use Rattle.link_replay.specs.declared.side.Side.{Side as CodeSide}
 use Rattle.link_replay.specs.declared.kind.Kind.{Kind}
-use Rattle.fixed_text.specs.Text.{word_if}
+use Rattle.text_room.specs.Words.{word_if}
 use Rattle.link_replay.specs.Report.{client_line, counts_line, datagram_line, kind_sent, line_of_datagram, lines_of_client, text_line}
 
 pub datagram_stands : (w : World) (number : ℕ) (sent : CodeSent) (e : Sent) (kind : Kind) → SentStands w sent e → kind ≡ kind_sent e.content

@@ -2,8 +2,8 @@
 use Rattle.std.specs.Option.{option_map_or}
 use Rattle.std.specs.Prelude.{ℕ, ◌+◌, Bool, List, [], ◌∷◌, ◌++◌, length, Option, codes, decimal}
 use Rattle.hex.specs.Hex.{encode_lower}
-use Rattle.fixed_text.specs.Text.{flag_letters, word_if}
-use Rattle.tcp_segment.specs.Segments.{PlainSegment}
+use Rattle.text_room.specs.Words.{word_if}
+use Rattle.tcp_segment.specs.Segments.{PlainSegment, flag_letters}
 use Rattle.uip_node.specs.Counters.{ticks_of}
 use Rattle.link_client.specs.declared.client_state.ClientState.{ClientState}
 use Rattle.link_client.specs.declared.client_state.ClientState.TheVariants.{Idle, Opening, Opened, Closing, Closed, Ended, Reset}

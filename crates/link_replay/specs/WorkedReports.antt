@@ -13,7 +13,7 @@ use Rattle.link_world.specs.World.{World, Side, Sent, Content}
 use Rattle.link_world.specs.World.Content.{OfSegment, OfPing, OfEcho}
 use Rattle.link_world.specs.declared.who.Who.{Who}
 use Rattle.link_world.specs.declared.who.Who.TheVariants.{FromClient, FromNode, Pinger}
-use Rattle.fixed_text.specs.Text.{flag_letters}
+use Rattle.tcp_segment.specs.Segments.{flag_letters}
 use Rattle.link_replay.specs.Report.{report, state_word}
 
 abbrev pub host : ℕ → Addr

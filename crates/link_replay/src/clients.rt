@@ -5,7 +5,7 @@ ghost use Rattle.uip_edge.specs.Causes.{HasCause};
 ghost use Rattle.link_world.specs.World.{Side as PlainSide};
 ghost use Rattle.link_replay.specs.Matched.{Matched};
 ghost use Rattle.link_replay.specs.Stands.{SideStands};
-ghost use Rattle.fixed_text.specs.Text.{word_if};
+ghost use Rattle.text_room.specs.Words.{word_if};
 ghost use Rattle.link_replay.specs.Report.{lines_of_client, numbered_texts, text_line};
 ghost use Rattle.link_replay.specs.Writing.{Wrote};
 

@@ -2,7 +2,7 @@
 
 ghost use Rattle.uip_edge.specs.Causes.{HasCause};
 ghost use Rattle.link_replay.specs.Moving.{OfDatagram, OfLink};
-ghost use Rattle.fixed_text.specs.Text.{word_if};
+ghost use Rattle.text_room.specs.Words.{word_if};
 ghost use Rattle.link_replay.specs.Report.{line_of_datagram, numbered_texts};
 ghost use Rattle.link_replay.specs.Writing.{Wrote};
 

@@ -1,6 +1,6 @@
 //! A line of text that is made whole before it is written.
 
-use fixed_text::Text;
+use text_room::Text;
 
 /// The most bytes of a line.
 const LONGEST_LINE: usize = 256;

@@ -1,5 +1,5 @@
 -- The constants of the code that definitions cite, with their values: a definition that names one says this number.
-use Rattle.std.specs.Prelude.{◌≡◌, ℕ}
+use Rattle.std.specs.Prelude.{◌≡◌}
 use Rattle.tcp_segment.specs.declared.flags.TheConstants.{FIN, SYN, RST, PSH, ACK}
 
 pub record ConstantValues : Type 0 where

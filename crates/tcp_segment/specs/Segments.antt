@@ -1,5 +1,5 @@
 -- A TCP segment as a plain record, apart from its bytes, and the bytes of its datagram (RFC 793, section 3.1).
-use Rattle.std.specs.Prelude.{ℕ, ◌+◌, ◌*◌, ◌/◌, ◌%◌, ◌==◌, Bool, List, [], ◌∷◌, ◌++◌, length, Option, Some, None}
+use Rattle.std.specs.Prelude.{ℕ, ◌+◌, ◌*◌, ◌/◌, ◌%◌, ◌==◌, Bool, if◌then◌else◌, List, [], ◌∷◌, ◌++◌, codes, length, Option, Some, None}
 use Rattle.uip_wire.specs.Checksum.{checksum_of}
 use Rattle.uip_wire.specs.Fields.{bytes_of}
 use Rattle.uip_ipv4.specs.Head.{head_bytes}
@@ -12,6 +12,9 @@ pub record PlainSegment : Type 0 where
   pub window : ℕ
   pub mss : Option ℕ
   pub text : List ℕ
+
+abbrev pub says : ℕ → ℕ → ℕ → ℕ → Option ℕ → List ℕ → PlainSegment
+says seq ack flags window mss text = record { seq = seq; ack = ack; flags = flags; window = window; mss = mss; text = text }
 
 -- the flags of a segment as one number: FIN 1, SYN 2, RST 4, PSH 8, ACK 16, URG 32
 abbrev pub has_fin : ℕ → Bool
@@ -28,6 +31,12 @@ has_psh flags = flags / 8 % 2 == 1
 
 abbrev pub has_ack : ℕ → Bool
 has_ack flags = flags / 16 % 2 == 1
+
+-- the letters of the flags that are set, URG left out
+abbrev pub flag_letters : ℕ → List ℕ
+flag_letters flags =
+    (if has_syn flags then codes "S" else []) ++ (if has_ack flags then codes "A" else []) ++ (if has_psh flags then codes "P" else [])
+    ++ (if has_fin flags then codes "F" else []) ++ (if has_rst flags then codes "R" else [])
 
 -- a segment between two nodes: their addresses of four bytes, their ports, and the datagram's identification
 pub record Datagram : Type 0 where

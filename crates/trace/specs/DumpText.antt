@@ -1,8 +1,7 @@
 -- The text of a dump: one line for each frame of a serial line.
 use Rattle.std.specs.Prelude.{ℕ, List, [], ◌∷◌, ◌++◌, length, slice_index, Option, Some, Result, Ok, Err, codes, decimal}
 use Rattle.std.specs.List.{enumerate_from, flat_map}
-use Rattle.uip_wire.specs.Addr.{address_at}
-use Rattle.fixed_text.specs.Text.{flag_letters, quad_text}
+use Rattle.uip_wire.specs.Addr.{address_at, quad_text}
 use Rattle.uip_ipv4.specs.Head.{head_or_fate, payload_of}
 use Rattle.uip_ipv4.specs.declared.fate.IpFate.{IpFate}
 use Rattle.uip_ipv4.specs.declared.fate.IpFate.TheVariants as ip
@@ -13,6 +12,7 @@ use Rattle.icmp_echo.specs.Echo.{echo_fate}
 use Rattle.icmp_echo.specs.declared.fate.IcmpFate.{IcmpFate}
 use Rattle.icmp_echo.specs.declared.fate.IcmpFate.TheVariants as icmp
 use Rattle.tcp_segment.specs.Received.{segment_or_fate}
+use Rattle.tcp_segment.specs.Segments.{flag_letters}
 use Rattle.tcp_segment.specs.declared.fate.TcpFate.{TcpFate}
 use Rattle.tcp_segment.specs.declared.fate.TcpFate.TheVariants as tcp
 use Rattle.tcp_segment.specs.declared.segment.Segment.{Segment}

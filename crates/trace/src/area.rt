@@ -1,6 +1,6 @@
 //! The area in which a line or a record is made.
 
-use fixed_text::Text;
+use text_room::Text;
 use uip_wire::LARGEST_DATAGRAM;
 
 /// The most bytes of a record: its four numbers, and the longest datagram. A line of a dump is far shorter.

@@ -8,7 +8,7 @@ ghost use Rattle.udp_resolver.specs.Steps.{lines_by};
 
 use crate::fate::Fate;
 use dns_message::{Answer, LONGEST_NAME, Name};
-use fixed_text::Text;
+use text_room::Text;
 use uip_edge::{Failed, Sink};
 
 /// The most bytes of what is told of a name: an address.

@@ -19,7 +19,12 @@ use Rattle.tcp_machine.specs.Stands.{ConnStands, IsLike}
 use Rattle.tcp_segment.specs.Segments.{PlainSegment}
 use Rattle.uip_node.specs.Node.{AbstractNode, arrives, arrives_at, opens, slot_for_syn}
 use Rattle.uip_node.specs.Slots.{AllKept, SlotsStand}
-use Rattle.uip_node.specs.StandsFor.{Steps}
+use Rattle.uip_node.specs.Counted.{seen}
+use Rattle.uip_node.specs.Counters.{counters}
+use Rattle.uip_node.specs.Events.Event.{Arrived}
+use Rattle.uip_node.specs.StandsFor.{Stands, Steps}
+use Rattle.uip_node.proofs.Stepping.{stands_later}
+use Rattle.uip_node.proofs.Twice.{recounted}
 use Rattle.uip_node.specs.State.{Node}
 use Rattle.std.specs.Option.{option_or}
 
@@ -97,35 +102,25 @@ pub find_agrees : {A S : Type 0} (g : Ghosts A S) (k : g.Kept) (cs : List (Conn 
 find_agrees g k cs abstracts s h =
     position_agrees (is_at s.peer s.peer_port s.own_port) (serves s) cs abstracts (sym h.same_length) (λ i c a at there. at_serves g k c a s (h.each i c a at there))
 
+waits_alone : (state : State) → is_time_wait state ≡ true → state ≡ TimeWait
+waits_alone TimeWait t = refl
+waits_alone Closed t = cc
+waits_alone SynRcvd t = cc
+waits_alone Established t = cc
+waits_alone CloseWait t = cc
+waits_alone FinWait1 t = cc
+waits_alone FinWait2 t = cc
+waits_alone Closing t = cc
+waits_alone LastAck t = cc
+
 -- in TIME-WAIT the timer counts the age
-counts_age : {A : Type 0} (state : State) (c : Conn A) (a : Connection) → a.state ≡ state → LenFits state c.len → IsLike c a → is_time_wait state ≡ true → c.timer.count ≡ a.age
-counts_age TimeWait c a e len l t =
-    l.timer.counts (sym l.len ∙ len) ∙ ap (λ (s : State). if is_resting s then a.age else 0) e
-counts_age Closed c a e len l t = cc
-counts_age SynRcvd c a e len l t = cc
-counts_age Established c a e len l t = cc
-counts_age CloseWait c a e len l t = cc
-counts_age FinWait1 c a e len l t = cc
-counts_age FinWait2 c a e len l t = cc
-counts_age Closing c a e len l t = cc
-counts_age LastAck c a e len l t = cc
-
-live_waits : (state : State) → is_time_wait state ≡ true → is_live state ≡ true
-live_waits TimeWait t = refl
-live_waits Closed t = cc
-live_waits SynRcvd t = refl
-live_waits Established t = refl
-live_waits CloseWait t = refl
-live_waits FinWait1 t = refl
-live_waits FinWait2 t = refl
-live_waits Closing t = refl
-live_waits LastAck t = refl
-
 pub age_counted : {A S : Type 0} (g : Ghosts A S) (k : g.Kept) (c : Conn A) (a : Connection) → ConnStands g k c a → IsSound g k c → is_time_wait a.state ≡ true → c.timer.count ≡ a.age
 age_counted g k c a h sound t =
-    let live : is_live a.state ≡ true = live_waits a.state t in
+    let waits : a.state ≡ TimeWait = waits_alone a.state t in
+    let live : is_live a.state ≡ true = ap is_live waits in
     let numbers : HasSoundNumbers c = sound.numbers (ap is_live h.numbers.state ∙ live) in
-    counts_age a.state c a refl (subst (λ (s : State). LenFits s c.len) h.numbers.state numbers.len) (h.numbers.like live) t
+    let len : c.len ≡ 0 = subst (λ (s : State). LenFits s c.len) (h.numbers.state ∙ waits) numbers.len in
+    (h.numbers.like live).timer.counts (sym (h.numbers.like live).len ∙ len) ∙ ap (λ (s : State). if is_resting s then a.age else 0) waits
 
 if_waits : (b : Bool) (x y t : ℕ) → (b ≡ true → x ≡ y) → (b && (x == t)) ≡ (b && (y == t))
 if_waits true x y t h = ap (λ (n : ℕ). n == t) (h refl)
@@ -186,6 +181,15 @@ pub arrives_by : {A S : Type 0} (g : Ghosts A S) (k : g.Kept) (cs : List (Conn A
     SlotsStand g k cs n.connections → position (is_at s.peer s.peer_port s.own_port) cs ≡ o → Steps g node result (arrives_at (g.meaning k) g.served n s seg o) → Steps g node result (arrives (g.meaning k) g.served n s seg)
 arrives_by g k cs n s seg o node result stand here steps =
     subst (λ (x : Option ℕ). Steps g node result (arrives_at (g.meaning k) g.served n s seg x)) (sym here ∙ find_agrees g k cs n.connections s stand) steps
+
+-- a segment was counted, and comes to the slot that the code's table has for it
+pub arrived : {A S : Type 0} (g : Ghosts A S) (now : Node A S) (n : AbstractNode) (s : Sockets) (seg : PlainSegment) (o : Option ℕ) (net : List ℕ) (node : Node A S) (result : Option ℕ) →
+    Stands g now n n.past → position (is_at s.peer s.peer_port s.own_port) now.table.conns ≡ o → net ≡ counters (seen (Arrived s seg) n.past) →
+    (Stands g (record now { counts = record now.counts { net = net } }) n (seen (Arrived s seg) n.past) → Steps g node result (arrives_at (g.meaning (g.kept now.shared)) g.served n s seg o)) →
+    Steps g node result (arrives (g.meaning (g.kept now.shared)) g.served n s seg)
+arrived g now n s seg o net node result h here e steps =
+    arrives_by g (g.kept now.shared) now.table.conns n s seg o node result h.slots here
+    (steps (stands_later g now now.packet (record now.counts { net = net }) n n.past (seen (Arrived s seg) n.past) n.past h h.iss (recounted (Arrived s seg) n.past now.counts net refl h.counts e)))
 
 -- a plain SYN takes the slot that the code's table has for it
 pub opens_by : {A S : Type 0} (g : Ghosts A S) (k : g.Kept) (cs : List (Conn A)) (n : AbstractNode) (s : Sockets) (seg : PlainSegment) (o : Option ℕ) (node : Node A S) (result : Option ℕ) →

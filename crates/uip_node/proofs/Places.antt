@@ -6,7 +6,7 @@ use Rattle.tcp_table.specs.Connections.{Connections}
 use Rattle.tcp_table.specs.declared.conn.Conn.{Conn}
 use Rattle.tcp_machine.specs.Ask.{Outcome}
 use Rattle.tcp_machine.specs.Connection.{Connection}
-use Rattle.tcp_machine.specs.Fits.{StepFits}
+use Rattle.tcp_machine.specs.Fits.{Rests, StepFits}
 use Rattle.tcp_machine.specs.Sound.{IsSound}
 use Rattle.tcp_machine.specs.Stands.{ConnStands, Meets}
 use Rattle.tcp_machine.specs.declared.step.Step.{Step}
@@ -52,13 +52,21 @@ meets_after g k cs abstracts i d ns step o all here name = record {
   named = λ speaks. is_in_after (λ c. IsNamed c o.connection) cs i d (name speaks);
 }
 
--- the connection in a slot takes a step, where the table's list is the code's
-pub took_step : {A S : Type 0} (g : Ghosts A S) (k : g.Kept) (inside : List (Conn A)) (old : Connections A) (iss slot : ℕ) (d : Conn A) (step : Step) →
-    inside ≡ old.conns → iss ≡ old.iss → AllKept g k old.conns → IsSound g k d → StepFits d step → TookStep g k slot old (record { conns = slice_set inside slot d; iss = iss }) step
-took_step {A} g k inside old iss slot d step e f kept sound fits = record {
-  long = length-set inside slot d ∙ ap (λ (xs : List (Conn A)). length xs) e;
-  iss = f;
-  sound = sound_after g k inside slot d (subst (λ (xs : List (Conn A)). AllSound g k xs) (sym e) (all_sound g k old.conns kept)) sound;
-  fits = is_in_after (λ c. StepFits c step) inside slot d fits;
-  others = λ j c other h. subst (λ (xs : List (Conn A)). slice_get xs j ≡ Some c) e (others_stay inside slot d j c other h);
+-- what the connection in a slot did is what the outcome says, where the table is seen as other lists than its own
+pub meets_viewed : {A S : Type 0} (g : Ghosts A S) (k : g.Kept) (inside view : Connections A) (slot : ℕ) (c d : Conn A) (ns : List ℕ) (step : Step) (f : Connection → Outcome) →
+    inside ≡ view → slice_get view.conns slot ≡ Some c → ((a : Connection) → ConnStands g k c a → Meets g k d ns step (f a)) → ((a : Connection) → ConnStands g k c a → (step ≡ Step.Drop → ⊥) → IsNamed d (f a).connection) →
+    (abstracts : List Connection) (a : Connection) → SlotsStand g k view.conns abstracts → slice_get abstracts slot ≡ Some a → MeetsAt g k (slice_set inside.conns slot d) ns step abstracts slot (f a)
+meets_viewed {A} g k inside view slot c d ns step f e at meets named abstracts a stand there =
+    meets_after g k inside.conns abstracts slot d ns step (f a) (subst (λ (t : Connections A). SlotsStand g k t.conns abstracts) (sym e) stand)
+    (meets a (stand.each slot c a at there)) (named a (stand.each slot c a at there))
+
+-- the connection in a slot takes a step, where the table is seen as other lists than its own
+pub took_step : {A S : Type 0} (g : Ghosts A S) (k : g.Kept) (inside old : Connections A) (slot : ℕ) (c d : Conn A) (step : Step) →
+    inside ≡ old → slice_get old.conns slot ≡ Some c → AllKept g k old.conns → IsSound g k d → (Rests c → StepFits d step) → TookStep g k slot old (record { conns = slice_set inside.conns slot d; iss = inside.iss }) step
+took_step {A} g k inside old slot c d step e at kept sound fits = record {
+  long = length-set inside.conns slot d ∙ ap (λ (t : Connections A). length t.conns) e;
+  iss = ap (λ (t : Connections A). t.iss) e;
+  sound = sound_after g k inside.conns slot d (subst (λ (t : Connections A). AllSound g k t.conns) (sym e) (all_sound g k old.conns kept)) sound;
+  fits = is_in_after (λ c. StepFits c step) inside.conns slot d (fits (kept slot c at).busy);
+  others = λ j c other h. subst (λ (t : Connections A). slice_get t.conns j ≡ Some c) e (others_stay inside.conns slot d j c other h);
 }

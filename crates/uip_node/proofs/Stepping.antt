@@ -28,8 +28,13 @@ use Rattle.uip_node.specs.Events.Event.{Arrived, Periodic}
 use Rattle.uip_node.specs.Events.Answer.{Silent}
 use Rattle.uip_node.specs.Node.{AbstractNode, connection_in, from_stranger, happened, moment, opens, opens_in, passes, periodic, refuses, slot_for_syn}
 use Rattle.uip_node.specs.Slots.{SlotsStand}
-use Rattle.uip_node.specs.StandsFor.{Steps}
-use Rattle.uip_node.specs.State.{Node}
+use Rattle.uip_node.specs.StandsFor.{Stands, Steps}
+use Rattle.uip_node.specs.State.{Counts, Node}
+
+-- a node stands after a later past, with another packet and other counts; what the abstract one remembers is not looked at
+pub stands_later : {A S : Type 0} (g : Ghosts A S) (node : Node A S) (packet : Buffer) (counts : Counts) (n : AbstractNode) (past later remembered : List Past) →
+    Stands g node n past → node.table.iss ≡ initial_number later → CountsStand counts later → Stands g (record node { packet = packet; counts = counts }) (record n { past = remembered }) later
+stands_later g node packet counts n past later remembered h iss stand = record { addr = h.addr; slots = h.slots; iss = iss; numbers_stand = h.numbers_stand; counts = stand }
 
 -- only what is left and what is sent is looked at
 pub opened : {A S : Type 0} (g : Ghosts A S) (node : Node A S) (result : Option ℕ) (m : Meaning) (n : AbstractNode) (s : Sockets) (seg : PlainSegment) (slot : ℕ) →

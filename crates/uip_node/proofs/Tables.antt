@@ -8,7 +8,7 @@ use Rattle.app_events.specs.States.{is_live}
 use Rattle.uip_wire.specs.declared.addr.Addr.{Addr}
 use Rattle.uip_wire.specs.declared.port.Port.{Port}
 use Rattle.tcp_table.specs.declared.conn.Conn.{Conn}
-use Rattle.tcp_table.specs.Connections.{IsTable, is_at}
+use Rattle.tcp_table.specs.Connections.{Connections, IsTable, is_at}
 use Rattle.tcp_machine.specs.Fits.{SameSockets}
 
 -- what stands at a place after a write
@@ -28,6 +28,13 @@ get_set_same (z ∷ xs) (suc i) x y h = get_set_same xs i x y h
 pub at_place : {X : Type 0} (xs ys : List X) (i : ℕ) (x : X) → xs ≡ ys → i < length ys → x ≡ get_or xs i x → slice_get ys i ≡ Some x
 at_place {X} xs ys i x e l h =
     subst (λ (zs : List X). i < length zs → slice_get zs i ≡ Some x) e (λ m. slice_get-get_or xs i x m ∙ ap (λ (y : X). Some y) (sym h)) l
+
+-- the connection that was read in a slot stands there in what the table is seen as, and in its own lists
+pub at_viewed : {A : Type 0} (inside view : Connections A) (slot : ℕ) (c : Conn A) → inside ≡ view → slot < length view.conns → c ≡ get_or inside.conns slot c → slice_get view.conns slot ≡ Some c
+at_viewed {A} inside view slot c e l h = at_place inside.conns view.conns slot c (ap (λ (t : Connections A). t.conns) e) l h
+
+pub at_inside : {A : Type 0} (inside view : Connections A) (slot : ℕ) (c : Conn A) → inside ≡ view → slot < length view.conns → c ≡ get_or inside.conns slot c → slice_get inside.conns slot ≡ Some c
+at_inside {A} inside view slot c e l h = subst (λ (t : Connections A). slice_get t.conns slot ≡ Some c) (sym e) (at_viewed inside view slot c e l h)
 
 abbrev pub has_sockets : {A : Type 0} → Addr → Port → Port → Conn A → Bool
 has_sockets peer peer_port own_port c = bytes_eq c.peer.0 peer.0 && ((c.peer_port.0 == peer_port.0) && (c.own_port.0 == own_port.0))

@@ -1,5 +1,5 @@
 -- Eight bytes that are added as one number of 64 bits.
-use Rattle.std.proofs.Common.{◌≡◌, ℕ, ◌+◌, ◌-◌, ◌*◌, ◌/◌, ◌%◌, ◌<◌, ◌≤◌, ◌⊎◌, inl, inr, List, [], ◌∷◌, length, drop, length-drop, slice_index, sym, ap, ◌∙◌, refl, arith}
+use Rattle.std.proofs.Common.{◌≡◌, ℕ, ◌+◌, ◌-◌, ◌*◌, ◌/◌, ◌%◌, ◌^◌, ◌<◌, ◌≤◌, ◌⊎◌, inl, inr, List, [], ◌∷◌, length, drop, length-drop, slice_index, sym, ap, ◌∙◌, refl, arith}
 use Rattle.std.proofs.lemmas.List.{drop-drop}
 use Rattle.byteorder.specs.Endian.{little_number}
 use Rattle.uip_wire.specs.Checksum.{folded, word_sum}
@@ -9,6 +9,11 @@ use Rattle.uip_wire.proofs.Folding.{folded_cases, folded_most, same_folded}
 zero_or_more : (n : ℕ) → (n ≡ 0) ⊎ (0 < n)
 zero_or_more n = grind arith
 
+-- what is added so far, where `rest` of the bytes is still to be added
+pub record Adding (sum : ℕ) (rest bytes : List ℕ) : Type 0 where
+  pub fits : sum + 2 ^ 61 * length rest ≤ 2 ^ 61 * length bytes
+  pub same : folded (sum + swapped_sum rest) ≡ folded (swapped_sum bytes)
+
 eight_words : (s a b c d : ℕ) (more : ℕ)
     → folded (s + (281474976710656 * a + 4294967296 * b + 65536 * c + d) + more) ≡ folded (s + (a + (b + (c + (d + more)))))
 eight_words s a b c d more =
@@ -17,33 +22,39 @@ eight_words s a b c d more =
       | inr h ↦ same_folded _ _ (4295032833 * a + 65537 * b + c) (omega arith) h
     ]
 
+-- what holds of four numbers and of what stands behind them holds of every list that has four
+by_four : (P : List ℕ → Type 0) → ((a b c d : ℕ) (more : List ℕ) → P (a ∷ b ∷ c ∷ d ∷ more)) → (list : List ℕ) → 4 ≤ length list → P list
+by_four P holds [] h = absurd (omega arith)
+by_four P holds (a ∷ []) h = absurd (omega arith)
+by_four P holds (a ∷ b ∷ []) h = absurd (omega arith)
+by_four P holds (a ∷ b ∷ c ∷ []) h = absurd (omega arith)
+by_four P holds (a ∷ b ∷ c ∷ d ∷ more) h = holds a b c d more
+
 -- the next eight bytes
-pub next_eight : (sum : ℕ) (rest : List ℕ) → 8 ≤ length rest
-    → folded (sum + little_number 8 rest + swapped_sum (drop 8 rest)) ≡ folded (sum + swapped_sum rest)
-next_eight sum [] h = absurd (omega arith)
-next_eight sum (a ∷ []) h = absurd (omega arith)
-next_eight sum (a ∷ b ∷ []) h = absurd (omega arith)
-next_eight sum (a ∷ b ∷ c ∷ []) h = absurd (omega arith)
-next_eight sum (a ∷ b ∷ c ∷ d ∷ []) h = absurd (omega arith)
-next_eight sum (a ∷ b ∷ c ∷ d ∷ e ∷ []) h = absurd (omega arith)
-next_eight sum (a ∷ b ∷ c ∷ d ∷ e ∷ f ∷ []) h = absurd (omega arith)
-next_eight sum (a ∷ b ∷ c ∷ d ∷ e ∷ f ∷ g ∷ []) h = absurd (omega arith)
-next_eight sum (a ∷ b ∷ c ∷ d ∷ e ∷ f ∷ g ∷ i ∷ rest) h =
+eight_on : (sum a b c d : ℕ) (rest : List ℕ) → 4 ≤ length rest
+    → folded (sum + little_number 8 (a ∷ b ∷ c ∷ d ∷ rest) + swapped_sum (drop 4 rest)) ≡ folded (sum + swapped_sum (a ∷ b ∷ c ∷ d ∷ rest))
+eight_on sum a b c d =
+    by_four (λ (rest : List ℕ). folded (sum + little_number 8 (a ∷ b ∷ c ∷ d ∷ rest) + swapped_sum (drop 4 rest)) ≡ folded (sum + swapped_sum (a ∷ b ∷ c ∷ d ∷ rest)))
+    (λ e f g i rest.
     ap folded (omega arith)
     ∙ eight_words sum (g + 256 * i) (e + 256 * f) (c + 256 * d) (a + 256 * b) (swapped_sum rest)
-    ∙ ap folded (omega arith)
+    ∙ ap folded (omega arith))
+
+pub next_eight : (sum : ℕ) (rest : List ℕ) → 8 ≤ length rest
+    → folded (sum + little_number 8 rest + swapped_sum (drop 8 rest)) ≡ folded (sum + swapped_sum rest)
+next_eight sum rest h =
+    by_four (λ (l : List ℕ). 8 ≤ length l → folded (sum + little_number 8 l + swapped_sum (drop 8 l)) ≡ folded (sum + swapped_sum l))
+    (λ a b c d more some. eight_on sum a b c d more (omega (arith, some))) rest (omega (arith, h)) h
 
 -- the next four bytes
 pub next_four : (sum : ℕ) (rest : List ℕ) → 4 ≤ length rest
     → folded (sum + little_number 4 rest + swapped_sum (drop 4 rest)) ≡ folded (sum + swapped_sum rest)
-next_four sum [] h = absurd (omega arith)
-next_four sum (a ∷ []) h = absurd (omega arith)
-next_four sum (a ∷ b ∷ []) h = absurd (omega arith)
-next_four sum (a ∷ b ∷ c ∷ []) h = absurd (omega arith)
-next_four sum (a ∷ b ∷ c ∷ d ∷ rest) h =
+next_four sum =
+    by_four (λ (l : List ℕ). folded (sum + little_number 4 l + swapped_sum (drop 4 l)) ≡ folded (sum + swapped_sum l))
+    (λ a b c d rest.
     ap folded (omega arith)
     ∙ eight_words sum 0 0 (c + 256 * d) (a + 256 * b) (swapped_sum rest)
-    ∙ ap folded (omega arith)
+    ∙ ap folded (omega arith))
 
 -- eight bytes behind a place
 eight_at : (sum k : ℕ) (bytes : List ℕ) → k + 8 ≤ length bytes

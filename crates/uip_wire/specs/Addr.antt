@@ -1,5 +1,5 @@
 -- Addresses in a header (RFC 791, section 3.1), and as dotted quads in words.
-use Rattle.std.specs.Prelude.{ℕ, ◌+◌, ◌==◌, nat_lt, if◌then◌else◌, List, [], ◌∷◌, Option, None, Some, option_map, position, take, drop, slice_index}
+use Rattle.std.specs.Prelude.{ℕ, ◌+◌, ◌==◌, nat_lt, if◌then◌else◌, List, [], ◌∷◌, ◌++◌, Option, None, Some, codes, decimal, option_map, position, take, drop, slice_index}
 use Rattle.uip_wire.specs.Numerals.{numeral}
 
 -- the four bytes at a place
@@ -32,3 +32,9 @@ quad_of text = do
   c ← part_number third.0
   d ← part_number third.1
   Some (a ∷ b ∷ c ∷ d ∷ [])
+
+-- an address as a dotted quad
+abbrev pub quad_text : List ℕ → List ℕ
+quad_text address =
+    decimal (slice_index address 0) ++ codes "." ++ decimal (slice_index address 1) ++ codes "."
+    ++ decimal (slice_index address 2) ++ codes "." ++ decimal (slice_index address 3)

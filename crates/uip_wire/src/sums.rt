@@ -57,17 +57,34 @@ fn wide_sum(bytes: &[u8]) -> u128
         sum += u128::from(LittleEndian::read_u64(rest));
         rest = &rest[8..];
     }
-    'fours: while rest.len() >= 4 {
-        sum += u128::from(LittleEndian::read_u32(rest));
-        rest = &rest[4..];
+    sum + tail_sum(rest)
+}
+
+/// The sum of less than eight bytes: of the first four as one number, and of the rest.
+#[inline(always)]
+fn tail_sum(bytes: &[u8]) -> u128
+    requires { length bytes.now < 8 }
+    ensures fits { result ≤ 2 ^ 61 * length bytes.now }
+    ensures same { (before : ℕ) → folded (before + result) ≡ folded (before + swapped_sum bytes.now) }
+{
+    if bytes.len() >= 4 {
+        return u128::from(LittleEndian::read_u32(bytes)) + last_sum(&bytes[4..]);
     }
-    'pairs: while let [high, low, after @ ..] = rest {
-        sum += u128::from(*high) + u128::from(*low) * 256;
-        rest = after;
-    }
-    match rest {
-        [last] => sum + u128::from(*last),
-        _ => sum,
+    last_sum(bytes)
+}
+
+/// The sum of less than four bytes.
+#[inline(always)]
+fn last_sum(bytes: &[u8]) -> u128
+    requires { length bytes.now < 4 }
+    ensures fits { result ≤ 65535 * length bytes.now }
+    ensures same { result ≡ swapped_sum bytes.now }
+{
+    match bytes {
+        [high, low, last] => u128::from(*high) + u128::from(*low) * 256 + u128::from(*last),
+        [high, low] => u128::from(*high) + u128::from(*low) * 256,
+        [last] => u128::from(*last),
+        _ => 0,
     }
 }
 

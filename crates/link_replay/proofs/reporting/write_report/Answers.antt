@@ -3,7 +3,7 @@ use Rattle.std.proofs.lemmas.Result.{err_from_is_err_and}
 use Rattle.link_replay.specs.Matched.{Matched}
 use Rattle.link_replay.specs.Stands.{SideStands}
 use Rattle.link_replay.specs.declared.side.Side.{Side as CodeSide}
-use Rattle.fixed_text.specs.Text.{word_if}
+use Rattle.text_room.specs.Words.{word_if}
 use Rattle.link_replay.specs.Report.{counts_line, last_line, line_of_datagram, lines_of_client, numbered_texts}
 use Rattle.link_replay.proofs.Saying.{wrote_by, wrote_stop, wrote_then}
 use Rattle.link_replay.proofs.Standing.{counts_stand}

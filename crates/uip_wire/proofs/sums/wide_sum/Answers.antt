@@ -2,7 +2,7 @@ use Rattle.std.proofs.Common.{◌+◌, ap, ◌∙◌, arith, drop, length-drop, 
 use Rattle.std.proofs.lemmas.List.{take_rest}
 use Rattle.uip_wire.specs.Checksum.{folded}
 use Rattle.uip_wire.specs.Sums.{swapped_sum}
-use Rattle.uip_wire.proofs.Wide.{next_eight, next_four}
+use Rattle.uip_wire.proofs.Wide.{next_eight}
 use Rattle.uip_wire.proofs.sums.wide_sum.Goals as goal
 
 pub eights-preserved : goal.eights-preserved
@@ -12,15 +12,6 @@ eights-preserved c = record {
       rw take_rest
       (ap (λ (n : ℕ). folded (c.eights.sum + n + swapped_sum (drop 8 c.eights.rest.now))) (c.from-sum.ensures ∙ c.read_u64.ensures)
       ∙ next_eight c.eights.sum c.eights.rest.now c.eights-test.true ∙ c.eights.invariant.same);
-}
-
-pub fours-preserved : goal.fours-preserved
-fours-preserved c = record {
-  fits = rw take_rest (omega (arith, length-drop 4 c.fours.rest.now));
-  same =
-      rw take_rest
-      (ap (λ (n : ℕ). folded (c.fours.sum + n + swapped_sum (drop 4 c.fours.rest.now))) (c.from-sum-in-fours.ensures ∙ c.read_u32.ensures)
-      ∙ next_four c.fours.sum c.fours.rest.now c.fours-test.true ∙ c.fours.invariant.same);
 }
 
 pub longs-preserved : goal.longs-preserved

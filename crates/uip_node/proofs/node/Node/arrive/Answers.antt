@@ -1,5 +1,5 @@
 -- The connection that a segment belongs to.
-use Rattle.std.proofs.Common.{rules, ◌≡◌, ◌<◌, Some, None, arith, refl, sym, ◌∙◌, length}
+use Rattle.std.proofs.Common.{rules, ◌≡◌, ◌<◌, Some, None, arith, sym, ◌∙◌, length}
 use Rattle.std.specs.Prelude.{position}
 use Rattle.std.proofs.lemmas.Bool.{and_parts}
 use Rattle.packet_buffer.specs.Buffer.{datagram_in}
@@ -7,9 +7,7 @@ use Rattle.tcp_segment.specs.Received.{plain_of}
 use Rattle.tcp_table.specs.Connections.{is_at}
 use Rattle.uip_node.specs.Edge.{sockets_of}
 use Rattle.uip_node.specs.Events.Event.{Arrived}
-use Rattle.uip_node.specs.State.{Counts}
-use Rattle.uip_node.proofs.Twice.{recounted}
-use Rattle.uip_node.proofs.Finding.{arrives_by, found, not_found}
+use Rattle.uip_node.proofs.Finding.{arrived, found, not_found}
 use Rattle.uip_node.proofs.node.Node.arrive.Goals as goal
 
 pub deliver-requires-clause-live : goal.deliver-requires-clause-live
@@ -26,26 +24,19 @@ pub returns-in-Some : goal.returns-in-Some
 returns-in-Some g c = rw (← c.self.view_is) (record {
   same = search rules;
   step = λ n h.
-      let now = c.self.inside in
       let s = sockets_of c.args.peer c.args.seg.now in
-      let seg = plain_of c.args.seg.now (datagram_in now.packet) in
-      let here : position (is_at s.peer s.peer_port s.own_port) now.table.conns ≡ Some c.in-Some.slot = sym c.find.ensures ∙ c.in-Some.is in
-      let within : c.in-Some.slot < length n.connections = omega (arith, (found _ now.table.conns c.in-Some.slot here).0, h.slots.same_length) in
-      let counts : Counts = record { net = now.net; ticks = now.ticks; ident = now.ident } in
-      arrives_by g.A.App (g.A.App.kept now.shared) now.table.conns n s seg (Some c.in-Some.slot) c.deliver.new.self c.deliver.result h.slots here
-      (c.deliver.ensures.step n (Arrived s seg)
-      (record { addr = h.addr; slots = h.slots; iss = h.iss; numbers_stand = h.numbers_stand; counts = recounted (Arrived s seg) n.past counts c.arrive.new.net refl h.counts (c.arrive.ensures s seg n.past h.counts.net) }) within);
+      let seg = plain_of c.args.seg.now (datagram_in c.self.inside.packet) in
+      let here : position (is_at s.peer s.peer_port s.own_port) c.self.inside.table.conns ≡ Some c.in-Some.slot = sym c.find.ensures ∙ c.in-Some.is in
+      let within : c.in-Some.slot < length n.connections = omega (arith, (found _ c.self.inside.table.conns c.in-Some.slot here).0, h.slots.same_length) in
+      arrived g.A.App _ n s seg (Some c.in-Some.slot) c.arrive.new.net c.deliver.new.self c.deliver.result h here (c.arrive.ensures s seg n.past h.counts.net)
+      (λ later. c.deliver.ensures.step n (Arrived s seg) later within);
 })
 
 pub returns-in-None : goal.returns-in-None
 returns-in-None g c = rw (← c.self.view_is) (record {
   same = search rules;
   step = λ n h.
-      let now = c.self.inside in
-      let s = sockets_of c.args.peer c.args.seg.now in
-      let seg = plain_of c.args.seg.now (datagram_in now.packet) in
-      let counts : Counts = record { net = now.net; ticks = now.ticks; ident = now.ident } in
-      arrives_by g.A.App (g.A.App.kept now.shared) now.table.conns n s seg None c.answer_stranger.new.self c.answer_stranger.result h.slots (sym c.find.ensures ∙ c.in-None.is)
-      (c.answer_stranger.ensures.step n seg.text
-      (record { addr = h.addr; slots = h.slots; iss = h.iss; numbers_stand = h.numbers_stand; counts = recounted (Arrived s seg) n.past counts c.arrive.new.net refl h.counts (c.arrive.ensures s seg n.past h.counts.net) }));
+      let seg = plain_of c.args.seg.now (datagram_in c.self.inside.packet) in
+      arrived g.A.App _ n (sockets_of c.args.peer c.args.seg.now) seg None c.arrive.new.net c.answer_stranger.new.self c.answer_stranger.result h
+      (sym c.find.ensures ∙ c.in-None.is) (c.arrive.ensures (sockets_of c.args.peer c.args.seg.now) seg n.past h.counts.net) (λ later. c.answer_stranger.ensures.step n seg.text later);
 })

@@ -1,13 +1,15 @@
 -- The slot that a plain SYN takes.
-use Rattle.std.proofs.Common.{◌<◌, Some, None, ap, arith, sym, subst, ◌∙◌, length, refl}
+use Rattle.std.proofs.Common.{◌<◌, List, ◌∷◌, Some, None, ap, arith, sym, subst, ◌∙◌, length, refl}
 use Rattle.tcp_machine.specs.Stands.{plain}
 use Rattle.uip_node.specs.Edge.{sockets_of}
+use Rattle.uip_node.specs.Events.{Past}
+use Rattle.uip_node.specs.Events.Answer.{NoSlot}
 use Rattle.uip_node.specs.Events.Event.{Arrived}
 use Rattle.uip_node.specs.Node.{connection_in}
 use Rattle.uip_node.specs.Slots.{AllKept}
 use Rattle.tcp_table.specs.Slots.{slot_to_take}
 use Rattle.uip_node.proofs.Finding.{opens_by, slot_within}
-use Rattle.uip_node.proofs.Stepping.{opened}
+use Rattle.uip_node.proofs.Stepping.{opened, stands_later}
 use Rattle.uip_node.proofs.node.Node.welcome.Goals as goal
 
 pub returns-in-Some-clause-step : goal.returns-in-Some-clause-step
@@ -28,16 +30,11 @@ returns-in-None-clause-step g c = rw (← c.self.view_is) (λ n text h.
     let now = c.self.inside in
     let s = sockets_of c.args.peer c.args.seg.now in
     let seg = plain c.args.seg.now text in
+    let after : List Past = record { event = Arrived s seg; answer = NoSlot } ∷ n.past in
     opens_by g.A.App (g.A.App.kept now.shared) now.table.conns n s seg None
     (record { addr = now.addr; packet = now.packet; table = now.table; counts = record { net = c.turn_away.new.net; ticks = now.ticks; ident = now.ident }; shared = now.shared })
     None h.slots c.self.invariant.kept (sym c.slot_for_syn.ensures ∙ c.in-None.is)
     (record {
-      stands = record {
-        addr = h.addr;
-        slots = h.slots;
-        iss = h.iss;
-        numbers_stand = h.numbers_stand;
-        counts = record { net = c.turn_away.ensures n.past (Arrived s seg) h.counts.net; ticks = h.counts.ticks; ident = h.counts.ident };
-      };
+      stands = stands_later g.A.App _ now.packet _ n _ after after h h.iss (record { net = c.turn_away.ensures n.past (Arrived s seg) h.counts.net; ticks = h.counts.ticks; ident = h.counts.ident });
       sent = refl;
     }))

@@ -22,7 +22,9 @@ impl<const ROOM: usize> Model for Text<ROOM> {
 
 impl<const ROOM: usize> Text<ROOM> {
     ghost use Rattle.std.specs.Prelude.{◌≡◌, ◌+◌, ◌≤◌, ◌++◌, [], decimal, length};
-    ghost use Rattle.fixed_text.specs.Text.{flag_letters, quad_text, word_if};
+    ghost use Rattle.uip_wire.specs.Addr.{quad_text};
+    ghost use Rattle.tcp_segment.specs.Segments.{flag_letters};
+    ghost use Rattle.text_room.specs.Words.{word_if};
 
     /// A text without a byte.
     pub fn new() -> Text<ROOM>
