@@ -13,8 +13,9 @@ pub record PlainSegment : Type 0 where
   pub mss : Option ℕ
   pub text : List ℕ
 
-abbrev pub says : ℕ → ℕ → ℕ → ℕ → Option ℕ → List ℕ → PlainSegment
-says seq ack flags window mss text = record { seq = seq; ack = ack; flags = flags; window = window; mss = mss; text = text }
+-- sequence number, acknowledgement number, flags, window, greatest segment size of the peer, text
+abbrev pub plain_segment : ℕ → ℕ → ℕ → ℕ → Option ℕ → List ℕ → PlainSegment
+plain_segment seq ack flags window mss text = record { seq = seq; ack = ack; flags = flags; window = window; mss = mss; text = text }
 
 -- the flags of a segment as one number: FIN 1, SYN 2, RST 4, PSH 8, ACK 16, URG 32
 abbrev pub has_fin : ℕ → Bool
