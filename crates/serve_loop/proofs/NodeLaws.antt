@@ -129,14 +129,19 @@ calls-within {C = C} k within =
     let all : 10 ≡ k + (10 - k) = omega arith in
     (more.0, ap (λ i. calls {C = C} i) all ∙ more.1)
 
--- a tick of which the call of a slot broke off
-pub slots_broke : {Set C : Type 0} (served : ℕ → Bool) (way : Set → Way C) (P Q R : Set → Meaning → Addr → Station C → Type 0) (a b c : Option (List ℕ)) (slot : ℕ) → slot < 10
-    → ((k : Set) (m : Meaning) (own : Addr) → AllSaid m served (way k) own (calls slot) (P k m own) (Q k m own) a b)
+-- the same behind others
+pub calls_behind : {C : Type 0} (front : List (Deed C)) (k : ℕ) → front ++ calls {C = C} (k + 1) ≡ (front ++ calls k) ++ Happens (Periodic k) ∷ []
+calls_behind {C} front k = ap (λ l. front ++ l) (calls-next {C = C} k) ∙ sym (append_assoc front (calls k) (Happens (Periodic k) ∷ []))
+
+-- a tick of which the call of a slot broke off, behind others
+pub slots_broke : {Set C : Type 0} (served : ℕ → Bool) (way : Set → Way C) (front : Set → List (Deed C)) (P Q R : Set → Meaning → Addr → Station C → Type 0) (a b c : Option (List ℕ)) (slot : ℕ) → slot < 10
+    → ((k : Set) (m : Meaning) (own : Addr) → AllSaid m served (way k) own (front k ++ calls slot) (P k m own) (Q k m own) a b)
     → ((k : Set) (m : Meaning) (own : Addr) → FrontSaid m served (way k) own (Happens (Periodic slot) ∷ []) (Q k m own) (R k m own) b c)
-    → (k : Set) (m : Meaning) (own : Addr) → FrontSaid m served (way k) own (map Happens tick) (P k m own) (R k m own) a c
-slots_broke served way P Q R a b c slot within wrote broke k m own =
+    → (k : Set) (m : Meaning) (own : Addr) → FrontSaid m served (way k) own (front k ++ map Happens tick) (P k m own) (R k m own) a c
+slots_broke served way front P Q R a b c slot within wrote broke k m own =
     let w = way k in
     let rest = calls-within (slot + 1) (omega arith) in
-    broke_by m served w own _ _ _ _ _ _ (rest.1 ∙ ap (λ l. l ++ rest.0) (calls-next slot))
+    broke_by m served w own _ _ _ _ _ _
+    (ap (λ l. front k ++ l) rest.1 ∙ sym (append_assoc (front k) (calls (slot + 1)) rest.0) ∙ ap (λ l. l ++ rest.0) (calls_behind (front k) slot))
     (broke_more m served w own _ rest.0 _ _ _ _
-    (broke_then m served w own (calls slot) (Happens (Periodic slot) ∷ []) _ (Q k m own) _ _ b _ (wrote k m own) (broke k m own)))
+    (broke_then m served w own (front k ++ calls slot) (Happens (Periodic slot) ∷ []) _ (Q k m own) _ _ b _ (wrote k m own) (broke k m own)))

@@ -1,7 +1,6 @@
-ghost use Rattle.std.specs.Prelude.{◌≡◌, ◌<◌, ◌≤◌, [], ◌∷◌, List, length, map, Option, OnOk, OnErr};
+ghost use Rattle.std.specs.Prelude.{◌≡◌, ◌<◌, ◌≤◌, [], ◌∷◌, List, length, Option, OnOk, OnErr};
 ghost use Rattle.uip_edge.specs.Causes.{HasCause};
 ghost use Rattle.uip_node.specs.Edge.{event_of};
-ghost use Rattle.uip_node.specs.Events.{tick};
 ghost use Rattle.uip_node.specs.Events.Event.{Periodic};
 ghost use Rattle.serve_loop.specs.DeedRuns.{Happens};
 ghost use Rattle.serve_loop.specs.LineDeeds.{tick_on};
@@ -78,29 +77,7 @@ fn call_slot<A: App, M: Medium, K: Sink>(
     write_sent(node, sent, medium, sink)
 }
 
-/// The periodic calls of all slots in turn.
-fn call_slots<A: App, M: Medium, K: Sink>(
-    node: &mut Node<A>,
-    medium: &mut M,
-    sink: &mut K,
-) -> Result<(), Failed>
-    ensures same { A.kept node.new.shared ≡ A.kept node.old.shared }
-    ensures fed { StaysFed M.Medium medium.old medium.new }
-    ensures ok { OnOk result (PlaysDeeds A.App M.Medium
-        (λ k own. map Happens tick)
-        (place medium.old node.old (K.written sink.old)) (place medium.new node.new (K.written sink.new))) }
-    ensures err { OnErr result (BreaksDeeds A.App M.Medium
-        (λ k own. map Happens tick)
-        (place medium.old node.old (K.written sink.old)) (place medium.new node.new (K.written sink.new))) }
-    ensures cause { HasCause (K.faults sink.old) (K.faults sink.new) result }
-{
-    for slot in 0..10 {
-        call_slot(node, medium, slot, sink)?;
-    }
-    Ok(())
-}
-
-/// A tick: the medium's, and then the periodic calls.
+/// A tick: the medium's, and then the periodic calls of all slots in turn.
 pub(crate) fn tick<A: App, M: Medium, K: Sink>(
     node: &mut Node<A>,
     medium: &mut M,
@@ -117,5 +94,8 @@ pub(crate) fn tick<A: App, M: Medium, K: Sink>(
     ensures cause { HasCause (K.faults sink.old) (K.faults sink.new) result }
 {
     medium.tick();
-    call_slots(node, medium, sink)
+    for slot in 0..10 {
+        call_slot(node, medium, slot, sink)?;
+    }
+    Ok(())
 }

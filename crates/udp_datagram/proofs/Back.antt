@@ -1,16 +1,15 @@
 -- Data that was sent on a way is received on it.
-use Rattle.std.proofs.Common.{◌≡◌, ℕ, ◌+◌, ◌-◌, ◌<◌, ◌≤◌, ◌⊎◌, inl, inr, Bool, true, false, not, ◌&&◌, ◌||◌, eqb, ltb, if◌then◌else◌, List, [], ◌∷◌, ◌++◌, length, take, drop, slice_index, slice_range, Option, Some, None, refl, sym, ap, ◌∙◌, arith, subst, length-append}
+use Rattle.std.proofs.Common.{◌≡◌, ℕ, ◌+◌, ◌-◌, inl, inr, Bool, true, false, not, ◌&&◌, eqb, if◌then◌else◌, List, [], ◌∷◌, ◌++◌, length, take, slice_index, slice_range, Some, refl, sym, ap, ◌∙◌, arith, subst}
 use Rattle.std.proofs.Math.Seq.{take-length}
-use Rattle.std.proofs.lemmas.List.{drop_at, take_all}
+use Rattle.std.proofs.lemmas.List.{take_all}
 use Rattle.std.specs.Str.{bytes_eq}
 use Rattle.uip_wire.proofs.Folding.{folded_cases, folded_closes, folded_most, same_folded}
 use Rattle.uip_wire.proofs.Words.{same_word}
 use Rattle.uip_wire.specs.Addr.{address_at}
 use Rattle.uip_wire.specs.Checksum.{checksum_of, folded, word_sum}
 use Rattle.uip_wire.specs.Fields.{word_at}
-use Rattle.uip_wire.specs.declared.addr.Addr.{Addr}
 use Rattle.uip_ipv4.proofs.Back.{equal, four, neither, not_less, numbered_passes, passes}
-use Rattle.uip_ipv4.specs.Head.{head_or_fate, numbered_head}
+use Rattle.uip_ipv4.specs.Head.{numbered_head}
 use Rattle.udp_datagram.specs.Udp.{ReadsBack, behind_head, carries_udp, is_of_other_protocol, sent_sum, udp_data, udp_datagram, udp_in, udp_pseudo_header, udp_sum, udp_with}
 use Rattle.udp_datagram.specs.declared.way.Way.{Way}
 

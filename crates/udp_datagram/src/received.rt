@@ -1,5 +1,6 @@
 ghost use Rattle.std.specs.Prelude.{◌≡◌, ◌<◌, ◌≤◌, ◌++◌, length, option_map, true};
 ghost use Rattle.udp_datagram.specs.Udp.{IsWholeUdp, behind_head, carries_udp, udp_data, udp_in, udp_pseudo_header};
+ghost use Rattle.uip_wire.specs.Addr.{address_at};
 ghost use Rattle.uip_wire.specs.Checksum.{checksum_of};
 
 use crate::sums::{UDP, pseudo_sum};
@@ -16,10 +17,26 @@ pub fn udp_data(way: Way, datagram: &[u8]) -> Option<&[u8]>
     if !carries_udp(way.target, datagram) {
         return None;
     }
-    if Addr::get(datagram, 12) != way.source {
+    if source_of(datagram) != way.source {
         return None;
     }
-    udp_in(way, &datagram[20..usize::from(get16(datagram, 2))])
+    udp_in(way, behind_head(datagram))
+}
+
+/// The address that a whole datagram comes from.
+fn source_of(datagram: &[u8]) -> Addr
+    requires { IsWholeUdp datagram.now }
+    ensures { result.0 ≡ address_at datagram.now 12 }
+{
+    Addr::get(datagram, 12)
+}
+
+/// What stands behind the Internet header of a whole datagram, up to its total length.
+fn behind_head(datagram: &[u8]) -> &[u8]
+    requires { IsWholeUdp datagram.now }
+    ensures { result.now ≡ behind_head datagram.now }
+{
+    &datagram[20..usize::from(get16(datagram, 2))]
 }
 
 /// Whether a whole datagram to this address carries UDP.

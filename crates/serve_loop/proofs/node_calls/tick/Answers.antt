@@ -1,31 +1,42 @@
-use Rattle.std.proofs.Common.{map}
-use Rattle.std.proofs.lemmas.Result.{on_err_weaker, on_ok_weaker}
-use Rattle.uip_node.specs.Events.{tick}
+use Rattle.std.proofs.Common.{◌∷◌, ◌++◌, [], refl, ap, arith, ◌≡◌, ◌∙◌, append-nil, map}
+use Rattle.uip_edge.proofs.Told.{on_err}
+use Rattle.uip_node.specs.Events.Event.{Periodic}
 use Rattle.serve_loop.specs.DeedRuns.{Does, Happens}
-use Rattle.serve_loop.proofs.NodeLaws.{Here, acts_wrote}
-use Rattle.serve_loop.proofs.RunLaws.{broke_then, wrote_then}
+use Rattle.serve_loop.proofs.NodeLaws.{acts_wrote, calls, calls_behind, slots_broke}
+use Rattle.serve_loop.proofs.RunLaws.{wrote_by, wrote_then}
 use Rattle.serve_loop.proofs.node_calls.tick.Goals as goal
 
-pub returns-clause-ok : goal.returns-clause-ok
-returns-clause-ok g c =
-    on_ok_weaker c.call_slots.result
-    (λ wrote k m own.
-    wrote_then m g.A.App.served (g.M.Medium.way k) own (map Does (g.M.Medium.way k).at_tick) (map Happens tick) _
-    (Here g.A.App (g.M.Medium.way k) (g.M.Medium.did c.args.medium.now k) (g.M.Medium.did c.tick.new.self k) (g.M.Medium.did c.tick.new.self k) m own c.args.node.now)
-    _ _ (g.K.Sink.written c.args.sink.now) _
-    (acts_wrote m g.A.App.served (g.M.Medium.way k) own (g.M.Medium.way k).at_tick _ _ _ (c.tick.ensures.silent k)
-    (λ s p. record { stands = p.stands; acted = c.tick.ensures.did k s.acts p.acted }))
-    (wrote k m own))
-    c.call_slots.ensures.ok
+pub loop-slot-init : goal.loop-slot-init
+loop-slot-init g c = record {
+  same = refl;
+  fed = c.tick.ensures.fed;
+  wrote = λ k m own.
+      wrote_by m g.A.App.served (g.M.Medium.way k) own _ _ _ _ _ _ (append-nil (map Does (g.M.Medium.way k).at_tick))
+      (acts_wrote m g.A.App.served (g.M.Medium.way k) own (g.M.Medium.way k).at_tick _ _ _ (c.tick.ensures.silent k)
+      (λ s p. record { stands = p.stands; acted = c.tick.ensures.did k s.acts p.acted }));
+  calm = refl;
+}
 
-pub returns-clause-err : goal.returns-clause-err
-returns-clause-err g c =
-    on_err_weaker c.call_slots.result
-    (λ broke k m own.
-    broke_then m g.A.App.served (g.M.Medium.way k) own (map Does (g.M.Medium.way k).at_tick) (map Happens tick) _
-    (Here g.A.App (g.M.Medium.way k) (g.M.Medium.did c.args.medium.now k) (g.M.Medium.did c.tick.new.self k) (g.M.Medium.did c.tick.new.self k) m own c.args.node.now)
-    _ _ (g.K.Sink.written c.args.sink.now) _
-    (acts_wrote m g.A.App.served (g.M.Medium.way k) own (g.M.Medium.way k).at_tick _ _ _ (c.tick.ensures.silent k)
-    (λ s p. record { stands = p.stands; acted = c.tick.ensures.did k s.acts p.acted }))
-    (broke k m own))
-    c.call_slots.ensures.err
+pub returns-in_err-call_slot-clause-err : goal.returns-in_err-call_slot-clause-err
+returns-in_err-call_slot-clause-err g c =
+    on_err _ (slots_broke g.A.App.served g.M.Medium.way (λ k. map Does (g.M.Medium.way k).at_tick) _ _ _ _ _ _ c.loop-slot.slot (omega arith) c.loop-slot.invariant.wrote c.in_err-call_slot.ensures.err)
+
+pub loop-slot-preserved : goal.loop-slot-preserved
+loop-slot-preserved g c =
+    let inv = c.loop-slot.invariant in
+    let told = c.in_ok-call_slot.ensures in
+    let slot = c.loop-slot.slot in
+    record {
+      same = told.same ∙ inv.same;
+      fed = λ k before p. told.fed k before (inv.fed k before p);
+      wrote = λ k m own.
+          let acts = map Does (g.M.Medium.way k).at_tick in
+          wrote_by m g.A.App.served (g.M.Medium.way k) own _ _ _ _ _ _ (calls_behind acts slot)
+          (wrote_then m g.A.App.served (g.M.Medium.way k) own (acts ++ calls slot) (Happens (Periodic slot) ∷ []) _ _ _ _ _ _ (inv.wrote k m own) (told.ok k m own));
+      calm = told.cause.same ∙ inv.calm;
+    }
+
+pub returns-clause-ok : goal.returns-clause-ok
+returns-clause-ok g c = λ k m own.
+    let all : 10 ≡ c.loop-slot.slot = omega arith in
+    wrote_by m g.A.App.served (g.M.Medium.way k) own _ _ _ _ _ _ (ap (λ i. map Does (g.M.Medium.way k).at_tick ++ calls i) all) (c.loop-slot.invariant.wrote k m own)
