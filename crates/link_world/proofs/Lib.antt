@@ -3,6 +3,7 @@ pub mod Rows
 pub mod Hearing
 pub mod Doing
 pub mod ClientCases
+pub mod Speaking
 pub mod Good
 pub mod Later
 pub mod Steps

@@ -295,9 +295,9 @@ module _ (m : Meaning) (steady : IsSteady m) (Low : ℕ → Type 0) (low_text : 
   mss_some None = omega arith
   mss_some (Some n) = some_mss n
 
-  pub birth : (w : World) (first : ℕ) (sockets : Sockets) (k j : ℕ) (side : Side) (e : Sent) → slice_get w.sent j ≡ Some e → e.who ≡ from k → (is_clean side ≡ true → e.epoch ≡ length side.past) → is_plain_syn (seg e) ≡ true → FitConn (accepted first sockets (seg e)) → Told k side closed w.sent →
+  pub birth : (w : World) (first : ℕ) (sockets : Sockets) (k j : ℕ) (side : Side) (e : Sent) → client_sockets side ≡ sockets → slice_get w.sent j ≡ Some e → e.who ≡ from k → (is_clean side ≡ true → e.epoch ≡ length side.past) → is_plain_syn (seg e) ≡ true → FitConn (accepted first sockets (seg e)) → Told k side closed w.sent →
       (tick id : ℕ) → Told k side (accepted first sockets (seg e)) (w.sent ++ entry (to k) side tick id (speech false (syn_ack (accepted first sockets (seg e)))) ∷ [])
-  birth w first sockets k j side e sent who fresh plain fit t tick id =
+  birth w first sockets k j side e own sent who fresh plain fit t tick id =
       let c : Connection = accepted first sockets (seg e) in
       let new : Sent = entry (to k) side tick id (speech false (syn_ack c)) in
       let due_now : IsDue m steady Low low_text c (syn_ack c) = record { len = omega arith; seq = refl; alike = alike_refl (syn_ack c) } in
