@@ -22,6 +22,7 @@ pub mod Loss
 pub mod Sound
 pub mod Whole
 pub mod Harmless
+pub mod SaidBytes
 pub mod SoundNodes
 pub mod SoundWorlds
 pub mod Damages
