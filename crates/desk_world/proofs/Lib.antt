@@ -1,1 +1,3 @@
 pub mod DeskWorlds
+pub mod ShortTalks
+pub mod DeskSpeakers
