@@ -1,3 +1,4 @@
 pub mod DeskWorlds
 pub mod ShortTalks
 pub mod DeskSpeakers
+pub mod DeskBytes
