@@ -1,13 +1,49 @@
 -- The laws of the link world at the desk.
-use Rattle.file_tree.specs.Site.{files_of}
-use Rattle.link_world.proofs.Same.{same_bytes_plainly}
+use Rattle.std.proofs.Common.{◌==◌, inl, inr}
+use Rattle.app_events.specs.Part.{Meaning}
+use Rattle.file_tree.specs.Site.{SiteContent, IsLoaded, files_of}
+use Rattle.web_pages.specs.Pages.{pages_of}
+use Rattle.node_laws.proofs.Hearing.{HeardBytes}
+use Rattle.link_world.specs.World.{World}
+use Rattle.link_world.proofs.Any.{Framed}
+use Rattle.link_world.proofs.Prefix.{AtPorts, G, other, reset, evict, mark, act_good, opening_framed, served_in}
+use Rattle.link_world.proofs.Runs.{reached_plainly, reached_where}
+use Rattle.link_world.proofs.Same.{same_bytes_plainly, same_bytes_where}
 use Rattle.link_world.proofs.Ticks.{tick}
+use Rattle.telnet_shell.specs.declared.shell.TheConstants.{TELNET_PORT}
 use Rattle.telnet_shell.specs.DeskMeaning.{desk_meaning}
-use Rattle.desk_world.specs.DeskWorlds.{DeskRepeatsSameBytes, DeskSendsAgain}
 use Rattle.telnet_shell.proofs.DeskSteady.{desk_steady}
+use Rattle.desk_world.specs.DeskWorlds.{DeskRepeatsSameBytes, DeskSendsAgain, DeskServes, IsReachedByDesk}
+use Rattle.desk_world.proofs.DeskBytes.{desk_says}
+use Rattle.desk_world.proofs.DeskSpeakers.{desk_ports, served_due}
 
 pub repeats_same_bytes : DeskRepeatsSameBytes
-repeats_same_bytes site loaded w r = same_bytes_plainly (desk_meaning (files_of site)) (desk_steady site loaded) w r
+repeats_same_bytes site loaded w r = elim r [
+  | inl any ↦ same_bytes_where (desk_meaning (files_of site)) (pages_of (files_of site)) (desk_steady site loaded) HeardBytes (desk_says site loaded) w any
+  | inr plain ↦ same_bytes_plainly (desk_meaning (files_of site)) (desk_steady site loaded) w plain
+]
 
 pub sends_again : DeskSendsAgain
 sends_again site served n slot c at x = tick (desk_meaning (files_of site)) served n slot c at x
+
+module _ (site : SiteContent) (loaded : IsLoaded site) where
+  abbrev desk : Meaning
+  desk = desk_meaning (files_of site)
+
+  abbrev ports : AtPorts desk
+  ports = desk_ports site loaded
+
+  -- what is kept of every client
+  abbrev Walked : World → Type 0
+  Walked w = Framed desk (G desk ports) (other desk ports) (reset desk ports) (evict desk ports) (mark desk ports) w
+
+  walked : (w : World) → IsReachedByDesk site w → Walked w
+  walked w r = elim r [
+    | inl any ↦ reached_where desk (pages_of (files_of site)) (desk_steady site loaded) HeardBytes (desk_says site loaded) Walked (act_good desk ports) (opening_framed desk ports) w any
+    | inr plain ↦ reached_plainly desk (desk_steady site loaded) Walked (act_good desk ports) (opening_framed desk ports) w plain
+  ]
+
+pub serves : DeskServes
+serves site loaded w r k side x clean =
+    served_due site loaded w side (side.client.setup.server_port.0 == TELNET_PORT)
+    (served_in (desk_meaning (files_of site)) (desk_ports site loaded) w (walked site loaded w r) k side x clean)

@@ -1,1 +1,2 @@
 pub mod DeskWorlds
+pub mod Worked

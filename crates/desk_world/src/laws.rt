@@ -1,4 +1,15 @@
-ghost use Rattle.desk_world.specs.DeskWorlds.{DeskRepeatsSameBytes, DeskSendsAgain};
+ghost use Rattle.desk_world.specs.DeskWorlds.{DeskRepeatsSameBytes, DeskSendsAgain, DeskServes, TalksAreShort};
+ghost use Rattle.desk_world.specs.Worked.{AreWorkedWorlds};
+
+/// A clean client has received a front of what is due at its port, a page or a talk, and all of it where it saw a plain close.
+pub fn desk_serves()
+    ensures { DeskServes }
+{}
+
+/// A talk says at most 1,032 bytes for each byte that is heard.
+pub fn talks_are_short()
+    ensures { TalksAreShort }
+{}
 
 /// What is sent again, of a page or of a talk, has the number, flags and text of the first time.
 pub fn desk_repeats_same_bytes()
@@ -8,4 +19,9 @@ pub fn desk_repeats_same_bytes()
 /// An expired timer below its limit sends what is outstanding in that tick, at port 80 and at port 23.
 pub fn desk_sends_again()
     ensures { DeskSendsAgain }
+{}
+
+/// Worked by hand: schedules of the desk, with what their clients have at the end.
+pub fn worked_worlds()
+    ensures { AreWorkedWorlds }
 {}

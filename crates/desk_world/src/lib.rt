@@ -4,4 +4,6 @@
 
 mod laws;
 
-pub use laws::{desk_repeats_same_bytes, desk_sends_again};
+pub use laws::{
+    desk_repeats_same_bytes, desk_sends_again, desk_serves, talks_are_short, worked_worlds,
+};

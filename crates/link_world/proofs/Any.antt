@@ -384,7 +384,7 @@ module _ (m : Meaning) (G : ℕ → Side → Connection → List Sent → Type 0
       slice_get w.sent j ≡ Some e → e.who ≡ from k → (is_clean side ≡ true → e.epoch ≡ length side.past) → G k side old w.sent → Steps w (asked m now (on_segment m old numbers (seg e))) k side)
       (tick : (w : World) (old : Connection) (numbers : List ℕ) (now : Connection → Now) (k : ℕ) (side : Side) → is_live old.state ≡ true → FitConn old → All IsWord numbers → ((c : Connection) → FitConn c → IsNow (now c)) →
       G k side old w.sent → Steps w (asked m now (on_tick m old numbers)) k side)
-      (birth : (w : World) (first : ℕ) (sockets : Sockets) (k j : ℕ) (side : Side) (e : Sent) → slice_get w.sent j ≡ Some e → e.who ≡ from k → (is_clean side ≡ true → e.epoch ≡ length side.past) →
+      (birth : (w : World) (first : ℕ) (sockets : Sockets) (k j : ℕ) (side : Side) (e : Sent) → client_sockets side ≡ sockets → slice_get w.sent j ≡ Some e → e.who ≡ from k → (is_clean side ≡ true → e.epoch ≡ length side.past) →
       is_plain_syn (seg e) ≡ true → FitConn (accepted first sockets (seg e)) → G k side closed w.sent → (tick id : ℕ) → G k side (accepted first sockets (seg e)) (w.sent ++ entry (to k) side tick id (speech false (syn_ack (accepted first sockets (seg e)))) ∷ []))
       (clients : OnClients) where
     -- a connection in a slot took a step
@@ -434,7 +434,7 @@ module _ (m : Meaning) (G : ℕ → Side → Connection → List Sent → Type 0
           let new : Connection = accepted first (client_sockets side) (seg e) in
           node_framed w (client_sockets side) (opens_in m w.node (client_sockets side) (seg e) slot) _ g (opens_reacts slot old (index_of w.node.connections slot closed old at))
           (effect_born w slot old new (speech false (syn_ack new)) g at refl free
-          (λ k x y q c. let r = is_here k x y q in birth w first (client_sockets side) k j x e sent (who ∙ ap (λ z. from z) r.number) (fresh_at k x r.side_is) plain (accepted_fits m steady first (client_sockets side) (seg e) (fw.sides n side seat).addr (fw.sides n side seat).port) c))
+          (λ k x y q c. let r = is_here k x y q in birth w first (client_sockets side) k j x e q sent (who ∙ ap (λ z. from z) r.number) (fresh_at k x r.side_is) plain (accepted_fits m steady first (client_sockets side) (seg e) (fw.sides n side seat).addr (fw.sides n side seat).port) c))
 
       passes_framed : (answer : Rattle.uip_node.specs.Events.Answer) → Framed (node_stepped w (passes w.node arrival answer))
       passes_framed answer = node_framed w peer (passes w.node arrival answer) (record { table = w.node.connections; gone = None; said = None }) g record { table = refl; gone = refl; sends = sends_none refl refl } (effect_none w peer None g (λ x y. absurd (cc)))

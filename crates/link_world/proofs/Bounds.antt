@@ -159,7 +159,7 @@ module _ (m : Meaning) (n : ℕ) (it : Sent) where
       (λ served u act harm g fits. does_framed m There there_other there_reset there_evict there_mark (steady_of m pages lawful) served
       (λ w old numbers now k j side e lv f n is sent who fresh g. there_steps w (asked m now (on_segment m old numbers (seg e))) k side g)
       (λ w old numbers now k side lv f n is g. there_steps w (asked m now (on_tick m old numbers)) k side g)
-      (λ w first sockets k j side e sent who fresh plain fit g tick id. get_older w.sent _ it n g)
+      (λ w first sockets k j side e own sent who fresh plain fit g tick id. get_older w.sent _ it n g)
       (any_step m There there_other there_reset there_evict there_mark there_takes)
       u act harm g fits)
       v w l

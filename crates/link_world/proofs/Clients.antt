@@ -4,7 +4,7 @@ use Rattle.std.proofs.Common.{◌≡◌, ℕ, ◌+◌, ◌-◌, ◌≤◌, min, 
 use Rattle.uip_wire.specs.Numbers.{wrap}
 use Rattle.tcp_segment.specs.Segments.{PlainSegment, has_syn, has_fin, has_rst, has_ack}
 use Rattle.app_events.specs.Part.{Moment, Meaning}
-use Rattle.app_events.specs.Pages.{Pages, IsPaged, IsMoment}
+use Rattle.app_events.specs.Pages.{IsMoment}
 use Rattle.tcp_machine.specs.Connection.{Connection, is_live}
 use Rattle.tcp_machine.specs.Segments.{has_place}
 use Rattle.link_client.specs.Client.{AbstractClient, ClientStep, sends_next, has_outstanding, is_receiving, may_finish, has_closed, own_request, ack_of, syn_of, own_fin, own_reset, keeps, steps_with, hears_ack, fin_sent, fin_out, takes_in_order, takes_text, takes_by, client_takes, is_reset_by, opened_by, opens_by, again_by, closes_by, aborts_by, after_fin, one_if, next_own, own_first}
@@ -14,6 +14,7 @@ use Rattle.link_client.specs.declared.fin_at.FinAt.{FinAt}
 use Rattle.link_world.specs.World.{Sent, Era, becomes_opened}
 use Rattle.link_world.specs.History.{era}
 use Rattle.uip_node.proofs.Basics.{IsPart, part_joins, part_none, choose, and_true, same_place, eqb-eq, append_nothing, cut_part, only_some, not-false, nothing_placed}
+use Rattle.link_world.proofs.Speaking.{Speaker, Speaks}
 use Rattle.link_world.proofs.Counts.{reset_becomes, same_becomes}
 use Rattle.link_world.proofs.Later.{node_later}
 use Rattle.link_world.proofs.Good.{is_some, seg, NodeSaid, IsText, IsFin, ClientSaid, IsData, Steady, NotOpened, HasOpened, OpenedGood, ToGood, TookGood, is_unasked, is_early}
@@ -72,9 +73,9 @@ not_opening past Is.Idle x o h = absurd (cc)
 not_opening past Is.Opening x o h = absurd (cc)
 not_opening past _ x o h = refl
 
-module _ (m : Meaning) (pages : Pages) (lawful : IsPaged m pages) (past : List Era) (conn : Connection) (fit : (o : ℕ) → All IsMoment (era past conn o).captures) where
+module _ (m : Meaning) (speaker : Speaker) (laws : Speaks m speaker) (past : List Era) (conn : Connection) (fit : (o : ℕ) → All IsMoment (era past conn o).captures) where
   -- its own counts and its window do not matter to what it received
-  recounts : (c : AbstractClient) (o : ℕ) (a u : ℕ) (f : FinAt) (w : ℕ) → HasOpened pages c past conn o → HasOpened pages (record c { acked = a; out = u; fin = f; window = w }) past conn o
+  recounts : (c : AbstractClient) (o : ℕ) (a u : ℕ) (f : FinAt) (w : ℕ) → HasOpened speaker c past conn o → HasOpened speaker (record c { acked = a; out = u; fin = f; window = w }) past conn o
   recounts c o a u f w h = record {
     time = h.time;
     then_live = h.then_live;
@@ -88,8 +89,8 @@ module _ (m : Meaning) (pages : Pages) (lawful : IsPaged m pages) (past : List E
   -- a step that goes on with c and then sends what comes next
   goes_on : (client c : AbstractClient) (o : ℕ) (owed : Bool) (opened : Option ℕ) →
       Some o ≡ (if becomes_opened client.state c.state then Some (length past) else opened) →
-      c.request ≡ client.request → own_first c ≡ own_first client → Steady c → HasOpened pages c past conn o →
-      TookGood pages client past conn opened (Some o) (sends_next owed c)
+      c.request ≡ client.request → own_first c ≡ own_first client → Steady c → HasOpened speaker c past conn o →
+      TookGood speaker client past conn opened (Some o) (sends_next owed c)
   goes_on client c o owed opened n r f steady h =
       let g : SendsGood c (sends_next owed c) = sends_next_good owed c steady.out_fits in
       let d : AbstractClient = recounted c g.acked g.out g.fin in
@@ -99,7 +100,7 @@ module _ (m : Meaning) (pages : Pages) (lawful : IsPaged m pages) (past : List E
         request = ap (λ (x : AbstractClient). x.request) e ∙ r;
         setup = ap (λ (x : AbstractClient). own_first x) e ∙ f;
         steady = subst Steady (sym e) record { short = steady.short; low = steady.low; out_fits = g.fits };
-        opened_good = subst (λ x. HasOpened pages x past conn o) (sym e) (recounts c o g.acked g.out g.fin c.window h);
+        opened_good = subst (λ x. HasOpened speaker x past conn o) (sym e) (recounts c o g.acked g.out g.fin c.window h);
         said = λ s p. said_data (g.said (Some o) s refl p);
       }
 
@@ -144,38 +145,38 @@ module _ (m : Meaning) (pages : Pages) (lawful : IsPaged m pages) (past : List E
   after_deaf Is.Idle h e = cc
   after_deaf _ h e = cc
 
-  next_place : (c : AbstractClient) (o at : ℕ) (s : PlainSegment) → HasOpened pages c past conn o → is_receiving c.state ≡ true → s.seq ≡ c.expected →
-      s.seq ≡ wrap ((era past conn o).first + 1 + at) → at ≤ length (pages.text c.request (era past conn o).captures) → at ≡ length c.received
-  next_place c o at s h i e q l =
-      let short = lawful.short c.request (era past conn o).captures (fit o) in
+  next_place : (c : AbstractClient) (o at : ℕ) (s : PlainSegment) → length c.request ≤ 4096 → HasOpened speaker c past conn o → is_receiving c.state ≡ true → s.seq ≡ c.expected →
+      s.seq ≡ wrap ((era past conn o).first + 1 + at) → at ≤ length (speaker.text c.request (era past conn o).captures) → at ≡ length c.received
+  next_place c o at s low h i e q l =
+      let short = laws.short c.request (era past conn o).captures low (fit o) in
       same_place ((era past conn o).first + 1) at (length c.received) (omega (arith, short, l)) (omega (arith, short, h.part.fits)) (sym q ∙ e ∙ h.expected i)
 
-  text_taken : (c : AbstractClient) (o : ℕ) (s : PlainSegment) → HasOpened pages c past conn o → is_receiving c.state ≡ true → s.seq ≡ c.expected →
-      IsText pages c (era past conn o).first (era past conn o).captures s → HasOpened pages (takes_text c s) past conn o
-  text_taken c o s h i e n =
-      let here : n.at ≡ length c.received = next_place c o n.at s h i e n.seq (omega (arith, n.part.fits)) in
-      let p : IsPart (pages.text c.request (era past conn o).captures) s.text (length c.received) = subst (λ x. IsPart (pages.text c.request (era past conn o).captures) s.text x) here n.part in
+  text_taken : (c : AbstractClient) (o : ℕ) (s : PlainSegment) → length c.request ≤ 4096 → HasOpened speaker c past conn o → is_receiving c.state ≡ true → s.seq ≡ c.expected →
+      IsText speaker c (era past conn o).first (era past conn o).captures s → HasOpened speaker (takes_text c s) past conn o
+  text_taken c o s low h i e n =
+      let here : n.at ≡ length c.received = next_place c o n.at s low h i e n.seq (omega (arith, n.part.fits)) in
+      let p : IsPart (speaker.text c.request (era past conn o).captures) s.text (length c.received) = subst (λ x. IsPart (speaker.text c.request (era past conn o).captures) s.text x) here n.part in
       let moved : wrap (c.expected + length s.text + 0) ≡ wrap ((era past conn o).first + 1 + length (c.received ++ s.text)) =
       ap (λ x. wrap (x + length s.text + 0)) (h.expected i) ∙ omega (arith, length-append c.received s.text) in
-      let x : HasOpened pages (took c false s.text) past conn o = record {
+      let x : HasOpened speaker (took c false s.text) past conn o = record {
         time = h.time;
         then_live = h.then_live;
         live_then = h.live_then;
         asked = h.asked;
-        part = part_joins (pages.text c.request (era past conn o).captures) c.received s.text h.part p;
+        part = part_joins (speaker.text c.request (era past conn o).captures) c.received s.text h.part p;
         expected = λ y. moved;
         all = λ y. absurd (not_closed c.state i y);
       } in
-      subst (λ b. HasOpened pages (took c b s.text) past conn o) (sym n.no_fin) x
+      subst (λ b. HasOpened speaker (took c b s.text) past conn o) (sym n.no_fin) x
 
-  fin_taken : (c : AbstractClient) (o : ℕ) (s : PlainSegment) → HasOpened pages c past conn o → is_receiving c.state ≡ true → s.seq ≡ c.expected → has_fin s.flags ≡ true →
-      IsFin pages c (era past conn o).first (era past conn o).captures s → HasOpened pages (takes_text c s) past conn o
-  fin_taken c o s h i e f n =
+  fin_taken : (c : AbstractClient) (o : ℕ) (s : PlainSegment) → length c.request ≤ 4096 → HasOpened speaker c past conn o → is_receiving c.state ≡ true → s.seq ≡ c.expected → has_fin s.flags ≡ true →
+      IsFin speaker c (era past conn o).first (era past conn o).captures s → HasOpened speaker (takes_text c s) past conn o
+  fin_taken c o s low h i e f n =
       let k : List Moment = (era past conn o).captures in
       let none : c.received ++ [] ≡ c.received = append_nothing c.received in
-      let part : IsPart (pages.text c.request k) (c.received ++ []) 0 = subst (λ x. IsPart (pages.text c.request k) x 0) (sym none) h.part in
-      let here : n.at ≡ length c.received = next_place c o n.at s h i e n.seq (omega (arith, n.ends.end)) in
-      let x : HasOpened pages (took c true []) past conn o = record {
+      let part : IsPart (speaker.text c.request k) (c.received ++ []) 0 = subst (λ x. IsPart (speaker.text c.request k) x 0) (sym none) h.part in
+      let here : n.at ≡ length c.received = next_place c o n.at s low h i e n.seq (omega (arith, n.ends.end)) in
+      let x : HasOpened speaker (took c true []) past conn o = record {
         time = h.time;
         then_live = h.then_live;
         live_then = h.live_then;
@@ -184,49 +185,49 @@ module _ (m : Meaning) (pages : Pages) (lawful : IsPaged m pages) (past : List E
         expected = λ y. absurd (after_deaf c.state i y);
         all = λ y. record { whole = n.ends.whole; end = ap length none ∙ sym here ∙ n.ends.end };
       } in
-      subst (λ b. HasOpened pages (took c b s.text) past conn o) (sym f) (subst (λ t. HasOpened pages (took c true t) past conn o) (sym n.no_text) x)
+      subst (λ b. HasOpened speaker (took c b s.text) past conn o) (sym f) (subst (λ t. HasOpened speaker (took c true t) past conn o) (sym n.no_text) x)
 
   -- text or FIN at the expected number of a client that asked
-  placed : (c : AbstractClient) (P : Type 0) (o : ℕ) (s : PlainSegment) → HasOpened pages c past conn o → has_rst s.flags ≡ false → has_syn s.flags ≡ false → has_place s ≡ true →
-      is_receiving c.state ≡ true → s.seq ≡ c.expected → NodeSaid pages c P (era past conn o).first (era past conn o).captures s → HasOpened pages (takes_text c s) past conn o
-  placed c P o s h nr ns pl i e (node_reset r) = absurd (cc)
-  placed c P o s h nr ns pl i e (node_syn r n) = absurd (let z : has_syn s.flags ≡ true = n.syn in cc)
-  placed c P o s h nr ns pl i e (node_ack r n) = absurd (nothing_placed s n.no_syn n.no_fin n.no_text pl)
-  placed c P o s h nr ns pl i e (node_text r p n) = text_taken c o s h i e n
-  placed c P o s h nr ns pl i e (node_fin r p n) = fin_taken c o s h i e n.is_fin n
+  placed : (c : AbstractClient) (P : Type 0) (o : ℕ) (s : PlainSegment) → length c.request ≤ 4096 → HasOpened speaker c past conn o → has_rst s.flags ≡ false → has_syn s.flags ≡ false → has_place s ≡ true →
+      is_receiving c.state ≡ true → s.seq ≡ c.expected → NodeSaid speaker c P (era past conn o).first (era past conn o).captures s → HasOpened speaker (takes_text c s) past conn o
+  placed c P o s low h nr ns pl i e (node_reset r) = absurd (cc)
+  placed c P o s low h nr ns pl i e (node_syn r n) = absurd (let z : has_syn s.flags ≡ true = n.syn in cc)
+  placed c P o s low h nr ns pl i e (node_ack r n) = absurd (nothing_placed s n.no_syn n.no_fin n.no_text pl)
+  placed c P o s low h nr ns pl i e (node_text r p n) = text_taken c o s low h i e n
+  placed c P o s low h nr ns pl i e (node_fin r p n) = fin_taken c o s low h i e n.is_fin n
 
   in_order_good : (client c : AbstractClient) (P : Type 0) (o : ℕ) (s : PlainSegment) → is_unasked client.state ≡ false →
       c.request ≡ client.request → own_first c ≡ own_first client →
-      Steady c → HasOpened pages c past conn o → has_rst s.flags ≡ false →
-      NodeSaid pages c P (era past conn o).first (era past conn o).captures s → TookGood pages client past conn (Some o) (Some o) (takes_in_order c s)
+      Steady c → HasOpened speaker c past conn o → has_rst s.flags ≡ false →
+      NodeSaid speaker c P (era past conn o).first (era past conn o).captures s → TookGood speaker client past conn (Some o) (Some o) (takes_in_order c s)
   unfolding takes_in_order
   in_order_good client c P o s un r f steady h nr said =
-      let on : (owed : Bool) → TookGood pages client past conn (Some o) (Some o) (sends_next owed c) =
+      let on : (owed : Bool) → TookGood speaker client past conn (Some o) (Some o) (sends_next owed c) =
       λ owed. goes_on client c o owed (Some o) (not_opening past client.state c.state o un) r f steady h in
-      choose (λ x. TookGood pages client past conn (Some o) (Some o) x) (has_syn s.flags) _ _
+      choose (λ x. TookGood speaker client past conn (Some o) (Some o) x) (has_syn s.flags) _ _
       (λ e. on true)
-      (λ e. choose (λ x. TookGood pages client past conn (Some o) (Some o) x) (not (has_place s)) _ _
+      (λ e. choose (λ x. TookGood speaker client past conn (Some o) (Some o) x) (not (has_place s)) _ _
       (λ i. on false)
-      (λ i. choose (λ x. TookGood pages client past conn (Some o) (Some o) x) (eqb s.seq c.expected && is_receiving c.state) _ _
+      (λ i. choose (λ x. TookGood speaker client past conn (Some o) (Some o) x) (eqb s.seq c.expected && is_receiving c.state) _ _
       (λ j. let a = and_true _ _ j in
-      let t : HasOpened pages (takes_text c s) past conn o = placed c P o s h nr e (not-false (has_place s) i) a.1 (eqb-eq s.seq c.expected a.0) said in
+      let t : HasOpened speaker (takes_text c s) past conn o = placed c P o s steady.short h nr e (not-false (has_place s) i) a.1 (eqb-eq s.seq c.expected a.0) said in
       goes_on client (takes_text c s) o true (Some o) (not_opening past client.state (takes_text c s).state o un) r f record { short = steady.short; low = steady.low; out_fits = steady.out_fits } t)
       (λ j. on true)))
 
   -- a segment at a client that has opened
-  asked_good : (client : AbstractClient) (P : Type 0) (o : ℕ) (s : PlainSegment) → Steady client → HasOpened pages client past conn o → has_rst s.flags ≡ false →
-      NodeSaid pages client P (era past conn o).first (era past conn o).captures s → TookGood pages client past conn (Some o) (Some o) (takes_in_order (hears_ack client s) s)
+  asked_good : (client : AbstractClient) (P : Type 0) (o : ℕ) (s : PlainSegment) → Steady client → HasOpened speaker client past conn o → has_rst s.flags ≡ false →
+      NodeSaid speaker client P (era past conn o).first (era past conn o).captures s → TookGood speaker client past conn (Some o) (Some o) (takes_in_order (hears_ack client s) s)
   asked_good client P o s steady h nr said =
       let g : Hearing client (hears_ack client s) = hears_ack_is client s steady.out_fits in
       let c : AbstractClient = recounted client g.acked g.out g.fin in
-      subst (λ x. TookGood pages client past conn (Some o) (Some o) (takes_in_order x s)) (sym g.is)
+      subst (λ x. TookGood speaker client past conn (Some o) (Some o) (takes_in_order x s)) (sym g.is)
       (in_order_good client c P o s h.asked refl refl record { short = steady.short; low = steady.low; out_fits = g.fits }
       (recounts client o g.acked g.out g.fin client.window h) nr
-      (node_later m pages lawful client c P P (era past conn o).first (era past conn o).first (era past conn o).captures (era past conn o).captures [] s refl (λ x. x) refl (sym (append_nothing (era past conn o).captures)) said))
+      (node_later m speaker laws client c P P (era past conn o).first (era past conn o).first (era past conn o).captures (era past conn o).captures [] s refl (λ x. x) refl (sym (append_nothing (era past conn o).captures)) said))
 
   -- a step that sends what is told, or nothing
-  stands : (client d : AbstractClient) (opened : Option ℕ) → becomes_opened client.state d.state ≡ false → d.request ≡ client.request → own_first d ≡ own_first client → Steady d → OpenedGood pages d past conn opened →
-      TookGood pages client past conn opened opened (keeps d)
+  stands : (client d : AbstractClient) (opened : Option ℕ) → becomes_opened client.state d.state ≡ false → d.request ≡ client.request → own_first d ≡ own_first client → Steady d → OpenedGood speaker d past conn opened →
+      TookGood speaker client past conn opened opened (keeps d)
   stands client d opened b r f steady h = record {
     next_is = ap (λ x. if x then Some (length past) else opened) (sym b);
     request = r;
@@ -236,8 +237,8 @@ module _ (m : Meaning) (pages : Pages) (lawful : IsPaged m pages) (past : List E
     said = λ s p. absurd (cc);
   }
 
-  speaks : (client d : AbstractClient) (opened : Option ℕ) (s : PlainSegment) → becomes_opened client.state d.state ≡ false → d.request ≡ client.request → own_first d ≡ own_first client → Steady d → OpenedGood pages d past conn opened →
-      ClientSaid d opened (length past) s → TookGood pages client past conn opened opened (steps_with d s)
+  speaks : (client d : AbstractClient) (opened : Option ℕ) (s : PlainSegment) → becomes_opened client.state d.state ≡ false → d.request ≡ client.request → own_first d ≡ own_first client → Steady d → OpenedGood speaker d past conn opened →
+      ClientSaid d opened (length past) s → TookGood speaker client past conn opened opened (steps_with d s)
   speaks client d opened s b r f steady h said = record {
     next_is = ap (λ x. if x then Some (length past) else opened) (sym b);
     request = r;
@@ -247,11 +248,11 @@ module _ (m : Meaning) (pages : Pages) (lawful : IsPaged m pages) (past : List E
     said = λ x p. only_some (λ y. ClientSaid d opened (length past) y) s x p said;
   }
 
-  stays : (client : AbstractClient) (opened : Option ℕ) → Steady client → OpenedGood pages client past conn opened → TookGood pages client past conn opened opened (keeps client)
+  stays : (client : AbstractClient) (opened : Option ℕ) → Steady client → OpenedGood speaker client past conn opened → TookGood speaker client past conn opened opened (keeps client)
   stays client opened steady h = stands client client opened (same_becomes client.state) refl refl steady h
 
   -- a client that becomes Reset
-  reset_opened : (client : AbstractClient) (opened : Option ℕ) → OpenedGood pages client past conn opened → OpenedGood pages (record client { state = Is.Reset }) past conn opened
+  reset_opened : (client : AbstractClient) (opened : Option ℕ) → OpenedGood speaker client past conn opened → OpenedGood speaker (record client { state = Is.Reset }) past conn opened
   reset_opened client None h = record { early = refl; nothing = h.nothing }
   reset_opened client (Some o) h = record {
     time = h.time;
@@ -265,8 +266,8 @@ module _ (m : Meaning) (pages : Pages) (lawful : IsPaged m pages) (past : List E
 
   -- a client that opens
   opens_good : (client : AbstractClient) (P : Type 0) (s : PlainSegment) → client.state ≡ Is.Opening → Steady client → NotOpened client → is_live conn.state ≡ true →
-      has_rst s.flags ≡ false → has_syn s.flags ≡ true → NodeSaid pages client P (era past conn (length past)).first (era past conn (length past)).captures s →
-      TookGood pages client past conn None (Some (length past)) (sends_next true (opened_by client s))
+      has_rst s.flags ≡ false → has_syn s.flags ≡ true → NodeSaid speaker client P (era past conn (length past)).first (era past conn (length past)).captures s →
+      TookGood speaker client past conn None (Some (length past)) (sends_next true (opened_by client s))
   opens_good client P s st steady h lv nr sy (node_reset r) = absurd (cc)
   opens_good client P s st steady h lv nr sy (node_ack r n) = absurd (let z : has_syn s.flags ≡ false = n.no_syn in cc)
   opens_good client P s st steady h lv nr sy (node_text r p n) = absurd (let z : has_syn s.flags ≡ false = n.no_syn in cc)
@@ -277,12 +278,12 @@ module _ (m : Meaning) (pages : Pages) (lawful : IsPaged m pages) (past : List E
       let k : List Moment = (era past conn (length past)).captures in
       let f : ℕ = (era past conn (length past)).first in
       let e : wrap (s.seq + 1) ≡ wrap (f + 1 + 0) = ap (λ x. wrap (x + 1)) n.seq ∙ omega arith in
-      let g : HasOpened pages c past conn (length past) = record {
+      let g : HasOpened speaker c past conn (length past) = record {
         time = omega arith;
         then_live = λ x. lv;
         live_then = λ x. refl;
         asked = refl;
-        part = subst (λ x. IsPart (pages.text client.request k) x 0) none (part_none (pages.text client.request k));
+        part = subst (λ x. IsPart (speaker.text client.request k) x 0) none (part_none (speaker.text client.request k));
         expected = λ x. subst (λ y. wrap (s.seq + 1) ≡ wrap (f + 1 + length y)) none e;
         all = λ x. absurd (cc);
       } in
@@ -290,16 +291,16 @@ module _ (m : Meaning) (pages : Pages) (lawful : IsPaged m pages) (past : List E
 
   pub record Took_it (client : AbstractClient) (opened : Option ℕ) (took : ClientStep) : Type 0 where
     pub next : Option ℕ
-    pub good : TookGood pages client past conn opened next took
+    pub good : TookGood speaker client past conn opened next took
 
-  is_asked : (client : AbstractClient) (st : ClientState) (o : ℕ) → client.state ≡ st → is_unasked st ≡ true → HasOpened pages client past conn o → ⊥
+  is_asked : (client : AbstractClient) (st : ClientState) (o : ℕ) → client.state ≡ st → is_unasked st ≡ true → HasOpened speaker client past conn o → ⊥
   is_asked client st o e n h = let z : is_unasked client.state ≡ is_unasked st = ap is_unasked e in let y : is_unasked client.state ≡ false = h.asked in absurd (cc)
 
   not_early : (client : AbstractClient) (st : ClientState) → client.state ≡ st → is_early st ≡ false → NotOpened client → ⊥
   not_early client st e n h = let z : is_early client.state ≡ is_early st = ap is_early e in let y : is_early client.state ≡ true = h.early in absurd (cc)
 
-  by_good : (st : ClientState) (client : AbstractClient) (P : Type 0) (opened : Option ℕ) (s : PlainSegment) → client.state ≡ st → Steady client → OpenedGood pages client past conn opened → has_rst s.flags ≡ false →
-      is_live conn.state ≡ true → NodeSaid pages client P (era past conn (length past)).first (era past conn (length past)).captures s → Took_it client opened (takes_by st client s)
+  by_good : (st : ClientState) (client : AbstractClient) (P : Type 0) (opened : Option ℕ) (s : PlainSegment) → client.state ≡ st → Steady client → OpenedGood speaker client past conn opened → has_rst s.flags ≡ false →
+      is_live conn.state ≡ true → NodeSaid speaker client P (era past conn (length past)).first (era past conn (length past)).captures s → Took_it client opened (takes_by st client s)
   unfolding takes_by
   by_good Is.Idle client P opened s st steady h nr lv said = record { next = opened; good = stays client opened steady h }
   by_good Is.Reset client P opened s st steady h nr lv said = record { next = opened; good = stays client opened steady h }
@@ -312,14 +313,14 @@ module _ (m : Meaning) (pages : Pages) (lawful : IsPaged m pages) (past : List E
   by_good Is.Closing client P None s st steady h nr lv said = absurd (not_early client _ st refl h)
   by_good Is.Closed client P None s st steady h nr lv said = absurd (not_early client _ st refl h)
   by_good Is.Ended client P None s st steady h nr lv said = absurd (not_early client _ st refl h)
-  by_good Is.Opened client P (Some o) s st steady h nr lv said = record { next = Some o; good = asked_good client P o s steady h nr (subst (λ n. NodeSaid pages client P (era past conn n).first (era past conn n).captures s) (sym (h.live_then lv)) said) }
-  by_good Is.Closing client P (Some o) s st steady h nr lv said = record { next = Some o; good = asked_good client P o s steady h nr (subst (λ n. NodeSaid pages client P (era past conn n).first (era past conn n).captures s) (sym (h.live_then lv)) said) }
-  by_good Is.Closed client P (Some o) s st steady h nr lv said = record { next = Some o; good = asked_good client P o s steady h nr (subst (λ n. NodeSaid pages client P (era past conn n).first (era past conn n).captures s) (sym (h.live_then lv)) said) }
-  by_good Is.Ended client P (Some o) s st steady h nr lv said = record { next = Some o; good = asked_good client P o s steady h nr (subst (λ n. NodeSaid pages client P (era past conn n).first (era past conn n).captures s) (sym (h.live_then lv)) said) }
+  by_good Is.Opened client P (Some o) s st steady h nr lv said = record { next = Some o; good = asked_good client P o s steady h nr (subst (λ n. NodeSaid speaker client P (era past conn n).first (era past conn n).captures s) (sym (h.live_then lv)) said) }
+  by_good Is.Closing client P (Some o) s st steady h nr lv said = record { next = Some o; good = asked_good client P o s steady h nr (subst (λ n. NodeSaid speaker client P (era past conn n).first (era past conn n).captures s) (sym (h.live_then lv)) said) }
+  by_good Is.Closed client P (Some o) s st steady h nr lv said = record { next = Some o; good = asked_good client P o s steady h nr (subst (λ n. NodeSaid speaker client P (era past conn n).first (era past conn n).captures s) (sym (h.live_then lv)) said) }
+  by_good Is.Ended client P (Some o) s st steady h nr lv said = record { next = Some o; good = asked_good client P o s steady h nr (subst (λ n. NodeSaid speaker client P (era past conn n).first (era past conn n).captures s) (sym (h.live_then lv)) said) }
 
   -- any datagram of the node that is not stale
-  pub client_takes_good : (client : AbstractClient) (opened : Option ℕ) (e : Sent) → Steady client → OpenedGood pages client past conn opened → e.epoch ≡ length past →
-      ToGood pages client opened past conn e → Took_it client opened (client_takes client (seg e))
+  pub client_takes_good : (client : AbstractClient) (opened : Option ℕ) (e : Sent) → Steady client → OpenedGood speaker client past conn opened → e.epoch ≡ length past →
+      ToGood speaker client opened past conn e → Took_it client opened (client_takes client (seg e))
   unfolding client_takes
   client_takes_good client opened e steady h fresh g =
       choose (λ x. Took_it client opened x) (has_rst (seg e).flags) _ _
@@ -331,13 +332,13 @@ module _ (m : Meaning) (pages : Pages) (lawful : IsPaged m pages) (past : List E
       })
       (λ b. record { next = opened; good = stays client opened steady h }))
       (λ r. by_good client.state client (opened ≡ Some e.epoch) opened (seg e) refl steady h r (g.lives r fresh)
-      (subst (λ n. NodeSaid pages client (opened ≡ Some e.epoch) (era past conn n).first (era past conn n).captures (seg e)) fresh g.said))
+      (subst (λ n. NodeSaid speaker client (opened ≡ Some e.epoch) (era past conn n).first (era past conn n).captures (seg e)) fresh g.said))
 
   -- its own acts
   says_syn : (client d : AbstractClient) → own_first d ≡ own_first client → ClientSaid client None (length past) (syn_of d)
   says_syn client d f = said_syn record { syn = refl; no_ack = refl; no_text = refl; seq = f; before = λ o x. absurd (cc) }
 
-  pub opens_by_good : (st : ClientState) (client : AbstractClient) (opened : Option ℕ) → client.state ≡ st → Steady client → OpenedGood pages client past conn opened → Took_it client opened (opens_by st client)
+  pub opens_by_good : (st : ClientState) (client : AbstractClient) (opened : Option ℕ) → client.state ≡ st → Steady client → OpenedGood speaker client past conn opened → Took_it client opened (opens_by st client)
   unfolding opens_by
   opens_by_good Is.Idle client (Some o) st steady h = absurd (is_asked client Is.Idle o st refl h)
   opens_by_good Is.Idle client None st steady h =
@@ -351,10 +352,10 @@ module _ (m : Meaning) (pages : Pages) (lawful : IsPaged m pages) (past : List E
   opens_by_good Is.Opening client opened st steady h = record { next = opened; good = stays client opened steady h }
   opens_by_good _ client opened st steady h = record { next = opened; good = stays client opened steady h }
 
-  speaks_again : (client : AbstractClient) (o : ℕ) (s : PlainSegment) → Steady client → HasOpened pages client past conn o → IsData client (Some o) s → Took_it client (Some o) (steps_with client s)
+  speaks_again : (client : AbstractClient) (o : ℕ) (s : PlainSegment) → Steady client → HasOpened speaker client past conn o → IsData client (Some o) s → Took_it client (Some o) (steps_with client s)
   speaks_again client o s steady h d = record { next = Some o; good = speaks client client (Some o) s (same_becomes client.state) refl refl steady h (said_data d) }
 
-  repeats_data : (client : AbstractClient) (o : ℕ) → Steady client → HasOpened pages client past conn o →
+  repeats_data : (client : AbstractClient) (o : ℕ) → Steady client → HasOpened speaker client past conn o →
       Took_it client (Some o) (if ltb 0 client.out then steps_with client (own_request client) else if fin_out client.fin then steps_with client (own_fin client) else steps_with client (ack_of client))
   repeats_data client o steady h =
       choose (λ x. Took_it client (Some o) x) (ltb 0 client.out) _ _
@@ -363,7 +364,7 @@ module _ (m : Meaning) (pages : Pages) (lawful : IsPaged m pages) (past : List E
       (λ f. speaks_again client o (own_fin client) steady h (fin_data client client (Some o) refl))
       (λ f. speaks_again client o (ack_of client) steady h (ack_data client client (Some o) refl)))
 
-  pub again_by_good : (st : ClientState) (client : AbstractClient) (opened : Option ℕ) → client.state ≡ st → Steady client → OpenedGood pages client past conn opened → Took_it client opened (again_by st client)
+  pub again_by_good : (st : ClientState) (client : AbstractClient) (opened : Option ℕ) → client.state ≡ st → Steady client → OpenedGood speaker client past conn opened → Took_it client opened (again_by st client)
   unfolding again_by
   again_by_good Is.Idle client opened st steady h = record { next = opened; good = stays client opened steady h }
   again_by_good Is.Reset client opened st steady h = record { next = opened; good = stays client opened steady h }
@@ -378,12 +379,12 @@ module _ (m : Meaning) (pages : Pages) (lawful : IsPaged m pages) (past : List E
   again_by_good Is.Closed client None st steady h = absurd (not_early client _ st refl h)
   again_by_good Is.Ended client None st steady h = absurd (not_early client _ st refl h)
 
-  pub closes_by_good : (st : ClientState) (client : AbstractClient) (opened : Option ℕ) → client.state ≡ st → Steady client → OpenedGood pages client past conn opened → Took_it client opened (closes_by st client)
+  pub closes_by_good : (st : ClientState) (client : AbstractClient) (opened : Option ℕ) → client.state ≡ st → Steady client → OpenedGood speaker client past conn opened → Took_it client opened (closes_by st client)
   unfolding closes_by
   closes_by_good Is.Opened client None st steady h = absurd (not_early client _ st refl h)
   closes_by_good Is.Opened client (Some o) st steady h =
       let c : AbstractClient = record client { state = Is.Closing } in
-      let g : HasOpened pages c past conn o = record {
+      let g : HasOpened speaker c past conn o = record {
         time = h.time;
         then_live = h.then_live;
         live_then = h.live_then;
@@ -399,7 +400,7 @@ module _ (m : Meaning) (pages : Pages) (lawful : IsPaged m pages) (past : List E
   closes_by_good Is.Idle client opened st steady h = record { next = opened; good = stays client opened steady h }
   closes_by_good _ client opened st steady h = record { next = opened; good = stays client opened steady h }
 
-  goes_reset : (client : AbstractClient) (opened : Option ℕ) → Steady client → OpenedGood pages client past conn opened → Took_it client opened (steps_with (record client { state = Is.Reset }) (own_reset client))
+  goes_reset : (client : AbstractClient) (opened : Option ℕ) → Steady client → OpenedGood speaker client past conn opened → Took_it client opened (steps_with (record client { state = Is.Reset }) (own_reset client))
   goes_reset client opened steady h =
       record {
         next = opened;
@@ -407,18 +408,18 @@ module _ (m : Meaning) (pages : Pages) (lawful : IsPaged m pages) (past : List E
             record { short = steady.short; low = steady.low; out_fits = steady.out_fits } (reset_opened client opened h) (said_reset refl);
       }
 
-  pub aborts_by_good : (st : ClientState) (client : AbstractClient) (opened : Option ℕ) → client.state ≡ st → Steady client → OpenedGood pages client past conn opened → Took_it client opened (aborts_by st client)
+  pub aborts_by_good : (st : ClientState) (client : AbstractClient) (opened : Option ℕ) → client.state ≡ st → Steady client → OpenedGood speaker client past conn opened → Took_it client opened (aborts_by st client)
   unfolding aborts_by
   aborts_by_good Is.Opening client opened st steady h = goes_reset client opened steady h
   aborts_by_good Is.Opened client opened st steady h = goes_reset client opened steady h
   aborts_by_good Is.Closing client opened st steady h = goes_reset client opened steady h
   aborts_by_good _ client opened st steady h = record { next = opened; good = stays client opened steady h }
 
-  window_opened : (client : AbstractClient) (w : ℕ) (opened : Option ℕ) → OpenedGood pages client past conn opened → OpenedGood pages (record client { window = w }) past conn opened
+  window_opened : (client : AbstractClient) (w : ℕ) (opened : Option ℕ) → OpenedGood speaker client past conn opened → OpenedGood speaker (record client { window = w }) past conn opened
   window_opened client w None h = record { early = h.early; nothing = h.nothing }
   window_opened client w (Some o) h = recounts client o client.acked client.out client.fin w h
 
-  pub window_good : (client : AbstractClient) (w : ℕ) (opened : Option ℕ) → Steady client → OpenedGood pages client past conn opened → Took_it client opened (keeps (record client { window = w }))
+  pub window_good : (client : AbstractClient) (w : ℕ) (opened : Option ℕ) → Steady client → OpenedGood speaker client past conn opened → Took_it client opened (keeps (record client { window = w }))
   window_good client w opened steady h =
       record {
         next = opened;

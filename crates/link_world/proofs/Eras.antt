@@ -26,6 +26,7 @@ use Rattle.link_world.proofs.Views.{length_push}
 use Rattle.uip_node.proofs.Moves.{asked_moves, segment_moves, tick_moves}
 use Rattle.link_world.proofs.Any.{Framed, Steps, Takes, any_step, older, speech, entry, does_framed}
 use Rattle.link_world.proofs.TextNumbers.{Num, accepted_num, closed_num, segment_num, tick_num}
+use Rattle.link_world.proofs.Prefix.{everywhere}
 use Rattle.link_world.proofs.Prefix
 use Rattle.uip_node.proofs.Connections.{none_serves, get_map, serving_free}
 
@@ -80,9 +81,9 @@ module _ (m : Meaning) where
   few_tick w old numbers now k side lv f n is g = few_steps w old (asked m now (on_tick m old numbers)) k side lv g
 
   -- a connection is born with a datagram
-  few_birth : (w : World) (first : ℕ) (sockets : Sockets) (k j : ℕ) (side : Side) (e : Sent) → slice_get w.sent j ≡ Some e → e.who ≡ from k → (is_clean side ≡ true → e.epoch ≡ length side.past) → is_plain_syn (seg e) ≡ true → FitConn (accepted first sockets (seg e)) → Few k side closed w.sent →
+  few_birth : (w : World) (first : ℕ) (sockets : Sockets) (k j : ℕ) (side : Side) (e : Sent) → client_sockets side ≡ sockets → slice_get w.sent j ≡ Some e → e.who ≡ from k → (is_clean side ≡ true → e.epoch ≡ length side.past) → is_plain_syn (seg e) ≡ true → FitConn (accepted first sockets (seg e)) → Few k side closed w.sent →
       (tick id : ℕ) → Few k side (accepted first sockets (seg e)) (w.sent ++ entry (to k) side tick id (speech false (syn_ack (accepted first sockets (seg e)))) ∷ [])
-  few_birth w first sockets k j side e sent who fresh plain fit g tick id =
+  few_birth w first sockets k j side e own sent who fresh plain fit g tick id =
       let new : Sent = entry (to k) side tick id (speech false (syn_ack (accepted first sockets (seg e)))) in
       omega (arith, g, one_longer w.sent new)
 
@@ -91,7 +92,7 @@ module _ (m : Meaning) where
 
   few_opening : (pages : Pages) → IsPaged m pages → (addr : Addr) (numbers : List ℕ) (plan : List Planned) → IsPlan plan → Framed m Few few_other few_reset few_evict few_mark (opening_world addr numbers plan)
   few_opening pages lawful addr numbers plan is =
-      let b = Prefix.opening_framed m pages lawful addr numbers plan is in
+      let b = Prefix.opening_framed m (everywhere m pages lawful) addr numbers plan is in
       record {
         apart = b.apart;
         single = b.single;
@@ -153,9 +154,9 @@ module _ (m : Meaning) where
         same_steps w old (asked m now (on_tick m old numbers)) k side (asked_moves m _ old now (on_tick m old numbers) (tick_moves m old numbers)).first g
 
     -- none is born in an epoch in which one lives
-    same_birth : (w : World) (first : ℕ) (sockets : Sockets) (k j : ℕ) (side : Side) (e : Sent) → slice_get w.sent j ≡ Some e → e.who ≡ from k → (is_clean side ≡ true → e.epoch ≡ length side.past) → is_plain_syn (seg e) ≡ true → FitConn (accepted first sockets (seg e)) → Same k side closed w.sent →
+    same_birth : (w : World) (first : ℕ) (sockets : Sockets) (k j : ℕ) (side : Side) (e : Sent) → client_sockets side ≡ sockets → slice_get w.sent j ≡ Some e → e.who ≡ from k → (is_clean side ≡ true → e.epoch ≡ length side.past) → is_plain_syn (seg e) ≡ true → FitConn (accepted first sockets (seg e)) → Same k side closed w.sent →
         (tick id : ℕ) → Same k side (accepted first sockets (seg e)) (w.sent ++ entry (to k) side tick id (speech false (syn_ack (accepted first sockets (seg e)))) ∷ [])
-    same_birth w first sockets k j side e sent who fresh plain fit g tick id = λ q. (let h = g q in record { low = h.low; here = λ x. absurd (let z : false ≡ true = (h.here x).0 in cc) })
+    same_birth w first sockets k j side e own sent who fresh plain fit g tick id = λ q. (let h = g q in record { low = h.low; here = λ x. absurd (let z : false ≡ true = (h.here x).0 in cc) })
 
     same_takes : (w : World) (k : ℕ) (base : Side) (c : Connection) (t : ClientStep) → Same k base c w.sent → Takes m Same same_other same_reset same_evict same_mark w k base c t
     same_takes w k base c t g = record { quiet = λ x. g; says = λ s e tick. g }
@@ -194,10 +195,10 @@ module _ (m : Meaning) where
       (λ served v act harm g fits. does_framed m Numbered num_other num_reset num_evict num_mark (steady_of m pages lawful) served
       (λ w old numbers now k j side e lv f n is sent who fresh g. num_steps w (asked m now (on_segment m old numbers (seg e))) k side (segment_num m pages lawful now old numbers (seg e) g))
       (λ w old numbers now k side lv f n is g. num_steps w (asked m now (on_tick m old numbers)) k side (tick_num m pages lawful now old numbers g))
-      (λ w first sockets k j side e sent who fresh plain fit g tick id. accepted_num first sockets (seg e))
+      (λ w first sockets k j side e own sent who fresh plain fit g tick id. accepted_num first sockets (seg e))
       (any_step m Numbered num_other num_reset num_evict num_mark num_takes)
       v act harm g fits)
-      (λ addr numbers plan is. let b = Prefix.opening_framed m pages lawful addr numbers plan is in
+      (λ addr numbers plan is. let b = Prefix.opening_framed m (everywhere m pages lawful) addr numbers plan is in
       record {
         apart = b.apart;
         single = b.single;

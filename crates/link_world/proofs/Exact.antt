@@ -17,13 +17,14 @@ use Rattle.tcp_machine.specs.OnTick.{on_tick}
 use Rattle.link_client.specs.Client.{AbstractClient, ClientStep, has_closed, is_receiving, one_if, client_takes, client_opens, client_again, client_closes, client_aborts, tells_window}
 use Rattle.link_client.specs.declared.client_state.ClientState.{ClientState}
 use Rattle.link_client.specs.declared.client_state.ClientState.TheVariants as Is
-use Rattle.link_world.specs.World.{World, Side, Sent, Era, becomes_opened, with_client, marked, is_clean, era_of}
+use Rattle.link_world.specs.World.{client_sockets, World, Side, Sent, Era, becomes_opened, with_client, marked, is_clean, era_of}
 use Rattle.link_world.specs.History.{era, Planned, IsPlan, opening_world}
 use Rattle.uip_node.specs.Laws.{serving}
 use Rattle.link_world.specs.Headline.{IsReached, IsInStep, OneSegment}
 use Rattle.uip_node.proofs.Steadiness.{steady_of, IsShort, short_said}
 use Rattle.uip_node.proofs.Basics.{and_true, eqb-eq, same_place, wrap_wrap, get_push, nothing_placed, not-true}
 use Rattle.uip_node.proofs.Basics.AtEnd.{older, newest}
+use Rattle.link_world.proofs.Speaking.{paged}
 use Rattle.link_world.proofs.Good.{seg, segment_in, from, to, ToGood, ClientSaid, NodeSaid, OpenedGood, HasOpened, Good, is_unasked, unopened}
 use Rattle.link_world.proofs.Good.NodeSaid.{node_reset, node_syn, node_ack, node_text, node_fin}
 use Rattle.link_world.proofs.Good.ClientSaid.{said_reset, said_syn, said_data}
@@ -39,6 +40,7 @@ use Rattle.link_world.proofs.Any.{Framed, Steps, Takes, speech, entry, does_fram
 use Rattle.link_world.proofs.Any
 use Rattle.link_world.proofs.Same
 use Rattle.uip_node.proofs.Stepped.{off_low, stepped_fits, stepped_tells}
+use Rattle.link_world.proofs.Prefix.{everywhere}
 use Rattle.link_world.proofs.Prefix
 
 -- a number that the client acknowledges
@@ -162,7 +164,7 @@ module _ (m : Meaning) (pages : Pages) (lawful : IsPaged m pages) where
 
   record G (k : ℕ) (side : Side) (c : Connection) (sent : List Sent) : Type 0 where
     told : Same.Told m (steady_of m pages lawful) IsShort (short_said m pages lawful) k side c sent
-    good : Prefix.G m pages lawful k side c sent
+    good : Prefix.G m (everywhere m pages lawful) k side c sent
     ends : Ends k side c sent
     exact : is_clean side ≡ true → ExactOpen k side.client side.past c sent side.opened
 
@@ -172,7 +174,7 @@ module _ (m : Meaning) (pages : Pages) (lawful : IsPaged m pages) where
   other : (k : ℕ) (side : Side) (c : Connection) (sent : List Sent) (e : Sent) → G k side c sent → (e.who ≡ to k → ⊥) → (e.who ≡ from k → ⊥) → G k side c (sent ++ e ∷ [])
   other k side c sent e g t f = record {
     told = Same.other m (steady_of m pages lawful) IsShort (short_said m pages lawful) k side c sent e g.told t f;
-    good = Prefix.other m pages lawful k side c sent e g.good t f;
+    good = Prefix.other m (everywhere m pages lawful) k side c sent e g.good t f;
     ends = push_ends k side c sent e g.ends (λ l w. absurd (t w));
     exact = push_aside k side c sent e f g.exact;
   }
@@ -183,13 +185,13 @@ module _ (m : Meaning) (pages : Pages) (lawful : IsPaged m pages) where
   reset : (k : ℕ) (side : Side) (c : Connection) (sent : List Sent) (e : Sent) → G k side c sent → e.epoch ≡ length side.past → has_syn (seg e).flags ≡ false → has_fin (seg e).flags ≡ false → (seg e).text ≡ [] → has_rst (seg e).flags ≡ true → e.again ≡ false → e.who ≡ to k → G k side c (sent ++ e ∷ [])
   reset k side c sent e g q sy fi te rs ag w = record {
     told = Same.reset m (steady_of m pages lawful) IsShort (short_said m pages lawful) k side c sent e g.told q sy fi te rs ag w;
-    good = Prefix.reset m pages lawful k side c sent e g.good q sy fi te rs ag w;
+    good = Prefix.reset m (everywhere m pages lawful) k side c sent e g.good q sy fi te rs ag w;
     ends = push_ends k side c sent e g.ends (λ l x p. absurd (nothing_placed (seg e) sy fi te p));
     exact = push_aside k side c sent e (to_not_from k e w) g.exact;
   }
 
   -- the connection is gone
-  dead_exact : (k : ℕ) (client : AbstractClient) (past : List Era) (c d : Connection) (sent : List Sent) (opened : Option ℕ) → d.first ≡ c.first → OpenedGood pages client past c opened →
+  dead_exact : (k : ℕ) (client : AbstractClient) (past : List Era) (c d : Connection) (sent : List Sent) (opened : Option ℕ) → d.first ≡ c.first → OpenedGood (paged pages) client past c opened →
       ExactOpen k client past c sent opened → ExactOpen k client (past ++ era_of d ∷ []) closed sent opened
   dead_exact k client past c d sent None f h x = tt
   dead_exact k client past c d sent (Some o) f h x = same_exact k client past (past ++ era_of d ∷ []) c closed o sent (first_dead past c d closed f o h.time) (λ l. absurd (cc)) x
@@ -197,7 +199,7 @@ module _ (m : Meaning) (pages : Pages) (lawful : IsPaged m pages) where
   evict : (k : ℕ) (side : Side) (c : Connection) (sent : List Sent) → is_live c.state ≡ true → G k side c sent → G k (Any.older side c) closed sent
   evict k side c sent l g = record {
     told = Same.evict m (steady_of m pages lawful) IsShort (short_said m pages lawful) k side c sent l g.told;
-    good = Prefix.evict m pages lawful k side c sent l g.good;
+    good = Prefix.evict m (everywhere m pages lawful) k side c sent l g.good;
     ends = λ x. absurd (cc);
     exact = λ cl. dead_exact k side.client side.past c c sent side.opened refl (g.good cl).opened_good (g.exact cl);
   }
@@ -205,7 +207,7 @@ module _ (m : Meaning) (pages : Pages) (lawful : IsPaged m pages) where
   mark : (k : ℕ) (side : Side) (c : Connection) (sent : List Sent) (n : ℕ) (e : Sent) → G k side c sent → G k (marked side n e) c sent
   mark k side c sent n e g = record {
     told = Same.mark m (steady_of m pages lawful) IsShort (short_said m pages lawful) k side c sent n e g.told;
-    good = Prefix.mark m pages lawful k side c sent n e g.good;
+    good = Prefix.mark m (everywhere m pages lawful) k side c sent n e g.good;
     ends = g.ends;
     exact = λ cl. g.exact (clean_before side n e cl).0;
   }
@@ -225,7 +227,7 @@ module _ (m : Meaning) (pages : Pages) (lawful : IsPaged m pages) where
   ToldSteps w o k side = Steps m (Same.Told m (steady_of m pages lawful) IsShort (short_said m pages lawful)) (Same.other m (steady_of m pages lawful) IsShort (short_said m pages lawful)) (Same.reset m (steady_of m pages lawful) IsShort (short_said m pages lawful)) (Same.evict m (steady_of m pages lawful) IsShort (short_said m pages lawful)) (Same.mark m (steady_of m pages lawful) IsShort (short_said m pages lawful)) w o k side
 
   abbrev GoodSteps : World → Outcome → ℕ → Side → Type 0
-  GoodSteps w o k side = Steps m (Prefix.G m pages lawful) (Prefix.other m pages lawful) (Prefix.reset m pages lawful) (Prefix.evict m pages lawful) (Prefix.mark m pages lawful) w o k side
+  GoodSteps w o k side = Steps m (Prefix.G m (everywhere m pages lawful)) (Prefix.other m (everywhere m pages lawful)) (Prefix.reset m (everywhere m pages lawful)) (Prefix.evict m (everywhere m pages lawful)) (Prefix.mark m (everywhere m pages lawful)) w o k side
 
   steps_by : (w : World) (old : Connection) (o : Outcome) (acked : Bool) (k : ℕ) (side : Side) → is_live old.state ≡ true → G k side old w.sent → FitConn o.connection → OutTold m (steady_of m pages lawful) IsShort (short_said m pages lawful) old o → Moves acked old o.connection →
       ToldSteps w o k side → GoodSteps w o k side → (is_clean side ≡ true → (n : ℕ) → side.opened ≡ Some n → acked ≡ true → old.acked + old.len ≤ 1 + count side.client) → Steps m G other reset evict mark w o k side
@@ -250,7 +252,7 @@ module _ (m : Meaning) (pages : Pages) (lawful : IsPaged m pages) where
         };
       }
 
-  first_here : (client : AbstractClient) (past : List Era) (c : Connection) (o : ℕ) → is_live c.state ≡ true → HasOpened pages client past c o → (era past c o).first ≡ c.first
+  first_here : (client : AbstractClient) (past : List Era) (c : Connection) (o : ℕ) → is_live c.state ≡ true → HasOpened (paged pages) client past c o → (era past c o).first ≡ c.first
   first_here client past c o l h = ap (λ (z : Era). z.first) (era_now past c o (let q : o ≡ length past = h.live_then l in omega (arith, q)))
 
   -- an acknowledgement that counts was told by the client
@@ -267,7 +269,7 @@ module _ (m : Meaning) (pages : Pages) (lawful : IsPaged m pages) where
       omega (arith, l, e)
 
   acked_by : (k : ℕ) (client : AbstractClient) (past : List Era) (c : Connection) (sent : List Sent) (opened : Option ℕ) (j : ℕ) (e : Sent) → slice_get sent j ≡ Some e → e.who ≡ from k → is_live c.state ≡ true → FitConn c → Safe m (steady_of m pages lawful) IsShort (short_said m pages lawful) c →
-      OpenedGood pages client past c opened → ExactOpen k client past c sent opened → (o : ℕ) → opened ≡ Some o → not (has_rst (seg e).flags) && is_acked c (seg e) ≡ true → c.acked + c.len ≤ 1 + count client
+      OpenedGood (paged pages) client past c opened → ExactOpen k client past c sent opened → (o : ℕ) → opened ≡ Some o → not (has_rst (seg e).flags) && is_acked c (seg e) ≡ true → c.acked + c.len ≤ 1 + count client
   acked_by k client past c sent None j e x w l fit f h y o q a = absurd (cc)
   acked_by k client past c sent (Some p) j e x w l fit f h y o q a =
       let b = and_true (not (has_rst (seg e).flags)) (is_acked c (seg e)) a in
@@ -284,7 +286,7 @@ module _ (m : Meaning) (pages : Pages) (lawful : IsPaged m pages) where
       let fit : FitConn (asked m now o).connection = stepped_fits m (steady_of m pages lawful) IsShort (short_said m pages lawful) now o is fo in
       let h : OutTold m (steady_of m pages lawful) IsShort (short_said m pages lawful) old (asked m now o) = stepped_tells m (steady_of m pages lawful) IsShort (short_said m pages lawful) now old o is fo (segment_tells m (steady_of m pages lawful) IsShort (short_said m pages lawful) old numbers (seg e) (g.told.safe lv)) in
       steps_by w old (asked m now o) (not (has_rst (seg e).flags) && is_acked old (seg e)) k side lv g fit h (asked_moves m _ old now o (segment_moves m old numbers (seg e)))
-      (Same.steps_by m (steady_of m pages lawful) IsShort (short_said m pages lawful) w old (asked m now o) k side lv fit h g.told) (Prefix.segment m pages lawful w old numbers now k j side e lv f n is sent who fresh g.good)
+      (Same.steps_by m (steady_of m pages lawful) IsShort (short_said m pages lawful) w old (asked m now o) k side lv fit h g.told) (Prefix.segment m (everywhere m pages lawful) w old numbers now k j side e lv f n is sent who fresh g.good)
       (λ cl p q a. acked_by k side.client side.past old w.sent side.opened j e sent who lv f (g.told.safe lv) (g.good cl).opened_good (g.exact cl) p q a)
 
   tick : (w : World) (old : Connection) (numbers : List ℕ) (now : Connection → Now) (k : ℕ) (side : Side) → is_live old.state ≡ true → FitConn old → All IsWord numbers → ((c : Connection) → FitConn c → IsNow (now c)) →
@@ -295,29 +297,29 @@ module _ (m : Meaning) (pages : Pages) (lawful : IsPaged m pages) where
       let fit : FitConn (asked m now o).connection = stepped_fits m (steady_of m pages lawful) IsShort (short_said m pages lawful) now o is fo in
       let h : OutTold m (steady_of m pages lawful) IsShort (short_said m pages lawful) old (asked m now o) = stepped_tells m (steady_of m pages lawful) IsShort (short_said m pages lawful) now old o is fo (tick_tells m (steady_of m pages lawful) IsShort (short_said m pages lawful) old numbers (g.told.safe lv)) in
       steps_by w old (asked m now o) false k side lv g fit h (asked_moves m false old now o (tick_moves m old numbers))
-      (Same.steps_by m (steady_of m pages lawful) IsShort (short_said m pages lawful) w old (asked m now o) k side lv fit h g.told) (Prefix.tick m pages lawful w old numbers now k side lv f n is g.good) (λ cl p q a. absurd (cc))
+      (Same.steps_by m (steady_of m pages lawful) IsShort (short_said m pages lawful) w old (asked m now o) k side lv fit h g.told) (Prefix.tick m (everywhere m pages lawful) w old numbers now k side lv f n is g.good) (λ cl p q a. absurd (cc))
 
-  born_exact : (k : ℕ) (client : AbstractClient) (past : List Era) (d : Connection) (sent : List Sent) (opened : Option ℕ) → ((o : ℕ) → opened ≡ Some o → length past ≤ o) → OpenedGood pages client past closed opened → ExactOpen k client past d sent opened
+  born_exact : (k : ℕ) (client : AbstractClient) (past : List Era) (d : Connection) (sent : List Sent) (opened : Option ℕ) → ((o : ℕ) → opened ≡ Some o → length past ≤ o) → OpenedGood (paged pages) client past closed opened → ExactOpen k client past d sent opened
   born_exact k client past d sent None b h = tt
   born_exact k client past d sent (Some o) b h = absurd (let z : false ≡ true = h.then_live (let y = b o refl in let t = h.time in omega (arith, t, y)) in cc)
 
-  birth : (w : World) (first : ℕ) (sockets : Sockets) (k j : ℕ) (side : Side) (e : Sent) → slice_get w.sent j ≡ Some e → e.who ≡ from k → (is_clean side ≡ true → e.epoch ≡ length side.past) → is_plain_syn (seg e) ≡ true → FitConn (accepted first sockets (seg e)) → G k side closed w.sent →
+  birth : (w : World) (first : ℕ) (sockets : Sockets) (k j : ℕ) (side : Side) (e : Sent) → client_sockets side ≡ sockets → slice_get w.sent j ≡ Some e → e.who ≡ from k → (is_clean side ≡ true → e.epoch ≡ length side.past) → is_plain_syn (seg e) ≡ true → FitConn (accepted first sockets (seg e)) → G k side closed w.sent →
       (tick id : ℕ) → G k side (accepted first sockets (seg e)) (w.sent ++ entry (to k) side tick id (speech false (syn_ack (accepted first sockets (seg e)))) ∷ [])
-  birth w first sockets k j side e sent who fresh plain fit g tick id =
+  birth w first sockets k j side e own sent who fresh plain fit g tick id =
       let c : Connection = accepted first sockets (seg e) in
       let new : Sent = entry (to k) side tick id (speech false (syn_ack c)) in
-      let t : Same.Told m (steady_of m pages lawful) IsShort (short_said m pages lawful) k side c (w.sent ++ new ∷ []) = Same.birth m (steady_of m pages lawful) IsShort (short_said m pages lawful) w first sockets k j side e sent who fresh plain fit g.told tick id in
+      let t : Same.Told m (steady_of m pages lawful) IsShort (short_said m pages lawful) k side c (w.sent ++ new ∷ []) = Same.birth m (steady_of m pages lawful) IsShort (short_said m pages lawful) w first sockets k j side e own sent who fresh plain fit g.told tick id in
       record {
         told = t;
-        good = Prefix.birth m pages lawful w first sockets k j side e sent who fresh plain fit g.good tick id;
+        good = Prefix.birth m (everywhere m pages lawful) w first sockets k j side e own sent who fresh plain fit g.good tick id;
         ends = push_ends k side c w.sent new (λ l i f x wf q pl. absurd (let z : false ≡ true = (g.told.tells i f x wf pl q).0 in cc))
             (λ l x. new_ends c (syn_ack c) fit (t.safe refl) (λ y. record { len = omega arith; seq = refl; alike = Rattle.uip_node.proofs.Told.alike_refl (syn_ack c) }));
         exact = push_aside k side c w.sent new (λ y. absurd (cc))
-            (λ cl. (let y = Prefix.born_by m pages lawful side e ((g.good cl).of_client j e sent who).said (Prefix.plain_is m pages lawful (seg e) plain) in
+            (λ cl. (let y = Prefix.born_by m (everywhere m pages lawful) side e ((g.good cl).of_client j e sent who).said (Prefix.plain_is m (everywhere m pages lawful) (seg e) plain) in
             born_exact k side.client side.past c w.sent side.opened (λ o q. subst (λ n. n ≤ o) (fresh cl) (y.before o q)) (g.good cl).opened_good));
       }
 
-  text_exact : (k : ℕ) (client d : AbstractClient) (past : List Era) (c : Connection) (sent : List Sent) (opened : Option ℕ) (s : PlainSegment) → is_live c.state ≡ true → FitConn c → Safe m (steady_of m pages lawful) IsShort (short_said m pages lawful) c → EndsBy c s → OpenedGood pages client past c opened → is_receiving client.state ≡ true →
+  text_exact : (k : ℕ) (client d : AbstractClient) (past : List Era) (c : Connection) (sent : List Sent) (opened : Option ℕ) (s : PlainSegment) → is_live c.state ≡ true → FitConn c → Safe m (steady_of m pages lawful) IsShort (short_said m pages lawful) c → EndsBy c s → OpenedGood (paged pages) client past c opened → is_receiving client.state ≡ true →
       s.seq ≡ client.expected → has_place s ≡ true → d.received ≡ client.received ++ s.text → d.expected ≡ wrap (client.expected + length s.text + one_if (has_fin s.flags)) → has_closed d.state ≡ has_fin s.flags →
       ExactOpen k client past c sent opened → ExactOpen k d past c sent opened
   text_exact k client d past c sent None s l fit f en h i q p r e n x = tt
@@ -341,7 +343,7 @@ module _ (m : Meaning) (pages : Pages) (lawful : IsPaged m pages) where
       }
 
   -- a client that opens
-  syn_seq : (client : AbstractClient) (P : Type 0) (first : ℕ) (captures : List Moment) (s : PlainSegment) → has_rst s.flags ≡ false → has_syn s.flags ≡ true → NodeSaid pages client P first captures s → s.seq ≡ wrap first
+  syn_seq : (client : AbstractClient) (P : Type 0) (first : ℕ) (captures : List Moment) (s : PlainSegment) → has_rst s.flags ≡ false → has_syn s.flags ≡ true → NodeSaid (paged pages) client P first captures s → s.seq ≡ wrap first
   syn_seq client P first captures s nr sy (node_reset r) = absurd (cc)
   syn_seq client P first captures s nr sy (node_syn r n) = n.seq
   syn_seq client P first captures s nr sy (node_ack r n) = absurd (let z : has_syn s.flags ≡ false = n.no_syn in cc)
@@ -353,14 +355,14 @@ module _ (m : Meaning) (pages : Pages) (lawful : IsPaged m pages) where
   never_acked client at_epoch s (said_syn y) n a = absurd (let z : has_ack s.flags ≡ false = y.no_ack in cc)
   never_acked client at_epoch s (said_data d) n a = absurd (let z : false ≡ true = d.opened_is in cc)
 
-  open_exact : (k : ℕ) (client d : AbstractClient) (past : List Era) (c : Connection) (sent : List Sent) (s : PlainSegment) (P : Type 0) → is_live c.state ≡ true → Good pages k client None past c sent →
-      has_rst s.flags ≡ false → has_syn s.flags ≡ true → NodeSaid pages client P (era past c (length past)).first (era past c (length past)).captures s → d.received ≡ client.received → d.expected ≡ wrap (s.seq + 1) → has_closed d.state ≡ false →
+  open_exact : (k : ℕ) (client d : AbstractClient) (past : List Era) (c : Connection) (sent : List Sent) (s : PlainSegment) (P : Type 0) → is_live c.state ≡ true → Good (paged pages) k client None past c sent →
+      has_rst s.flags ≡ false → has_syn s.flags ≡ true → NodeSaid (paged pages) client P (era past c (length past)).first (era past c (length past)).captures s → d.received ≡ client.received → d.expected ≡ wrap (s.seq + 1) → has_closed d.state ≡ false →
       Exact k d past c (length past) sent
   open_exact k client d past c sent s P l g nr sy said r e n =
       let empty : length d.received ≡ 0 = ap (λ (x : List ℕ). length x) (r ∙ g.opened_good.nothing) in
       let unclosed : one_if (has_closed d.state) ≡ 0 = ap one_if n in
       let z : count d ≡ 0 = omega (arith, empty, unclosed) in
-      let y = (unopened pages client c c.state l (g.connection l).state).1 in
+      let y = (unopened (paged pages) client c c.state l (g.connection l).state).1 in
       let y0 = y.acked in
       let y1 = y.len in
       let q : s.seq ≡ wrap (era past c (length past)).first = syn_seq client P (era past c (length past)).first (era past c (length past)).captures s nr sy said in
@@ -373,7 +375,7 @@ module _ (m : Meaning) (pages : Pages) (lawful : IsPaged m pages) where
 
   -- the client takes a datagram
   kind_exact : (k : ℕ) (client d : AbstractClient) (past : List Era) (c : Connection) (sent : List Sent) (opened : Option ℕ) (e : Sent) → Kind client (seg e) d → e.epoch ≡ length past → FitConn c → (is_live c.state ≡ true → Safe m (steady_of m pages lawful) IsShort (short_said m pages lawful) c) → (is_live c.state ≡ true → EndsBy c (seg e)) →
-      ToGood pages client opened past c e → Good pages k client opened past c sent → ExactOpen k client past c sent opened → ExactOpen k d past c sent (if becomes_opened client.state d.state then Some (length past) else opened)
+      ToGood (paged pages) client opened past c e → Good (paged pages) k client opened past c sent → ExactOpen k client past c sent opened → ExactOpen k d past c sent (if becomes_opened client.state d.state then Some (length past) else opened)
   kind_exact k client d past c sent opened e (kept r x n b) fresh fit f en t g y =
       subst (λ z. ExactOpen k d past c sent (if z then Some (length past) else opened)) (sym b) (kept_exact k client d past c sent opened x (count_kept client d r n) y)
   kind_exact k client d past c sent opened e (took_text q i nr p r x n) fresh fit f en t g y =
@@ -383,7 +385,7 @@ module _ (m : Meaning) (pages : Pages) (lawful : IsPaged m pages) where
   kind_exact k client d past c sent (Some o) e (took_open st nr sy r x n) fresh fit f en t g y = absurd (let h : is_unasked client.state ≡ false = g.opened_good.asked in let z : is_unasked client.state ≡ true = ap is_unasked st in cc)
   kind_exact k client d past c sent None e (took_open st nr sy r x n) fresh fit f en t g y =
       let l : is_live c.state ≡ true = t.lives nr fresh in
-      let o : Exact k d past c (length past) sent = open_exact k client d past c sent (seg e) (None ≡ Some e.epoch) l g nr sy (subst (λ z. NodeSaid pages client (None ≡ Some e.epoch) (era past c z).first (era past c z).captures (seg e)) fresh t.said) r x n in
+      let o : Exact k d past c (length past) sent = open_exact k client d past c sent (seg e) (None ≡ Some e.epoch) l g nr sy (subst (λ z. NodeSaid (paged pages) client (None ≡ Some e.epoch) (era past c z).first (era past c z).captures (seg e)) fresh t.said) r x n in
       exact_either (becomes_opened client.state d.state) o
     where
       exact_either : (b : Bool) → Exact k d past c (length past) sent → ExactOpen k d past c sent (if b then Some (length past) else None)
@@ -394,7 +396,7 @@ module _ (m : Meaning) (pages : Pages) (lawful : IsPaged m pages) where
   ToldTakes w k base c t = Takes m (Same.Told m (steady_of m pages lawful) IsShort (short_said m pages lawful)) (Same.other m (steady_of m pages lawful) IsShort (short_said m pages lawful)) (Same.reset m (steady_of m pages lawful) IsShort (short_said m pages lawful)) (Same.evict m (steady_of m pages lawful) IsShort (short_said m pages lawful)) (Same.mark m (steady_of m pages lawful) IsShort (short_said m pages lawful)) w k base c t
 
   abbrev GoodTakes : World → ℕ → Side → Connection → ClientStep → Type 0
-  GoodTakes w k base c t = Takes m (Prefix.G m pages lawful) (Prefix.other m pages lawful) (Prefix.reset m pages lawful) (Prefix.evict m pages lawful) (Prefix.mark m pages lawful) w k base c t
+  GoodTakes w k base c t = Takes m (Prefix.G m (everywhere m pages lawful)) (Prefix.other m (everywhere m pages lawful)) (Prefix.reset m (everywhere m pages lawful)) (Prefix.evict m (everywhere m pages lawful)) (Prefix.mark m (everywhere m pages lawful)) w k base c t
 
   took_by : (w : World) (k : ℕ) (base : Side) (c : Connection) (t : ClientStep) → G k base c w.sent → GoodTakes w k base c t → Acks t →
       (is_clean base ≡ true → ExactOpen k t.client base.past c w.sent (with_client base t.client).opened) → Takes m G other reset evict mark w k base c t
@@ -415,7 +417,7 @@ module _ (m : Meaning) (pages : Pages) (lawful : IsPaged m pages) where
       Takes m G other reset evict mark w k (marked side number e) c (client_takes side.client (seg e))
   took w k j side c number e fit sent who g =
       let n : Counted side.client (seg e) (client_takes side.client (seg e)) = client_counted side.client (seg e) in
-      took_by w k (marked side number e) c (client_takes side.client (seg e)) (mark k side c w.sent number e g) (Prefix.took m pages lawful w k j side c number e fit sent who g.good) n.acks
+      took_by w k (marked side number e) c (client_takes side.client (seg e)) (mark k side c w.sent number e g) (Prefix.took m (everywhere m pages lawful) w k j side c number e fit sent who g.good) n.acks
       (λ cl. (let a = clean_before side number e cl in
       let h = g.good a.0 in
       kind_exact k side.client (client_takes side.client (seg e)).client side.past c w.sent side.opened e n.kind a.1 g.told.fit g.told.safe (λ l. g.ends l j e sent who a.1) (h.of_node j e sent who) h (g.exact a.0)))
@@ -433,7 +435,7 @@ module _ (m : Meaning) (pages : Pages) (lawful : IsPaged m pages) where
   opening_exact : (addr : Addr) (numbers : List ℕ) (plan : List Planned) → IsPlan plan → Framed m G other reset evict mark (opening_world addr numbers plan)
   opening_exact addr numbers plan is =
       let a = Same.opening_told m (steady_of m pages lawful) IsShort (short_said m pages lawful) addr numbers plan is in
-      let b = Prefix.opening_framed m pages lawful addr numbers plan is in
+      let b = Prefix.opening_framed m (everywhere m pages lawful) addr numbers plan is in
       record {
         apart = a.apart;
         single = a.single;
@@ -449,11 +451,11 @@ module _ (m : Meaning) (pages : Pages) (lawful : IsPaged m pages) where
   all_exact w r = reached m pages lawful (λ v. Framed m G other reset evict mark v)
       (λ served v act harm g fits. does_framed m G other reset evict mark (steady_of m pages lawful) served segment tick birth record {
         took = took;
-        opens = λ w k side c fit g. own_by w k side c (client_opens side.client) g (opens_idles side.client) (Prefix.own_open m pages lawful w k side c fit g.good);
-        again = λ w k side c fit g. own_by w k side c (client_again side.client) g (again_idles side.client) (Prefix.own_again m pages lawful w k side c fit g.good);
-        closes = λ w k side c fit g. own_by w k side c (client_closes side.client) g (closes_idles side.client) (Prefix.own_close m pages lawful w k side c fit g.good);
-        aborts = λ w k side c fit g. own_by w k side c (client_aborts side.client) g (aborts_idles side.client) (Prefix.own_abort m pages lawful w k side c fit g.good);
-        windows = λ x w k side c fit g. own_by w k side c (tells_window x side.client) g (idles_quiet side.client (record side.client { window = x }) refl refl refl (same_becomes side.client.state)) (Prefix.own_window m pages lawful x w k side c fit g.good);
+        opens = λ w k side c fit g. own_by w k side c (client_opens side.client) g (opens_idles side.client) (Prefix.own_open m (everywhere m pages lawful) w k side c fit g.good);
+        again = λ w k side c fit g. own_by w k side c (client_again side.client) g (again_idles side.client) (Prefix.own_again m (everywhere m pages lawful) w k side c fit g.good);
+        closes = λ w k side c fit g. own_by w k side c (client_closes side.client) g (closes_idles side.client) (Prefix.own_close m (everywhere m pages lawful) w k side c fit g.good);
+        aborts = λ w k side c fit g. own_by w k side c (client_aborts side.client) g (aborts_idles side.client) (Prefix.own_abort m (everywhere m pages lawful) w k side c fit g.good);
+        windows = λ x w k side c fit g. own_by w k side c (tells_window x side.client) g (idles_quiet side.client (record side.client { window = x }) refl refl refl (same_becomes side.client.state)) (Prefix.own_window m (everywhere m pages lawful) x w k side c fit g.good);
       }
       v act harm g fits)
       opening_exact w r

@@ -4,7 +4,6 @@ use Rattle.uip_wire.specs.Numbers.{wrap}
 use Rattle.tcp_segment.specs.Segments.{PlainSegment, has_syn, has_fin, has_rst, has_ack}
 use Rattle.app_events.specs.Part.{Moment, Meaning}
 use Rattle.app_events.specs.Laws.{IsPrefixOf}
-use Rattle.app_events.specs.Pages.{Pages}
 use Rattle.app_events.specs.declared.state.State.{State}
 use Rattle.app_events.specs.declared.state.State.TheVariants.{Closed, SynRcvd, Established, CloseWait, FinWait1, FinWait2, Closing, TimeWait, LastAck}
 use Rattle.tcp_machine.specs.Connection.{Connection, is_live}
@@ -19,6 +18,7 @@ use Rattle.link_world.specs.declared.who.Who.{Who}
 use Rattle.link_world.specs.declared.who.Who.TheVariants.{FromClient, FromNode}
 use Rattle.link_world.specs.History.{era}
 use Rattle.uip_node.proofs.Basics.{IsPart}
+use Rattle.link_world.proofs.Speaking.{Speaker}
 
 abbrev pub is_some : Option ℕ → Bool
 is_some None = false
@@ -51,32 +51,35 @@ pub record Spoken : Type 0 where
 abbrev pub spoken : Meaning → Outcome → Spoken
 spoken m o = record { connection = o.connection; sent = segment_of m o.connection o.step }
 
--- the page is whole and this is its end
-pub record IsAll (pages : Pages) (client : AbstractClient) (captures : List Moment) (at : ℕ) : Type 0 where
-  pub whole : pages.whole client.request captures ≡ true
-  pub end : at ≡ length (pages.text client.request captures)
+-- the text of the whole request is whole and this is its end
+pub record IsAll (speaker : Speaker) (client : AbstractClient) (captures : List Moment) (at : ℕ) : Type 0 where
+  pub whole : speaker.whole client.request captures ≡ true
+  pub end : at ≡ length (speaker.text client.request captures)
 
 -- The connection, by its state.
-pub record AtSyn (c : Connection) : Type 0 where
+pub record AtSyn (speaker : Speaker) (c : Connection) : Type 0 where
+  pub port : speaker.at c.sockets.own_port.0 ≡ true
   pub taken : c.taken ≡ 0
   pub len : c.len ≡ 1
   pub captures : c.part.captures ≡ []
   pub acked : c.acked ≡ 0
   pub heard : c.part.heard ≡ []
 
-pub record AtText (pages : Pages) (opened : Option ℕ) (client : AbstractClient) (c : Connection) : Type 0 where
+pub record AtText (speaker : Speaker) (opened : Option ℕ) (client : AbstractClient) (c : Connection) : Type 0 where
   pub opened_is : is_some opened ≡ true
+  pub here : speaker.here c.part ≡ true
   pub heard : IsPrefixOf c.part.heard client.request
-  pub fits : c.part.acked + c.len ≤ length (pages.text c.part.heard c.part.captures)
+  pub fits : c.part.acked + c.len ≤ length (speaker.text c.part.heard c.part.captures)
   pub count : c.acked ≡ 1 + c.part.acked
 
-pub record AtOpen (pages : Pages) (opened : Option ℕ) (client : AbstractClient) (c : Connection) : Type 0 where
-  pub text : AtText pages opened client c
-  pub taken : c.taken ≡ length c.part.heard
+-- in ESTABLISHED all that was taken was heard, where the part is not lost
+pub record AtOpen (speaker : Speaker) (opened : Option ℕ) (client : AbstractClient) (c : Connection) : Type 0 where
+  pub text : AtText speaker opened client c
+  pub taken : speaker.lost c.part ≡ false → c.taken ≡ length c.part.heard
 
-pub record AtFin (pages : Pages) (opened : Option ℕ) (client : AbstractClient) (c : Connection) : Type 0 where
+pub record AtFin (speaker : Speaker) (opened : Option ℕ) (client : AbstractClient) (c : Connection) : Type 0 where
   pub opened_is : is_some opened ≡ true
-  pub ends : IsAll pages client c.part.captures c.part.acked
+  pub ends : IsAll speaker client c.part.captures c.part.acked
   pub count : c.acked ≡ 1 + c.part.acked
   pub heard : IsPrefixOf c.part.heard client.request
 
@@ -84,27 +87,27 @@ pub record AtRest (opened : Option ℕ) (client : AbstractClient) (c : Connectio
   pub opened_is : is_some opened ≡ true
   pub heard : IsPrefixOf c.part.heard client.request
 
-abbrev pub StateGood : Pages → Option ℕ → AbstractClient → Connection → State → Type 0
-StateGood pages opened client c Closed = Unit {0}
-StateGood pages opened client c SynRcvd = AtSyn c
-StateGood pages opened client c Established = AtOpen pages opened client c
-StateGood pages opened client c CloseWait = AtText pages opened client c
-StateGood pages opened client c FinWait1 = AtFin pages opened client c
-StateGood pages opened client c FinWait2 = AtRest opened client c
-StateGood pages opened client c Closing = AtFin pages opened client c
-StateGood pages opened client c TimeWait = AtRest opened client c
-StateGood pages opened client c LastAck = AtFin pages opened client c
+abbrev pub StateGood : Speaker → Option ℕ → AbstractClient → Connection → State → Type 0
+StateGood speaker opened client c Closed = Unit {0}
+StateGood speaker opened client c SynRcvd = AtSyn speaker c
+StateGood speaker opened client c Established = AtOpen speaker opened client c
+StateGood speaker opened client c CloseWait = AtText speaker opened client c
+StateGood speaker opened client c FinWait1 = AtFin speaker opened client c
+StateGood speaker opened client c FinWait2 = AtRest opened client c
+StateGood speaker opened client c Closing = AtFin speaker opened client c
+StateGood speaker opened client c TimeWait = AtRest opened client c
+StateGood speaker opened client c LastAck = AtFin speaker opened client c
 
-pub record ConnGood (pages : Pages) (opened : Option ℕ) (client : AbstractClient) (c : Connection) : Type 0 where
+pub record ConnGood (speaker : Speaker) (opened : Option ℕ) (client : AbstractClient) (c : Connection) : Type 0 where
   pub peer_first : c.peer_first ≡ own_first client
-  pub state : StateGood pages opened client c c.state
+  pub state : StateGood speaker opened client c c.state
 
 -- before its client opened, a connection that lives is in SYN-RECEIVED
-pub unopened : (pages : Pages) (client : AbstractClient) (c : Connection) (st : State) → is_live st ≡ true → StateGood pages None client c st → (st ≡ SynRcvd) × AtSyn c
-unopened pages client c Closed l g = absurd (cc)
-unopened pages client c SynRcvd l g = (refl, g)
-unopened pages client c Established l g = absurd (let z : false ≡ true = g.text.opened_is in cc)
-unopened pages client c _ l g = absurd (let z : false ≡ true = g.opened_is in cc)
+pub unopened : (speaker : Speaker) (client : AbstractClient) (c : Connection) (st : State) → is_live st ≡ true → StateGood speaker None client c st → (st ≡ SynRcvd) × AtSyn speaker c
+unopened speaker client c Closed l g = absurd (cc)
+unopened speaker client c SynRcvd l g = (refl, g)
+unopened speaker client c Established l g = absurd (let z : false ≡ true = g.text.opened_is in cc)
+unopened speaker client c _ l g = absurd (let z : false ≡ true = g.opened_is in cc)
 
 -- What a client has said.
 pub record IsSyn (client : AbstractClient) (opened : Option ℕ) (at_epoch : ℕ) (s : PlainSegment) : Type 0 where
@@ -127,19 +130,19 @@ pub data ClientSaid (client : AbstractClient) (opened : Option ℕ) (at_epoch : 
   said_data : IsData client opened s → ClientSaid client opened at_epoch s
 
 -- What the node has said. IsOpen: that the client opened in the epoch of the datagram.
-pub record IsText (pages : Pages) (client : AbstractClient) (first : ℕ) (captures : List Moment) (s : PlainSegment) : Type 0 where
+pub record IsText (speaker : Speaker) (client : AbstractClient) (first : ℕ) (captures : List Moment) (s : PlainSegment) : Type 0 where
   pub no_syn : has_syn s.flags ≡ false
   pub no_fin : has_fin s.flags ≡ false
   pub at : ℕ
-  pub part : IsPart (pages.text client.request captures) s.text at
+  pub part : IsPart (speaker.text client.request captures) s.text at
   pub seq : s.seq ≡ wrap (first + 1 + at)
 
-pub record IsFin (pages : Pages) (client : AbstractClient) (first : ℕ) (captures : List Moment) (s : PlainSegment) : Type 0 where
+pub record IsFin (speaker : Speaker) (client : AbstractClient) (first : ℕ) (captures : List Moment) (s : PlainSegment) : Type 0 where
   pub no_syn : has_syn s.flags ≡ false
   pub is_fin : has_fin s.flags ≡ true
   pub no_text : s.text ≡ []
   pub at : ℕ
-  pub ends : IsAll pages client captures at
+  pub ends : IsAll speaker client captures at
   pub seq : s.seq ≡ wrap (first + 1 + at)
 
 pub record IsSynAck (first : ℕ) (s : PlainSegment) : Type 0 where
@@ -151,38 +154,38 @@ pub record IsAck (s : PlainSegment) : Type 0 where
   pub no_fin : has_fin s.flags ≡ false
   pub no_text : s.text ≡ []
 
-pub data NodeSaid (pages : Pages) (client : AbstractClient) (IsOpen : Type 0) (first : ℕ) (captures : List Moment) (s : PlainSegment) : Type 0 where
-  node_reset : has_rst s.flags ≡ true → NodeSaid pages client IsOpen first captures s
-  node_syn : has_rst s.flags ≡ false → IsSynAck first s → NodeSaid pages client IsOpen first captures s
-  node_ack : has_rst s.flags ≡ false → IsAck s → NodeSaid pages client IsOpen first captures s
-  node_text : has_rst s.flags ≡ false → IsOpen → IsText pages client first captures s → NodeSaid pages client IsOpen first captures s
-  node_fin : has_rst s.flags ≡ false → IsOpen → IsFin pages client first captures s → NodeSaid pages client IsOpen first captures s
+pub data NodeSaid (speaker : Speaker) (client : AbstractClient) (IsOpen : Type 0) (first : ℕ) (captures : List Moment) (s : PlainSegment) : Type 0 where
+  node_reset : has_rst s.flags ≡ true → NodeSaid speaker client IsOpen first captures s
+  node_syn : has_rst s.flags ≡ false → IsSynAck first s → NodeSaid speaker client IsOpen first captures s
+  node_ack : has_rst s.flags ≡ false → IsAck s → NodeSaid speaker client IsOpen first captures s
+  node_text : has_rst s.flags ≡ false → IsOpen → IsText speaker client first captures s → NodeSaid speaker client IsOpen first captures s
+  node_fin : has_rst s.flags ≡ false → IsOpen → IsFin speaker client first captures s → NodeSaid speaker client IsOpen first captures s
 
 -- One step of a connection that lives, seen from its client.
-pub record SentGood (pages : Pages) (opened : Option ℕ) (client : AbstractClient) (c : Connection) (s : PlainSegment) : Type 0 where
+pub record SentGood (speaker : Speaker) (opened : Option ℕ) (client : AbstractClient) (c : Connection) (s : PlainSegment) : Type 0 where
   pub lives : has_rst s.flags ≡ false → is_live c.state ≡ true
-  pub said : NodeSaid pages client (is_some opened ≡ true) c.first c.part.captures s
+  pub said : NodeSaid speaker client (is_some opened ≡ true) c.first c.part.captures s
 
 -- the connection afterwards, d, beside the one before, c
-pub record Moved (pages : Pages) (opened : Option ℕ) (client : AbstractClient) (c d : Connection) : Type 0 where
+pub record Moved (speaker : Speaker) (opened : Option ℕ) (client : AbstractClient) (c d : Connection) : Type 0 where
   pub first : d.first ≡ c.first
   pub more : List Moment
   pub captures : d.part.captures ≡ c.part.captures ++ more
-  pub good : is_live d.state ≡ true → ConnGood pages opened client d
+  pub good : is_live d.state ≡ true → ConnGood speaker opened client d
 
-pub record StepGood (pages : Pages) (opened : Option ℕ) (client : AbstractClient) (c : Connection) (step : Spoken) : Type 0 where
-  pub moved : Moved pages opened client c step.connection
-  pub said : (s : PlainSegment) → step.sent ≡ Some s → SentGood pages opened client step.connection s
+pub record StepGood (speaker : Speaker) (opened : Option ℕ) (client : AbstractClient) (c : Connection) (step : Spoken) : Type 0 where
+  pub moved : Moved speaker opened client c step.connection
+  pub said : (s : PlainSegment) → step.sent ≡ Some s → SentGood speaker opened client step.connection s
 
 -- What is kept of each datagram.
 pub record FromGood (client : AbstractClient) (opened : Option ℕ) (past : List Era) (e : Sent) : Type 0 where
   pub time : e.epoch ≤ length past
   pub said : ClientSaid client opened e.epoch (seg e)
 
-pub record ToGood (pages : Pages) (client : AbstractClient) (opened : Option ℕ) (past : List Era) (c : Connection) (e : Sent) : Type 0 where
+pub record ToGood (speaker : Speaker) (client : AbstractClient) (opened : Option ℕ) (past : List Era) (c : Connection) (e : Sent) : Type 0 where
   pub time : e.epoch ≤ length past
   pub lives : has_rst (seg e).flags ≡ false → e.epoch ≡ length past → is_live c.state ≡ true
-  pub said : NodeSaid pages client (opened ≡ Some e.epoch) (era past c e.epoch).first (era past c e.epoch).captures (seg e)
+  pub said : NodeSaid speaker client (opened ≡ Some e.epoch) (era past c e.epoch).first (era past c e.epoch).captures (seg e)
 
 -- it has not opened
 abbrev pub is_early : ClientState → Bool
@@ -201,18 +204,18 @@ pub record NotOpened (client : AbstractClient) : Type 0 where
   pub early : is_early client.state ≡ true
   pub nothing : client.received ≡ []
 
-pub record HasOpened (pages : Pages) (client : AbstractClient) (past : List Era) (c : Connection) (o : ℕ) : Type 0 where
+pub record HasOpened (speaker : Speaker) (client : AbstractClient) (past : List Era) (c : Connection) (o : ℕ) : Type 0 where
   pub time : o ≤ length past
   pub then_live : o ≡ length past → is_live c.state ≡ true
   pub live_then : is_live c.state ≡ true → o ≡ length past
   pub asked : is_unasked client.state ≡ false
-  pub part : IsPart (pages.text client.request (era past c o).captures) client.received 0
+  pub part : IsPart (speaker.text client.request (era past c o).captures) client.received 0
   pub expected : is_receiving client.state ≡ true → client.expected ≡ wrap ((era past c o).first + 1 + length client.received)
-  pub all : has_closed client.state ≡ true → IsAll pages client (era past c o).captures (length client.received)
+  pub all : has_closed client.state ≡ true → IsAll speaker client (era past c o).captures (length client.received)
 
-abbrev pub OpenedGood : Pages → AbstractClient → List Era → Connection → Option ℕ → Type 0
-OpenedGood pages client past c None = NotOpened client
-OpenedGood pages client past c (Some o) = HasOpened pages client past c o
+abbrev pub OpenedGood : Speaker → AbstractClient → List Era → Connection → Option ℕ → Type 0
+OpenedGood speaker client past c None = NotOpened client
+OpenedGood speaker client past c (Some o) = HasOpened speaker client past c o
 
 pub record Steady (client : AbstractClient) : Type 0 where
   pub short : length client.request ≤ 4096
@@ -220,18 +223,18 @@ pub record Steady (client : AbstractClient) : Type 0 where
   pub out_fits : client.acked + client.out ≤ length client.request
 
 -- what is known of one clean client
-pub record Good (pages : Pages) (number : ℕ) (client : AbstractClient) (opened : Option ℕ) (past : List Era) (c : Connection) (sent : List Sent) : Type 0 where
+pub record Good (speaker : Speaker) (number : ℕ) (client : AbstractClient) (opened : Option ℕ) (past : List Era) (c : Connection) (sent : List Sent) : Type 0 where
   pub steady : Steady client
-  pub opened_good : OpenedGood pages client past c opened
-  pub connection : is_live c.state ≡ true → ConnGood pages opened client c
+  pub opened_good : OpenedGood speaker client past c opened
+  pub connection : is_live c.state ≡ true → ConnGood speaker opened client c
   pub of_client : (k : ℕ) (e : Sent) → slice_get sent k ≡ Some e → e.who ≡ from number → FromGood client opened past e
-  pub of_node : (k : ℕ) (e : Sent) → slice_get sent k ≡ Some e → e.who ≡ to number → ToGood pages client opened past c e
+  pub of_node : (k : ℕ) (e : Sent) → slice_get sent k ≡ Some e → e.who ≡ to number → ToGood speaker client opened past c e
 
 -- One step of a client.
-pub record TookGood (pages : Pages) (client : AbstractClient) (past : List Era) (c : Connection) (opened next : Option ℕ) (took : ClientStep) : Type 0 where
+pub record TookGood (speaker : Speaker) (client : AbstractClient) (past : List Era) (c : Connection) (opened next : Option ℕ) (took : ClientStep) : Type 0 where
   pub next_is : next ≡ (if becomes_opened client.state took.client.state then Some (length past) else opened)
   pub request : took.client.request ≡ client.request
   pub setup : own_first took.client ≡ own_first client
   pub steady : Steady took.client
-  pub opened_good : OpenedGood pages took.client past c next
+  pub opened_good : OpenedGood speaker took.client past c next
   pub said : (s : PlainSegment) → took.sent ≡ Some s → ClientSaid took.client next (length past) s

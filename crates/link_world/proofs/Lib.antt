@@ -3,6 +3,7 @@ pub mod Rows
 pub mod Hearing
 pub mod Doing
 pub mod ClientCases
+pub mod Speaking
 pub mod Good
 pub mod Later
 pub mod Steps
@@ -21,6 +22,7 @@ pub mod Loss
 pub mod Sound
 pub mod Whole
 pub mod Harmless
+pub mod SaidBytes
 pub mod SoundNodes
 pub mod SoundWorlds
 pub mod Damages

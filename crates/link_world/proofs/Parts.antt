@@ -17,6 +17,7 @@ use Rattle.uip_node.specs.Laws.{IsSlice}
 use Rattle.link_world.specs.Parts.{SaysPage, AsksRequest, HasTaken, HasOneEpoch, CleanParts}
 use Rattle.uip_node.proofs.Basics.{IsPart}
 use Rattle.link_client.specs.declared.client_state.ClientState.TheVariants as Is
+use Rattle.link_world.proofs.Speaking.{paged}
 use Rattle.link_world.proofs.Good.{is_unasked, seg, segment_in, StateGood, NodeSaid, ClientSaid, OpenedGood, Good, unopened}
 use Rattle.link_world.proofs.Good.NodeSaid.{node_reset, node_syn, node_ack, node_text, node_fin}
 use Rattle.link_world.proofs.Good.ClientSaid.{said_reset, said_syn, said_data}
@@ -32,7 +33,7 @@ slice_of whole text at p = record { fits = p.fits; same = p.same }
 no_text : (s : PlainSegment) → s.text ≡ [] → 0 < length s.text → ⊥
 no_text s e l = let z : length s.text ≡ 0 = ap (λ (x : List ℕ). length x) e in omega (arith, z, l)
 
-says_page : (pages : Pages) (side : Side) (epoch : ℕ) (era : Era) (s : PlainSegment) → has_rst s.flags ≡ false → NodeSaid pages side.client (side.opened ≡ Some epoch) era.first era.captures s → SaysPage pages side epoch era s
+says_page : (pages : Pages) (side : Side) (epoch : ℕ) (era : Era) (s : PlainSegment) → has_rst s.flags ≡ false → NodeSaid (paged pages) side.client (side.opened ≡ Some epoch) era.first era.captures s → SaysPage pages side epoch era s
 says_page pages side epoch era s nr (node_reset r) = absurd (cc)
 says_page pages side epoch era s nr (node_syn r n) = record { syn = λ y. n.seq; text = λ y l. absurd (let z : has_syn s.flags ≡ true = n.syn in cc); fin = λ y f. absurd (let z : has_syn s.flags ≡ true = n.syn in cc) }
 says_page pages side epoch era s nr (node_ack r n) = record {
@@ -61,11 +62,11 @@ has_opened side epoch s nr a (said_reset r) = absurd (cc)
 has_opened side epoch s nr a (said_syn y) = absurd (let z : has_ack s.flags ≡ false = y.no_ack in cc)
 has_opened side epoch s nr a (said_data d) = d.opened_is
 
-one_epoch : (pages : Pages) (side : Side) (c : Connection) (o : Option ℕ) → side.opened ≡ o → OpenedGood pages side.client side.past c o → (is_live c.state ≡ true → StateGood pages o side.client c c.state) → HasOneEpoch side c
+one_epoch : (pages : Pages) (side : Side) (c : Connection) (o : Option ℕ) → side.opened ≡ o → OpenedGood (paged pages) side.client side.past c o → (is_live c.state ≡ true → StateGood (paged pages) o side.client c c.state) → HasOneEpoch side c
 one_epoch pages side c None q h s = record {
   unopened = λ early. q;
   nothing = λ e. h.nothing;
-  waits = λ e l. (unopened pages side.client c c.state l (s l)).0;
+  waits = λ e l. (unopened (paged pages) side.client c c.state l (s l)).0;
   opened_in = λ n e l. absurd (let z : None ≡ Some n = sym q ∙ e in cc);
 }
 one_epoch pages side c (Some o) q h s = record {
@@ -95,13 +96,13 @@ front_within xs ys n l p =
     record { rest = take (n - length xs) p.rest; joined = sym (take-append-add xs p.rest (n - length xs)) ∙ ap (λ k. take k (xs ++ p.rest)) room ∙ ap (λ (zs : List ℕ). take n zs) p.joined }
 
 -- what was heard is a front of the request
-heard_front : (pages : Pages) (opened : Option ℕ) (client : AbstractClient) (c : Connection) (st : State) → is_live st ≡ true → StateGood pages opened client c st → IsPrefixOf c.part.heard client.request
+heard_front : (pages : Pages) (opened : Option ℕ) (client : AbstractClient) (c : Connection) (st : State) → is_live st ≡ true → StateGood (paged pages) opened client c st → IsPrefixOf c.part.heard client.request
 heard_front pages opened client c Closed l g = absurd (cc)
 heard_front pages opened client c SynRcvd l g = subst (λ (xs : List ℕ). IsPrefixOf xs client.request) (sym g.heard) record { rest = client.request; joined = refl }
 heard_front pages opened client c Established l g = g.text.heard
 heard_front pages opened client c _ l g = g.heard
 
-has_taken : (pages : Pages) (k : ℕ) (client : AbstractClient) (c : Connection) (sent : List Sent) (opened : Option ℕ) → RequestedBy k client c sent opened → is_some opened ≡ true → is_live c.state ≡ true → StateGood pages opened client c c.state → HasTextNumbers c → HasTaken client c
+has_taken : (pages : Pages) (k : ℕ) (client : AbstractClient) (c : Connection) (sent : List Sent) (opened : Option ℕ) → RequestedBy k client c sent opened → is_some opened ≡ true → is_live c.state ≡ true → StateGood (paged pages) opened client c c.state → HasTextNumbers c → HasTaken client c
 has_taken pages k client c sent None r s l g n = absurd (cc)
 has_taken pages k client c sent (Some o) r s l g n =
     let q = r l in
@@ -112,7 +113,7 @@ has_taken pages k client c sent (Some o) r s l g n =
 pub clean_parts : CleanParts
 clean_parts m pages lawful w r k side x clean =
     let c : Connection = server_side w side in
-    let g : Good pages k side.client side.opened side.past c w.sent = (all_good m pages lawful w r).each k side x clean in
+    let g : Good (paged pages) k side.client side.opened side.past c w.sent = (all_good m pages lawful w r).each k side x clean in
     record {
       of_node = λ i e id s y who is nr. (let q : seg e ≡ s = ap segment_in is in
           subst (λ z. SaysPage pages side e.epoch (era side.past c e.epoch) z) q (says_page pages side e.epoch (era side.past c e.epoch) (seg e) (ap (λ (z : PlainSegment). has_rst z.flags) q ∙ nr) (g.of_node i e y who).said));

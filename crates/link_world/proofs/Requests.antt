@@ -20,6 +20,7 @@ use Rattle.link_world.specs.Headline.{IsReached}
 use Rattle.uip_node.proofs.Steadiness.{steady_of}
 use Rattle.uip_node.proofs.Basics.{same_place, get_push, zero_or_more}
 use Rattle.uip_node.proofs.Basics.AtEnd.{older, newest}
+use Rattle.link_world.proofs.Speaking.{paged}
 use Rattle.link_world.proofs.Good.{seg, no_segment, is_early, from, to, ClientSaid, OpenedGood, Good, Steady, unopened}
 use Rattle.link_world.proofs.Good.ClientSaid.{said_reset, said_syn, said_data}
 use Rattle.uip_node.proofs.Fits.{FitConn}
@@ -30,6 +31,7 @@ use Rattle.link_world.proofs.Any.{Framed, Steps, Takes, speech, entry, does_fram
 use Rattle.link_world.proofs.Any
 use Rattle.link_world.proofs.Asking.{used, asked_bytes, EndsIn, AsksOn, client_asks, opens_asks, again_asks, closes_asks, aborts_asks, window_asks, asked_takes, some_place, segment_takes, tick_takes, says_taken}
 use Rattle.link_world.proofs.Asking
+use Rattle.link_world.proofs.Prefix.{everywhere}
 use Rattle.link_world.proofs.Prefix
 
 -- The connection took no more of the client's numbers than were used, and its application heard no more than was taken, and no
@@ -104,13 +106,13 @@ not_syn client opened epoch taken s st (said_syn y) nr h q =
 
 module _ (m : Meaning) (pages : Pages) (lawful : IsPaged m pages) where
   pub record G (k : ℕ) (side : Side) (c : Connection) (sent : List Sent) : Type 0 where
-    pub good : Prefix.G m pages lawful k side c sent
+    pub good : Prefix.G m (everywhere m pages lawful) k side c sent
     pub asked_by : is_clean side ≡ true → RequestedBy k side.client c sent side.opened
     pub acks : is_clean side ≡ true → Acks k side.client (length side.past) c sent
 
   pub other : (k : ℕ) (side : Side) (c : Connection) (sent : List Sent) (e : Sent) → G k side c sent → (e.who ≡ to k → ⊥) → (e.who ≡ from k → ⊥) → G k side c (sent ++ e ∷ [])
   other k side c sent e g t f = record {
-    good = Prefix.other m pages lawful k side c sent e g.good t f;
+    good = Prefix.other m (everywhere m pages lawful) k side c sent e g.good t f;
     asked_by = λ cl. push_requested k side.client c sent e side.opened (g.asked_by cl) (λ w. absurd (f w));
     acks = λ cl. push_acks k side.client (length side.past) c sent e (g.acks cl) (λ w. absurd (t w));
   }
@@ -120,27 +122,27 @@ module _ (m : Meaning) (pages : Pages) (lawful : IsPaged m pages) where
 
   pub reset : (k : ℕ) (side : Side) (c : Connection) (sent : List Sent) (e : Sent) → G k side c sent → e.epoch ≡ length side.past → has_syn (seg e).flags ≡ false → has_fin (seg e).flags ≡ false → (seg e).text ≡ [] → has_rst (seg e).flags ≡ true → e.again ≡ false → e.who ≡ to k → G k side c (sent ++ e ∷ [])
   reset k side c sent e g q sy fi te rs ag w = record {
-    good = Prefix.reset m pages lawful k side c sent e g.good q sy fi te rs ag w;
+    good = Prefix.reset m (everywhere m pages lawful) k side c sent e g.good q sy fi te rs ag w;
     asked_by = λ cl. push_requested k side.client c sent e side.opened (g.asked_by cl) (λ f. absurd (not_both k e w f));
     acks = λ cl. push_acks k side.client (length side.past) c sent e (g.acks cl) (λ t r. absurd (let z : true ≡ false = sym rs ∙ r in cc));
   }
 
   pub evict : (k : ℕ) (side : Side) (c : Connection) (sent : List Sent) → is_live c.state ≡ true → G k side c sent → G k (Any.older side c) closed sent
   evict k side c sent l g = record {
-    good = Prefix.evict m pages lawful k side c sent l g.good;
+    good = Prefix.evict m (everywhere m pages lawful) k side c sent l g.good;
     asked_by = λ cl. dead_requested k side.client c sent side.opened (g.asked_by cl);
     acks = λ cl x. absurd (cc);
   }
 
   pub mark : (k : ℕ) (side : Side) (c : Connection) (sent : List Sent) (n : ℕ) (e : Sent) → G k side c sent → G k (marked side n e) c sent
   mark k side c sent n e g = record {
-    good = Prefix.mark m pages lawful k side c sent n e g.good;
+    good = Prefix.mark m (everywhere m pages lawful) k side c sent n e g.good;
     asked_by = λ cl. g.asked_by (clean_before side n e cl).0;
     acks = λ cl. g.acks (clean_before side n e cl).0;
   }
 
   abbrev GoodSteps : World → Outcome → ℕ → Side → Type 0
-  GoodSteps w o k side = Steps m (Prefix.G m pages lawful) (Prefix.other m pages lawful) (Prefix.reset m pages lawful) (Prefix.evict m pages lawful) (Prefix.mark m pages lawful) w o k side
+  GoodSteps w o k side = Steps m (Prefix.G m (everywhere m pages lawful)) (Prefix.other m (everywhere m pages lawful)) (Prefix.reset m (everywhere m pages lawful)) (Prefix.evict m (everywhere m pages lawful)) (Prefix.mark m (everywhere m pages lawful)) w o k side
 
   steps_by : (w : World) (old : Connection) (o : Outcome) (k : ℕ) (side : Side) (s : PlainSegment) → is_live old.state ≡ true → G k side old w.sent → Asking.Takes old o.connection s →
       (is_clean side ≡ true → Requested k side.client old w.sent → Within side.client o.connection) → GoodSteps w o k side → Steps m G other reset evict mark w o k side
@@ -200,7 +202,7 @@ module _ (m : Meaning) (pages : Pages) (lawful : IsPaged m pages) where
       let t = asked_takes m pages lawful now old (seg e) o (segment_takes m pages lawful old numbers (seg e)) in
       steps_by w old (asked m now o) k side (seg e) lv g t
       (λ cl r. (let h = g.good cl in let c = h.connection lv in enough_room side.client side.opened e.epoch k j old (asked m now o).connection w.sent e h.steady (h.of_client j e sent who).said c.peer_first sent who t r))
-      (Prefix.segment m pages lawful w old numbers now k j side e lv f n is sent who fresh g.good)
+      (Prefix.segment m (everywhere m pages lawful) w old numbers now k j side e lv f n is sent who fresh g.good)
 
   -- a tick brings no segment
   nothing_more : (client : AbstractClient) (c d : Connection) → Asking.Row c d no_segment → Within client c → Within client d
@@ -220,25 +222,25 @@ module _ (m : Meaning) (pages : Pages) (lawful : IsPaged m pages) where
       let o : Outcome = on_tick m old numbers in
       let t = asked_takes m pages lawful now old no_segment o (tick_takes m pages lawful old numbers no_segment) in
       steps_by w old (asked m now o) k side no_segment lv g t (λ cl r. nothing_more side.client old (asked m now o).connection t.row r.within)
-      (Prefix.tick m pages lawful w old numbers now k side lv f n is g.good)
+      (Prefix.tick m (everywhere m pages lawful) w old numbers now k side lv f n is g.good)
 
-  born_requested : (k : ℕ) (client : AbstractClient) (past : List Era) (d : Connection) (sent : List Sent) (opened : Option ℕ) → ((o : ℕ) → opened ≡ Some o → length past ≤ o) → OpenedGood pages client past closed opened → RequestedBy k client closed sent opened → RequestedBy k client d sent opened
+  born_requested : (k : ℕ) (client : AbstractClient) (past : List Era) (d : Connection) (sent : List Sent) (opened : Option ℕ) → ((o : ℕ) → opened ≡ Some o → length past ≤ o) → OpenedGood (paged pages) client past closed opened → RequestedBy k client closed sent opened → RequestedBy k client d sent opened
   born_requested k client past d sent None b h g = g
   born_requested k client past d sent (Some o) b h g = absurd (let z : false ≡ true = h.then_live (let y = b o refl in let t = h.time in omega (arith, t, y)) in cc)
 
-  birth : (w : World) (first : ℕ) (sockets : Sockets) (k j : ℕ) (side : Side) (e : Sent) → slice_get w.sent j ≡ Some e → e.who ≡ from k → (is_clean side ≡ true → e.epoch ≡ length side.past) → is_plain_syn (seg e) ≡ true → FitConn (accepted first sockets (seg e)) → G k side closed w.sent →
+  birth : (w : World) (first : ℕ) (sockets : Sockets) (k j : ℕ) (side : Side) (e : Sent) → client_sockets side ≡ sockets → slice_get w.sent j ≡ Some e → e.who ≡ from k → (is_clean side ≡ true → e.epoch ≡ length side.past) → is_plain_syn (seg e) ≡ true → FitConn (accepted first sockets (seg e)) → G k side closed w.sent →
       (tick id : ℕ) → G k side (accepted first sockets (seg e)) (w.sent ++ entry (to k) side tick id (speech false (syn_ack (accepted first sockets (seg e)))) ∷ [])
-  birth w first sockets k j side e sent who fresh plain fit g tick id =
+  birth w first sockets k j side e own sent who fresh plain fit g tick id =
       let c : Connection = accepted first sockets (seg e) in
       let new : Sent = entry (to k) side tick id (speech false (syn_ack c)) in
-      let good = Prefix.birth m pages lawful w first sockets k j side e sent who fresh plain fit g.good tick id in
+      let good = Prefix.birth m (everywhere m pages lawful) w first sockets k j side e own sent who fresh plain fit g.good tick id in
       let none = λ (cl : is_clean side ≡ true) (l : is_live c.state ≡ true) (i : ℕ) (f : Sent) (x : slice_get w.sent i ≡ Some f) (v : f.who ≡ to k) (q : f.epoch ≡ length side.past) (r : has_rst (seg f).flags ≡ false) (a : has_ack (seg f).flags ≡ true).
       absurd {A = Taken side.client c (seg f)} (let z : false ≡ true = ((g.good cl).of_node i f x v).lives r q in cc) in
       record {
         good = good;
         asked_by = λ cl. push_requested k side.client c w.sent new side.opened
             (born_requested k side.client side.past c w.sent side.opened
-            (λ o q. (let y = Prefix.born_by m pages lawful side e ((g.good cl).of_client j e sent who).said (Prefix.plain_is m pages lawful (seg e) plain) in subst (λ n. n ≤ o) (fresh cl) (y.before o q)))
+            (λ o q. (let y = Prefix.born_by m (everywhere m pages lawful) side e ((g.good cl).of_client j e sent who).said (Prefix.plain_is m (everywhere m pages lawful) (seg e) plain) in subst (λ n. n ≤ o) (fresh cl) (y.before o q)))
             (g.good cl).opened_good (g.asked_by cl))
             (λ y. absurd (cc));
         acks = λ cl. push_acks k side.client (length side.past) c w.sent new (none cl)
@@ -265,30 +267,30 @@ module _ (m : Meaning) (pages : Pages) (lawful : IsPaged m pages) where
   acked_low : (client : AbstractClient) (s : PlainSegment) (t : ClientStep) → AsksOn client s t → used client ≡ 0 → t.client.acked ≡ 0
   acked_low client s t a z = elim a.acked [ inl e ↦ omega (arith, e, z) | inr e ↦ (let y = e.3 in omega (arith, y, z)) ]
 
-  early_of : (client : AbstractClient) (past : List Era) (c : Connection) (o : Option ℕ) → o ≡ None → OpenedGood pages client past c o → is_early client.state ≡ true
+  early_of : (client : AbstractClient) (past : List Era) (c : Connection) (o : Option ℕ) → o ≡ None → OpenedGood (paged pages) client past c o → is_early client.state ≡ true
   early_of client past c None e h = h.early
   early_of client past c (Some o) e h = absurd (cc)
 
   -- what a step of the client leaves
-  after_step : (k : ℕ) (client : AbstractClient) (past : List Era) (c : Connection) (sent later : List Sent) (opened : Option ℕ) (s : PlainSegment) (t : ClientStep) (b : Bool) → Good pages k client opened past c sent → AsksOn client s t →
-      Good pages k t.client (if b then Some (length past) else opened) past c later → (is_live c.state ≡ true → Requested k client c sent → t.client.acked ≤ c.taken) → RequestedBy k client c sent opened → RequestedBy k t.client c sent (if b then Some (length past) else opened)
+  after_step : (k : ℕ) (client : AbstractClient) (past : List Era) (c : Connection) (sent later : List Sent) (opened : Option ℕ) (s : PlainSegment) (t : ClientStep) (b : Bool) → Good (paged pages) k client opened past c sent → AsksOn client s t →
+      Good (paged pages) k t.client (if b then Some (length past) else opened) past c later → (is_live c.state ≡ true → Requested k client c sent → t.client.acked ≤ c.taken) → RequestedBy k client c sent opened → RequestedBy k t.client c sent (if b then Some (length past) else opened)
   after_step k client past c sent later (Some o) s t true g a h low r = λ l. goes_on k client t.client c sent a.more a.further a.first (low l (r l)) (r l)
   after_step k client past c sent later (Some o) s t false g a h low r = λ l. goes_on k client t.client c sent a.more a.further a.first (low l (r l)) (r l)
   after_step k client past c sent later None s t false g a h low r = a.early h.opened_good.early ∙ r
-  after_step k client past c sent later None s t true g a h low r = λ l. (let none = (unopened pages client c c.state l (g.connection l).state).1 in
+  after_step k client past c sent later None s t true g a h low r = λ l. (let none = (unopened (paged pages) client c c.state l (g.connection l).state).1 in
       let zero = acked_low client s t a r in
       let silent : length c.part.heard ≡ 0 = ap (λ (x : List ℕ). length x) none.heard in
       let start = none.taken in
       record { low = omega (arith, zero); within = record { high = omega (arith, start); heard = omega (arith, silent); asked = omega (arith, silent) }; ends = λ j e x w. never_asked client t.client e.epoch (seg e) (g.of_client j e x w).said })
 
   abbrev GoodTakes : World → ℕ → Side → Connection → ClientStep → Type 0
-  GoodTakes w k base c t = Takes m (Prefix.G m pages lawful) (Prefix.other m pages lawful) (Prefix.reset m pages lawful) (Prefix.evict m pages lawful) (Prefix.mark m pages lawful) w k base c t
+  GoodTakes w k base c t = Takes m (Prefix.G m (everywhere m pages lawful)) (Prefix.other m (everywhere m pages lawful)) (Prefix.reset m (everywhere m pages lawful)) (Prefix.evict m (everywhere m pages lawful)) (Prefix.mark m (everywhere m pages lawful)) w k base c t
 
   took_by : (w : World) (k : ℕ) (base : Side) (c : Connection) (s : PlainSegment) (t : ClientStep) → G k base c w.sent → GoodTakes w k base c t → AsksOn base.client s t →
       (is_clean base ≡ true → is_live c.state ≡ true → Requested k base.client c w.sent → t.client.acked ≤ c.taken) → Takes m G other reset evict mark w k base c t
   took_by w k base c s t g p a low =
       let b : Bool = becomes_opened base.client.state t.client.state in
-      let after = λ (later : List Sent) (h : is_clean base ≡ true → Good pages k t.client (with_client base t.client).opened base.past c later) (cl : is_clean base ≡ true).
+      let after = λ (later : List Sent) (h : is_clean base ≡ true → Good (paged pages) k t.client (with_client base t.client).opened base.past c later) (cl : is_clean base ≡ true).
       after_step k base.client base.past c w.sent later base.opened s t b (g.good cl) a (h cl) (low cl) (g.asked_by cl) in
       let acked = λ (cl : is_clean base ≡ true). acks_go_on k base.client t.client (length base.past) c w.sent a.first (g.acks cl) in
       record {
@@ -321,7 +323,7 @@ module _ (m : Meaning) (pages : Pages) (lawful : IsPaged m pages) where
       Takes m G other reset evict mark w k (marked side number e) c (client_takes side.client (seg e))
   took w k j side c number e fit sent who g =
       let a = client_asks side.client (seg e) in
-      took_by w k (marked side number e) c (seg e) (client_takes side.client (seg e)) (mark k side c w.sent number e g) (Prefix.took m pages lawful w k j side c number e fit sent who g.good) a
+      took_by w k (marked side number e) c (seg e) (client_takes side.client (seg e)) (mark k side c w.sent number e g) (Prefix.took m (everywhere m pages lawful) w k j side c number e fit sent who g.good) a
       (λ cl l r. (let b = clean_before side number e cl in
       heard_taken side.client c (seg e) (client_takes side.client (seg e)) (g.good b.0).steady a (λ n h. g.acks b.0 l j e sent who b.1 n h) r.low r.within.high))
 
@@ -335,7 +337,7 @@ module _ (m : Meaning) (pages : Pages) (lawful : IsPaged m pages) where
 
   opening_requested : (addr : Addr) (numbers : List ℕ) (plan : List Planned) → IsPlan plan → Framed m G other reset evict mark (opening_world addr numbers plan)
   opening_requested addr numbers plan is =
-      let b = Prefix.opening_framed m pages lawful addr numbers plan is in
+      let b = Prefix.opening_framed m (everywhere m pages lawful) addr numbers plan is in
       record {
         apart = b.apart;
         single = b.single;
@@ -350,11 +352,11 @@ module _ (m : Meaning) (pages : Pages) (lawful : IsPaged m pages) where
   all_requested w r = reached m pages lawful (λ v. Framed m G other reset evict mark v)
       (λ served v act harm g fits. does_framed m G other reset evict mark (steady_of m pages lawful) served segment tick birth record {
         took = took;
-        opens = λ w k side c fit g. own_by w k side c (client_opens side.client) g (opens_asks side.client) (Prefix.own_open m pages lawful w k side c fit g.good);
-        again = λ w k side c fit g. own_by w k side c (client_again side.client) g (again_asks side.client) (Prefix.own_again m pages lawful w k side c fit g.good);
-        closes = λ w k side c fit g. own_by w k side c (client_closes side.client) g (closes_asks side.client) (Prefix.own_close m pages lawful w k side c fit g.good);
-        aborts = λ w k side c fit g. own_by w k side c (client_aborts side.client) g (aborts_asks side.client) (Prefix.own_abort m pages lawful w k side c fit g.good);
-        windows = λ x w k side c fit g. own_by w k side c (tells_window x side.client) g (window_asks x side.client) (Prefix.own_window m pages lawful x w k side c fit g.good);
+        opens = λ w k side c fit g. own_by w k side c (client_opens side.client) g (opens_asks side.client) (Prefix.own_open m (everywhere m pages lawful) w k side c fit g.good);
+        again = λ w k side c fit g. own_by w k side c (client_again side.client) g (again_asks side.client) (Prefix.own_again m (everywhere m pages lawful) w k side c fit g.good);
+        closes = λ w k side c fit g. own_by w k side c (client_closes side.client) g (closes_asks side.client) (Prefix.own_close m (everywhere m pages lawful) w k side c fit g.good);
+        aborts = λ w k side c fit g. own_by w k side c (client_aborts side.client) g (aborts_asks side.client) (Prefix.own_abort m (everywhere m pages lawful) w k side c fit g.good);
+        windows = λ x w k side c fit g. own_by w k side c (tells_window x side.client) g (window_asks x side.client) (Prefix.own_window m (everywhere m pages lawful) x w k side c fit g.good);
       }
       v act harm g fits)
       opening_requested w r

@@ -5,6 +5,7 @@ use Rattle.std.specs.Option.{option_map_or}
 use Rattle.uip_wire.specs.declared.addr.Addr.{Addr}
 use Rattle.app_events.specs.Part.{Meaning}
 use Rattle.app_events.specs.Pages.{Pages, IsPaged, IsMoment, IsWord, IsAddr}
+use Rattle.tcp_machine.specs.Connection.{Connection}
 use Rattle.link_world.specs.World.{World, Side}
 use Rattle.link_schedule.specs.Numbers.{◌>>=◌}
 use Rattle.link_world.specs.Acts.{does, fault_of, acts, runs}
@@ -24,7 +25,8 @@ use Rattle.link_world.proofs.FitActs.{does_fit}
 use Rattle.link_world.proofs.Harmless.{Harmless, plain_harmless}
 use Rattle.uip_node.proofs.SoundSegments.{Lens, closed_lens}
 use Rattle.link_world.proofs.Sound.{IsSoundClient}
-use Rattle.link_world.proofs.SoundWorlds.{SoundWorld, does_sound}
+use Rattle.link_world.proofs.SaidBytes.{SaysBytesWhere, pages_say_bytes}
+use Rattle.link_world.proofs.SoundWorlds.{KnownWorld, SoundWorld, does_sound}
 use Rattle.link_world.proofs.Damages.{act_harmless}
 
 -- the opening world
@@ -78,59 +80,78 @@ module _ (m : Meaning) (served : ℕ → Bool) (Fine : Act → Type 0) (P : Worl
       one_keeps v w act more (acts m served v act) refl (a 0 act (omega arith)) p
       (λ u q. run_keeps more u w (λ k d l. a (suc k) d (omega (arith, l))) q) e
 
-module _ (m : Meaning) (pages : Pages) (lawful : IsPaged m pages) (served : ℕ → Bool) (P : World → Type 0)
-    (step : (w : World) (act : Act) → Harmless m served w act → P w → FitWorld w → P (does m served w act)) where
-  record Kept (w : World) : Type 0 where
-    fact : P w
-    fits : FitWorld w
-    sound : HasBytes pages → SoundWorld w
+module _ (m : Meaning) (pages : Pages) (steady : IsSteady m) (H : Connection → Type 0) (bytes : HasBytes pages → SaysBytesWhere m H) where
+  module _ (served : ℕ → Bool) (P : World → Type 0) (step : (w : World) (act : Act) → Harmless m served w act → P w → FitWorld w → P (does m served w act)) where
+    record Kept (w : World) : Type 0 where
+      fact : P w
+      fits : FitWorld w
+      known : HasBytes pages → KnownWorld H w
 
-  abbrev Fine : Act → Type 0
-  Fine act = IsAct act × (HasBytes pages ⊎ IsPlainAct act)
+    abbrev Fine : Act → Type 0
+    Fine act = IsAct act × (HasBytes pages ⊎ IsPlainAct act)
 
-  harmless : (w : World) (act : Act) → Fine act → fault_of w act ≡ None → Kept w → Harmless m served w act
-  harmless w act f n k = elim f.1 [ inl page ↦ act_harmless m served w act f.0 n (k.sound page) | inr plain ↦ plain_harmless m served w act plain ]
+    harmless : (w : World) (act : Act) → Fine act → fault_of w act ≡ None → Kept w → Harmless m served w act
+    harmless w act f n k = elim f.1 [ inl page ↦ act_harmless m served w act f.0 n (k.known page).sound | inr plain ↦ plain_harmless m served w act plain ]
 
-  act_keeps : (w : World) (act : Act) → Fine act → fault_of w act ≡ None → Kept w → Kept (does m served w act)
-  act_keeps w act f n k =
-      let h : Harmless m served w act = harmless w act f n k in
-      record {
-        fact = step w act h k.fact k.fits;
-        fits = does_fit m (steady_of m pages lawful) served w act h k.fits;
-        sound = λ page. does_sound m pages lawful page served w act f.0 h k.fits (k.sound page);
-      }
+    act_keeps : (w : World) (act : Act) → Fine act → fault_of w act ≡ None → Kept w → Kept (does m served w act)
+    act_keeps w act f n k =
+        let h : Harmless m served w act = harmless w act f n k in
+        record {
+          fact = step w act h k.fact k.fits;
+          fits = does_fit m steady served w act h k.fits;
+          known = λ page. does_sound m steady H (bytes page) served w act f.0 h k.fits (k.known page);
+        }
 
-  fine : (schedule : List Act) → All IsAct schedule → HasBytes pages ⊎ All IsPlainAct schedule → All Fine schedule
-  fine schedule a b k d l = (a k d l, elim b [ inl page ↦ inl page | inr plain ↦ inr (plain k d l) ])
+    fine : (schedule : List Act) → All IsAct schedule → HasBytes pages ⊎ All IsPlainAct schedule → All Fine schedule
+    fine schedule a b k d l = (a k d l, elim b [ inl page ↦ inl page | inr plain ↦ inr (plain k d l) ])
 
-  schedule_keeps : (addr : Addr) (numbers : List ℕ) (plan : List Planned) (schedule : List Act) (w : World) → IsAddr addr → All IsWord numbers → IsPlan plan → All Fine schedule →
-      runs m served schedule (opening_world addr numbers plan) ≡ Ok w → P (opening_world addr numbers plan) → Kept w
-  schedule_keeps addr numbers plan schedule w a n is f e p =
-      run_keeps m served Fine Kept act_keeps schedule (opening_world addr numbers plan) w f
-      record { fact = p; fits = opening_fits addr numbers plan n is; sound = λ page. opening_sound addr numbers plan a is } e
+    opening_known : (addr : Addr) (numbers : List ℕ) (plan : List Planned) → IsAddr addr → IsPlan plan → HasBytes pages → KnownWorld H (opening_world addr numbers plan)
+    opening_known addr numbers plan a is page = record {
+      sound = opening_sound addr numbers plan a is;
+      known = λ i c x. subst H (all_closed 10 i c x) (bytes page).closed_knows;
+    }
 
--- any fact that each harmless act keeps
+    schedule_keeps : (addr : Addr) (numbers : List ℕ) (plan : List Planned) (schedule : List Act) (w : World) → IsAddr addr → All IsWord numbers → IsPlan plan → All Fine schedule →
+        runs m served schedule (opening_world addr numbers plan) ≡ Ok w → P (opening_world addr numbers plan) → Kept w
+    schedule_keeps addr numbers plan schedule w a n is f e p =
+        run_keeps m served Fine Kept act_keeps schedule (opening_world addr numbers plan) w f
+        record { fact = p; fits = opening_fits addr numbers plan n is; known = opening_known addr numbers plan a is } e
+
+  -- any fact that each harmless act keeps
+  pub reached_where : (P : World → Type 0) → ((served : ℕ → Bool) (w : World) (act : Act) → Harmless m served w act → P w → FitWorld w → P (does m served w act)) →
+      ((addr : Addr) (numbers : List ℕ) (plan : List Planned) → IsPlan plan → P (opening_world addr numbers plan)) → (w : World) → IsReached m pages w → P w
+  reached_where P step opening w r =
+      (schedule_keeps r.served P (step r.served) r.start.addr r.start.numbers r.start.plan r.schedule w r.start.is_addr r.start.in_range r.start.is_plan
+      (fine r.served P (step r.served) r.schedule r.are_acts r.bytes) r.accepted (opening r.start.addr r.start.numbers r.start.plan r.start.is_plan)).fact
+
+  -- every world that is reached is sound
+  known_where : HasBytes pages → (w : World) → IsReached m pages w → KnownWorld H w
+  known_where page w r =
+      (schedule_keeps r.served (λ v. Unit {0}) (λ v act h p f. tt) r.start.addr r.start.numbers r.start.plan r.schedule w r.start.is_addr r.start.in_range r.start.is_plan
+      (fine r.served (λ v. Unit {0}) (λ v act h p f. tt) r.schedule r.are_acts r.bytes) r.accepted tt).known page
+
+  -- any fact that each harmless act keeps, from a world that is reached to a later one
+  on_where : (P : World → Type 0) → ((served : ℕ → Bool) (w : World) (act : Act) → Harmless m served w act → P w → FitWorld w → P (does m served w act)) →
+      (v w : World) → IsLater m pages v w → P v → P w
+  on_where P step v w l p =
+      let r : IsReached m pages v = l.reached in
+      let k = schedule_keeps r.served (λ u. Unit {0}) (λ u act h q f. tt) r.start.addr r.start.numbers r.start.plan r.schedule v r.start.is_addr r.start.in_range r.start.is_plan
+      (fine r.served (λ u. Unit {0}) (λ u act h q f. tt) r.schedule r.are_acts r.bytes) r.accepted tt in
+      (run_keeps m r.served (Fine r.served P (step r.served)) (Kept r.served P (step r.served)) (act_keeps r.served P (step r.served)) l.more v w
+      (fine r.served P (step r.served) l.more l.are_acts l.bytes) record { fact = p; fits = k.fits; known = k.known } l.accepted).fact
+
+-- ---- of an application whose text is a page
+
 pub reached : (m : Meaning) (pages : Pages) → IsPaged m pages → (P : World → Type 0) → ((served : ℕ → Bool) (w : World) (act : Act) → Harmless m served w act → P w → FitWorld w → P (does m served w act)) →
     ((addr : Addr) (numbers : List ℕ) (plan : List Planned) → IsPlan plan → P (opening_world addr numbers plan)) → (w : World) → IsReached m pages w → P w
-reached m pages lawful P step opening w r =
-    (schedule_keeps m pages lawful r.served P (step r.served) r.start.addr r.start.numbers r.start.plan r.schedule w r.start.is_addr r.start.in_range r.start.is_plan
-    (fine m pages lawful r.served P (step r.served) r.schedule r.are_acts r.bytes) r.accepted (opening r.start.addr r.start.numbers r.start.plan r.start.is_plan)).fact
+reached m pages lawful P step opening w r = reached_where m pages (steady_of m pages lawful) (λ c. Unit {0}) (pages_say_bytes m pages lawful) P step opening w r
 
--- every world that is reached is sound
 pub reached_sound : (m : Meaning) (pages : Pages) → IsPaged m pages → HasBytes pages → (w : World) → IsReached m pages w → SoundWorld w
-reached_sound m pages lawful page w r =
-    (schedule_keeps m pages lawful r.served (λ v. Unit {0}) (λ v act h p f. tt) r.start.addr r.start.numbers r.start.plan r.schedule w r.start.is_addr r.start.in_range r.start.is_plan
-    (fine m pages lawful r.served (λ v. Unit {0}) (λ v act h p f. tt) r.schedule r.are_acts r.bytes) r.accepted tt).sound page
+reached_sound m pages lawful page w r = (known_where m pages (steady_of m pages lawful) (λ c. Unit {0}) (pages_say_bytes m pages lawful) page w r).sound
 
--- any fact that each harmless act keeps, from a world that is reached to a later one
 pub reached_on : (m : Meaning) (pages : Pages) → IsPaged m pages → (P : World → Type 0) → ((served : ℕ → Bool) (w : World) (act : Act) → Harmless m served w act → P w → FitWorld w → P (does m served w act)) →
     (v w : World) → IsLater m pages v w → P v → P w
-reached_on m pages lawful P step v w l p =
-    let r : IsReached m pages v = l.reached in
-    let k = schedule_keeps m pages lawful r.served (λ u. Unit {0}) (λ u act h q f. tt) r.start.addr r.start.numbers r.start.plan r.schedule v r.start.is_addr r.start.in_range r.start.is_plan
-    (fine m pages lawful r.served (λ u. Unit {0}) (λ u act h q f. tt) r.schedule r.are_acts r.bytes) r.accepted tt in
-    (run_keeps m r.served (Fine m pages lawful r.served P (step r.served)) (Kept m pages lawful r.served P (step r.served)) (act_keeps m pages lawful r.served P (step r.served)) l.more v w
-    (fine m pages lawful r.served P (step r.served) l.more l.are_acts l.bytes) record { fact = p; fits = k.fits; sound = k.sound } l.accepted).fact
+reached_on m pages lawful P step v w l p = on_where m pages (steady_of m pages lawful) (λ c. Unit {0}) (pages_say_bytes m pages lawful) P step v w l p
 
 -- any fact that each harmless act keeps, of a world that is reached with no damage
 pub reached_plainly : (m : Meaning) → IsSteady m → (P : World → Type 0) → ((served : ℕ → Bool) (w : World) (act : Act) → Harmless m served w act → P w → FitWorld w → P (does m served w act)) →

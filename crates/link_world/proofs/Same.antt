@@ -34,7 +34,9 @@ use Rattle.link_world.proofs.Prefix.{opening_apart}
 use Rattle.link_world.proofs.Harmless.{Harmless}
 use Rattle.link_world.proofs.FitWorlds.{FitWorld}
 use Rattle.uip_node.proofs.FitNodes.{closed_fits}
-use Rattle.link_world.proofs.Runs.{reached, reached_plainly}
+use Rattle.uip_node.specs.Laws.{HasBytes}
+use Rattle.link_world.proofs.SaidBytes.{SaysBytesWhere}
+use Rattle.link_world.proofs.Runs.{reached, reached_plainly, reached_where}
 use Rattle.link_world.proofs.Any.{Framed, Steps, Takes, any_step, speech, entry, does_framed}
 use Rattle.link_world.proofs.Any
 use Rattle.uip_node.proofs.Stepped.{Few, off_low, stepped_fits, stepped_tells}
@@ -295,9 +297,9 @@ module _ (m : Meaning) (steady : IsSteady m) (Low : ℕ → Type 0) (low_text : 
   mss_some None = omega arith
   mss_some (Some n) = some_mss n
 
-  pub birth : (w : World) (first : ℕ) (sockets : Sockets) (k j : ℕ) (side : Side) (e : Sent) → slice_get w.sent j ≡ Some e → e.who ≡ from k → (is_clean side ≡ true → e.epoch ≡ length side.past) → is_plain_syn (seg e) ≡ true → FitConn (accepted first sockets (seg e)) → Told k side closed w.sent →
+  pub birth : (w : World) (first : ℕ) (sockets : Sockets) (k j : ℕ) (side : Side) (e : Sent) → client_sockets side ≡ sockets → slice_get w.sent j ≡ Some e → e.who ≡ from k → (is_clean side ≡ true → e.epoch ≡ length side.past) → is_plain_syn (seg e) ≡ true → FitConn (accepted first sockets (seg e)) → Told k side closed w.sent →
       (tick id : ℕ) → Told k side (accepted first sockets (seg e)) (w.sent ++ entry (to k) side tick id (speech false (syn_ack (accepted first sockets (seg e)))) ∷ [])
-  birth w first sockets k j side e sent who fresh plain fit t tick id =
+  birth w first sockets k j side e own sent who fresh plain fit t tick id =
       let c : Connection = accepted first sockets (seg e) in
       let new : Sent = entry (to k) side tick id (speech false (syn_ack c)) in
       let due_now : IsDue m steady Low low_text c (syn_ack c) = record { len = omega arith; seq = refl; alike = alike_refl (syn_ack c) } in
@@ -415,4 +417,11 @@ pub same_bytes_plainly : SameBytesPlainly
 same_bytes_plainly m steady w r =
     repeats_bytes m steady Any_low (λ p f. tt) w
     (reached_plainly m steady (λ v. Framed m (Told m steady Any_low (λ p f. tt)) (other m steady Any_low (λ p f. tt)) (reset m steady Any_low (λ p f. tt)) (evict m steady Any_low (λ p f. tt)) (mark m steady Any_low (λ p f. tt)) v)
+    (told_step m steady Any_low (λ p f. tt)) (opening_told m steady Any_low (λ p f. tt)) w r).each
+
+-- and where bytes are said, damage or not
+pub same_bytes_where : (m : Meaning) (pages : Pages) (steady : IsSteady m) (H : Connection → Type 0) → (HasBytes pages → SaysBytesWhere m H) → (w : World) → IsReached m pages w → RepeatsSameBytes w
+same_bytes_where m pages steady H bytes w r =
+    repeats_bytes m steady Any_low (λ p f. tt) w
+    (reached_where m pages steady H bytes (λ v. Framed m (Told m steady Any_low (λ p f. tt)) (other m steady Any_low (λ p f. tt)) (reset m steady Any_low (λ p f. tt)) (evict m steady Any_low (λ p f. tt)) (mark m steady Any_low (λ p f. tt)) v)
     (told_step m steady Any_low (λ p f. tt)) (opening_told m steady Any_low (λ p f. tt)) w r).each

@@ -4,7 +4,8 @@ use Rattle.std.specs.Prelude.{option_map}
 use Rattle.std.specs.Option.{option_map_or}
 use Rattle.tcp_segment.specs.Segments.{PlainSegment, has_rst}
 use Rattle.app_events.specs.Part.{Meaning}
-use Rattle.app_events.specs.Pages.{Pages, IsPaged, IsAddr}
+use Rattle.app_events.specs.Pages.{IsAddr}
+use Rattle.app_events.specs.declared.now.Now.{Now}
 use Rattle.tcp_machine.specs.Connection.{Sockets, Connection, closed, serves}
 use Rattle.tcp_machine.specs.Segments.{is_plain_syn, segment_of, is_again, reset_to_none}
 use Rattle.tcp_machine.specs.Ask.{Outcome, asked}
@@ -16,34 +17,38 @@ use Rattle.uip_node.specs.Events.Answer.{Silent, Spoke, NoSlot}
 use Rattle.uip_node.specs.Events.Reply.{Echo, Tcp}
 use Rattle.uip_node.specs.Counters.{initial_number, ident_of}
 use Rattle.uip_node.specs.Node.{AbstractNode, NodeStep, moment, happened, connection_in, slot_for_syn, passes, refuses, opens_in, opens, from_stranger, arrives_at, step}
-use Rattle.uip_node.specs.Laws.{HasBytes}
-use Rattle.uip_node.proofs.Steadiness.{steady_of}
+use Rattle.uip_node.specs.Steady.{IsSteady}
+use Rattle.link_world.proofs.SaidBytes.{SaysBytesWhere, said_sound}
 use Rattle.uip_node.proofs.Basics.{choose, only_some}
 use Rattle.uip_node.proofs.Connections.{get_set}
 use Rattle.uip_node.proofs.Connections.Written.{here, there}
 use Rattle.uip_node.proofs.Fits.{FitConn, accepted_fits, asked_fits, on_segment_fits, on_tick_fits}
 use Rattle.uip_node.proofs.FitNodes.{FitNode, index_fits, node_moment}
-use Rattle.uip_node.proofs.SoundSegments.{Lens, closed_lens, accepted_lens, asked_lens, on_segment_lens, on_tick_lens, IsSoundSegment, step_sound, none_sound}
+use Rattle.uip_node.proofs.SoundSegments.{Lens, closed_lens, accepted_lens, asked_lens, on_segment_lens, on_tick_lens, IsSoundSegment, none_sound}
+
+abbrev pub EachOf : (Connection → Type 0) → List Connection → Type 0
+EachOf P table = (i : ℕ) (c : Connection) → slice_get table i ≡ Some c → P c
 
 abbrev pub LensAll : List Connection → Type 0
-LensAll table = (i : ℕ) (c : Connection) → slice_get table i ≡ Some c → Lens c
+LensAll table = EachOf Lens table
 
 abbrev pub SoundReply : Reply → Type 0
 SoundReply (Echo request) = Unit {0}
 SoundReply (Tcp sockets id again s) = (id < 65536) × IsSoundSegment s
 
-pub record SoundNode (n : AbstractNode) (r : NodeStep) : Type 0 where
+pub record SoundNode (H : Connection → Type 0) (n : AbstractNode) (r : NodeStep) : Type 0 where
   pub addr : r.node.addr ≡ n.addr
   pub conns : LensAll r.node.connections
+  pub known : EachOf H r.node.connections
   pub said : (x : Reply) → r.sent ≡ Some x → SoundReply x
 
-index_lens : (table : List Connection) (i : ℕ) → LensAll table → Lens (slice_index_or table i closed)
-index_lens [] i h = closed_lens
-index_lens (c ∷ cs) zero h = h zero c refl
-index_lens (c ∷ cs) (suc i) h = index_lens cs i (λ j x g. h (suc j) x g)
+index_each : (P : Connection → Type 0) (table : List Connection) (i : ℕ) → P closed → EachOf P table → P (slice_index_or table i closed)
+index_each P [] i z h = z
+index_each P (c ∷ cs) zero z h = h zero c refl
+index_each P (c ∷ cs) (suc i) z h = index_each P cs i z (λ j x g. h (suc j) x g)
 
-set_lens : (table : List Connection) (i : ℕ) (new : Connection) → Lens new → LensAll table → LensAll (set table i new)
-set_lens table i new f h j c x = elim (get_set table i new j c x) [ here e q ↦ subst (λ z. Lens z) q f | there n g ↦ h j c g ]
+set_each : (P : Connection → Type 0) (table : List Connection) (i : ℕ) (new : Connection) → P new → EachOf P table → EachOf P (set table i new)
+set_each P table i new f h j c x = elim (get_set table i new j c x) [ here e q ↦ subst P q f | there n g ↦ h j c g ]
 
 replies : (said : Option PlainSegment) (sockets : Sockets) (id : ℕ) (again : Bool) → id < 65536 → ((s : PlainSegment) → said ≡ Some s → IsSoundSegment s) → (x : Reply) → option_map (λ s. Tcp sockets id again s) said ≡ Some x → SoundReply x
 replies None sockets id again l f x e = absurd (cc)
@@ -52,57 +57,70 @@ replies (Some s) sockets id again l f x e = only_some (λ r. SoundReply r) (Tcp 
 ident_low : (past : List Past) → ident_of past < 65536
 ident_low past = omega arith
 
-still_sound : (n : AbstractNode) (event : Event) (answer : Answer) → LensAll n.connections → SoundNode n (passes n event answer)
-still_sound n event answer l = record { addr = refl; conns = l; said = λ x e. absurd (cc) }
+module _ (m : Meaning) (steady : IsSteady m) (H : Connection → Type 0) (bytes : SaysBytesWhere m H) where
+  -- the connections beside the one that takes the step
+  record Rest (n : AbstractNode) : Type 0 where
+    lens : LensAll n.connections
+    known : EachOf H n.connections
 
-module _ (m : Meaning) (pages : Pages) (lawful : IsPaged m pages) (page : HasBytes pages) where
-  happened_sound : (n : AbstractNode) (event : Event) (slot : ℕ) (old : Connection) (o : Outcome) → LensAll n.connections → Lens o.connection → FitConn o.connection → SoundNode n (happened m n event slot old o)
+  still_sound : (n : AbstractNode) (event : Event) (answer : Answer) → Rest n → SoundNode H n (passes n event answer)
+  still_sound n event answer l = record { addr = refl; conns = l.lens; known = l.known; said = λ x e. absurd (cc) }
+
+  happened_sound : (n : AbstractNode) (event : Event) (slot : ℕ) (old : Connection) (o : Outcome) → Rest n → Lens o.connection → FitConn o.connection → H o.connection → SoundNode H n (happened m n event slot old o)
   unfolding happened
-  happened_sound n event slot old o l h f = record {
+  happened_sound n event slot old o l h f k = record {
     addr = refl;
-    conns = set_lens n.connections slot o.connection h l;
+    conns = set_each Lens n.connections slot o.connection h l.lens;
+    known = set_each H n.connections slot o.connection k l.known;
     said = (let past : List Past = record { event = event; answer = option_map_or (λ s. Spoke (is_again o.step)) (segment_of m o.connection o.step) Silent } ∷ n.past in
-        replies (segment_of m o.connection o.step) o.connection.sockets (ident_of past) (is_again o.step) (ident_low past) (λ s e. step_sound m pages lawful page o.connection o.step s f h e));
+        replies (segment_of m o.connection o.step) o.connection.sockets (ident_of past) (is_again o.step) (ident_low past) (λ s e. said_sound m o.connection o.step s h (bytes.says o.connection f k) e));
   }
 
-  opens_sound : (n : AbstractNode) (sockets : Sockets) (s : PlainSegment) (slot : Option ℕ) → IsAddr sockets.peer → sockets.peer_port.0 < 65536 → LensAll n.connections → SoundNode n (opens m n sockets s slot)
+  opens_sound : (n : AbstractNode) (sockets : Sockets) (s : PlainSegment) (slot : Option ℕ) → IsAddr sockets.peer → sockets.peer_port.0 < 65536 → Rest n → SoundNode H n (opens m n sockets s slot)
   unfolding opens_in
   opens_sound n sockets s None a p l = still_sound n (Arrived sockets s) NoSlot l
   opens_sound n sockets s (Some slot) a p l =
-      let h : SoundNode n (happened m n (Arrived sockets s) slot (connection_in slot n) (accept (initial_number n.past) sockets s n.numbers)) =
-      happened_sound n (Arrived sockets s) slot (connection_in slot n) (accept (initial_number n.past) sockets s n.numbers) l (accepted_lens (initial_number n.past) sockets s) (accepted_fits m (steady_of m pages lawful) (initial_number n.past) sockets s a p) in
-      record { addr = h.addr; conns = h.conns; said = h.said }
+      let first : ℕ = initial_number n.past in
+      let h : SoundNode H n (happened m n (Arrived sockets s) slot (connection_in slot n) (accept first sockets s n.numbers)) =
+      happened_sound n (Arrived sockets s) slot (connection_in slot n) (accept first sockets s n.numbers) l (accepted_lens first sockets s) (accepted_fits m steady first sockets s a p) (bytes.accepted_knows first sockets s) in
+      record { addr = h.addr; conns = h.conns; known = h.known; said = h.said }
 
-  refuses_sound : (n : AbstractNode) (sockets : Sockets) (s : PlainSegment) → IsSoundSegment s → LensAll n.connections → SoundNode n (refuses n sockets s)
+  refuses_sound : (n : AbstractNode) (sockets : Sockets) (s : PlainSegment) → IsSoundSegment s → Rest n → SoundNode H n (refuses n sockets s)
   refuses_sound n sockets s g l = record {
     addr = refl;
-    conns = l;
+    conns = l.lens;
+    known = l.known;
     said = λ x e. (let past : List Past = record { event = Arrived sockets s; answer = Spoke false } ∷ n.past in
         only_some (λ r. SoundReply r) (Tcp sockets (ident_of past) false (reset_to_none s)) x e (ident_low past, none_sound s g));
   }
 
-  stranger_sound : (served : ℕ → Bool) (n : AbstractNode) (sockets : Sockets) (s : PlainSegment) → IsAddr sockets.peer → sockets.peer_port.0 < 65536 → IsSoundSegment s → LensAll n.connections → SoundNode n (from_stranger m served n sockets s)
+  stranger_sound : (served : ℕ → Bool) (n : AbstractNode) (sockets : Sockets) (s : PlainSegment) → IsAddr sockets.peer → sockets.peer_port.0 < 65536 → IsSoundSegment s → Rest n → SoundNode H n (from_stranger m served n sockets s)
   unfolding from_stranger
   stranger_sound served n sockets s a p g l =
-      choose (λ x. SoundNode n x) (is_plain_syn s && served sockets.own_port.0) _ _ (λ e. opens_sound n sockets s (slot_for_syn n.connections) a p l)
-      (λ e. choose (λ x. SoundNode n x) (has_rst s.flags) _ _ (λ q. still_sound n (Arrived sockets s) Silent l) (λ q. refuses_sound n sockets s g l))
+      choose (λ x. SoundNode H n x) (is_plain_syn s && served sockets.own_port.0) _ _ (λ e. opens_sound n sockets s (slot_for_syn n.connections) a p l)
+      (λ e. choose (λ x. SoundNode H n x) (has_rst s.flags) _ _ (λ q. still_sound n (Arrived sockets s) Silent l) (λ q. refuses_sound n sockets s g l))
 
-  arrives_sound : (served : ℕ → Bool) (n : AbstractNode) (sockets : Sockets) (s : PlainSegment) (found : Option ℕ) → IsAddr sockets.peer → sockets.peer_port.0 < 65536 → IsSoundSegment s → FitNode n → LensAll n.connections → SoundNode n (arrives_at m served n sockets s found)
+  arrives_sound : (served : ℕ → Bool) (n : AbstractNode) (sockets : Sockets) (s : PlainSegment) (found : Option ℕ) → IsAddr sockets.peer → sockets.peer_port.0 < 65536 → IsSoundSegment s → FitNode n → Rest n → SoundNode H n (arrives_at m served n sockets s found)
   arrives_sound served n sockets s None a p g f l = stranger_sound served n sockets s a p g l
   arrives_sound served n sockets s (Some slot) a p g f l =
-      let o : Outcome = on_segment m (connection_in slot n) n.numbers s in
-      happened_sound n (Arrived sockets s) slot (connection_in slot n) (asked m (moment n (Arrived sockets s) slot) o) l
-      (asked_lens m (moment n (Arrived sockets s) slot) o (on_segment_lens m (connection_in slot n) n.numbers s (index_lens n.connections slot l)))
-      (asked_fits m (steady_of m pages lawful) (moment n (Arrived sockets s) slot) (node_moment m (steady_of m pages lawful) n (Arrived sockets s) slot f) o
-      (on_segment_fits m (steady_of m pages lawful) (connection_in slot n) n.numbers s (index_fits n.connections slot f.conns) f.numbers)).conn
+      let c : Connection = connection_in slot n in
+      let o : Outcome = on_segment m c n.numbers s in
+      let at : Connection → Now = moment n (Arrived sockets s) slot in
+      happened_sound n (Arrived sockets s) slot c (asked m at o) l
+      (asked_lens m at o (on_segment_lens m c n.numbers s (index_each Lens n.connections slot closed_lens l.lens)))
+      (asked_fits m steady at (node_moment m steady n (Arrived sockets s) slot f) o (on_segment_fits m steady c n.numbers s (index_fits n.connections slot f.conns) f.numbers)).conn
+      (bytes.segment_knows at c n.numbers s g.text (index_each H n.connections slot bytes.closed_knows l.known))
 
-  pub arrival_node : (served : ℕ → Bool) (n : AbstractNode) (sockets : Sockets) (s : PlainSegment) → IsAddr sockets.peer → sockets.peer_port.0 < 65536 → IsSoundSegment s → FitNode n → LensAll n.connections → SoundNode n (step m served n (Arrived sockets s))
-  arrival_node served n sockets s a p g f l = arrives_sound served n sockets s (position (serves sockets) n.connections) a p g f l
+  pub arrival_node : (served : ℕ → Bool) (n : AbstractNode) (sockets : Sockets) (s : PlainSegment) → IsAddr sockets.peer → sockets.peer_port.0 < 65536 → IsSoundSegment s → FitNode n → LensAll n.connections → EachOf H n.connections
+      → SoundNode H n (step m served n (Arrived sockets s))
+  arrival_node served n sockets s a p g f l k = arrives_sound served n sockets s (position (serves sockets) n.connections) a p g f record { lens = l; known = k }
 
-  pub periodic_node : (served : ℕ → Bool) (n : AbstractNode) (slot : ℕ) → FitNode n → LensAll n.connections → SoundNode n (step m served n (Periodic slot))
-  periodic_node served n slot f l =
-      let o : Outcome = on_tick m (connection_in slot n) n.numbers in
-      happened_sound n (Periodic slot) slot (connection_in slot n) (asked m (moment n (Periodic slot) slot) o) l
-      (asked_lens m (moment n (Periodic slot) slot) o (on_tick_lens m (connection_in slot n) n.numbers (index_lens n.connections slot l)))
-      (asked_fits m (steady_of m pages lawful) (moment n (Periodic slot) slot) (node_moment m (steady_of m pages lawful) n (Periodic slot) slot f) o
-      (on_tick_fits m (steady_of m pages lawful) (connection_in slot n) n.numbers (index_fits n.connections slot f.conns) f.numbers)).conn
+  pub periodic_node : (served : ℕ → Bool) (n : AbstractNode) (slot : ℕ) → FitNode n → LensAll n.connections → EachOf H n.connections → SoundNode H n (step m served n (Periodic slot))
+  periodic_node served n slot f l k =
+      let c : Connection = connection_in slot n in
+      let o : Outcome = on_tick m c n.numbers in
+      let at : Connection → Now = moment n (Periodic slot) slot in
+      happened_sound n (Periodic slot) slot c (asked m at o) record { lens = l; known = k }
+      (asked_lens m at o (on_tick_lens m c n.numbers (index_each Lens n.connections slot closed_lens l)))
+      (asked_fits m steady at (node_moment m steady n (Periodic slot) slot f) o (on_tick_fits m steady c n.numbers (index_fits n.connections slot f.conns) f.numbers)).conn
+      (bytes.tick_knows at c n.numbers (index_each H n.connections slot bytes.closed_knows k))

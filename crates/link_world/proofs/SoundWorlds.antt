@@ -3,14 +3,14 @@ use Rattle.std.proofs.Common.{◌≡◌, ℕ, suc, ◌<◌, Bool, false, List, [
 use Rattle.uip_wire.specs.declared.addr.Addr.{Addr}
 use Rattle.tcp_segment.specs.Segments.{PlainSegment}
 use Rattle.app_events.specs.Part.{Meaning}
-use Rattle.app_events.specs.Pages.{Pages, IsPaged, IsAddr}
+use Rattle.app_events.specs.Pages.{IsAddr}
 use Rattle.tcp_machine.specs.Connection.{Connection, same_sockets}
 use Rattle.uip_node.specs.Events.{Reply}
 use Rattle.uip_node.specs.Events.Event.{Arrived, EchoAsked, Periodic}
 use Rattle.uip_node.specs.Events.Reply.{Echo, Tcp}
-use Rattle.uip_node.specs.Node.{NodeStep, step}
+use Rattle.uip_node.specs.Node.{AbstractNode, NodeStep, step}
 use Rattle.link_client.specs.Client.{AbstractClient, ClientStep, client_takes, client_opens, client_again, client_closes, client_aborts, tells_window}
-use Rattle.link_world.specs.World.{World, Side, Sent, Content, client_sockets, buries, buries_in, addressed, posts, posts_reply, node_stepped, node_handles, with_client, with_side, client_stepped, marked, delivers}
+use Rattle.link_world.specs.World.{World, Side, Sent, Content, client_sockets, buries, buries_in, addressed, posts, posts_reply, posts_of_client, node_stepped, node_handles, with_client, with_side, client_stepped, marked, delivers}
 use Rattle.link_world.specs.World.Content.{OfSegment, OfPing, OfEcho}
 use Rattle.link_world.specs.Bytes.{ping_from}
 use Rattle.link_world.specs.Acts.{client_acts, handles_all, does}
@@ -18,8 +18,8 @@ use Rattle.link_world.specs.declared.act.Act.{Act}
 use Rattle.link_world.specs.declared.who.Who.{Who}
 use Rattle.link_world.specs.declared.who.Who.TheVariants.{FromClient, FromNode, Pinger}
 use Rattle.link_world.specs.Headline.{IsAct, IsLoss}
-use Rattle.uip_node.specs.Laws.{HasBytes}
-use Rattle.uip_node.proofs.Steadiness.{steady_of}
+use Rattle.uip_node.specs.Steady.{IsSteady}
+use Rattle.link_world.proofs.SaidBytes.{SaysBytesWhere}
 use Rattle.uip_node.proofs.Basics.{choose, only_some, get_push}
 use Rattle.uip_node.proofs.Basics.AtEnd.{older, newest}
 use Rattle.uip_node.proofs.Connections.{get_map, get_set}
@@ -27,7 +27,7 @@ use Rattle.uip_node.proofs.Connections.Written.{here, there}
 use Rattle.link_world.proofs.FitWorlds.{FitWorld, put_fits, periodic_fits}
 use Rattle.uip_node.proofs.SoundSegments.{IsSoundSegment}
 use Rattle.link_world.proofs.Sound.{IsSoundClient, SoundStep, takes_sound, opens_sound, again_sound, closes_sound, aborts_sound, window_sound}
-use Rattle.link_world.proofs.SoundNodes.{LensAll, SoundReply, SoundNode, arrival_node, periodic_node}
+use Rattle.link_world.proofs.SoundNodes.{EachOf, LensAll, SoundReply, SoundNode, arrival_node, periodic_node}
 use Rattle.link_world.proofs.Doing.{at_number, where_there}
 use Rattle.link_world.proofs.Harmless.{Harmless}
 
@@ -71,8 +71,8 @@ buried_sound (Some g) sides h k side x =
     let s : IsSoundClient p.from.client = h k p.from p.get in
     subst (λ (o : Side). IsSoundClient o.client) p.is (choose (λ (o : Side). IsSoundClient o.client) (same_sockets g.sockets (client_sockets p.from)) _ _ (λ e. s) (λ e. s))
 
-stepped_sound : (w : World) (r : NodeStep) → SoundNode w.node r → SoundWorld w → SoundWorld (node_stepped w r)
-stepped_sound w r g h = reply_sound (record w { node = r.node; sides = buries r.gone w.sides }) r.sent g.said record {
+stepped_sound : (H : Connection → Type 0) (w : World) (r : NodeStep) → SoundNode H w.node r → SoundWorld w → SoundWorld (node_stepped w r)
+stepped_sound H w r g h = reply_sound (record w { node = r.node; sides = buries r.gone w.sides }) r.sent g.said record {
   addr = subst (λ x. IsAddr x) (sym g.addr) h.addr;
   conns = g.conns;
   sides = buried_sound r.gone w.sides h.sides;
@@ -112,25 +112,56 @@ loss_sound w v l h = record {
   sent = λ k e x. subst (λ z. SoundSent z e.who e.content) (sym l.addr) (h.sent k e (ap (λ (z : List Sent). slice_get z k) (sym l.sent) ∙ x));
 }
 
-module _ (m : Meaning) (pages : Pages) (lawful : IsPaged m pages) (page : HasBytes pages) (served : ℕ → Bool) where
-  gives_node_sound : (w : World) (n k : ℕ) (e : Sent) (s : PlainSegment) (side : Side) → slice_get w.sides n ≡ Some side → IsSoundSegment s → FitWorld w → SoundWorld w
-      → SoundWorld (node_handles m served (with_side w (suc n) (marked side k e)) (Arrived (client_sockets side) s))
+-- ---- and H is known of each connection
+
+pub record KnownWorld (H : Connection → Type 0) (w : World) : Type 0 where
+  pub sound : SoundWorld w
+  pub known : EachOf H w.node.connections
+
+reply_node : (w : World) (r : Option Reply) → (posts_reply w r).node ≡ w.node
+reply_node w None = refl
+reply_node w (Some (Echo request)) = refl
+reply_node w (Some (Tcp sockets id again s)) = refl
+
+posted_node : (w : World) (number : ℕ) (sent : Option PlainSegment) → (posts_of_client w number sent).node ≡ w.node
+posted_node w number None = refl
+posted_node w number (Some s) = refl
+
+module _ (H : Connection → Type 0) where
+  same_known : (v w : World) → v.node ≡ w.node → EachOf H w.node.connections → EachOf H v.node.connections
+  same_known v w e h = subst (λ (n : AbstractNode). EachOf H n.connections) (sym e) h
+
+  stepped_known : (w : World) (r : NodeStep) → SoundNode H w.node r → SoundWorld w → KnownWorld H (node_stepped w r)
+  stepped_known w r g h = record {
+    sound = stepped_sound H w r g h;
+    known = same_known (node_stepped w r) (record w { node = r.node; sides = buries r.gone w.sides }) (reply_node (record w { node = r.node; sides = buries r.gone w.sides }) r.sent) g.known;
+  }
+
+  client_known : (w : World) (n : ℕ) (base : Side) (took : ClientStep) → SoundStep took → KnownWorld H w → KnownWorld H (client_stepped w (suc n) base took)
+  client_known w n base took s h = record {
+    sound = client_sound w n base took s h.sound;
+    known = same_known (client_stepped w (suc n) base took) w (posted_node (with_side w (suc n) (with_client base took.client)) (suc n) took.sent) h.known;
+  }
+
+module _ (m : Meaning) (steady : IsSteady m) (H : Connection → Type 0) (bytes : SaysBytesWhere m H) (served : ℕ → Bool) where
+  gives_node_sound : (w : World) (n k : ℕ) (e : Sent) (s : PlainSegment) (side : Side) → slice_get w.sides n ≡ Some side → IsSoundSegment s → FitWorld w → KnownWorld H w
+      → KnownWorld H (node_handles m served (with_side w (suc n) (marked side k e)) (Arrived (client_sockets side) s))
   gives_node_sound w n k e s side at g f h =
       let v : World = with_side w (suc n) (marked side k e) in
       let vf : FitWorld v = put_fits w n side (marked side k e) at refl refl f in
-      let vh : SoundWorld v = put_sound w n (marked side k e) (h.sides n side at) h in
-      stepped_sound v (step m served v.node (Arrived (client_sockets side) s)) (arrival_node m pages lawful page served v.node (client_sockets side) s (f.sides n side at).addr (f.sides n side at).port g vf.node vh.conns) vh
+      let vh : SoundWorld v = put_sound w n (marked side k e) (h.sound.sides n side at) h.sound in
+      stepped_known H v (step m served v.node (Arrived (client_sockets side) s)) (arrival_node m steady H bytes served v.node (client_sockets side) s (f.sides n side at).addr (f.sides n side at).port g vf.node vh.conns h.known) vh
 
-  echo_sound : (w : World) (datagram : List ℕ) → SoundWorld w → SoundWorld (node_handles m served w (EchoAsked datagram))
-  echo_sound w datagram h = stepped_sound w (step m served w.node (EchoAsked datagram)) record { addr = refl; conns = h.conns; said = λ x e. only_some (λ r. SoundReply r) (Echo datagram) x e tt } h
+  echo_sound : (w : World) (datagram : List ℕ) → KnownWorld H w → KnownWorld H (node_handles m served w (EchoAsked datagram))
+  echo_sound w datagram h = stepped_known H w (step m served w.node (EchoAsked datagram)) record { addr = refl; conns = h.sound.conns; known = h.known; said = λ x e. only_some (λ r. SoundReply r) (Echo datagram) x e tt } h.sound
 
-  delivers_sound : (w : World) (k : ℕ) (e : Sent) (who : Who) (content : Content) → SoundSent w.node.addr who content → FitWorld w → SoundWorld w → SoundWorld (delivers m served w k e who content)
+  delivers_sound : (w : World) (k : ℕ) (e : Sent) (who : Who) (content : Content) → SoundSent w.node.addr who content → FitWorld w → KnownWorld H w → KnownWorld H (delivers m served w k e who content)
   delivers_sound w k e (FromClient number) (OfSegment id s) g f h =
-      at_number SoundWorld (λ i side. node_handles m served (with_side w i (marked side k e)) (Arrived (client_sockets side) s)) w.sides number w h
+      at_number (KnownWorld H) (λ i side. node_handles m served (with_side w i (marked side k e)) (Arrived (client_sockets side) s)) w.sides number w h
       (λ n side at. gives_node_sound w n k e s side at (segment_inside w.node.addr (FromClient number) id s g) f h)
   delivers_sound w k e (FromNode number) (OfSegment id s) g f h =
-      at_number SoundWorld (λ i side. client_stepped w i (marked side k e) (client_takes side.client s)) w.sides number w h
-      (λ n side at. client_sound w n (marked side k e) (client_takes side.client s) (takes_sound side.client s (h.sides n side at)) h)
+      at_number (KnownWorld H) (λ i side. client_stepped w i (marked side k e) (client_takes side.client s)) w.sides number w h
+      (λ n side at. client_known H w n (marked side k e) (client_takes side.client s) (takes_sound side.client s (h.sound.sides n side at)) h)
   delivers_sound w k e Pinger (OfPing datagram) g f h = echo_sound w datagram h
   delivers_sound w k e (FromClient n) (OfPing datagram) g f h = h
   delivers_sound w k e (FromClient n) (OfEcho request) g f h = h
@@ -139,25 +170,28 @@ module _ (m : Meaning) (pages : Pages) (lawful : IsPaged m pages) (page : HasByt
   delivers_sound w k e Pinger (OfSegment id s) g f h = h
   delivers_sound w k e Pinger (OfEcho request) g f h = h
 
-  act_sound : (w : World) (number : ℕ) (act : AbstractClient → ClientStep) → ((c : AbstractClient) → IsSoundClient c → SoundStep (act c)) → SoundWorld w → SoundWorld (client_acts w number act)
+  act_sound : (w : World) (number : ℕ) (act : AbstractClient → ClientStep) → ((c : AbstractClient) → IsSoundClient c → SoundStep (act c)) → KnownWorld H w → KnownWorld H (client_acts w number act)
   act_sound w number act s h =
-      at_number SoundWorld (λ i side. client_stepped w i side (act side.client)) w.sides number w h
-      (λ n side at. client_sound w n side (act side.client) (s side.client (h.sides n side at)) h)
+      at_number (KnownWorld H) (λ i side. client_stepped w i side (act side.client)) w.sides number w h
+      (λ n side at. client_known H w n side (act side.client) (s side.client (h.sound.sides n side at)) h)
 
-  slots_sound : (slots : List ℕ) (w : World) → FitWorld w → SoundWorld w → SoundWorld (handles_all m served (map Periodic slots) w)
+  slots_sound : (slots : List ℕ) (w : World) → FitWorld w → KnownWorld H w → KnownWorld H (handles_all m served (map Periodic slots) w)
   slots_sound [] w f h = h
   slots_sound (slot ∷ slots) w f h =
-      slots_sound slots (node_handles m served w (Periodic slot)) (periodic_fits m (steady_of m pages lawful) served w slot f)
-      (stepped_sound w (step m served w.node (Periodic slot)) (periodic_node m pages lawful page served w.node slot f.node h.conns) h)
+      slots_sound slots (node_handles m served w (Periodic slot)) (periodic_fits m steady served w slot f)
+      (stepped_known H w (step m served w.node (Periodic slot)) (periodic_node m steady H bytes served w.node slot f.node h.sound.conns h.known) h.sound)
 
-  pub does_sound : (w : World) (act : Act) → IsAct act → Harmless m served w act → FitWorld w → SoundWorld w → SoundWorld (does m served w act)
+  pub does_sound : (w : World) (act : Act) → IsAct act → Harmless m served w act → FitWorld w → KnownWorld H w → KnownWorld H (does m served w act)
   does_sound w (Act.Opens n) is l f h = act_sound w n client_opens opens_sound h
   does_sound w (Act.Again n) is l f h = act_sound w n client_again again_sound h
   does_sound w (Act.Closes n) is l f h = act_sound w n client_closes closes_sound h
   does_sound w (Act.Aborts n) is l f h = act_sound w n client_aborts aborts_sound h
   does_sound w (Act.Window n x) is l f h = act_sound w n (tells_window x) (λ c s. window_sound x c is s) h
-  does_sound w (Act.Ping source) is l f h = posts_sound w Pinger false (OfPing (ping_from source w.node.addr)) (of_ping source refl refl is) h
+  does_sound w (Act.Ping source) is l f h = record { sound = posts_sound w Pinger false (OfPing (ping_from source w.node.addr)) (of_ping source refl refl is) h.sound; known = h.known }
   does_sound w (Act.Give k) is l f h =
-      at_number SoundWorld (λ i e. delivers m served w i e e.who e.content) w.sent k w h (λ n e at. delivers_sound w (suc n) e e.who e.content (h.sent n e at) f h)
-  does_sound w (Act.Damage k at mask) is l f h = loss_sound w (does m served w (Act.Damage k at mask)) l h
+      at_number (KnownWorld H) (λ i e. delivers m served w i e e.who e.content) w.sent k w h (λ n e at. delivers_sound w (suc n) e e.who e.content (h.sound.sent n e at) f h)
+  does_sound w (Act.Damage k at mask) is l f h = record {
+    sound = loss_sound w (does m served w (Act.Damage k at mask)) l h.sound;
+    known = subst (EachOf H) (sym l.connections) h.known;
+  }
   does_sound w Act.Tick is l f h = slots_sound (0 ∷ 1 ∷ 2 ∷ 3 ∷ 4 ∷ 5 ∷ 6 ∷ 7 ∷ 8 ∷ 9 ∷ []) w f h

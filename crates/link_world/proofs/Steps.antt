@@ -5,7 +5,7 @@ use Rattle.tcp_segment.specs.Segments.{PlainSegment, has_fin, has_rst, has_ack}
 use Rattle.rexmit_timer.specs.declared.timer.Beat.{Beat}
 use Rattle.app_events.specs.Part.{Part, Moment, Meaning}
 use Rattle.app_events.specs.Laws.{IsPrefixOf}
-use Rattle.app_events.specs.Pages.{Pages, IsPaged, MayWant}
+use Rattle.app_events.specs.Pages.{MayWant}
 use Rattle.app_events.specs.declared.now.Now.{Now}
 use Rattle.app_events.specs.declared.state.State.{State}
 use Rattle.app_events.specs.declared.state.State.TheVariants.{Closed, SynRcvd, Established, CloseWait, FinWait1, FinWait2, Closing, TimeWait, LastAck}
@@ -18,66 +18,66 @@ use Rattle.tcp_machine.specs.OnSegment.{is_out_of_order, is_acked, rests, has_te
 use Rattle.tcp_machine.specs.OnTick.{outstanding, grows_older, by_beat, on_tick}
 use Rattle.tcp_machine.specs.declared.step.Step.{Step}
 use Rattle.link_client.specs.Client.{AbstractClient, own_first}
-use Rattle.uip_node.proofs.Basics.{IsPart, prefix_part, prefix_length, prefix_joins, and_true, same_place, empty_part, zero_or_more, ltb-zero, in_place, choose, append_nothing, cut_part, part_prefix}
+use Rattle.uip_node.proofs.Basics.{IsPart, prefix_part, prefix_length, prefix_joins, and_true, same_place, empty_part, zero_or_more, ltb-zero, in_place, choose, append_nothing, cut_part, both_ways}
 use Rattle.uip_node.proofs.Cases.{by_open, by_own_fin, fin_lives, is_open, on_tick_by, open_live}
 use Rattle.link_world.proofs.Later.{page_more, page_heard, front_grows, front_all}
 use Rattle.link_world.proofs.Good.{Spoken, spoken, AtSyn, AtText, AtOpen, AtFin, ConnGood, StateGood, Moved, StepGood, SentGood, ClientSaid, IsData, Steady}
 use Rattle.link_world.proofs.Good.NodeSaid.{node_reset, node_syn, node_ack, node_text, node_fin}
 use Rattle.link_world.proofs.Good.ClientSaid.{said_reset, said_syn, said_data}
-use Rattle.uip_node.proofs.Handed.{Heard, hears_is, prepare_is}
+use Rattle.link_world.proofs.Speaking.{Speaker, Speaks, page_by, HearsSome, KeepsHeard, Heard, hears_is, prepare_is, acked_is, wants_is}
 
-module _ (m : Meaning) (pages : Pages) (lawful : IsPaged m pages) where
+module _ (m : Meaning) (speaker : Speaker) (laws : Speaks m speaker) where
   module _ (opened : Option ℕ) (client : AbstractClient) where
     -- what a connection may say
-    says_ack : (d : Connection) → is_live d.state ≡ true → SentGood pages opened client d (bare_ack d)
+    says_ack : (d : Connection) → is_live d.state ≡ true → SentGood speaker opened client d (bare_ack d)
     says_ack d l = record { lives = λ e. l; said = node_ack refl record { no_syn = refl; no_fin = refl; no_text = refl } }
 
-    says_reset : (d c : Connection) → SentGood pages opened client d (reset_of c)
+    says_reset : (d c : Connection) → SentGood speaker opened client d (reset_of c)
     says_reset d c = record { lives = λ e. absurd (let z : true ≡ false = e in cc); said = node_reset refl }
 
-    pub says_syn : (d : Connection) → is_live d.state ≡ true → d.acked ≡ 0 → SentGood pages opened client d (syn_ack d)
+    pub says_syn : (d : Connection) → is_live d.state ≡ true → d.acked ≡ 0 → SentGood speaker opened client d (syn_ack d)
     says_syn d l z = record { lives = λ e. l; said = node_syn refl record { syn = refl; seq = ap wrap (omega (arith, z)) } }
 
-    says_text : (d : Connection) → is_live d.state ≡ true → AtText pages opened client d → SentGood pages opened client d (text_segment m d)
+    says_text : (d : Connection) → is_live d.state ≡ true → AtText speaker opened client d → SentGood speaker opened client d (text_segment m d)
     says_text d l h =
-        let said : m.said d.part ≡ pages.text d.part.heard d.part.captures = lawful.said d.part in
+        let said : m.said d.part ≡ speaker.text d.part.heard d.part.captures = laws.said d.part h.here in
         record {
           lives = λ e. l;
           said = node_text refl h.opened_is record {
             no_syn = refl;
             no_fin = refl;
             at = d.part.acked;
-            part = subst (λ t. IsPart (pages.text client.request d.part.captures) (take d.len (drop d.part.acked t)) d.part.acked) (sym said)
-                (prefix_part (pages.text d.part.heard d.part.captures) (pages.text client.request d.part.captures) (take d.len (drop d.part.acked (pages.text d.part.heard d.part.captures))) d.part.acked
-                (front_grows m pages lawful d.part.heard client.request d.part.captures h.heard) (cut_part (pages.text d.part.heard d.part.captures) d.part.acked d.len h.fits));
+            part = subst (λ t. IsPart (speaker.text client.request d.part.captures) (take d.len (drop d.part.acked t)) d.part.acked) (sym said)
+                (prefix_part (speaker.text d.part.heard d.part.captures) (speaker.text client.request d.part.captures) (take d.len (drop d.part.acked (speaker.text d.part.heard d.part.captures))) d.part.acked
+                (front_grows m speaker laws d.part.heard client.request d.part.captures h.heard) (cut_part (speaker.text d.part.heard d.part.captures) d.part.acked d.len h.fits));
             seq = ap wrap (omega (arith, h.count));
           };
         }
 
-    says_fin : (d : Connection) → is_live d.state ≡ true → AtFin pages opened client d → SentGood pages opened client d (fin_of d)
+    says_fin : (d : Connection) → is_live d.state ≡ true → AtFin speaker opened client d → SentGood speaker opened client d (fin_of d)
     says_fin d l h = record {
       lives = λ e. l;
       said = node_fin refl h.opened_is record { no_syn = refl; is_fin = refl; no_text = refl; at = d.part.acked; ends = h.ends; seq = ap wrap (omega (arith, h.count)) };
     }
 
-    move_silent : (c d : Connection) → Moved pages opened client c d → StepGood pages opened client c (record { connection = d; sent = None })
+    move_silent : (c d : Connection) → Moved speaker opened client c d → StepGood speaker opened client c (record { connection = d; sent = None })
     move_silent c d h = record { moved = h; said = λ s e. absurd (cc) }
 
-    move_says : (c d : Connection) (s : PlainSegment) → Moved pages opened client c d → SentGood pages opened client d s → StepGood pages opened client c (record { connection = d; sent = Some s })
-    move_says c d s h g = record { moved = h; said = λ x e. subst (λ y. SentGood pages opened client d y) (let e' : s ≡ x = cc in e') g }
+    move_says : (c d : Connection) (s : PlainSegment) → Moved speaker opened client c d → SentGood speaker opened client d s → StepGood speaker opened client c (record { connection = d; sent = Some s })
+    move_says c d s h g = record { moved = h; said = λ x e. subst (λ y. SentGood speaker opened client d y) (let e' : s ≡ x = cc in e') g }
 
-    stays_good : (c : Connection) → ConnGood pages opened client c → Moved pages opened client c c
+    stays_good : (c : Connection) → ConnGood speaker opened client c → Moved speaker opened client c c
     stays_good c g = record { first = refl; more = []; captures = sym (append_nothing c.part.captures); good = λ l. g }
 
     -- d is c in another state, or with other counts
-    turns : (c d : Connection) → d.first ≡ c.first → d.part.captures ≡ c.part.captures → d.peer_first ≡ own_first client → StateGood pages opened client d d.state → Moved pages opened client c d
+    turns : (c d : Connection) → d.first ≡ c.first → d.part.captures ≡ c.part.captures → d.peer_first ≡ own_first client → StateGood speaker opened client d d.state → Moved speaker opened client c d
     turns c d f k pf s = record { first = f; more = []; captures = k ∙ sym (append_nothing c.part.captures); good = λ y. record { peer_first = pf; state = s } }
 
-    closes_good : (c d : Connection) → d.first ≡ c.first → d.part.captures ≡ c.part.captures → Moved pages opened client c (closes d)
+    closes_good : (c d : Connection) → d.first ≡ c.first → d.part.captures ≡ c.part.captures → Moved speaker opened client c (closes d)
     closes_good c d f k = record { first = f; more = []; captures = k ∙ sym (append_nothing c.part.captures); good = λ l. absurd (cc) }
 
     -- a step from b, which c had become
-    from_good : (c b : Connection) (step : Spoken) (more : List Moment) → b.first ≡ c.first → b.part.captures ≡ c.part.captures ++ more → StepGood pages opened client b step → StepGood pages opened client c step
+    from_good : (c b : Connection) (step : Spoken) (more : List Moment) → b.first ≡ c.first → b.part.captures ≡ c.part.captures ++ more → StepGood speaker opened client b step → StepGood speaker opened client c step
     from_good c b step more f k g = record {
       moved = record {
         first = g.moved.first ∙ f;
@@ -88,84 +88,84 @@ module _ (m : Meaning) (pages : Pages) (lawful : IsPaged m pages) where
       said = g.said;
     }
 
-    state_at : (d : Connection) (st : State) → d.state ≡ st → StateGood pages opened client d st → StateGood pages opened client d d.state
-    state_at d st e h = subst (λ x. StateGood pages opened client d x) (sym e) h
+    state_at : (d : Connection) (st : State) → d.state ≡ st → StateGood speaker opened client d st → StateGood speaker opened client d d.state
+    state_at d st e h = subst (λ x. StateGood speaker opened client d x) (sym e) h
 
     -- in ESTABLISHED and CLOSE-WAIT
-    text_at : (c : Connection) (st : State) → is_open st ≡ true → StateGood pages opened client c st → AtText pages opened client c
-    text_at c st o h = by_open (λ x. StateGood pages opened client c x → AtText pages opened client c) (λ g. g.text) (λ g. g) st o h
+    text_at : (c : Connection) (st : State) → is_open st ≡ true → StateGood speaker opened client c st → AtText speaker opened client c
+    text_at c st o h = by_open (λ x. StateGood speaker opened client c x → AtText speaker opened client c) (λ g. g.text) (λ g. g) st o h
 
-    text_state : (c d : Connection) (st : State) → is_open st ≡ true → StateGood pages opened client c st → AtText pages opened client d → d.taken ≡ c.taken → d.part.heard ≡ c.part.heard → StateGood pages opened client d st
-    text_state c d st o h t e f =
-        by_open (λ x. StateGood pages opened client c x → StateGood pages opened client d x) (λ g. record { text = t; taken = e ∙ g.taken ∙ ap length (sym f) }) (λ g. t) st o h
+    text_state : (c d : Connection) (st : State) → is_open st ≡ true → StateGood speaker opened client c st → AtText speaker opened client d → d.taken ≡ c.taken → d.part.heard ≡ c.part.heard → speaker.lost d.part ≡ speaker.lost c.part → StateGood speaker opened client d st
+    text_state c d st o h t e f l =
+        by_open (λ x. StateGood speaker opened client c x → StateGood speaker opened client d x) (λ g. record { text = t; taken = λ n. e ∙ g.taken (sym l ∙ n) ∙ ap length (sym f) }) (λ g. t) st o h
 
-    fin_state : (d : Connection) (st : State) → AtFin pages opened client d → StateGood pages opened client d (after_own_fin st)
-    fin_state d st h = by_own_fin (λ x. StateGood pages opened client d x) h h st
+    fin_state : (d : Connection) (st : State) → AtFin speaker opened client d → StateGood speaker opened client d (after_own_fin st)
+    fin_state d st h = by_own_fin (λ x. StateGood speaker opened client d x) h h st
 
     -- the same text with other counts
-    like_text : (c d : Connection) → d.part.heard ≡ c.part.heard → d.part.captures ≡ c.part.captures → d.acked ≡ 1 + d.part.acked → d.part.acked + d.len ≤ length (pages.text c.part.heard c.part.captures) → AtText pages opened client c → AtText pages opened client d
-    like_text c d f k n l h =
-        let e : length (pages.text d.part.heard d.part.captures) ≡ length (pages.text c.part.heard c.part.captures) = ap (λ q. length (pages.text q d.part.captures)) f ∙ ap (λ q. length (pages.text c.part.heard q)) k in
-        record { opened_is = h.opened_is; heard = subst (λ q. IsPrefixOf q client.request) (sym f) h.heard; fits = omega (arith, e, l); count = n }
+    like_text : (c d : Connection) → speaker.here d.part ≡ true → d.part.heard ≡ c.part.heard → d.part.captures ≡ c.part.captures → d.acked ≡ 1 + d.part.acked → d.part.acked + d.len ≤ length (speaker.text c.part.heard c.part.captures) → AtText speaker opened client c → AtText speaker opened client d
+    like_text c d here f k n l h =
+        let e : length (speaker.text d.part.heard d.part.captures) ≡ length (speaker.text c.part.heard c.part.captures) = ap (λ q. length (speaker.text q d.part.captures)) f ∙ ap (λ q. length (speaker.text c.part.heard q)) k in
+        record { opened_is = h.opened_is; here = here; heard = subst (λ q. IsPrefixOf q client.request) (sym f) h.heard; fits = omega (arith, e, l); count = n }
 
     -- what is wanted
-    wanted_good : (w : Want) (fresh : Bool) (c : Connection) (numbers : List ℕ) → is_open c.state ≡ true → ConnGood pages opened client c → AtText pages opened client c → MayWant pages c.part w →
-        StepGood pages opened client c (spoken m (does_as_wanted w fresh c numbers))
+    wanted_good : (w : Want) (fresh : Bool) (c : Connection) (numbers : List ℕ) → is_open c.state ≡ true → ConnGood speaker opened client c → AtText speaker opened client c → MayWant (page_by speaker) c.part w →
+        StepGood speaker opened client c (spoken m (does_as_wanted w fresh c numbers))
     unfolding idles
     wanted_good Abort fresh c numbers o g h w = move_says c (closes c) (reset_of (closes c)) (closes_good c c refl refl) (says_reset (closes c) (closes c))
     wanted_good Close fresh c numbers o g h w =
         let d : Connection = record c { state = after_own_fin c.state; len = 1; age = 0 } in
-        let a : AtFin pages opened client d = record { opened_is = h.opened_is; ends = front_all m pages lawful client c.part.heard c.part.captures c.part.acked h.heard w.0 w.1; count = h.count; heard = h.heard } in
+        let a : AtFin speaker opened client d = record { opened_is = h.opened_is; ends = front_all m speaker laws client c.part.heard c.part.captures c.part.acked h.heard w.0 w.1; count = h.count; heard = h.heard } in
         move_says c d (fin_of d) (turns c d refl refl g.peer_first (fin_state d c.state a)) (says_fin d (fin_lives c.state) a)
     wanted_good (Send n) fresh c numbers o g h w =
         let d : Connection = record c { len = min n c.mss; age = 0 } in
-        let t : AtText pages opened client d = like_text c d refl refl h.count (omega (arith, w.1)) h in
-        move_says c d (text_segment m d) (turns c d refl refl g.peer_first (text_state c d c.state o g.state t refl refl)) (says_text d (open_live c.state o) t)
+        let t : AtText speaker opened client d = like_text c d h.here refl refl h.count (omega (arith, w.1)) h in
+        move_says c d (text_segment m d) (turns c d refl refl g.peer_first (text_state c d c.state o g.state t refl refl refl)) (says_text d (open_live c.state o) t)
     wanted_good Nothing fresh c numbers o g h w =
-        choose (λ (x : Outcome). StepGood pages opened client c (spoken m x)) (peer_has_closed c.state) _ _
+        choose (λ (x : Outcome). StepGood speaker opened client c (spoken m x)) (peer_has_closed c.state) _ _
         (λ e. move_says c (closes c) (reset_of (closes c)) (closes_good c c refl refl) (says_reset (closes c) (closes c)))
-        (λ e. choose (λ (x : Outcome). StepGood pages opened client c (spoken m x)) fresh _ _
+        (λ e. choose (λ (x : Outcome). StepGood speaker opened client c (spoken m x)) fresh _ _
         (λ f. move_says c c (bare_ack c) (stays_good c g) (says_ack c (open_live c.state o)))
         (λ f. move_silent c c (stays_good c g)))
 
     -- a step that ends by asking
     pub record AskGood (c d : Connection) : Type 0 where
-      pub moved : Moved pages opened client c d
+      pub moved : Moved speaker opened client c d
       pub is_asked : is_open d.state ≡ true
       pub idle : d.len ≡ 0
 
-    pub asking_good : (c d : Connection) (now : Now) (fresh : Bool) (numbers : List ℕ) → AskGood c d → StepGood pages opened client c (spoken m (ask m now fresh d numbers))
+    pub asking_good : (c d : Connection) (now : Now) (fresh : Bool) (numbers : List ℕ) → AskGood c d → StepGood speaker opened client c (spoken m (ask m now fresh d numbers))
     asking_good c d now fresh numbers a =
-        let g : ConnGood pages opened client d = a.moved.good (open_live d.state a.is_asked) in
-        let h : AtText pages opened client d = text_at d d.state a.is_asked g.state in
-        let p = prepare_is m pages lawful numbers d.part now in
+        let g : ConnGood speaker opened client d = a.moved.good (open_live d.state a.is_asked) in
+        let h : AtText speaker opened client d = text_at d d.state a.is_asked g.state in
+        let p = prepare_is m speaker laws numbers d.part now h.here in
         let q : Part = m.prepare numbers d.part now in
         let b : Connection = prepared m now d numbers in
-        let e : length (pages.text q.heard q.captures) ≡ length (pages.text d.part.heard (d.part.captures ++ p.more)) = ap (λ x. length (pages.text x q.captures)) p.heard ∙ ap (λ x. length (pages.text d.part.heard x)) p.captures in
-        let more : length (pages.text d.part.heard d.part.captures) ≤ length (pages.text d.part.heard (d.part.captures ++ p.more)) = prefix_length (pages.text d.part.heard d.part.captures) (pages.text d.part.heard (d.part.captures ++ p.more)) (page_more m pages lawful d.part.heard d.part.captures p.more) in
-        let t : AtText pages opened client b = record { opened_is = h.opened_is; heard = subst (λ x. IsPrefixOf x client.request) (sym p.heard) h.heard; fits = omega (arith, e, more, h.fits, p.acked); count = omega (arith, h.count, p.acked) } in
-        let gb : ConnGood pages opened client b = record { peer_first = g.peer_first; state = text_state d b d.state a.is_asked g.state t refl p.heard } in
+        let e : length (speaker.text q.heard q.captures) ≡ length (speaker.text d.part.heard (d.part.captures ++ p.more)) = ap (λ x. length (speaker.text x q.captures)) p.keeps.heard ∙ ap (λ x. length (speaker.text d.part.heard x)) p.captures in
+        let more : length (speaker.text d.part.heard d.part.captures) ≤ length (speaker.text d.part.heard (d.part.captures ++ p.more)) = prefix_length (speaker.text d.part.heard d.part.captures) (speaker.text d.part.heard (d.part.captures ++ p.more)) (page_more m speaker laws d.part.heard d.part.captures p.more) in
+        let t : AtText speaker opened client b = record { opened_is = h.opened_is; here = p.keeps.here; heard = subst (λ x. IsPrefixOf x client.request) (sym p.keeps.heard) h.heard; fits = omega (arith, e, more, h.fits, p.acked); count = omega (arith, h.count, p.acked) } in
+        let gb : ConnGood speaker opened client b = record { peer_first = g.peer_first; state = text_state d b d.state a.is_asked g.state t refl p.keeps.heard p.keeps.lost } in
         from_good c b (spoken m (ask m now fresh d numbers)) (a.moved.more ++ p.more) a.moved.first
         (p.captures ∙ ap (λ l. l ++ p.more) a.moved.captures ∙ append_assoc c.part.captures a.moved.more p.more)
-        (wanted_good (m.want numbers q) fresh b numbers a.is_asked gb t (lawful.wants numbers q))
+        (wanted_good (m.want numbers q) fresh b numbers a.is_asked gb t (wants_is m speaker laws numbers q t.here (omega (arith, t.fits))))
 
     abbrev pub OutBy : Connection → Connection → Step → Type 0
     OutBy c d (Step.Ask fresh) = AskGood c d
-    OutBy c d Step.Drop = StepGood pages opened client c (record { connection = d; sent = None })
-    OutBy c d Step.Ack = StepGood pages opened client c (record { connection = d; sent = Some (bare_ack d) })
-    OutBy c d (Step.SynAck again) = StepGood pages opened client c (record { connection = d; sent = Some (syn_ack d) })
-    OutBy c d (Step.Text again) = StepGood pages opened client c (record { connection = d; sent = Some (text_segment m d) })
-    OutBy c d (Step.Fin again) = StepGood pages opened client c (record { connection = d; sent = Some (fin_of d) })
-    OutBy c d Step.Reset = StepGood pages opened client c (record { connection = d; sent = Some (reset_of d) })
+    OutBy c d Step.Drop = StepGood speaker opened client c (record { connection = d; sent = None })
+    OutBy c d Step.Ack = StepGood speaker opened client c (record { connection = d; sent = Some (bare_ack d) })
+    OutBy c d (Step.SynAck again) = StepGood speaker opened client c (record { connection = d; sent = Some (syn_ack d) })
+    OutBy c d (Step.Text again) = StepGood speaker opened client c (record { connection = d; sent = Some (text_segment m d) })
+    OutBy c d (Step.Fin again) = StepGood speaker opened client c (record { connection = d; sent = Some (fin_of d) })
+    OutBy c d Step.Reset = StepGood speaker opened client c (record { connection = d; sent = Some (reset_of d) })
 
     abbrev pub OutGood : Connection → Outcome → Type 0
     OutGood c o = OutBy c o.connection o.step
 
-    asked_for_good : (moment : Connection → Now) (c d : Connection) (numbers : List ℕ) (s : Step) → OutBy c d s → StepGood pages opened client c (spoken m (asked_for m moment (leaves d numbers s) s))
+    asked_for_good : (moment : Connection → Now) (c d : Connection) (numbers : List ℕ) (s : Step) → OutBy c d s → StepGood speaker opened client c (spoken m (asked_for m moment (leaves d numbers s) s))
     asked_for_good moment c d numbers (Step.Ask fresh) h = asking_good c d (moment d) fresh numbers h
     asked_for_good moment c d numbers _ h = h
 
-    pub asked_good : (moment : Connection → Now) (c : Connection) (o : Outcome) → OutGood c o → StepGood pages opened client c (spoken m (asked m moment o))
+    pub asked_good : (moment : Connection → Now) (c : Connection) (o : Outcome) → OutGood c o → StepGood speaker opened client c (spoken m (asked m moment o))
     asked_good moment c o h = asked_for_good moment c o.connection o.numbers o.step h
 
     -- the peer's text stands in its request where the connection expects it
@@ -187,40 +187,64 @@ module _ (m : Meaning) (pages : Pages) (lawful : IsPaged m pages) where
     is_data at_epoch s (said_syn y) nr a = absurd (let n : has_ack s.flags ≡ false = y.no_ack in cc)
     is_data at_epoch s (said_data d) nr a = d
 
+    -- What is heard of a text that stands behind what was heard: a front of it, or nothing where the part is lost.
+    heard_front : (p q : Part) (text : List ℕ) → IsPrefixOf p.heard client.request → (speaker.lost p ≡ false → IsPart client.request text (length p.heard)) → HearsSome speaker p q text → IsPrefixOf q.heard client.request
+    heard_front p q text h t x =
+        both_ways (speaker.lost p)
+        (λ l. subst (λ y. IsPrefixOf y client.request) (sym (x.no_more l).0) h)
+        (λ l. let all : IsPrefixOf (p.heard ++ text) client.request = prefix_joins client.request p.heard text h (t l) in
+        subst (λ y. IsPrefixOf y client.request) (sym x.heard) record {
+          rest = x.rest ++ all.rest;
+          joined = sym (append_assoc (p.heard ++ x.front) x.rest all.rest) ∙ ap (λ y. y ++ all.rest) (append_assoc p.heard x.front x.rest ∙ ap (λ y. p.heard ++ y) x.joined) ∙ all.joined;
+        })
+
+    -- where the part is not lost afterwards, all of it is heard
+    heard_whole : (p q : Part) (text : List ℕ) → HearsSome speaker p q text → speaker.lost q ≡ false → (speaker.lost p ≡ false) × (length q.heard ≡ length p.heard + length text)
+    heard_whole p q text x l = (
+      both_ways (speaker.lost p) (λ y. absurd (let z : speaker.lost q ≡ true = (x.no_more y).1 in cc)) (λ y. y),
+      elim (x.all) [
+        | inl e ↦ (let t : x.front ≡ text = sym (append_nothing x.front) ∙ ap (λ y. x.front ++ y) (sym e) ∙ x.joined in
+            ap (λ y. length y) x.heard ∙ length-append p.heard x.front ∙ ap (λ y. length p.heard + length y) t)
+        | inr e ↦ absurd (cc)
+      ],
+    )
+
     -- text is heard in ESTABLISHED; the state may change, and the peer's window
-    heard_text : (c d : Connection) (text : List ℕ) → AtText pages opened client c → IsPart client.request text (length c.part.heard) → Heard m pages lawful c.part d.part text → d.acked ≡ c.acked → d.len ≡ c.len → AtText pages opened client d
+    heard_text : (c d : Connection) (text : List ℕ) → AtText speaker opened client c → (speaker.lost c.part ≡ false → IsPart client.request text (length c.part.heard)) → Heard m speaker laws c.part d.part text → d.acked ≡ c.acked → d.len ≡ c.len → AtText speaker opened client d
     heard_text c d text h p x ea el =
-        let e : length (pages.text d.part.heard d.part.captures) ≡ length (pages.text (c.part.heard ++ text) c.part.captures) = ap (λ q. length (pages.text q d.part.captures)) x.heard ∙ ap (λ q. length (pages.text (c.part.heard ++ text) q)) x.captures in
-        let more : length (pages.text c.part.heard c.part.captures) ≤ length (pages.text (c.part.heard ++ text) c.part.captures) = prefix_length (pages.text c.part.heard c.part.captures) (pages.text (c.part.heard ++ text) c.part.captures) (page_heard m pages lawful c.part.heard text c.part.captures) in
+        let front : List ℕ = x.some.front in
+        let e : length (speaker.text d.part.heard d.part.captures) ≡ length (speaker.text (c.part.heard ++ front) c.part.captures) = ap (λ q. length (speaker.text q d.part.captures)) x.some.heard ∙ ap (λ q. length (speaker.text (c.part.heard ++ front) q)) x.captures in
+        let more : length (speaker.text c.part.heard c.part.captures) ≤ length (speaker.text (c.part.heard ++ front) c.part.captures) = prefix_length (speaker.text c.part.heard c.part.captures) (speaker.text (c.part.heard ++ front) c.part.captures) (page_heard m speaker laws c.part.heard front c.part.captures) in
         record {
           opened_is = h.opened_is;
-          heard = subst (λ q. IsPrefixOf q client.request) (sym x.heard) (prefix_joins client.request c.part.heard text h.heard p);
+          here = x.some.here;
+          heard = heard_front c.part d.part text h.heard p x.some;
           fits = omega (arith, e, more, h.fits, x.acked, el);
           count = omega (arith, h.count, x.acked, ea);
         }
 
-    front_fits : (c : Connection) → AtText pages opened client c → length c.part.heard ≤ length client.request
+    front_fits : (c : Connection) → AtText speaker opened client c → length c.part.heard ≤ length client.request
     front_fits c h = prefix_length c.part.heard client.request h.heard
 
-    peer_closes_good : (c : Connection) (numbers : List ℕ) (s : PlainSegment) → c.peer_first ≡ own_first client → AtOpen pages opened client c → IsPart client.request s.text (length c.part.heard) → OutGood c (peer_closes m c numbers s)
+    peer_closes_good : (c : Connection) (numbers : List ℕ) (s : PlainSegment) → c.peer_first ≡ own_first client → AtOpen speaker opened client c → (speaker.lost c.part ≡ false → IsPart client.request s.text (length c.part.heard)) → OutGood c (peer_closes m c numbers s)
     unfolding peer_closes
     peer_closes_good c numbers s pf h part =
-        let x = hears_is m pages lawful numbers c.part s.text in
+        let x = hears_is m speaker laws numbers c.part s.text h.text.here in
         let d : Connection = in_state CloseWait (with_window s.window (with_part (hears m numbers c.part s.text).part (takes (length s.text + 1) c))) in
-        let t : AtText pages opened client d = heard_text c d s.text h.text part x refl refl in
-        let w : Moved pages opened client c d = turns c d refl x.captures pf t in
+        let t : AtText speaker opened client d = heard_text c d s.text h.text part x refl refl in
+        let w : Moved speaker opened client c d = turns c d refl x.captures pf t in
         choose (λ (o : Outcome). OutGood c o) (ltb 0 c.len) _ _
         (λ e. move_says c d (bare_ack d) w (says_ack d refl))
         (λ e. record { moved = w; is_asked = refl; idle = ltb-zero c.len e })
 
-    goes_on_good : (acked : Bool) (c : Connection) (numbers : List ℕ) (s : PlainSegment) → c.state ≡ Established → c.peer_first ≡ own_first client → AtOpen pages opened client c → IsPart client.request s.text (length c.part.heard) → OutGood c (goes_on m acked c numbers s)
+    goes_on_good : (acked : Bool) (c : Connection) (numbers : List ℕ) (s : PlainSegment) → c.state ≡ Established → c.peer_first ≡ own_first client → AtOpen speaker opened client c → (speaker.lost c.part ≡ false → IsPart client.request s.text (length c.part.heard)) → OutGood c (goes_on m acked c numbers s)
     unfolding goes_on
     goes_on_good acked c numbers s st pf h part =
-        let x = hears_is m pages lawful numbers c.part s.text in
+        let x = hears_is m speaker laws numbers c.part s.text h.text.here in
         let d : Connection = with_window s.window (with_part (hears m numbers c.part s.text).part (takes (length s.text) c)) in
-        let t : AtText pages opened client d = heard_text c d s.text h.text part x refl refl in
-        let a : AtOpen pages opened client d = record { text = t; taken = omega (arith, h.taken, ap length x.heard, length-append c.part.heard s.text) } in
-        let w : Moved pages opened client c d = turns c d refl x.captures pf (state_at d Established st a) in
+        let t : AtText speaker opened client d = heard_text c d s.text h.text part x refl refl in
+        let a : AtOpen speaker opened client d = record { text = t; taken = λ l. (let y = heard_whole c.part d.part s.text x.some l in omega (arith, h.taken y.0, y.1)) } in
+        let w : Moved speaker opened client c d = turns c d refl x.captures pf (state_at d Established st a) in
         let l : is_live d.state ≡ true = ap is_live st in
         choose (λ (o : Outcome). OutGood c o) (not acked && not (has_text s)) _ _
         (λ e. move_silent c d w)
@@ -229,19 +253,20 @@ module _ (m : Meaning) (pages : Pages) (lawful : IsPaged m pages) where
         (λ f. record { moved = w; is_asked = ap is_open st; idle = ltb-zero c.len f }))
 
     established_good : (at_epoch : ℕ) (acked : Bool) (c : Connection) (numbers : List ℕ) (s : PlainSegment) → Steady client → ClientSaid client opened at_epoch s → has_rst s.flags ≡ false →
-        c.state ≡ Established → c.peer_first ≡ own_first client → AtOpen pages opened client c → (0 < length s.text → s.seq ≡ rcv_nxt c) → OutGood c (in_established m acked c numbers s)
+        c.state ≡ Established → c.peer_first ≡ own_first client → AtOpen speaker opened client c → (0 < length s.text → s.seq ≡ rcv_nxt c) → OutGood c (in_established m acked c numbers s)
     unfolding in_established
     established_good at_epoch acked c numbers s steady said nr st pf h e =
-        let part : IsPart client.request s.text (length c.part.heard) = said_part at_epoch c s (length c.part.heard) steady said nr pf h.taken (front_fits c h.text) e in
+        let part : speaker.lost c.part ≡ false → IsPart client.request s.text (length c.part.heard) = λ l. said_part at_epoch c s (length c.part.heard) steady said nr pf (h.taken l) (front_fits c h.text) e in
         choose (λ (o : Outcome). OutGood c o) (has_fin s.flags) _ _
         (λ f. peer_closes_good c numbers s pf h part)
         (λ f. goes_on_good acked c numbers s st pf h part)
 
     -- an acknowledgement of text
-    ack_text : (c : Connection) (numbers : List ℕ) → AtText pages opened client c → AtText pages opened client (with_part (m.acked numbers c.part c.len).part (rests c))
+    ack_text : (c : Connection) (numbers : List ℕ) → AtText speaker opened client c → AtText speaker opened client (with_part (m.acked numbers c.part c.len).part (rests c))
     ack_text c numbers h =
-        let n : (m.acked numbers c.part c.len).part.acked ≡ c.part.acked + c.len = lawful.acked_moves numbers c.part c.len in
-        like_text c (with_part (m.acked numbers c.part c.len).part (rests c)) (lawful.acked_like numbers c.part c.len) (lawful.acked_captures numbers c.part c.len) (omega (arith, n, h.count)) (omega (arith, n, h.fits)) h
+        let n : (m.acked numbers c.part c.len).part.acked ≡ c.part.acked + c.len = acked_is m speaker laws numbers c.part c.len h.here h.fits in
+        let x : KeepsHeard speaker c.part (m.acked numbers c.part c.len).part = laws.acked numbers c.part c.len h.here in
+        like_text c (with_part (m.acked numbers c.part c.len).part (rests c)) x.here x.heard (laws.steady.acked_captures numbers c.part c.len) (omega (arith, n, h.count)) (omega (arith, n, h.fits)) h
 
     out_from : (c b : Connection) (d : Connection) (s : Step) → b.first ≡ c.first → b.part.captures ≡ c.part.captures → OutBy b d s → OutBy c d s
     out_from c b d (Step.Ask fresh) f k h = record {
@@ -257,33 +282,34 @@ module _ (m : Meaning) (pages : Pages) (lawful : IsPaged m pages) where
     out_from c b d Step.Reset f k h = from_good c b (record { connection = d; sent = Some (reset_of d) }) [] f (k ∙ sym (append_nothing c.part.captures)) h
 
     connects_good : (at_epoch : ℕ) (c : Connection) (numbers : List ℕ) (s : PlainSegment) → Steady client → ClientSaid client opened at_epoch s → has_rst s.flags ≡ false → has_ack s.flags ≡ true →
-        c.peer_first ≡ own_first client → AtSyn c → (0 < length s.text → s.seq ≡ rcv_nxt c) → OutGood c (connects m c numbers s)
+        c.peer_first ≡ own_first client → AtSyn speaker c → (0 < length s.text → s.seq ≡ rcv_nxt c) → OutGood c (connects m c numbers s)
     connects_good at_epoch c numbers s steady said nr ac pf h e =
         let told = is_data at_epoch s said nr ac in
         let start : Part = (m.connected numbers c.sockets.own_port.0).part in
-        let x = hears_is m pages lawful (m.connected numbers c.sockets.own_port.0).numbers start s.text in
+        let x = hears_is m speaker laws (m.connected numbers c.sockets.own_port.0).numbers start s.text (laws.connected_here numbers c.sockets.own_port.0 h.port) in
         let d : Connection = with_part (hears m (m.connected numbers c.sockets.own_port.0).numbers start s.text).part (takes (length s.text) (in_state Established (rests c))) in
-        let none : start.heard ≡ [] = lawful.connected_heard numbers c.sockets.own_port.0 in
-        let heard : d.part.heard ≡ s.text = x.heard ∙ ap (λ l. l ++ s.text) none in
+        let none : start.heard ≡ [] = laws.connected_heard numbers c.sockets.own_port.0 h.port in
         let part : IsPart client.request s.text 0 = said_part at_epoch c s 0 steady said nr pf h.taken (omega arith) e in
-        let acked : d.part.acked ≡ 0 = x.acked ∙ lawful.connected_acked numbers c.sockets.own_port.0 in
-        let k : d.part.captures ≡ [] = x.captures ∙ lawful.connected_captures numbers c.sockets.own_port.0 in
+        let begins : IsPrefixOf start.heard client.request = subst (λ q. IsPrefixOf q client.request) (sym none) record { rest = client.request; joined = refl } in
+        let acked : d.part.acked ≡ 0 = x.acked ∙ laws.steady.connected_acked numbers c.sockets.own_port.0 in
+        let k : d.part.captures ≡ [] = x.captures ∙ laws.steady.connected_captures numbers c.sockets.own_port.0 in
         record {
           moved = turns c d refl (k ∙ sym h.captures) pf record {
             text = record {
               opened_is = told.opened_is;
-              heard = subst (λ q. IsPrefixOf q client.request) (sym heard) (part_prefix client.request s.text part);
+              here = x.some.here;
+              heard = heard_front start d.part s.text begins (λ l. subst (λ n. IsPart client.request s.text n) (sym (ap length none)) part) x.some;
               fits = omega (arith, acked);
               count = omega (arith, acked, h.acked, h.len);
             };
-            taken = omega (arith, h.taken, ap length heard);
+            taken = λ l. (let y = heard_whole start d.part s.text x.some l in omega (arith, h.taken, y.1, ap length none));
           };
           is_asked = refl;
           idle = refl;
         }
 
     by_state_good : (at_epoch : ℕ) (st : State) (acked : Bool) (c : Connection) (numbers : List ℕ) (s : PlainSegment) → Steady client → ClientSaid client opened at_epoch s → has_rst s.flags ≡ false →
-        c.state ≡ st → c.peer_first ≡ own_first client → StateGood pages opened client c st → is_acked c s ≡ acked → (0 < length s.text → s.seq ≡ rcv_nxt c) → is_live st ≡ true →
+        c.state ≡ st → c.peer_first ≡ own_first client → StateGood speaker opened client c st → is_acked c s ≡ acked → (0 < length s.text → s.seq ≡ rcv_nxt c) → is_live st ≡ true →
         OutGood c (by_state m st acked c numbers s)
     unfolding fin_acked fin_waits
     by_state_good at_epoch Closed acked c numbers s steady said nr st pf h ac e lv = absurd (cc)
@@ -292,32 +318,32 @@ module _ (m : Meaning) (pages : Pages) (lawful : IsPaged m pages) where
     by_state_good at_epoch Established true c numbers s steady said nr st pf h ac e lv =
         let b : Connection = with_part (m.acked numbers c.part c.len).part (rests c) in
         let o : Outcome = in_established m true b (m.acked numbers c.part c.len).numbers s in
-        out_from c b o.connection o.step refl (lawful.acked_captures numbers c.part c.len)
-        (established_good at_epoch true b (m.acked numbers c.part c.len).numbers s steady said nr st pf record { text = ack_text c numbers h.text; taken = h.taken ∙ ap length (sym (lawful.acked_like numbers c.part c.len)) } e)
+        out_from c b o.connection o.step refl (laws.steady.acked_captures numbers c.part c.len)
+        (established_good at_epoch true b (m.acked numbers c.part c.len).numbers s steady said nr st pf record { text = ack_text c numbers h.text; taken = λ l. (let x = laws.acked numbers c.part c.len h.text.here in h.taken (sym x.lost ∙ l) ∙ ap length (sym x.heard)) } e)
     by_state_good at_epoch Established false c numbers s steady said nr st pf h ac e lv = established_good at_epoch false c numbers s steady said nr st pf h e
     by_state_good at_epoch CloseWait true c numbers s steady said nr st pf h ac e lv =
         let b : Connection = with_part (m.acked numbers c.part c.len).part (rests c) in
         let d : Connection = with_window s.window b in
-        let t : AtText pages opened client b = ack_text c numbers h in
-        let u : AtText pages opened client d = record { opened_is = t.opened_is; heard = t.heard; fits = t.fits; count = t.count } in
-        record { moved = turns c d refl (lawful.acked_captures numbers c.part c.len) pf (state_at d CloseWait st u); is_asked = ap is_open st; idle = refl }
+        let t : AtText speaker opened client b = ack_text c numbers h in
+        let u : AtText speaker opened client d = record { opened_is = t.opened_is; here = t.here; heard = t.heard; fits = t.fits; count = t.count } in
+        record { moved = turns c d refl (laws.steady.acked_captures numbers c.part c.len) pf (state_at d CloseWait st u); is_asked = ap is_open st; idle = refl }
     by_state_good at_epoch CloseWait false c numbers s steady said nr st pf h ac e lv =
         let d : Connection = with_window s.window c in
-        let u : AtText pages opened client d = record { opened_is = h.opened_is; heard = h.heard; fits = h.fits; count = h.count } in
+        let u : AtText speaker opened client d = record { opened_is = h.opened_is; here = h.here; heard = h.heard; fits = h.fits; count = h.count } in
         move_silent c d (turns c d refl refl pf (state_at d CloseWait st u))
     by_state_good at_epoch FinWait1 true c numbers s steady said nr st pf h ac e lv =
         choose (λ (o : Outcome). OutGood c o) (has_fin s.flags) _ _
         (λ f. let d : Connection = in_state TimeWait (takes (length s.text + 1) (rests c)) in move_says c d (bare_ack d) (turns c d refl refl pf record { opened_is = h.opened_is; heard = h.heard }) (says_ack d refl))
         (λ f. let d : Connection = in_state FinWait2 (takes (length s.text) (rests c)) in move_silent c d (turns c d refl refl pf record { opened_is = h.opened_is; heard = h.heard }))
     by_state_good at_epoch FinWait1 false c numbers s steady said nr st pf h ac e lv =
-        let g : ConnGood pages opened client c = record { peer_first = pf; state = state_at c FinWait1 st h } in
+        let g : ConnGood speaker opened client c = record { peer_first = pf; state = state_at c FinWait1 st h } in
         choose (λ (o : Outcome). OutGood c o) (has_fin s.flags) _ _
         (λ f. let d : Connection = in_state Closing (takes (length s.text + 1) c) in
-        let a : AtFin pages opened client d = record { opened_is = h.opened_is; ends = h.ends; count = h.count; heard = h.heard } in
+        let a : AtFin speaker opened client d = record { opened_is = h.opened_is; ends = h.ends; count = h.count; heard = h.heard } in
         move_says c d (bare_ack d) (turns c d refl refl pf a) (says_ack d refl))
         (λ f. choose (λ (o : Outcome). OutGood c o) (has_text s) _ _
         (λ i. let d : Connection = takes (length s.text) c in
-        let a : AtFin pages opened client d = record { opened_is = h.opened_is; ends = h.ends; count = h.count; heard = h.heard } in
+        let a : AtFin speaker opened client d = record { opened_is = h.opened_is; ends = h.ends; count = h.count; heard = h.heard } in
         move_says c d (bare_ack d) (turns c d refl refl pf (state_at d FinWait1 st a)) (says_ack d (ap is_live st)))
         (λ i. move_silent c c (stays_good c g)))
     by_state_good at_epoch FinWait2 acked c numbers s steady said nr st pf h ac e lv =
@@ -335,7 +361,7 @@ module _ (m : Meaning) (pages : Pages) (lawful : IsPaged m pages) where
         move_says c c (bare_ack c) (stays_good c record { peer_first = pf; state = state_at c TimeWait st h }) (says_ack c (ap is_live st))
 
     -- a segment of its client
-    pub on_segment_good : (at_epoch : ℕ) (c : Connection) (numbers : List ℕ) (s : PlainSegment) → Steady client → ClientSaid client opened at_epoch s → ConnGood pages opened client c → is_live c.state ≡ true →
+    pub on_segment_good : (at_epoch : ℕ) (c : Connection) (numbers : List ℕ) (s : PlainSegment) → Steady client → ClientSaid client opened at_epoch s → ConnGood speaker opened client c → is_live c.state ≡ true →
         OutGood c (on_segment m c numbers s)
     unfolding on_segment
     on_segment_good at_epoch c numbers s steady said g lv =
@@ -346,22 +372,22 @@ module _ (m : Meaning) (pages : Pages) (lawful : IsPaged m pages) where
         (λ f. by_state_good at_epoch c.state (is_acked c s) c numbers s steady said r refl g.peer_first g.state refl (in_place s (rcv_nxt c) f) lv))
 
     -- the timer
-    older : (c : Connection) (st : State) → StateGood pages opened client c st → StateGood pages opened client (grows_older c) st
+    older : (c : Connection) (st : State) → StateGood speaker opened client c st → StateGood speaker opened client (grows_older c) st
     older c Closed h = tt
-    older c SynRcvd h = record { taken = h.taken; len = h.len; captures = h.captures; acked = h.acked; heard = h.heard }
-    older c Established h = record { text = record { opened_is = h.text.opened_is; heard = h.text.heard; fits = h.text.fits; count = h.text.count }; taken = h.taken }
-    older c CloseWait h = record { opened_is = h.opened_is; heard = h.heard; fits = h.fits; count = h.count }
+    older c SynRcvd h = record { port = h.port; taken = h.taken; len = h.len; captures = h.captures; acked = h.acked; heard = h.heard }
+    older c Established h = record { text = record { opened_is = h.text.opened_is; here = h.text.here; heard = h.text.heard; fits = h.text.fits; count = h.text.count }; taken = h.taken }
+    older c CloseWait h = record { opened_is = h.opened_is; here = h.here; heard = h.heard; fits = h.fits; count = h.count }
     older c FinWait1 h = record { opened_is = h.opened_is; ends = h.ends; count = h.count; heard = h.heard }
     older c FinWait2 h = record { opened_is = h.opened_is; heard = h.heard }
     older c Closing h = record { opened_is = h.opened_is; ends = h.ends; count = h.count; heard = h.heard }
     older c TimeWait h = record { opened_is = h.opened_is; heard = h.heard }
     older c LastAck h = record { opened_is = h.opened_is; ends = h.ends; count = h.count; heard = h.heard }
 
-    older_moved : (c : Connection) → ConnGood pages opened client c → Moved pages opened client c (grows_older c)
+    older_moved : (c : Connection) → ConnGood speaker opened client c → Moved speaker opened client c (grows_older c)
     older_moved c g = turns c (grows_older c) refl refl g.peer_first (older c c.state g.state)
 
     -- what is outstanding is sent again
-    again_good : (c d : Connection) (st : State) → Moved pages opened client c d → d.state ≡ st → StateGood pages opened client d st → OutBy c d (outstanding true st)
+    again_good : (c d : Connection) (st : State) → Moved speaker opened client c d → d.state ≡ st → StateGood speaker opened client d st → OutBy c d (outstanding true st)
     again_good c d Closed w e h = move_silent c d w
     again_good c d SynRcvd w e h = move_says c d (syn_ack d) w (says_syn d (ap is_live e) h.acked)
     again_good c d Established w e h = move_says c d (text_segment m d) w (says_text d (ap is_live e) h.text)
@@ -372,21 +398,27 @@ module _ (m : Meaning) (pages : Pages) (lawful : IsPaged m pages) where
     again_good c d TimeWait w e h = move_silent c d w
     again_good c d LastAck w e h = move_says c d (fin_of d) w (says_fin d (ap is_live e) h)
 
-    by_beat_good : (b : Beat) (c : Connection) (numbers : List ℕ) → ConnGood pages opened client c → OutGood c (by_beat m b c numbers)
+    by_beat_good : (b : Beat) (c : Connection) (numbers : List ℕ) → ConnGood speaker opened client c → OutGood c (by_beat m b c numbers)
     by_beat_good Beat.Wait c numbers g = move_silent c (grows_older c) (older_moved c g)
     by_beat_good Beat.Again c numbers g = again_good c (grows_older c) c.state (older_moved c g) refl (older c c.state g.state)
     by_beat_good Beat.GiveUp c numbers g = move_says c (closes c) (reset_of (closes c)) (closes_good c c refl refl) (says_reset (closes c) (closes c))
 
-    pub on_tick_good : (c : Connection) (numbers : List ℕ) → ConnGood pages opened client c → OutGood c (on_tick m c numbers)
+    pub on_tick_good : (c : Connection) (numbers : List ℕ) → ConnGood speaker opened client c → OutGood c (on_tick m c numbers)
     on_tick_good c numbers g = on_tick_by m (λ o. OutGood c o) c numbers record {
       none = move_silent c c (stays_good c g);
       beats = λ r b. by_beat_good b c numbers g;
       rested = λ e. move_silent c (grows_older c) (older_moved c g);
       ends = move_silent c (closes c) (closes_good c c refl refl);
       polled = λ e z.
-          (let h : AtOpen pages opened client c = subst (λ st. StateGood pages opened client c st) e g.state in
-          let x = lawful.polled_like numbers c.part in
+          (let h : AtOpen speaker opened client c = subst (λ st. StateGood speaker opened client c st) e g.state in
+          let x : KeepsHeard speaker c.part (m.polled numbers c.part).part = laws.polled numbers c.part h.text.here in
+          let a : (m.polled numbers c.part).part.acked ≡ c.part.acked = (laws.steady.lawful.polled_keeps numbers c.part tt).1 in
+          let k : (m.polled numbers c.part).part.captures ≡ c.part.captures = laws.steady.polled_captures numbers c.part in
           let d : Connection = with_part (m.polled numbers c.part).part c in
-          let t : AtText pages opened client d = like_text c d x.heard x.captures (omega (arith, h.text.count, x.acked)) (omega (arith, h.text.fits, x.acked)) h.text in
-          record { moved = turns c d refl x.captures g.peer_first (state_at d Established e record { text = t; taken = h.taken ∙ ap length (sym x.heard) }); is_asked = ap is_open e; idle = z });
+          let t : AtText speaker opened client d = like_text c d x.here x.heard k (omega (arith, h.text.count, a)) (omega (arith, h.text.fits, a)) h.text in
+          record {
+            moved = turns c d refl k g.peer_first (state_at d Established e record { text = t; taken = λ l. h.taken (sym x.lost ∙ l) ∙ ap length (sym x.heard) });
+            is_asked = ap is_open e;
+            idle = z;
+          });
     }
