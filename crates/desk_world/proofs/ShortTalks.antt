@@ -1,7 +1,7 @@
 -- How long a talk is: each byte that is heard brings one command at most, and no command says more than 1032 bytes.
 use Rattle.std.specs.List.{All}
 use Rattle.std.specs.Prelude.{codes}
-use Rattle.std.proofs.Common.{ℕ, ◌+◌, ◌*◌, ◌==◌, ◌≤◌, List, [], ◌∷◌, ◌++◌, length, arith, if◌then◌else◌, length-append, lit<, lit≤}
+use Rattle.std.proofs.Common.{Bool, true, false, ℕ, ◌+◌, ◌*◌, ◌==◌, ◌≤◌, List, [], ◌∷◌, ◌++◌, length, arith, if◌then◌else◌, length-append, lit<, lit≤}
 use Rattle.std.proofs.lemmas.List.Elements.{All-head, All-tail}
 use Rattle.app_events.specs.Pages.{IsMoment}
 use Rattle.app_events.specs.Part.{Moment}
@@ -14,28 +14,35 @@ use Rattle.generators.specs.Lemmas.Lengths.{texts_short}
 use Rattle.uip_node.proofs.Basics.{choose}
 use Rattle.telnet_shell.specs.declared.command.Command.{Command}
 use Rattle.telnet_shell.specs.declared.command.Command.TheVariants.{Refuse, Help, Stats, Conns, Ticks, Quit, Blank, Other}
-use Rattle.telnet_shell.specs.Reading.{Awaits, Token, all_commands, commands, commands_in, is_quit, next_awaits, told, tokens, until_quit}
+use Rattle.telnet_shell.specs.Reading.{Awaits, Token, all_commands, commands, commands_in, is_quit, next_awaits, tokens, until_quit}
 use Rattle.telnet_shell.specs.Reading.Awaits.{Text, Second, Choice}
 use Rattle.telnet_shell.specs.Reading.Token.{Byte, Answer}
-use Rattle.telnet_shell.specs.Transcript.{function_of, needs_capture, said_at, said_plainly, said_with, transcript}
+use Rattle.telnet_shell.specs.Transcript.{function_of, needs_capture, said_plainly, said_with, transcript}
 use Rattle.desk_world.specs.DeskWorlds.{TalksAreShort}
 
 -- ---- a byte brings one command at most
 
-abbrev One : List Token → Type 0
-One ts = length ts ≤ 1
+one_more : (ts us : List Token) (byte : ℕ) (more : List ℕ) → length ts ≤ 1 → length us ≤ length more → length (ts ++ us) ≤ length (byte ∷ more)
+one_more ts us byte more h g = omega (arith, length-append ts us, h, g)
 
-told_one : (awaits : Awaits) (byte : ℕ) → One (told awaits byte)
-told_one Text byte = choose One (byte == 255) [] (Byte byte ∷ []) (λ e. lit≤ tt) (λ e. lit≤ tt)
-told_one Second byte = choose One (byte == 255) (Byte 255 ∷ []) [] (λ e. lit≤ tt) (λ e. lit≤ tt)
-told_one (Choice verb) byte =
-    choose One (verb == 251) (Answer (Refuse 254 byte) ∷ []) (if verb == 253 then Answer (Refuse 252 byte) ∷ [] else []) (λ e. lit≤ tt)
-    (λ e. choose One (verb == 253) (Answer (Refuse 252 byte) ∷ []) [] (λ f. lit≤ tt) (λ f. lit≤ tt))
+-- of two lists, each of one token at most
+either_one : (b : Bool) (ts us : List Token) → length ts ≤ 1 → length us ≤ 1 → length (if b then ts else us) ≤ 1
+either_one true ts us h g = h
+either_one false ts us h g = g
 
 few_tokens : (awaits : Awaits) (heard : List ℕ) → length (tokens awaits heard) ≤ length heard
 few_tokens awaits [] = lit≤ tt
-few_tokens awaits (byte ∷ more) =
-    omega (arith, length-append (told awaits byte) (tokens (next_awaits awaits byte) more), told_one awaits byte, few_tokens (next_awaits awaits byte) more)
+few_tokens Text (byte ∷ more) =
+    one_more (if byte == 255 then [] else Byte byte ∷ []) (tokens (next_awaits Text byte) more) byte more
+    (either_one (byte == 255) [] (Byte byte ∷ []) (lit≤ tt) (lit≤ tt)) (few_tokens (next_awaits Text byte) more)
+few_tokens Second (byte ∷ more) =
+    one_more (if byte == 255 then Byte 255 ∷ [] else []) (tokens (next_awaits Second byte) more) byte more
+    (either_one (byte == 255) (Byte 255 ∷ []) [] (lit≤ tt) (lit≤ tt)) (few_tokens (next_awaits Second byte) more)
+few_tokens (Choice verb) (byte ∷ more) =
+    let dont : List Token = Answer (Refuse 254 byte) ∷ [] in
+    let wont : List Token = Answer (Refuse 252 byte) ∷ [] in
+    one_more (if verb == 251 then dont else if verb == 253 then wont else []) (tokens Text more) byte more
+    (either_one (verb == 251) dont (if verb == 253 then wont else []) (lit≤ tt) (either_one (verb == 253) wont [] (lit≤ tt) (lit≤ tt))) (few_tokens Text more)
 
 few_commands : (line : List ℕ) (ts : List Token) → length (commands line ts) ≤ length ts
 few_commands line [] = lit≤ tt
@@ -79,7 +86,11 @@ said_short Other capture h = lit≤ tt
 plainly_short : (c : Command) → length (said_plainly c) ≤ 1032
 plainly_short c = said_short c Empty (omega arith)
 
-at_short : (c : Command) (k : Moment) → IsMoment k → length (said_at c k) ≤ 1032
+-- what it says at a moment
+abbrev text_at : Command → Moment → List ℕ
+text_at c k = said_with c (capture_of (function_of c) 0 k.now)
+
+at_short : (c : Command) (k : Moment) → IsMoment k → length (text_at c k) ≤ 1032
 at_short c k is = said_short c (capture_of (function_of c) 0 k.now) (texts_short (function_of c) 0 k.now (lit< tt) is.now)
 
 -- ---- the talk
@@ -93,9 +104,9 @@ transcript_short (c ∷ cs) [] all =
     (λ e. omega (arith, length-append (said_plainly c) (transcript cs []), plainly_short c, h))
 transcript_short (c ∷ cs) (k ∷ ks) all =
     let most : List ℕ → Type 0 = λ xs. length xs ≤ 1032 * length (c ∷ cs) in
-    choose most (needs_capture c) (said_at c k ++ transcript cs ks) (said_plainly c ++ transcript cs (k ∷ ks))
+    choose most (needs_capture c) (text_at c k ++ transcript cs ks) (said_plainly c ++ transcript cs (k ∷ ks))
     (λ e. let h = transcript_short cs ks (All-tail IsMoment k ks all) in
-    omega (arith, length-append (said_at c k) (transcript cs ks), at_short c k (All-head IsMoment k ks all), h))
+    omega (arith, length-append (text_at c k) (transcript cs ks), at_short c k (All-head IsMoment k ks all), h))
     (λ e. let h = transcript_short cs (k ∷ ks) all in
     omega (arith, length-append (said_plainly c) (transcript cs (k ∷ ks)), plainly_short c, h))
 
