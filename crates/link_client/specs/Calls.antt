@@ -12,9 +12,9 @@ use Rattle.tcp_segment.specs.Segments.{PlainSegment, Datagram, datagram_bytes}
 use Rattle.tcp_segment.specs.declared.fate.TcpFate.{TcpFate}
 use Rattle.tcp_segment.specs.declared.segment.Segment.{Segment}
 use Rattle.link_client.specs.Client.{AbstractClient, ClientStep, client_takes, fin_sent, is_receiving, keeps, may_finish, has_outstanding}
-use Rattle.link_client.specs.declared.client.Client.{Client}
+use Rattle.link_client.specs.State.{Client}
 use Rattle.link_client.specs.declared.client_state.ClientState.{ClientState}
-use Rattle.link_client.specs.declared.client_state.ClientState.TheVariants.{Idle, Opening, Opened, Closing, Reset}
+use Rattle.link_client.specs.declared.client_state.ClientState.TheVariants.{Idle, Opening, Opened, Reset}
 use Rattle.link_client.specs.declared.setup.Setup.{Setup}
 
 -- a client of the code beside its request and the bytes that it took, as an abstract client
@@ -31,11 +31,8 @@ standing c request received = record {
   window = c.window;
 }
 
--- what a client keeps beside its request
-pub record IsClient (c : Client) (request : List ℕ) : Type 0 where
-  pub least : 1 ≤ c.setup.seg
-  pub most : c.setup.seg ≤ 1460
-  pub out : c.out ≤ c.setup.seg
+-- What ties a client to its request: what it sent of it stands in it, and it has at most 4096 bytes.
+pub record FitsRequest (c : Client) (request : List ℕ) : Type 0 where
   pub within : c.acked + c.out ≤ length request
   pub short : length request ≤ 4096
 

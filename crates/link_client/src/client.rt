@@ -1,5 +1,5 @@
 ghost use Rattle.std.specs.Prelude.{◌≡◌, ◌+◌, ◌≤◌, ◌++◌, ◌&&◌, ℕ, [], List, Some, is_some, length, slice_range};
-ghost use Rattle.link_client.specs.Calls.{Did, IsClient, can_abort, has_more_to_send, has_spoken, client_hears, is_opened, standing, client_hands};
+ghost use Rattle.link_client.specs.Calls.{Did, FitsRequest, can_abort, has_more_to_send, has_spoken, client_hears, is_opened, standing, client_hands};
 ghost use Rattle.link_client.specs.Client.{client_aborts, client_again, client_closes, client_opens, idle, tells_window};
 
 use crate::client_state::ClientState;
@@ -8,6 +8,7 @@ use crate::hearing::hear;
 use crate::setup::Setup;
 use crate::steps::took;
 use crate::took::Took;
+use std::marker::Model;
 use uip_wire::{LARGEST_DATAGRAM, Seq};
 
 /// A client.
@@ -25,13 +26,41 @@ pub struct Client {
     pub window: u16,
 }
 
+impl Model for Client {
+    ghost use Rattle.link_client.specs.State.{Client, IsClient};
+
+    ghost Value = { Client };
+
+    ghost view = { λ c. record {
+      setup = c.setup;
+      state = c.state;
+      acked = c.acked;
+      out = c.out;
+      fin = c.fin;
+      rcv = c.rcv;
+      window = c.window;
+    } };
+
+    ghost invariant = { λ c. IsClient c.setup.seg c.out };
+
+    ghost inverse = { λ c. record {
+      setup = c.setup;
+      state = c.state;
+      acked = c.acked;
+      out = c.out;
+      fin = c.fin;
+      rcv = c.rcv;
+      window = c.window;
+    } };
+}
+
 impl Client {
     /// A client before its first act.
     pub fn new(setup: Setup) -> Client
         requires least { 1 ≤ setup.seg }
         requires most { setup.seg ≤ 1460 }
         ensures idle { (request : List ℕ) → standing result request [] ≡ idle setup request }
-        ensures client { (request : List ℕ) → length request ≤ 4096 → IsClient result request }
+        ensures fits { (request : List ℕ) → length request ≤ 4096 → FitsRequest result request }
     {
         Client {
             setup,
@@ -49,7 +78,7 @@ impl Client {
     pub fn open_now(&mut self, area: &mut [u8]) -> usize
         requires idle { self.old.state ≡ ClientState.Idle }
         requires room { LARGEST_DATAGRAM ≤ length area.old }
-        ensures client { (request : List ℕ) → IsClient self.old request → IsClient self.new request }
+        ensures fits { (request : List ℕ) → FitsRequest self.old request → FitsRequest self.new request }
         ensures setup { self.new.setup ≡ self.old.setup }
         ensures room { length area.new ≡ length area.old }
         ensures step { (request received : List ℕ) → Did (client_opens (standing self.old request received))
@@ -61,10 +90,10 @@ impl Client {
 
     /// Takes a datagram: a segment of its server, or nothing. What it sends stands at the front of the area.
     pub fn take(&mut self, request: &[u8], datagram: &[u8], area: &mut [u8]) -> Took
-        requires client { IsClient self.old request.now }
+        requires fits { FitsRequest self.old request.now }
         requires most { length datagram.now ≤ LARGEST_DATAGRAM }
         requires room { LARGEST_DATAGRAM ≤ length area.old }
-        ensures client { IsClient self.new request.now }
+        ensures fits { FitsRequest self.new request.now }
         ensures setup { self.new.setup ≡ self.old.setup }
         ensures room { length area.new ≡ length area.old }
         ensures inside { result.fresh_at + result.fresh_len ≤ length datagram.now }
@@ -87,9 +116,9 @@ impl Client {
     /// Sends again what is outstanding, or an ACK, and answers the length of the datagram at the front of the area.
     #[tactic(auto, unfolding(crate::specs::Client::again_by))]
     pub fn again(&mut self, request: &[u8], area: &mut [u8]) -> Option<usize>
-        requires client { IsClient self.old request.now }
+        requires fits { FitsRequest self.old request.now }
         requires room { LARGEST_DATAGRAM ≤ length area.old }
-        ensures client { IsClient self.new request.now }
+        ensures fits { FitsRequest self.new request.now }
         ensures setup { self.new.setup ≡ self.old.setup }
         ensures room { length area.new ≡ length area.old }
         ensures answers { is_some result ≡ has_spoken self.old.state }
@@ -107,9 +136,9 @@ impl Client {
     /// Closes: its FIN goes out once its request is acknowledged.
     #[tactic(auto, unfolding(crate::specs::Client::closes_by))]
     pub fn close_now(&mut self, request: &[u8], area: &mut [u8]) -> Option<usize>
-        requires client { IsClient self.old request.now }
+        requires fits { FitsRequest self.old request.now }
         requires room { LARGEST_DATAGRAM ≤ length area.old }
-        ensures client { IsClient self.new request.now }
+        ensures fits { FitsRequest self.new request.now }
         ensures setup { self.new.setup ≡ self.old.setup }
         ensures room { length area.new ≡ length area.old }
         ensures answers { is_some result ≡ (is_opened self.old.state
@@ -135,7 +164,7 @@ impl Client {
     #[tactic(auto, unfolding(crate::specs::Client::aborts_by))]
     pub fn abort_now(&mut self, area: &mut [u8]) -> Option<usize>
         requires room { LARGEST_DATAGRAM ≤ length area.old }
-        ensures client { (request : List ℕ) → IsClient self.old request → IsClient self.new request }
+        ensures fits { (request : List ℕ) → FitsRequest self.old request → FitsRequest self.new request }
         ensures setup { self.new.setup ≡ self.old.setup }
         ensures room { length area.new ≡ length area.old }
         ensures answers { is_some result ≡ can_abort self.old.state }
@@ -154,7 +183,7 @@ impl Client {
 
     /// Tells this window from now on.
     pub fn set_window(&mut self, window: u16)
-        ensures client { (request : List ℕ) → IsClient self.old request → IsClient self.new request }
+        ensures fits { (request : List ℕ) → FitsRequest self.old request → FitsRequest self.new request }
         ensures setup { self.new.setup ≡ self.old.setup }
         ensures step { (request received : List ℕ) → (tells_window window (standing self.old request received)).client
             ≡ standing self.new request received }

@@ -2,7 +2,7 @@
 
 ghost use Rattle.std.specs.Prelude.{◌≡◌, ◌+◌, ◌≤◌, [], IsSome, Some, length, slice_range};
 ghost use Rattle.uip_wire.specs.Numbers.{wrap};
-ghost use Rattle.link_client.specs.Calls.{IsClient, Sends, standing};
+ghost use Rattle.link_client.specs.Calls.{FitsRequest, Sends, standing};
 ghost use Rattle.link_client.specs.Client.{ack_of, again_by, own_fin, next_own, offered, own_request, own_reset, syn_of};
 
 use crate::client::Client;
@@ -132,7 +132,7 @@ impl Client {
 
     /// The bytes of its request that are outstanding.
     pub(crate) fn send_request(&self, request: &[u8], area: &mut [u8]) -> usize
-        requires client { IsClient self.now request.now }
+        requires fits { FitsRequest self.now request.now }
         requires room { LARGEST_DATAGRAM ≤ length area.old }
         ensures sent { Sends self.now.setup (Some (own_request (standing self.now request.now []))) (Some result) area.new }
     {
@@ -153,7 +153,7 @@ impl Client {
     /// What it sends again once it is open: what is outstanding, or an acknowledgement.
     #[tactic(auto, unfolding(crate::specs::Client::again_by))]
     pub(crate) fn send_again(&self, request: &[u8], area: &mut [u8]) -> usize
-        requires client { IsClient self.now request.now }
+        requires fits { FitsRequest self.now request.now }
         requires room { LARGEST_DATAGRAM ≤ length area.old }
         ensures sent { Sends self.now.setup (again_by ClientState.Opened (standing self.now request.now [])).sent (Some result) area.new }
     {

@@ -4,7 +4,7 @@ ghost use Rattle.std.specs.Prelude.{◌≡◌, ◌+◌, ◌≤◌, ◌==◌, ◌
 ghost use Rattle.tcp_segment.specs.Received.{plain_of};
 ghost use Rattle.tcp_machine.specs.Segments.{has_place};
 ghost use Rattle.tcp_machine.specs.Stands.{plain};
-ghost use Rattle.link_client.specs.Calls.{Did, DidAtText, IsClient, has_more_to_send, received_with, standing};
+ghost use Rattle.link_client.specs.Calls.{Did, DidAtText, FitsRequest, has_more_to_send, received_with, standing};
 ghost use Rattle.link_client.specs.Client.{after_fin, client_takes, fin_out, fin_sent, hears_ack, is_receiving, is_reset_by, may_finish, sends_next, takes_by, takes_in_order, takes_text, has_outstanding};
 
 use crate::client::Client;
@@ -135,9 +135,9 @@ impl Client {
     /// What it sends next: request bytes, its FIN, or a bare ACK where one is owed.
     #[tactic(auto, unfolding(crate::specs::Client::sends_next))]
     pub(crate) fn send_next(&mut self, request: &[u8], owed: bool, area: &mut [u8]) -> Option<usize>
-        requires client { IsClient self.old request.now }
+        requires fits { FitsRequest self.old request.now }
         requires room { LARGEST_DATAGRAM ≤ length area.old }
-        ensures client { IsClient self.new request.now }
+        ensures fits { FitsRequest self.new request.now }
         ensures setup { self.new.setup ≡ self.old.setup }
         ensures answers { is_some result ≡ (has_more_to_send (standing self.old request.now []) || owed) }
         ensures step { (received : List ℕ) → Did (sends_next owed (standing self.old request.now received))
@@ -163,7 +163,7 @@ impl Client {
         requires fits { self.old.acked + self.old.out ≤ 4096 }
         ensures setup { self.new.setup ≡ self.old.setup }
         ensures state { self.new.state ≡ self.old.state }
-        ensures client { (request : List ℕ) → IsClient self.old request → IsClient self.new request }
+        ensures fits { (request : List ℕ) → FitsRequest self.old request → FitsRequest self.new request }
         ensures heard { (request received text : List ℕ)
             → hears_ack (standing self.old request received) (plain segment.now text) ≡ standing self.new request received }
     {
@@ -178,7 +178,7 @@ impl Client {
     fn take_text(&mut self, segment: &Segment, piece: &[u8])
         requires short { length piece.now ≤ LARGEST_DATAGRAM }
         ensures setup { self.new.setup ≡ self.old.setup }
-        ensures client { (request : List ℕ) → IsClient self.old request → IsClient self.new request }
+        ensures fits { (request : List ℕ) → FitsRequest self.old request → FitsRequest self.new request }
         ensures taken { (request received : List ℕ) → takes_text (standing self.old request received) (plain segment.now piece.now)
             ≡ standing self.new request (received_with true received piece.now) }
     {
@@ -207,10 +207,10 @@ impl Client {
         piece: &[u8],
         area: &mut [u8],
     ) -> Heard
-        requires client { IsClient self.old request.now }
+        requires fits { FitsRequest self.old request.now }
         requires short { length piece.now ≤ LARGEST_DATAGRAM }
         requires room { LARGEST_DATAGRAM ≤ length area.old }
-        ensures client { IsClient self.new request.now }
+        ensures fits { FitsRequest self.new request.now }
         ensures setup { self.new.setup ≡ self.old.setup }
         ensures step { DidAtText (λ c. takes_in_order c (plain segment.now piece.now)) request.now piece.now result.took_text
             self.old self.new result.sent area.new }
@@ -231,9 +231,9 @@ impl Client {
     /// A segment that is heard before the SYN is answered.
     #[tactic(auto, unfolding(crate::specs::Client::takes_by))]
     fn take_opening(&mut self, request: &[u8], segment: &Segment, area: &mut [u8]) -> Option<usize>
-        requires client { IsClient self.old request.now }
+        requires fits { FitsRequest self.old request.now }
         requires room { LARGEST_DATAGRAM ≤ length area.old }
-        ensures client { IsClient self.new request.now }
+        ensures fits { FitsRequest self.new request.now }
         ensures setup { self.new.setup ≡ self.old.setup }
         ensures step { (received text : List ℕ) → Did (takes_by ClientState.Opening (standing self.old request.now received)
             (plain segment.now text)) (standing self.new request.now received) result area.new }
@@ -255,10 +255,10 @@ impl Client {
         piece: &[u8],
         area: &mut [u8],
     ) -> Heard
-        requires client { IsClient self.old request.now }
+        requires fits { FitsRequest self.old request.now }
         requires short { length piece.now ≤ LARGEST_DATAGRAM }
         requires room { LARGEST_DATAGRAM ≤ length area.old }
-        ensures client { IsClient self.new request.now }
+        ensures fits { FitsRequest self.new request.now }
         ensures setup { self.new.setup ≡ self.old.setup }
         ensures step { DidAtText (λ c. takes_by self.old.state c (plain segment.now piece.now)) request.now piece.now result.took_text
             self.old self.new result.sent area.new }
@@ -291,7 +291,7 @@ impl Client {
     /// A RST.
     fn take_reset(&mut self, segment: &Segment)
         ensures setup { self.new.setup ≡ self.old.setup }
-        ensures client { (request : List ℕ) → IsClient self.old request → IsClient self.new request }
+        ensures fits { (request : List ℕ) → FitsRequest self.old request → FitsRequest self.new request }
         ensures reset { (request received text : List ℕ) → (if is_reset_by self.old.state (standing self.old request received)
             (plain segment.now text) then record (standing self.old request received) { state = ClientState.Reset }
             else standing self.old request received) ≡ standing self.new request received }
@@ -310,10 +310,10 @@ impl Client {
         piece: &[u8],
         area: &mut [u8],
     ) -> Heard
-        requires client { IsClient self.old request.now }
+        requires fits { FitsRequest self.old request.now }
         requires short { length piece.now ≤ LARGEST_DATAGRAM }
         requires room { LARGEST_DATAGRAM ≤ length area.old }
-        ensures client { IsClient self.new request.now }
+        ensures fits { FitsRequest self.new request.now }
         ensures setup { self.new.setup ≡ self.old.setup }
         ensures step { DidAtText (λ c. client_takes c (plain segment.now piece.now)) request.now piece.now result.took_text
             self.old self.new result.sent area.new }

@@ -13,8 +13,8 @@ use Rattle.uip_node.specs.Events.{Reply}
 use Rattle.uip_node.specs.Events.Reply.{Echo, Tcp}
 use Rattle.uip_node.specs.Node.{AbstractNode}
 use Rattle.uip_node.specs.Spoken.{IsSent}
-use Rattle.link_client.specs.declared.client.Client.{Client}
-use Rattle.link_client.specs.Calls.{IsClient}
+use Rattle.link_client.specs.State.{Client}
+use Rattle.link_client.specs.Calls.{FitsRequest}
 use Rattle.link_world.specs.Bytes.{bytes_by, node_bytes}
 use Rattle.link_world.specs.World.{World, Side, Content, addressed, buries, numbered, posts, posts_reply}
 use Rattle.link_world.specs.World.Content.{OfEcho, OfSegment}
@@ -36,9 +36,9 @@ use Rattle.link_replay.proofs.Staying.{buried_places}
 before : (xs ys : List CodeSide) (i : ℕ) (y : CodeSide) → Matched OnlyEpoch xs ys → slice_get ys i ≡ Some y → Partner (λ (new old : CodeSide). OnlyEpoch old new) xs i y
 before xs ys i y m g = partner (λ (new old : CodeSide). OnlyEpoch old new) ys xs i y record { same_length = sym m.same_length; each = λ j a b p q. m.each j b a q p } g
 
-still_client : (old new : CodeSide) → OnlyEpoch old new → IsClient old.client old.request.items → IsClient new.client new.request.items
+still_client : (old new : CodeSide) → OnlyEpoch old new → FitsRequest old.client old.request.items → FitsRequest new.client new.request.items
 still_client old new e h =
-    subst (λ (z : Client). IsClient z new.request.items) (sym e.client) (subst (λ (z : List ℕ). IsClient old.client z) (ap (λ v. v.items) (sym e.request)) h)
+    subst (λ (z : Client). FitsRequest z new.request.items) (sym e.client) (subst (λ (z : List ℕ). FitsRequest old.client z) (ap (λ v. v.items) (sym e.request)) h)
 
 -- as many clients as before are all written
 with_same : (link : Link) (ys : List CodeSide) → length link.sides.items ≡ length ys → (with_items link.sides ys).items ≡ ys

@@ -11,9 +11,9 @@ use Rattle.uip_wire.specs.declared.port.Port.{Port}
 use Rattle.uip_wire.specs.declared.sizes.TheConstants.{LARGEST_DATAGRAM}
 use Rattle.app_events.specs.Pages.{IsAddr, IsByte}
 use Rattle.uip_node.proofs.Stepping.{slice_get-element}
-use Rattle.link_client.specs.Calls.{IsClient, standing}
+use Rattle.link_client.specs.Calls.{FitsRequest, standing}
 use Rattle.link_client.specs.Client.{idle}
-use Rattle.link_client.specs.declared.client.Client.{Client}
+use Rattle.link_client.specs.State.{Client}
 use Rattle.link_client.specs.declared.setup.Setup.{Setup}
 use Rattle.link_schedule.specs.Clients.{Plan}
 use Rattle.link_schedule.specs.Kept.{are_apart, client_in_range, is_between}
@@ -43,9 +43,9 @@ server_is_addr = record {
 -- one client
 pub fresh : (number : ℕ) (plan : ClientPlan) (setup : Setup) (client : Client) (request received : Vec ℕ) → number ≤ 64 → client_in_range (plan_at plan) ≡ true
     → setup ≡ (planned number (plan_at plan)).setup → IsAddr plan.addr → plan.port.0 < 65536 → plan.mss < 65536 → All IsByte plan.request.items
-    → request.items ≡ plan.request.items → received.items ≡ [] → ((r : List ℕ) → standing client r [] ≡ idle setup r) → ((r : List ℕ) → length r ≤ 4096 → IsClient client r)
+    → request.items ≡ plan.request.items → received.items ≡ [] → ((r : List ℕ) → standing client r [] ≡ idle setup r) → ((r : List ℕ) → length r ≤ 4096 → FitsRequest client r)
     → IsFresh number (plan_at plan) (record { client = client; request = request; received = received; epoch = 0; first_stale = None })
-fresh number plan setup client request received few range e addr port mss bytes asked none is_idle is_client =
+fresh number plan setup client request received few range e addr port mss bytes asked none is_idle fits =
     let parts = and_parts (is_between 1 65535 plan.port.0 && is_between 1 1460 plan.seg) (is_between 1 4096 (length plan.request.items)) range in
     let sizes = and_parts (leb 1 (length plan.request.items)) (leb (length plan.request.items) 4096) parts.1 in
     let segs = and_parts (leb 1 plan.seg) (leb plan.seg 1460) (and_parts (is_between 1 65535 plan.port.0) (is_between 1 1460 plan.seg) parts.0).1 in
@@ -57,7 +57,7 @@ fresh number plan setup client request received few range e addr port mss bytes 
         epoch = refl;
         first_stale = refl;
       };
-      client = is_client request.items (subst (λ (r : List ℕ). length r ≤ 4096) (sym asked) short);
+      fits = fits request.items (subst (λ (r : List ℕ). length r ≤ 4096) (sym asked) short);
       at_server = ap (λ c. c.setup.server) (is_idle []) ∙ ap (λ (s : Setup). s.server) e;
       in_range = record {
         addr = addr;
@@ -152,7 +152,7 @@ pub link_opened : (addr : Addr) (link : Link) (plans : List Plan) → AreFresh p
 link_opened addr link plans h few area none at = record {
   area = area;
   few = omega (arith, few, h.same_length);
-  clients = λ i side g. (fresh_at plans link.sides.items h i side g).1.client;
+  clients = λ i side g. (fresh_at plans link.sides.items h i side g).1.fits;
   servers = λ i side g. (fresh_at plans link.sides.items h i side g).1.at_server ∙ sym at;
   many = omega (arith, ap length none);
   sizes = λ i sent g. absurd (let e = ap (λ xs. slice_get xs i) none in (cc));

@@ -12,7 +12,7 @@ use Rattle.link_world.specs.declared.who.Who.{Who}
 use Rattle.link_world.specs.declared.who.Who.TheVariants.{FromClient, FromNode, Pinger}
 use Rattle.link_replay.specs.Matched.{Matched}
 use Rattle.std.specs.Vec.{with_item}
-use Rattle.link_client.specs.Calls.{IsClient}
+use Rattle.link_client.specs.Calls.{FitsRequest}
 use Rattle.uip_node.proofs.Connections.{get_set}
 use Rattle.uip_node.proofs.Connections.Written.{here, there}
 use Rattle.link_replay.specs.Stands.{SideStands, SentStands, LinkStands, IsLink}
@@ -92,12 +92,12 @@ side_put link w n new s t h g e p = record {
   sent = sent_stays w (with_side w (suc n) t) refl record { each = get_put w.sides n s t g e } link.sent.items w.sent h.sent;
 }
 
-pub link_put : (addr : Addr) (link : Link) (n : ℕ) (new : CodeSide) → IsLink addr link → IsClient new.client new.request.items → new.client.setup.server ≡ addr
+pub link_put : (addr : Addr) (link : Link) (n : ℕ) (new : CodeSide) → IsLink addr link → FitsRequest new.client new.request.items → new.client.setup.server ≡ addr
     → IsLink addr (record link { sides = with_item link.sides n new })
 link_put addr link n new h c e = record {
   area = h.area;
   few = subst (λ k. k ≤ 64) (sym (length-set link.sides.items n new)) h.few;
-  clients = λ i side g. elim (get_set link.sides.items n new i side g) [ here q p ↦ subst (λ (z : CodeSide). IsClient z.client z.request.items) p c | there q o ↦ h.clients i side o ];
+  clients = λ i side g. elim (get_set link.sides.items n new i side g) [ here q p ↦ subst (λ (z : CodeSide). FitsRequest z.client z.request.items) p c | there q o ↦ h.clients i side o ];
   servers = λ i side g. elim (get_set link.sides.items n new i side g) [ here q p ↦ subst (λ (z : CodeSide). z.client.setup.server ≡ addr) p e | there q o ↦ h.servers i side o ];
   many = h.many;
   sizes = h.sizes;

@@ -7,7 +7,7 @@ use Rattle.std.specs.Option.{option_map_or}
 use Rattle.tcp_machine.specs.Connection.{closed}
 use Rattle.std.proofs.lemmas.List.{drop_all, take_all}
 use Rattle.uip_node.proofs.Basics.{append_nothing}
-use Rattle.link_client.specs.Calls.{standing, Sends, client_datagram, client_hands, client_hears, IsClient}
+use Rattle.link_client.specs.Calls.{standing, Sends, client_datagram, client_hands, client_hears, FitsRequest}
 use Rattle.link_client.specs.Client.{AbstractClient, ClientStep, client_takes}
 use Rattle.link_client.specs.declared.client_state.ClientState.{ClientState}
 use Rattle.link_client.specs.declared.client_state.ClientState.TheVariants.{Idle}
@@ -109,7 +109,7 @@ pub kept_too : (addr : Addr) (link other : Link) → other.sides ≡ link.sides 
 kept_too addr link other a b c h = record {
   area = c;
   few = subst (λ (xs : Vec CodeSide). length xs.items ≤ 64) (sym a) h.few;
-  clients = subst (λ (xs : Vec CodeSide). (i : ℕ) (side : CodeSide) → slice_get xs.items i ≡ Some side → IsClient side.client side.request.items) (sym a) h.clients;
+  clients = subst (λ (xs : Vec CodeSide). (i : ℕ) (side : CodeSide) → slice_get xs.items i ≡ Some side → FitsRequest side.client side.request.items) (sym a) h.clients;
   servers = subst (λ (xs : Vec CodeSide). (i : ℕ) (side : CodeSide) → slice_get xs.items i ≡ Some side → side.client.setup.server ≡ addr) (sym a) h.servers;
   many = subst (λ (xs : Vec CodeSent). length xs.items ≤ 65535) (sym b) h.many;
   sizes = subst (λ (xs : Vec CodeSent). (i : ℕ) (sent : CodeSent) → slice_get xs.items i ≡ Some sent → length sent.bytes.items ≤ LARGEST_DATAGRAM) (sym b) h.sizes;
@@ -117,7 +117,7 @@ kept_too addr link other a b c h = record {
 
 -- a client took a step, and wrote as much as there was
 pub kept_put : (addr : Addr) (link other : Link) (n : ℕ) (old new : CodeSide) → other.sides ≡ with_item link.sides n new → other.sent ≡ link.sent → length other.area.items ≡ length link.area.items
-    → slice_get link.sides.items n ≡ Some old → IsClient new.client new.request.items → new.client.setup ≡ old.client.setup → IsLink addr link → IsLink addr other
+    → slice_get link.sides.items n ≡ Some old → FitsRequest new.client new.request.items → new.client.setup ≡ old.client.setup → IsLink addr link → IsLink addr other
 kept_put addr link other n old new a b l at client setup h =
     kept_too addr (record link { sides = with_item link.sides n new }) other a b (l ∙ h.area)
     (link_put addr link n new h client (ap (λ (x : Setup). x.server) setup ∙ h.servers n old at))

@@ -3,7 +3,7 @@ use Rattle.std.specs.List.{enumerate_from}
 use Rattle.std.specs.Prelude.{◌≡◌, ℕ, suc, ◌*◌, List, [], ◌∷◌, length, map, Some, slice_get}
 use Rattle.uip_wire.specs.declared.addr.Addr.{Addr}
 use Rattle.uip_wire.specs.declared.port.TheConstants.{WEB_PORT}
-use Rattle.link_client.specs.Calls.{IsClient}
+use Rattle.link_client.specs.Calls.{FitsRequest}
 use Rattle.link_schedule.specs.Clients.{Plan}
 use Rattle.link_world.specs.World.{World}
 use Rattle.link_world.specs.History.{Planned, IsPlanned, fresh_side, opening_world}
@@ -40,7 +40,7 @@ opening_for numbers plans = opening_world server numbers (plan_from 1 plans)
 -- a client of the code before its first act
 pub record IsFresh (number : ℕ) (plan : Plan) (side : CodeSide) : Type 0 where
   pub stands : SideStands side (fresh_side (planned number plan))
-  pub client : IsClient side.client side.request.items
+  pub fits : FitsRequest side.client side.request.items
   pub at_server : side.client.setup.server ≡ server
   pub in_range : IsPlanned (planned number plan)
 

@@ -4,7 +4,7 @@ use Rattle.uip_wire.specs.declared.addr.Addr.{Addr}
 use Rattle.uip_wire.specs.declared.sizes.TheConstants.{LARGEST_DATAGRAM}
 use Rattle.app_events.specs.declared.app.App.{Ghosts}
 use Rattle.uip_node.specs.StandsFor.{Stands}
-use Rattle.link_client.specs.Calls.{standing, IsClient}
+use Rattle.link_client.specs.Calls.{standing, FitsRequest}
 use Rattle.link_world.specs.World.{World, Side, Sent, epoch}
 use Rattle.link_world.specs.Bytes.{sent_bytes}
 use Rattle.link_replay.specs.Matched.{Matched}
@@ -37,7 +37,7 @@ pub record LinkStands (link : Link) (w : World) : Type 0 where
 pub record IsLink (addr : Addr) (link : Link) : Type 0 where
   pub area : length link.area.items ≡ LARGEST_DATAGRAM
   pub few : length link.sides.items ≤ 64
-  pub clients : (i : ℕ) (side : CodeSide) → slice_get link.sides.items i ≡ Some side → IsClient side.client side.request.items
+  pub clients : (i : ℕ) (side : CodeSide) → slice_get link.sides.items i ≡ Some side → FitsRequest side.client side.request.items
   pub servers : (i : ℕ) (side : CodeSide) → slice_get link.sides.items i ≡ Some side → side.client.setup.server ≡ addr
   pub many : length link.sent.items ≤ 65535
   pub sizes : (i : ℕ) (sent : CodeSent) → slice_get link.sent.items i ≡ Some sent → length sent.bytes.items ≤ LARGEST_DATAGRAM

@@ -10,17 +10,17 @@ ghost use Rattle.link_replay.specs.Stands.{LinkStands, SideStands};
 use crate::acts::needs;
 use crate::link::Link;
 use crate::side::Side;
-use link_client::ClientState;
+use link_client::{Client, ClientState};
 use link_world::{Act, StepFault};
 
 /// Datagrams are numbered up to this.
 pub(crate) const MOST_DATAGRAMS: usize = 65535;
 
-/// Whether a client in this state is idle.
-pub(crate) fn is_idle_state(state: ClientState) -> bool
-    ensures { result ≡ is_idle state }
+/// Whether a client is idle.
+pub(crate) fn is_idle_client(client: &Client) -> bool
+    ensures { result ≡ is_idle client.now.state }
 {
-    match state {
+    match client.state {
         ClientState::Idle => true,
         ClientState::Opening
         | ClientState::Opened
@@ -39,7 +39,7 @@ fn is_idle(sides: &[Side], number: u8) -> bool
     if place == 0 || place > sides.len() {
         return true;
     }
-    is_idle_state(sides[place - 1].client.state)
+    is_idle_client(&sides[place - 1].client)
 }
 
 /// An act of a client that is idle.

@@ -17,6 +17,7 @@ use crate::kind::Kind;
 use crate::link::Link;
 use crate::sent::Sent;
 use crate::side::Side;
+use link_client::Client;
 use link_world::Who;
 use tcp_segment::check as check_segment;
 use uip_ipv4::{IpHead, Proto, check as check_head};
@@ -37,6 +38,13 @@ pub(crate) fn kind_of(addr: Addr, link: &Link, sent: &Sent) -> Kind
     }
 }
 
+/// The address of a client.
+fn addr_of(client: &Client) -> Addr
+    ensures { result ≡ client.now.setup.addr }
+{
+    client.setup.addr
+}
+
 /// The address of the client with a number, counted from 1.
 fn address_of(sides: &[Side], number: u8) -> Option<Addr>
     ensures { (ss : List PlainSide) → Matched SideStands sides.now ss
@@ -46,7 +54,7 @@ fn address_of(sides: &[Side], number: u8) -> Option<Addr>
     if place == 0 || place > sides.len() {
         return None;
     }
-    Some(sides[place - 1].client.setup.addr)
+    Some(addr_of(&sides[place - 1].client))
 }
 
 /// What these bytes are at an address, if they are a segment there.

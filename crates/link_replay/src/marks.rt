@@ -3,12 +3,15 @@
 ghost use Rattle.std.specs.Prelude.{◌≡◌};
 ghost use Rattle.link_world.specs.World.{Sent as PlainSent, Side as PlainSide, World as PlainWorld, marked, numbered};
 ghost use Rattle.uip_wire.specs.declared.addr.Addr.{Addr as Address};
+ghost use Rattle.link_replay.specs.Epochs.{sockets_for};
+ghost use Rattle.link_replay.specs.Noting.{pair_at};
 ghost use Rattle.link_replay.specs.Stands.{IsLink, LinkStands, SideStands};
 ghost use Rattle.link_replay.specs.Telling.{pair_at_side, sees};
 
 use crate::link::Link;
 use crate::side::Side;
 use crate::socket_pair::SocketPair;
+use link_client::Client;
 
 impl Side {
     /// A datagram of an epoch is delivered from or to the client: where it is stale, the first such number is kept.
@@ -20,6 +23,17 @@ impl Side {
         if self.first_stale.is_none() && epoch != self.epoch {
             self.first_stale = Some(number);
         }
+    }
+}
+
+/// The sockets of the server's connection with a client.
+fn pair_at(client: &Client) -> SocketPair
+    ensures { result ≡ pair_at (sockets_for client.now.setup) }
+{
+    SocketPair {
+        peer: client.setup.addr,
+        peer_port: client.setup.port,
+        own_port: client.setup.server_port,
     }
 }
 
@@ -37,7 +51,7 @@ impl Link {
         self.sides[place - 1].see(number, epoch);
     }
 
-    /// The sockets of the server's connection with a client.
+    /// The sockets of the server's connection with the client of a number.
     pub(crate) fn pair_of(&self, client: u8) -> Option<SocketPair>
         ensures { (w : PlainWorld) → LinkStands self.now w → result ≡ pair_at_side (numbered w.sides client) }
     {
@@ -45,11 +59,6 @@ impl Link {
         if place == 0 || place > self.sides.len() {
             return None;
         }
-        let setup = &self.sides[place - 1].client.setup;
-        Some(SocketPair {
-            peer: setup.addr,
-            peer_port: setup.port,
-            own_port: setup.server_port,
-        })
+        Some(pair_at(&self.sides[place - 1].client))
     }
 }

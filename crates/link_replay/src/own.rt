@@ -1,13 +1,13 @@
 //! What a client does, and what it hears.
 
 ghost use Rattle.std.specs.Prelude.{◌≡◌, ◌≤◌, IfOk, length, Some};
-ghost use Rattle.link_client.specs.Calls.{IsClient, client_hears, client_hands};
+ghost use Rattle.link_client.specs.Calls.{FitsRequest, client_hears, client_hands};
 ghost use Rattle.link_client.specs.Client.{tells_window};
 ghost use Rattle.link_world.specs.World.{Side as PlainSide, with_client};
 ghost use Rattle.link_replay.specs.Owning.{Stepped, own_step};
 ghost use Rattle.link_replay.specs.Stands.{SideStands};
 
-use crate::faults::is_idle_state;
+use crate::faults::is_idle_client;
 use crate::side::Side;
 use uip_edge::NoMemory;
 use uip_wire::LARGEST_DATAGRAM;
@@ -24,16 +24,16 @@ pub(crate) enum Own {
 impl Side {
     /// Something that the client does by itself. What it sends stands at the front of the area.
     pub(crate) fn act(&mut self, own: Own, area: &mut [u8]) -> Option<usize>
-        requires client { IsClient self.old.client self.old.request.items }
+        requires fits { FitsRequest self.old.client self.old.request.items }
         requires room { LARGEST_DATAGRAM ≤ length area.old }
-        ensures client { IsClient self.new.client self.new.request.items }
+        ensures fits { FitsRequest self.new.client self.new.request.items }
         ensures setup { self.new.client.setup ≡ self.old.client.setup }
         ensures room { length area.new ≡ length area.old }
         ensures step { (s : PlainSide) → SideStands self.old s → Stepped (own_step own s.client) s self.new result area.new }
     {
         match own {
             Own::Opens => {
-                if is_idle_state(self.client.state) {
+                if is_idle_client(&self.client) {
                     Some(self.client.open_now(area))
                 } else {
                     None
@@ -47,7 +47,7 @@ impl Side {
 
     /// The client tells a window from now on.
     pub(crate) fn tell_window(&mut self, window: u16)
-        ensures client { IsClient self.old.client self.old.request.items → IsClient self.new.client self.new.request.items }
+        ensures fits { FitsRequest self.old.client self.old.request.items → FitsRequest self.new.client self.new.request.items }
         ensures setup { self.new.client.setup ≡ self.old.client.setup }
         ensures step { (s : PlainSide) → SideStands self.old s → SideStands self.new (with_client s (tells_window window s.client).client) }
     {
@@ -60,10 +60,10 @@ impl Side {
         datagram: &[u8],
         area: &mut [u8],
     ) -> Result<Option<usize>, NoMemory>
-        requires client { IsClient self.old.client self.old.request.items }
+        requires fits { FitsRequest self.old.client self.old.request.items }
         requires most { length datagram.now ≤ LARGEST_DATAGRAM }
         requires room { LARGEST_DATAGRAM ≤ length area.old }
-        ensures client { IsClient self.new.client self.new.request.items }
+        ensures fits { FitsRequest self.new.client self.new.request.items }
         ensures setup { self.new.client.setup ≡ self.old.client.setup }
         ensures room { length area.new ≡ length area.old }
         ensures step { IfOk result (λ sent. (s : PlainSide) → SideStands self.old s

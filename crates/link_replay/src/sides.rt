@@ -11,13 +11,14 @@ ghost use Rattle.link_replay.specs.Stands.{SideStands};
 
 use crate::side::Side;
 use crate::socket_pair::SocketPair;
-use link_client::Setup;
+use link_client::Client;
 use uip_edge::NoMemory;
 
 /// Whether a client has these sockets at the server.
-fn has_sockets(setup: &Setup, pair: SocketPair) -> bool
-    ensures { result ≡ same_sockets (sockets_at pair) (sockets_for setup.now) }
+fn has_sockets(client: &Client, pair: SocketPair) -> bool
+    ensures { result ≡ same_sockets (sockets_at pair) (sockets_for client.now.setup) }
 {
+    let setup = &client.setup;
     pair.peer == setup.addr && pair.peer_port == setup.port && pair.own_port == setup.server_port
 }
 
@@ -27,7 +28,7 @@ fn bury_one(side: &mut Side, gone: SocketPair) -> Result<(), NoMemory>
     ensures buried { OnOk result (side.new ≡ buried gone side.old) }
     ensures last { OnErr result (IsAtLast gone side.old) }
 {
-    if has_sockets(&side.client.setup, gone) {
+    if has_sockets(&side.client, gone) {
         side.epoch = side.epoch.checked_add(1).ok_or(NoMemory)?;
     }
     Ok(())
@@ -54,7 +55,7 @@ fn addressed_from(number: u8, sides: &[Side], pair: SocketPair) -> u8
     match sides {
         [] => 0,
         [first, rest @ ..] => {
-            if has_sockets(&first.client.setup, pair) {
+            if has_sockets(&first.client, pair) {
                 number
             } else {
                 addressed_from(number + 1, rest, pair)

@@ -14,7 +14,7 @@ returns c = λ ss m.
     let at : slice_get c.args.sides.now (n - 1) ≡ Some c.index-sides-place.result
     = there_is c.args.sides.now (n - 1) c.index-sides-place.result c.index-sides-place.is (omega arith) in
     let p = partner SideStands c.args.sides.now ss (n - 1) c.index-sides-place.result m at in
-    c.is_idle_state.ensures
+    c.is_idle_client.ensures
     ∙ ap (λ (x : CodeSide). is_idle x.client.state) (sym c.index-sides-place.is)
     ∙ ap (λ (k : AbstractClient). is_idle k.state) p.pair.client
     ∙ sym (ap (λ s. is_idle (state_at s)) (numbered_at ss c.args.number above ∙ ap (slice_get ss) same ∙ p.get))

@@ -1,5 +1,6 @@
-use Rattle.std.proofs.Common.{◌≡◌, ℕ, suc, ◌-◌, subst, arith, Some}
+use Rattle.std.proofs.Common.{◌≡◌, ℕ, suc, ◌-◌, ap, ◌∙◌, subst, arith, Some}
 use Rattle.std.specs.Prelude.{option_map, slice_index_or}
+use Rattle.uip_wire.specs.declared.addr.Addr.{Addr}
 use Rattle.link_world.specs.World.{numbered}
 use Rattle.link_replay.proofs.Hearing.{addr_of, address_there}
 use Rattle.link_replay.proofs.kinds.address_of.Goals as goal
@@ -8,6 +9,6 @@ pub returns : goal.returns
 returns c = λ ss m.
     let place = c.from-place.result - 1 in
     let same : suc place ≡ c.args.number = omega (arith, c.from-place.ensures, c.if-place-eq0.false) in
-    let side = slice_index_or c.args.sides.now place c.index-sides-place.result in
-    subst (λ (n : ℕ). Some side.client.setup.addr ≡ option_map addr_of (numbered ss n)) same
+    ap (λ (a : Addr). Some a) c.addr_of.ensures
+    ∙ subst (λ (n : ℕ). Some (slice_index_or c.args.sides.now place c.index-sides-place.result).client.setup.addr ≡ option_map addr_of (numbered ss n)) same
     (address_there c.args.sides.now ss place c.index-sides-place.result m (omega (arith, c.if-place-eq0.false, c.if-place-sides.false)))

@@ -1,5 +1,6 @@
 -- An open client sends what is next of its request, or its FIN.
 use Rattle.std.proofs.Common.{◌≡◌, ◌&&◌, ◌||◌, Bool, true, false, [], refl, sym, ap, ◌∙◌}
+use Rattle.link_client.specs.State.{Client}
 use Rattle.link_client.specs.Calls.{has_more_to_send, is_opened, standing}
 use Rattle.link_client.specs.declared.client_state.ClientState.{ClientState}
 use Rattle.link_client.specs.declared.client_state.ClientState.TheVariants.{Closing}
@@ -11,5 +12,6 @@ or_false false = refl
 
 pub returns-in-Opened-clause-answers : goal.returns-in-Opened-clause-answers
 returns-in-Opened-clause-answers c =
-    let more : Bool = has_more_to_send (standing (record c.args.self.now { state = Closing }) c.args.request.now []) in
-    c.send_next.ensures.answers ∙ or_false more ∙ ap (λ (s : ClientState). is_opened s && more) (sym c.in-Opened.is)
+    let more : Client → Bool = λ v. has_more_to_send (standing (record v { state = Closing }) c.args.request.now []) in
+    c.send_next.ensures.answers ∙ or_false _ ∙ ap more c.self.view_is
+    ∙ ap (λ (s : ClientState). is_opened s && more c.args.self.now) (sym c.in-Opened.is ∙ ap (λ (v : Client). v.state) c.self.view_is)

@@ -1,6 +1,7 @@
 -- A RST counts or does not.
-use Rattle.std.proofs.Common.{Bool, ap, ◌∙◌, if◌then◌else◌}
+use Rattle.std.proofs.Common.{Bool, sym, ap, ◌∙◌, if◌then◌else◌}
 use Rattle.link_client.specs.Calls.{standing}
+use Rattle.link_client.specs.State.{Client}
 use Rattle.link_client.specs.Client.{AbstractClient}
 use Rattle.link_client.specs.declared.client_state.ClientState.TheVariants.{Reset}
 use Rattle.link_client.proofs.client.Client.take_reset.Goals as goal
@@ -11,6 +12,7 @@ by a b = if b then record a { state = Reset } else a
 pub returns-then-is_reset_by-clause-reset : goal.returns-then-is_reset_by-clause-reset
 returns-then-is_reset_by-clause-reset c = λ request received text.
     ap (by (standing c.args.self.now request received)) (c.is_reset_by.ensures request received text ∙ c.if-is_reset_by.true)
+    ∙ ap (λ (v : Client). record (standing v request received) { state = Reset }) (sym c.self.view_is)
 
 pub returns-else-is_reset_by-clause-reset : goal.returns-else-is_reset_by-clause-reset
 returns-else-is_reset_by-clause-reset c = λ request received text.

@@ -17,14 +17,14 @@ returns-clause-kept c = λ addr h.
     c.post_front.ensures.kept addr
     (Sending.kept_put addr c.args.self.now _ (c.from-place.result - 1) c.index_mut.result.now c.act-sent.new.self refl refl
     (ap length (Sending.area_is c.act-sent.new.area c.args.self.now.area.items c.args.self.now.area.len (c.act-sent.ensures.room ∙ ap length c.as_mut_slice.ensures.value) (sym c.as_mut_slice.ensures.len ∙ ap length c.as_mut_slice.ensures.value)) ∙ c.act-sent.ensures.room ∙ ap length c.as_mut_slice.ensures.value)
-    (there_is c.args.self.now.sides.items (c.from-place.result - 1) c.index_mut.result.now c.index_mut.ensures.value (omega arith)) c.act-sent.ensures.client c.act-sent.ensures.setup h)
+    (there_is c.args.self.now.sides.items (c.from-place.result - 1) c.index_mut.result.now c.index_mut.ensures.value (omega arith)) c.act-sent.ensures.fits c.act-sent.ensures.setup h)
 
 pub returns-in_err-post_front-clause-kept : goal.returns-in_err-post_front-clause-kept
 returns-in_err-post_front-clause-kept c = λ addr h.
     c.post_front.ensures.kept addr
     (Sending.kept_put addr c.args.self.now _ (c.from-place.result - 1) c.index_mut.result.now c.act-sent.new.self refl refl
     (ap length (Sending.area_is c.act-sent.new.area c.args.self.now.area.items c.args.self.now.area.len (c.act-sent.ensures.room ∙ ap length c.as_mut_slice.ensures.value) (sym c.as_mut_slice.ensures.len ∙ ap length c.as_mut_slice.ensures.value)) ∙ c.act-sent.ensures.room ∙ ap length c.as_mut_slice.ensures.value)
-    (there_is c.args.self.now.sides.items (c.from-place.result - 1) c.index_mut.result.now c.index_mut.ensures.value (omega arith)) c.act-sent.ensures.client c.act-sent.ensures.setup h)
+    (there_is c.args.self.now.sides.items (c.from-place.result - 1) c.index_mut.result.now c.index_mut.ensures.value (omega arith)) c.act-sent.ensures.fits c.act-sent.ensures.setup h)
 
 pub returns-clause-acted : goal.returns-clause-acted
 returns-clause-acted c = λ w h t.

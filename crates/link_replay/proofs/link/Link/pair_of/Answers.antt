@@ -3,6 +3,7 @@ use Rattle.link_client.specs.Client.{AbstractClient}
 use Rattle.link_world.specs.World.{Side, numbered}
 use Rattle.link_replay.specs.Stands.{SideStands}
 use Rattle.link_replay.specs.Telling.{pair_at_side}
+use Rattle.link_replay.specs.declared.socket_pair.SocketPair.{SocketPair}
 use Rattle.link_replay.specs.declared.side.Side.{Side as CodeSide}
 use Rattle.link_replay.proofs.Pairs.{there_is, partner}
 use Rattle.link_replay.proofs.link.Link.pair_of.Goals as goal
@@ -14,5 +15,6 @@ returns c = λ w h.
     let old : CodeSide = c.index.result.now in
     let at : slice_get c.args.self.now.sides.items n ≡ Some old = there_is c.args.self.now.sides.items n old c.index.ensures (omega arith) in
     let p = partner SideStands c.args.self.now.sides.items w.sides n old h.sides at in
-    ap (λ (k : AbstractClient). Some (record { peer = k.setup.addr; peer_port = k.setup.port; own_port = k.setup.server_port })) p.pair.client
+    ap (λ (x : SocketPair). Some x) c.pair_at.ensures
+    ∙ ap (λ (k : AbstractClient). Some (record { peer = k.setup.addr; peer_port = k.setup.port; own_port = k.setup.server_port })) p.pair.client
     ∙ sym (ap (λ (x : Option Side). pair_at_side x) (ap (numbered w.sides) is ∙ p.get))

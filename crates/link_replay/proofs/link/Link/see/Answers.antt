@@ -1,6 +1,6 @@
 use Rattle.std.proofs.Common.{◌≡◌, ℕ, ◌-◌, suc, Some, Option, slice_get, refl, sym, ap, ◌∙◌, arith, subst}
 use Rattle.std.specs.Vec.{with_item}
-use Rattle.link_client.specs.Calls.{IsClient}
+use Rattle.link_client.specs.Calls.{FitsRequest}
 use Rattle.link_world.specs.World.{Side, marked, numbered, with_side}
 use Rattle.link_replay.specs.Stands.{LinkStands, SideStands}
 use Rattle.link_replay.specs.Telling.{sees}
@@ -27,5 +27,5 @@ returns-clause-kept c = λ addr h.
     let n : ℕ = c.from-place.result - 1 in
     let old : CodeSide = c.index_mut.result.now in
     let at : slice_get c.args.self.now.sides.items n ≡ Some old = there_is c.args.self.now.sides.items n old c.index_mut.ensures.value (omega arith) in
-    link_put addr c.args.self.now n c.see.new.self h (subst (λ (z : CodeSide). IsClient z.client z.request.items) (sym c.see.ensures.kept) (h.clients n old at))
+    link_put addr c.args.self.now n c.see.new.self h (subst (λ (z : CodeSide). FitsRequest z.client z.request.items) (sym c.see.ensures.kept) (h.clients n old at))
     (subst (λ (z : CodeSide). z.client.setup.server ≡ addr) (sym c.see.ensures.kept) (h.servers n old at))

@@ -4,7 +4,7 @@ use Rattle.link_replay.specs.declared.own.Own.{Own}
 use Rattle.link_replay.proofs.Owning.{not_opened}
 use Rattle.link_replay.proofs.side.Side.act.Goals as goal
 
-pub returns-else-is_idle_state-clause-step : goal.returns-else-is_idle_state-clause-step
-returns-else-is_idle_state-clause-step c = λ s h.
+pub returns-else-is_idle_client-clause-step : goal.returns-else-is_idle_client-clause-step
+returns-else-is_idle_client-clause-step c = λ s h.
     subst (λ (o : Own). Stepped (own_step o s.client) s c.args.self.now None c.args.area.now) (sym c.in-Opens.is)
-    (not_opened s c.args.self.now c.args.area.now (sym c.is_idle_state.ensures ∙ c.if-is_idle_state.false) h)
+    (not_opened s c.args.self.now c.args.area.now (sym c.is_idle_client.ensures ∙ c.if-is_idle_client.false) h)
