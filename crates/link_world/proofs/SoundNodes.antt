@@ -18,13 +18,13 @@ use Rattle.uip_node.specs.Events.Reply.{Echo, Tcp}
 use Rattle.uip_node.specs.Counters.{initial_number, ident_of}
 use Rattle.uip_node.specs.Node.{AbstractNode, NodeStep, moment, happened, connection_in, slot_for_syn, passes, refuses, opens_in, opens, from_stranger, arrives_at, step}
 use Rattle.uip_node.specs.Steady.{IsSteady}
-use Rattle.link_world.proofs.SaidBytes.{SaysBytesWhere, said_sound}
+use Rattle.link_world.proofs.SaidBytes.{SaysBytesWhere}
 use Rattle.uip_node.proofs.Basics.{choose, only_some}
 use Rattle.uip_node.proofs.Connections.{get_set}
 use Rattle.uip_node.proofs.Connections.Written.{here, there}
 use Rattle.uip_node.proofs.Fits.{FitConn, accepted_fits, asked_fits, on_segment_fits, on_tick_fits}
 use Rattle.uip_node.proofs.FitNodes.{FitNode, index_fits, node_moment}
-use Rattle.uip_node.proofs.SoundSegments.{Lens, closed_lens, accepted_lens, asked_lens, on_segment_lens, on_tick_lens, IsSoundSegment, none_sound}
+use Rattle.uip_node.proofs.SoundSegments.{Lens, closed_lens, accepted_lens, asked_lens, on_segment_lens, on_tick_lens, IsSoundSegment, none_sound, said_sound}
 
 abbrev pub EachOf : (Connection → Type 0) → List Connection → Type 0
 EachOf P table = (i : ℕ) (c : Connection) → slice_get table i ≡ Some c → P c

@@ -3,11 +3,10 @@ use Rattle.std.specs.List.{All}
 use Rattle.std.specs.Prelude.{◌≡◌, ℕ, ◌+◌, ◌<◌, ◌≤◌, ◌⊎◌, Bool, true, List, length, Some, slice_get}
 use Rattle.uip_wire.specs.declared.addr.Addr.{Addr}
 use Rattle.app_events.specs.Part.{Meaning}
-use Rattle.app_events.specs.Pages.{Pages, IsPaged, IsAddr, IsMoment, IsWord}
+use Rattle.app_events.specs.Pages.{Pages, IsPaged, IsMoment, IsWord}
 use Rattle.app_events.specs.declared.state.State.TheVariants.{Established, CloseWait}
 use Rattle.tcp_machine.specs.Connection.{Connection, is_live}
 use Rattle.uip_node.specs.Events.{Event}
-use Rattle.uip_node.specs.Events.Event.{IpRefused, IcmpRefused, TcpRefused, EchoAsked, Arrived, Overlong, Periodic}
 use Rattle.uip_node.specs.Laws.{IsEvent}
 use Rattle.uip_node.specs.Node.{opening, run}
 

@@ -1,17 +1,15 @@
 -- What each peer reads.
 use Rattle.std.specs.List.{All}
 use Rattle.std.specs.Prelude.{option_map}
-use Rattle.std.proofs.Common.{◌≡◌, ℕ, ◌+◌, ◌<◌, ◌≤◌, length, take, drop, inl, IfSome, length-take, Bool, true, false, ◌&&◌, inr, List, [], ◌∷◌, position, replicate, refl, sym, ap, ◌∙◌, subst, arith, Option, Some, None, if◌then◌else◌}
-use Rattle.std.proofs.lemmas.List.Elements.{All-drop, All-head, All-tail, All-take}
+use Rattle.std.proofs.Common.{◌≡◌, ℕ, ◌<◌, Bool, true, false, ◌&&◌, inr, List, [], ◌∷◌, position, replicate, refl, sym, ap, ◌∙◌, subst, arith, Option, Some, None, if◌then◌else◌}
+use Rattle.std.proofs.lemmas.List.Elements.{All-head, All-tail}
 use Rattle.uip_wire.specs.declared.addr.Addr.{Addr}
 use Rattle.tcp_segment.specs.ReadBack.{IsReadBack, head_of}
 use Rattle.tcp_segment.specs.Segments.{PlainSegment, Datagram, datagram_bytes, has_rst}
 use Rattle.app_events.specs.Part.{Meaning}
 use Rattle.app_events.specs.Pages.{IsAddr, IsByte, IsWord}
 use Rattle.tcp_machine.specs.Connection.{Sockets, Connection, closed, is_live, serves, same_sockets}
-use Rattle.uip_wire.specs.Numbers.{wrap}
-use Rattle.uip_wire.specs.declared.sizes.TheConstants.{OWN_MSS}
-use Rattle.tcp_machine.specs.Segments.{bare_ack, fin_of, is_again, is_plain_syn, reset_of, reset_to_none, segment_of, syn_ack, text_segment}
+use Rattle.tcp_machine.specs.Segments.{is_again, is_plain_syn, reset_to_none, segment_of}
 use Rattle.tcp_machine.specs.Ask.{Outcome, asked}
 use Rattle.tcp_machine.specs.OnSegment.{accepted, on_segment}
 use Rattle.tcp_machine.specs.OnTick.{on_tick}
@@ -31,7 +29,7 @@ use Rattle.uip_node.proofs.Fits.{FitConn, FitOut, all_nil, all_cons, asked_fits,
 use Rattle.uip_node.proofs.FitNodes.{FitNode, closed_fits, event_fits}
 use Rattle.uip_node.proofs.Connections.{none_serves, all_closed, Single, serving_free}
 use Rattle.uip_node.proofs.SocketPairs.{same_is, same_self}
-use Rattle.uip_node.proofs.SoundSegments.{closed_lens, Lens, accepted_lens, asked_lens, on_segment_lens, on_tick_lens, IsSoundSegment}
+use Rattle.uip_node.proofs.SoundSegments.{closed_lens, Lens, accepted_lens, asked_lens, on_segment_lens, on_tick_lens, IsSoundSegment, said_sound}
 use Rattle.uip_node.proofs.DatagramsBack.{IsPlace, datagram_back, datagram_short}
 use Rattle.node_laws.specs.Talks.{Exchange, came_from, exchange, said_to}
 use Rattle.node_laws.specs.Wire.{IsOfLine, IsReadByPeer, IsReadThere, seen_from_peer}
@@ -127,32 +125,6 @@ record SoundDoes (p : Sockets) (d : Connection) (x : Exchange) : Type 0 where
   said : (s : PlainSegment) → x.said ≡ Some s → SoundSaid p s
 
 module _ (m : Meaning) (steady : IsSteady m) (bytes : SaysBytes m) where
-  control : (c : Connection) (flags window : ℕ) (mss : Option ℕ) → flags < 64 → window < 65536 → IfSome mss (λ n. (0 < n) × (n < 65536)) →
-      IsSoundSegment (record { seq = wrap (c.first + c.acked); ack = wrap (c.peer_first + 1 + c.taken); flags = flags; window = window; mss = mss; text = [] })
-  control c flags window mss f w n = record { seq = wrap_low _; ack = wrap_low _; flags = f; window = w; mss = n; short = omega arith; alone = inr refl; text = all_nil IsByte }
-
-  -- text of bytes that were heard is bytes
-  text_sound : (c : Connection) → FitConn c → Lens c → HeardBytes c → IsSoundSegment (text_segment m c)
-  text_sound c f l h = record {
-    seq = wrap_low _;
-    ack = wrap_low _;
-    flags = omega arith;
-    window = omega arith;
-    mss = tt;
-    short = (let e : length (take c.len (drop c.part.acked (m.said c.part))) ≤ c.len = simp length-take (omega arith) in omega (arith, e, l.len));
-    alone = inl refl;
-    text = All-take IsByte c.len (drop c.part.acked (m.said c.part)) (All-drop IsByte c.part.acked (m.said c.part) (bytes.said c.part h f.captures));
-  }
-
-  step_sound : (c : Connection) (step : Step) (s : PlainSegment) → FitConn c → Lens c → HeardBytes c → segment_of m c step ≡ Some s → IsSoundSegment s
-  step_sound c Step.Drop s f l h e = absurd (cc)
-  step_sound c Step.Ack s f l h e = only_some (λ x. IsSoundSegment x) (bare_ack c) s e (control c 16 OWN_MSS None (omega arith) (omega arith) tt)
-  step_sound c (Step.SynAck again) s f l h e = only_some (λ x. IsSoundSegment x) (syn_ack c) s e (control c 18 OWN_MSS (Some OWN_MSS) (omega arith) (omega arith) (omega arith, omega arith))
-  step_sound c (Step.Text again) s f l h e = only_some (λ x. IsSoundSegment x) (text_segment m c) s e (text_sound c f l h)
-  step_sound c (Step.Fin again) s f l h e = only_some (λ x. IsSoundSegment x) (fin_of c) s e (control c 17 OWN_MSS None (omega arith) (omega arith) tt)
-  step_sound c Step.Reset s f l h e = only_some (λ x. IsSoundSegment x) (reset_of c) s e (control c 20 0 None (omega arith) (omega arith) tt)
-  step_sound c (Step.Ask fresh) s f l h e = absurd (cc)
-
   still_sound : (p : Sockets) (c d : Connection) (x : Exchange) → x.said ≡ None → (is_live d.state ≡ true → d ≡ c) → (is_live c.state ≡ true → SoundConn p c) → SoundDoes p d x
   still_sound p c d x n e h = record {
     conn = λ l. (let q : d ≡ c = e l in subst (λ z. SoundConn p z) (sym q) (h (subst (λ z. is_live z.state ≡ true) q l)));
@@ -166,7 +138,7 @@ module _ (m : Meaning) (steady : IsSteady m) (bytes : SaysBytes m) where
       lens = subst (λ z. Lens z) (sym q) (choose (λ z. Lens z) (is_live o.connection.state) o.connection closed (λ y. lens) (λ y. closed_lens));
       heard = subst (λ z. HeardBytes z) (sym q) (choose (λ z. HeardBytes z) (is_live o.connection.state) o.connection closed (λ y. heard) (λ y. all_nil IsByte));
     };
-    said = λ s g. record { fits = f; segment = step_sound o.connection o.step s fit lens heard (sym e ∙ g) };
+    said = λ s g. record { fits = f; segment = said_sound m o.connection o.step s lens (bytes.said o.connection.part heard fit.captures) (sym e ∙ g) };
   }
 
   does_sound : (served : ℕ → Bool) (p : Sockets) (event : Event) (sent : Option Reply) (c d : Connection) → IsWire event → Does m served p c d (exchange p event sent) → (is_live c.state ≡ true → SoundConn p c) → SoundDoes p d (exchange p event sent)
@@ -185,7 +157,7 @@ module _ (m : Meaning) (steady : IsSteady m) (bytes : SaysBytes m) where
             let b : Connection = accepted first p s in
             record {
               conn = λ z. record { fits = k.fits; lens = subst (λ y. Lens y) (sym f) (accepted_lens first p s); heard = subst (λ y. HeardBytes y) (sym f) (all_nil IsByte) };
-              said = λ t g. record { fits = k.fits; segment = step_sound b (Step.SynAck false) t fit (accepted_lens first p s) (all_nil IsByte) (sym (ap (λ y. y.said) e) ∙ g) };
+              said = λ t g. record { fits = k.fits; segment = said_sound m b (Step.SynAck false) t (accepted_lens first p s) (bytes.said b.part (all_nil IsByte) fit.captures) (sym (ap (λ y. y.said) e) ∙ g) };
             })
         | hears s numbers at alive fit words is q ↦
             (let o : Outcome = on_segment m c numbers s in

@@ -1,13 +1,13 @@
 -- Every segment that a node sends fits its fields, and its text is bytes that fit a datagram.
 use Rattle.std.specs.List.{All}
-use Rattle.std.proofs.Common.{◌≡◌, ℕ, ◌+◌, ◌<◌, ◌≤◌, min, Bool, true, false, not, ◌&&◌, ◌⊎◌, inl, inr, List, [], length, take, drop, refl, sym, subst, arith, Option, Some, None, IfSome, eqb, ltb, length-take, if◌then◌else◌}
+use Rattle.std.proofs.Common.{◌≡◌, ℕ, ◌+◌, ◌<◌, ◌≤◌, min, Bool, true, false, not, ◌&&◌, ◌⊎◌, inl, inr, List, [], length, take, drop, refl, arith, Option, Some, None, IfSome, eqb, ltb, length-take, if◌then◌else◌}
 use Rattle.std.proofs.lemmas.List.Elements.{All-take, All-drop}
 use Rattle.uip_wire.specs.Numbers.{wrap}
 use Rattle.uip_wire.specs.declared.sizes.TheConstants.{OWN_MSS}
 use Rattle.tcp_segment.specs.Segments.{PlainSegment, has_fin, has_rst}
 use Rattle.rexmit_timer.specs.declared.timer.Beat.{Beat}
 use Rattle.app_events.specs.Part.{Meaning}
-use Rattle.app_events.specs.Pages.{Pages, IsPaged, IsByte}
+use Rattle.app_events.specs.Pages.{IsByte}
 use Rattle.app_events.specs.declared.now.Now.{Now}
 use Rattle.app_events.specs.declared.state.State.{State}
 use Rattle.app_events.specs.declared.state.State.TheVariants.{Closed, SynRcvd, Established, CloseWait, FinWait1, FinWait2, Closing, TimeWait, LastAck}
@@ -19,10 +19,9 @@ use Rattle.tcp_machine.specs.Ask.{Outcome, peer_has_closed, idles, does_as_wante
 use Rattle.tcp_machine.specs.OnSegment.{first_mss, accepted, is_out_of_order, is_acked, rests, has_text, with_part, peer_closes, goes_on, in_established, fin_acked, fin_waits, by_state, on_segment}
 use Rattle.tcp_machine.specs.OnTick.{by_beat, on_tick}
 use Rattle.tcp_machine.specs.declared.step.Step.{Step}
-use Rattle.uip_node.specs.Laws.{HasBytes}
 use Rattle.uip_node.proofs.Cases.{on_tick_by}
 use Rattle.uip_node.proofs.Basics.{choose, only_some, wrap_low}
-use Rattle.uip_node.proofs.Fits.{FitConn, all_nil}
+use Rattle.uip_node.proofs.Fits.{all_nil}
 
 pub record IsSoundSegment (s : PlainSegment) : Type 0 where
   pub seq : s.seq < 4294967296
@@ -137,32 +136,31 @@ module _ (m : Meaning) where
   pub on_tick_lens : (c : Connection) (numbers : List ℕ) → Lens c → Lens (on_tick m c numbers).connection
   on_tick_lens c numbers h = on_tick_within m 1460 (omega arith) c numbers h
 
-  module _ (pages : Pages) (lawful : IsPaged m pages) (page : HasBytes pages) where
-    control : (c : Connection) (flags window : ℕ) (mss : Option ℕ) → flags < 64 → window < 65536 → IfSome mss (λ n. (0 < n) × (n < 65536)) →
-        IsSoundSegment (record { seq = wrap (c.first + c.acked); ack = wrap (c.peer_first + 1 + c.taken); flags = flags; window = window; mss = mss; text = [] })
-    control c flags window mss f w n = record { seq = wrap_low _; ack = wrap_low _; flags = f; window = w; mss = n; short = omega arith; alone = inr refl; text = all_nil IsByte }
+  control : (c : Connection) (flags window : ℕ) (mss : Option ℕ) → flags < 64 → window < 65536 → IfSome mss (λ n. (0 < n) × (n < 65536)) →
+      IsSoundSegment (record { seq = wrap (c.first + c.acked); ack = wrap (c.peer_first + 1 + c.taken); flags = flags; window = window; mss = mss; text = [] })
+  control c flags window mss f w n = record { seq = wrap_low _; ack = wrap_low _; flags = f; window = w; mss = n; short = omega arith; alone = inr refl; text = all_nil IsByte }
 
-    text_sound : (c : Connection) → FitConn c → Lens c → IsSoundSegment (text_segment m c)
-    text_sound c f l = record {
-      seq = wrap_low _;
-      ack = wrap_low _;
-      flags = omega arith;
-      window = omega arith;
-      mss = tt;
-      short = (let e : length (take c.len (drop c.part.acked (m.said c.part))) ≤ c.len = simp length-take (omega arith) in omega (arith, e, l.len));
-      alone = inl refl;
-      text = All-take IsByte c.len (drop c.part.acked (m.said c.part)) (All-drop IsByte c.part.acked (m.said c.part) (subst (λ t. All IsByte t) (sym (lawful.said c.part)) (page c.part.heard c.part.captures f.captures)));
-    }
+  text_sound : (c : Connection) → Lens c → All IsByte (m.said c.part) → IsSoundSegment (text_segment m c)
+  text_sound c l bytes = record {
+    seq = wrap_low _;
+    ack = wrap_low _;
+    flags = omega arith;
+    window = omega arith;
+    mss = tt;
+    short = (let e : length (take c.len (drop c.part.acked (m.said c.part))) ≤ c.len = simp length-take (omega arith) in omega (arith, e, l.len));
+    alone = inl refl;
+    text = All-take IsByte c.len (drop c.part.acked (m.said c.part)) (All-drop IsByte c.part.acked (m.said c.part) bytes);
+  }
 
-    -- what a step sends
-    pub step_sound : (c : Connection) (step : Step) (s : PlainSegment) → FitConn c → Lens c → segment_of m c step ≡ Some s → IsSoundSegment s
-    step_sound c Step.Drop s f l e = absurd (cc)
-    step_sound c Step.Ack s f l e = only_some (λ x. IsSoundSegment x) (bare_ack c) s e (control c 16 OWN_MSS None (omega arith) (omega arith) tt)
-    step_sound c (Step.SynAck again) s f l e = only_some (λ x. IsSoundSegment x) (syn_ack c) s e (control c 18 OWN_MSS (Some OWN_MSS) (omega arith) (omega arith) (omega arith, omega arith))
-    step_sound c (Step.Text again) s f l e = only_some (λ x. IsSoundSegment x) (text_segment m c) s e (text_sound c f l)
-    step_sound c (Step.Fin again) s f l e = only_some (λ x. IsSoundSegment x) (fin_of c) s e (control c 17 OWN_MSS None (omega arith) (omega arith) tt)
-    step_sound c Step.Reset s f l e = only_some (λ x. IsSoundSegment x) (reset_of c) s e (control c 20 0 None (omega arith) (omega arith) tt)
-    step_sound c (Step.Ask fresh) s f l e = absurd (cc)
+  -- what a step sends, where its application says bytes
+  pub said_sound : (c : Connection) (step : Step) (s : PlainSegment) → Lens c → All IsByte (m.said c.part) → segment_of m c step ≡ Some s → IsSoundSegment s
+  said_sound c Step.Drop s l b e = absurd (cc)
+  said_sound c Step.Ack s l b e = only_some (λ x. IsSoundSegment x) (bare_ack c) s e (control c 16 OWN_MSS None (omega arith) (omega arith) tt)
+  said_sound c (Step.SynAck again) s l b e = only_some (λ x. IsSoundSegment x) (syn_ack c) s e (control c 18 OWN_MSS (Some OWN_MSS) (omega arith) (omega arith) (omega arith, omega arith))
+  said_sound c (Step.Text again) s l b e = only_some (λ x. IsSoundSegment x) (text_segment m c) s e (text_sound c l b)
+  said_sound c (Step.Fin again) s l b e = only_some (λ x. IsSoundSegment x) (fin_of c) s e (control c 17 OWN_MSS None (omega arith) (omega arith) tt)
+  said_sound c Step.Reset s l b e = only_some (λ x. IsSoundSegment x) (reset_of c) s e (control c 20 0 None (omega arith) (omega arith) tt)
+  said_sound c (Step.Ask fresh) s l b e = absurd (cc)
 
 pub none_sound : (s : PlainSegment) → IsSoundSegment s → IsSoundSegment (reset_to_none s)
 none_sound s h = record { seq = h.ack; ack = wrap_low _; flags = omega arith; window = omega arith; mss = tt; short = omega arith; alone = inr refl; text = all_nil IsByte }
