@@ -1,3 +1,4 @@
 pub mod Unspoken
 pub mod Beats
 pub mod Saying
+pub mod States

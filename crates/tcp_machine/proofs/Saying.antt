@@ -11,7 +11,7 @@ use Rattle.app_events.specs.declared.want.Want.{Want}
 use Rattle.app_events.specs.declared.want.Want.TheVariants.{Send}
 use Rattle.app_events.proofs.Says.{has_part, has_part_after, can_nothing, can_say_after, grows_by_nothing}
 use Rattle.app_events.specs.declared.state.State.{State}
-use Rattle.app_events.specs.declared.state.State.TheVariants.{Closed, SynRcvd, Established, CloseWait, FinWait1, FinWait2, Closing, TimeWait, LastAck}
+use Rattle.tcp_machine.proofs.States.{by_state}
 use Rattle.tcp_table.specs.declared.conn.Conn.{Conn}
 use Rattle.tcp_machine.specs.Connection.{is_live}
 use Rattle.tcp_machine.specs.OnSegment.{hears}
@@ -54,12 +54,4 @@ sends_some m stands k a lawful ns n has asked =
 
 -- where the application may speak the connection lives
 pub open_lives : (s : State) → is_open s ≡ true → is_live s ≡ true
-open_lives Closed e = cc
-open_lives SynRcvd e = refl
-open_lives Established e = refl
-open_lives CloseWait e = refl
-open_lives FinWait1 e = refl
-open_lives FinWait2 e = refl
-open_lives Closing e = refl
-open_lives TimeWait e = refl
-open_lives LastAck e = refl
+open_lives s = by_state (λ x. is_open x ≡ true → is_live x ≡ true) (λ e. cc) (λ e. refl) (λ e. refl) (λ e. refl) (λ e. refl) (λ e. refl) (λ e. refl) (λ e. refl) (λ e. refl) s

@@ -1,5 +1,5 @@
 -- The constants of the code that definitions cite, with their values: a definition that names one says this number.
-use Rattle.std.specs.Prelude.{◌≡◌, ℕ}
+use Rattle.std.specs.Prelude.{◌≡◌}
 use Rattle.tcp_machine.specs.declared.opening.TheConstants.{DEFAULT_MSS}
 use Rattle.tcp_machine.specs.declared.ticking.TheConstants.{REST_TIME}
 

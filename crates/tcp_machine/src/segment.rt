@@ -1,15 +1,15 @@
 //! A segment of a connection (RFC 793, section 3.9, SEGMENT ARRIVES).
 
-ghost use Rattle.std.specs.Prelude.{◌≡◌, ℕ, ◌+◌, ◌<◌, ◌≤◌, ◌&&◌, ◌==◌, not, nat_lt, true, List, length};
+ghost use Rattle.std.specs.Prelude.{◌≡◌, ◌+◌, ◌<◌, ◌≤◌, ◌&&◌, ◌==◌, if◌then◌else◌, not, nat_lt, true, length};
 ghost use Rattle.uip_wire.specs.Numbers.{wrap};
 ghost use Rattle.tcp_segment.specs.Segments.{PlainSegment, has_ack};
 ghost use Rattle.tcp_machine.specs.Connection.{Connection, is_live};
-ghost use Rattle.tcp_machine.specs.Fits.{Rests, SameNumbers, SameSockets, StepFits};
+ghost use Rattle.tcp_machine.specs.Fits.{SameNumbers, SameSockets};
 ghost use Rattle.tcp_machine.specs.OnSegment.{connects, peer_closes, goes_on, in_established, by_state, on_segment, told_end};
 ghost use Rattle.tcp_machine.specs.Segments.{has_place};
 ghost use Rattle.tcp_machine.specs.Sound.{IsSound};
 ghost use Rattle.tcp_machine.specs.Takes.{Takes};
-ghost use Rattle.tcp_machine.specs.Stands.{ConnStands, Meets, is_open, plain};
+ghost use Rattle.tcp_machine.specs.Stands.{ConnStands, is_open, plain};
 
 use crate::alone::{in_closing, in_fin_wait_1, in_fin_wait_2, in_last_ack};
 use crate::moves::{enter, rest, set_window, take};
@@ -67,12 +67,19 @@ fn peer_closes<A: App>(
     ensures { Takes A.App (λ m a ns. peer_closes m a ns (plain seg.now piece.now)) conn.old shared.old conn.new shared.new result }
 {
     absorb(conn, shared, seg.window, piece, piece.len() as u32 + 1);
-    let is_idle = conn.len == 0;
     enter(conn, State::CloseWait);
-    if is_idle {
-        return Step::Ask { fresh: true };
+    ask_if_idle(conn)
+}
+
+/// The application is asked of something new, where nothing is outstanding.
+fn ask_if_idle<A>(conn: &Conn<A>) -> Step
+    ensures { result ≡ (if nat_lt 0 conn.now.len then Step.Ack else Step.Ask true) }
+{
+    if conn.len > 0 {
+        Step::Ack
+    } else {
+        Step::Ask { fresh: true }
     }
-    Step::Ack
 }
 
 /// ESTABLISHED, where it has none.

@@ -4,19 +4,6 @@ use Rattle.tcp_machine.specs.OnSegment.{peer_closes}
 use Rattle.tcp_machine.specs.Stands.{is_open}
 use Rattle.tcp_machine.proofs.segment.peer_closes.Goals as goal
 
-pub returns-then-is_idle : goal.returns-then-is_idle
-unfolding peer_closes
-returns-then-is_idle g c = record {
-  same = search rules;
-  sound = record {
-    numbers = search rules;
-    says = λ _. rw (c.enter.ensures.kept.app, c.enter.ensures.kept.len) (c.absorb.ensures.sound.says (ap is_open (c.absorb.ensures.state ∙ c.requires.state)));
-  };
-  place = search rules;
-  fits = search rules;
-  meets = search rules;
-}
-
 pub returns : goal.returns
 unfolding peer_closes
 returns g c = record {

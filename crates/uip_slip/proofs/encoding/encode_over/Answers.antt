@@ -38,13 +38,12 @@ pub loop-rest-preserved : goal.loop-rest-preserved
 loop-rest-preserved g c =
     let inv = c.loop-rest.invariant in
     let part = c.split_at.result.0.now in
-    let others = c.split_at.result.1.now in
     let text = c.put_escaped.new.self in
     let told = c.in_ok-write_whole.ensures in
     record {
       front = inv.front ++ part;
       sent = inv.sent ++ text;
-      pieces = split_pieces c.args.datagram.now inv.front c.loop-rest.rest.now part others 1500 inv.pieces c.split_at.ensures.front c.split_at.ensures.back;
+      pieces = split_pieces c.args.datagram.now inv.front c.loop-rest.rest.now part c.split_at.result.1.now 1500 inv.pieces c.split_at.ensures.front c.split_at.ensures.back;
       made = ap (λ l. (inv.sent ++ text) ++ l) c.clear-in-loop-rest.ensures ∙ append-nil (inv.sent ++ text)
           ∙ gathered inv.sent c.loop-rest.text text inv.front part inv.made c.put_escaped.ensures;
       room = (let none : length c.clear-in-loop-rest.new.self ≡ 0 = ap (λ l. length l) c.clear-in-loop-rest.ensures in omega (arith, none));
