@@ -41,7 +41,7 @@ returns-clause-wrote g c = rw (← c.world.view_is) (λ m served w stands reache
     let matched = subst (λ (l : List CodeSide). Matched SideStands l w.sides) (sym c.as_slice.ensures.value) stands.link.sides in
     let count : c.len.result ≡ length w.sent = omega (arith, c.len.ensures, c.world.inside.link.sent.ok.0, stands.link.sent.same_length) in
     let text = counts_line c.ticks.result c.len.result in
-    let made : c.bytes.result.now ≡ text = ◌∙◌ {b = c.last_line-line.result.text.items} {c = text} c.bytes.ensures c.last_line-line.ensures in
+    let made : c.bytes.result.now ≡ text = ◌∙◌ {b = c.last_line-line.result} {c = text} c.bytes.ensures c.last_line-line.ensures in
     let line : text ≡ last_line w = counts_stand _ _ _ _ (c.ticks.ensures ∙ stands.node.counts.ticks) count in
     wrote_by _ _ r _ _ (sym (append_assoc shown clients (last_line w)))
     (wrote_then _ _ _ shown (clients ++ last_line w) c.in_ok-write_shown.field-0 r
