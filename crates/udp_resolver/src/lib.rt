@@ -1,6 +1,6 @@
 //! A resolver over a serial line: it asks a server for the addresses of names (RFC 1035), asks again while the server is
 //! silent, and tells what became of each name. What it writes is told by the whole list of items that it took, however the
-//! link cut them. It takes no memory.
+//! link cut them. No call is given an allocator; that none takes memory is no clause.
 #![tactic(auto)]
 
 mod answers;
