@@ -1,17 +1,12 @@
 -- What is told of the names: a line for each, with what became of it.
-use Rattle.std.specs.Prelude.{ℕ, List, ◌++◌, codes, decimal, slice_index}
+use Rattle.std.specs.Prelude.{ℕ, List, ◌++◌, codes, decimal}
 use Rattle.std.specs.List.{flat_map}
+use Rattle.uip_wire.specs.Addr.{quad_text}
 use Rattle.dns_message.specs.declared.answer.Answer.TheVariants.{Address, Code, NoAddress}
 use Rattle.udp_resolver.specs.Fates.{Question, fate_of}
 use Rattle.udp_resolver.specs.LineEvents.{LineEvent}
 use Rattle.udp_resolver.specs.declared.fate.Fate.{Fate}
 use Rattle.udp_resolver.specs.declared.fate.Fate.TheVariants.{Answered, Open, Timeout}
-
--- an address as a dotted quad
-abbrev pub quad_text : List ℕ → List ℕ
-quad_text address =
-    decimal (slice_index address 0) ++ codes "." ++ decimal (slice_index address 1) ++ codes "."
-    ++ decimal (slice_index address 2) ++ codes "." ++ decimal (slice_index address 3)
 
 abbrev pub fate_text : Fate → List ℕ
 fate_text (Answered (Address address)) = quad_text address.0

@@ -6,6 +6,7 @@
 mod answers;
 mod clock;
 mod fate;
+mod fate_words;
 mod laws;
 mod lines;
 mod resolving;
