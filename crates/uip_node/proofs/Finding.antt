@@ -8,7 +8,7 @@ use Rattle.std.proofs.lemmas.Option.{get_or_from_slice_get}
 use Rattle.app_events.specs.declared.app.App.{Ghosts}
 use Rattle.app_events.specs.States.{is_live, is_time_wait}
 use Rattle.app_events.specs.declared.state.State.{State}
-use Rattle.app_events.specs.declared.state.State.TheVariants.{Closed, SynRcvd, Established, CloseWait, FinWait1, FinWait2, Closing, TimeWait, LastAck}
+use Rattle.app_events.specs.declared.state.State.TheVariants.{TimeWait}
 use Rattle.tcp_table.specs.Connections.{is_at}
 use Rattle.tcp_table.specs.Slots.{has_waited, longest_wait, slot_by}
 use Rattle.tcp_table.specs.Slots as table
@@ -23,6 +23,7 @@ use Rattle.uip_node.specs.Counted.{seen}
 use Rattle.uip_node.specs.Counters.{counters}
 use Rattle.uip_node.specs.Events.Event.{Arrived}
 use Rattle.uip_node.specs.StandsFor.{Stands, Steps}
+use Rattle.tcp_machine.proofs.States.{by_state}
 use Rattle.uip_node.proofs.Stepping.{stands_later}
 use Rattle.uip_node.proofs.Twice.{recounted}
 use Rattle.uip_node.specs.State.{Node}
@@ -103,15 +104,7 @@ find_agrees g k cs abstracts s h =
     position_agrees (is_at s.peer s.peer_port s.own_port) (serves s) cs abstracts (sym h.same_length) (λ i c a at there. at_serves g k c a s (h.each i c a at there))
 
 waits_alone : (state : State) → is_time_wait state ≡ true → state ≡ TimeWait
-waits_alone TimeWait t = refl
-waits_alone Closed t = cc
-waits_alone SynRcvd t = cc
-waits_alone Established t = cc
-waits_alone CloseWait t = cc
-waits_alone FinWait1 t = cc
-waits_alone FinWait2 t = cc
-waits_alone Closing t = cc
-waits_alone LastAck t = cc
+waits_alone state = by_state (λ s. is_time_wait s ≡ true → s ≡ TimeWait) (λ t. cc) (λ t. cc) (λ t. cc) (λ t. cc) (λ t. cc) (λ t. cc) (λ t. cc) (λ t. refl) (λ t. cc) state
 
 -- in TIME-WAIT the timer counts the age
 pub age_counted : {A S : Type 0} (g : Ghosts A S) (k : g.Kept) (c : Conn A) (a : Connection) → ConnStands g k c a → IsSound g k c → is_time_wait a.state ≡ true → c.timer.count ≡ a.age

@@ -9,7 +9,6 @@ use Rattle.app_events.specs.Part.{Meaning}
 use Rattle.app_events.specs.declared.app.App.{Ghosts}
 use Rattle.app_events.specs.States.{is_live}
 use Rattle.app_events.specs.declared.state.State.{State}
-use Rattle.app_events.specs.declared.state.State.TheVariants.{Closed, SynRcvd, Established, CloseWait, FinWait1, FinWait2, Closing, TimeWait, LastAck}
 use Rattle.icmp_echo.specs.Echo.{answered, echo_fate, echo_message, echo_reply}
 use Rattle.packet_buffer.specs.Buffer.{Buffer, datagram_in}
 use Rattle.uip_ipv4.specs.Head.{payload_of}
@@ -21,6 +20,7 @@ use Rattle.tcp_machine.specs.OnSegment.{accept}
 use Rattle.tcp_machine.specs.OnTick.{on_tick, tick_by}
 use Rattle.tcp_machine.specs.Segments.{is_plain_syn}
 use Rattle.tcp_machine.specs.declared.step.Step.{Step}
+use Rattle.tcp_machine.proofs.States.{by_state}
 use Rattle.uip_node.specs.Counted.{CountsStand, seen}
 use Rattle.uip_node.specs.Counters.{called_by, initial_number, times}
 use Rattle.uip_node.specs.Events.{Past}
@@ -63,19 +63,12 @@ pub next_first : (past : List Past) (slot : ℕ) → (initial_number past + 1) %
 next_first past slot = mod-add-mod (times (λ p. is_some (called_by p.event)) past) 4294967296 1
 
 -- a CLOSED connection does nothing at a tick
-by_state : (m : Meaning) (state : State) (a : Connection) (ns : List ℕ) → is_live state ≡ false → tick_by m state a ns ≡ leaves a ns Step.Drop
-by_state m Closed a ns h = refl
-by_state m SynRcvd a ns h = cc
-by_state m Established a ns h = cc
-by_state m CloseWait a ns h = cc
-by_state m FinWait1 a ns h = cc
-by_state m FinWait2 a ns h = cc
-by_state m Closing a ns h = cc
-by_state m TimeWait a ns h = cc
-by_state m LastAck a ns h = cc
+closed_by : (m : Meaning) (a : Connection) (ns : List ℕ) (state : State) → is_live state ≡ false → tick_by m state a ns ≡ leaves a ns Step.Drop
+closed_by m a ns state =
+    by_state (λ s. is_live s ≡ false → tick_by m s a ns ≡ leaves a ns Step.Drop) (λ h. refl) (λ h. cc) (λ h. cc) (λ h. cc) (λ h. cc) (λ h. cc) (λ h. cc) (λ h. cc) (λ h. cc) state
 
 pub closed_tick : (m : Meaning) (a : Connection) (ns : List ℕ) → is_live a.state ≡ false → on_tick m a ns ≡ leaves a ns Step.Drop
-closed_tick m a ns h = by_state m a.state a ns h
+closed_tick m a ns h = closed_by m a ns a.state h
 
 pub set_same : {X : Type 0} (xs : List X) (i : ℕ) (x : X) → slice_get xs i ≡ Some x → slice_set xs i x ≡ xs
 set_same [] i x h = refl

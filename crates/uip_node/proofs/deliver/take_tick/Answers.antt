@@ -5,13 +5,10 @@ use Rattle.uip_node.proofs.Places.{meets_viewed, took_step}
 use Rattle.uip_node.proofs.Tables.{at_inside, at_viewed, table_keeps}
 use Rattle.uip_node.proofs.deliver.take_tick.Goals as goal
 
-pub on_tick-requires-clause-sound : goal.on_tick-requires-clause-sound
-on_tick-requires-clause-sound g c =
-    (c.requires.kept c.args.slot c.index_mut-conn.result.now (at_viewed _ _ c.args.slot c.index_mut-conn.result.now c.table.view_is c.requires.within c.index_mut-conn.ensures.value)).sound
-
-pub on_tick-requires-clause-busy : goal.on_tick-requires-clause-busy
-on_tick-requires-clause-busy g c =
-    (c.requires.kept c.args.slot c.index_mut-conn.result.now (at_viewed _ _ c.args.slot c.index_mut-conn.result.now c.table.view_is c.requires.within c.index_mut-conn.ensures.value)).busy
+pub on_tick-requires : goal.on_tick-requires
+on_tick-requires g c =
+    let kept = c.requires.kept c.args.slot c.index_mut-conn.result.now (at_viewed _ _ c.args.slot c.index_mut-conn.result.now c.table.view_is c.requires.within c.index_mut-conn.ensures.value) in
+    record { sound = kept.sound; busy = kept.busy }
 
 pub invariant_of-table : goal.invariant_of-table
 invariant_of-table g c =
