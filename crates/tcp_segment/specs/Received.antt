@@ -5,7 +5,7 @@ use Rattle.uip_wire.specs.Fields.{word_at, long_at}
 use Rattle.uip_ipv4.specs.Head.{payload_of}
 use Rattle.uip_ipv4.specs.declared.head.IpHead.{IpHead}
 use Rattle.tcp_segment.specs.Options.{mss_in}
-use Rattle.tcp_segment.specs.Segments.{PlainSegment, pseudo_header, says}
+use Rattle.tcp_segment.specs.Segments.{PlainSegment, plain_segment, pseudo_header}
 use Rattle.tcp_segment.specs.declared.fate.TcpFate.{TcpFate}
 use Rattle.tcp_segment.specs.declared.fate.TcpFate.TheVariants.{Short, Offset, Checksum}
 use Rattle.tcp_segment.specs.declared.segment.Segment.{Segment}
@@ -42,4 +42,4 @@ segment_or_fate head bytes = segment_in head.source.0 head.target.0 (payload_of 
 
 -- the fields with the text that they point to
 abbrev pub plain_of : Segment → List ℕ → PlainSegment
-plain_of s bytes = says s.seq.0 s.ack.0 s.flags s.window s.mss (slice_range bytes s.text_at (s.text_at + s.text_len))
+plain_of s bytes = plain_segment s.seq.0 s.ack.0 s.flags s.window s.mss (slice_range bytes s.text_at (s.text_at + s.text_len))

@@ -13,8 +13,9 @@ pub record PlainSegment : Type 0 where
   pub mss : Option ℕ
   pub text : List ℕ
 
-abbrev pub says : ℕ → ℕ → ℕ → ℕ → Option ℕ → List ℕ → PlainSegment
-says seq ack flags window mss text = record { seq = seq; ack = ack; flags = flags; window = window; mss = mss; text = text }
+-- the segment that has these
+abbrev pub plain_segment : ℕ → ℕ → ℕ → ℕ → Option ℕ → List ℕ → PlainSegment
+plain_segment seq ack flags window mss text = record { seq = seq; ack = ack; flags = flags; window = window; mss = mss; text = text }
 
 -- the flags of a segment as one number: FIN 1, SYN 2, RST 4, PSH 8, ACK 16, URG 32
 abbrev pub has_fin : ℕ → Bool
@@ -33,8 +34,8 @@ abbrev pub has_ack : ℕ → Bool
 has_ack flags = flags / 16 % 2 == 1
 
 -- the letters of the flags that are set, URG left out
-abbrev pub flag_letters : ℕ → List ℕ
-flag_letters flags =
+abbrev pub letters_of : ℕ → List ℕ
+letters_of flags =
     (if has_syn flags then codes "S" else []) ++ (if has_ack flags then codes "A" else []) ++ (if has_psh flags then codes "P" else [])
     ++ (if has_fin flags then codes "F" else []) ++ (if has_rst flags then codes "R" else [])
 

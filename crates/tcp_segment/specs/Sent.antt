@@ -4,12 +4,12 @@ use Rattle.uip_ipv4.specs.Head.{head_bytes}
 use Rattle.uip_ipv4.specs.declared.proto.Proto.TheVariants.{Tcp}
 use Rattle.uip_wire.specs.Checksum.{checksum_of}
 use Rattle.uip_wire.specs.Fields.{bytes_of}
-use Rattle.tcp_segment.specs.Segments.{Datagram, PlainSegment, datagram_bytes, fixed_words, offset_of, pseudo_header, says}
+use Rattle.tcp_segment.specs.Segments.{Datagram, PlainSegment, datagram_bytes, fixed_words, offset_of, plain_segment, pseudo_header}
 use Rattle.tcp_segment.specs.declared.out.Out.{Out}
 
 -- with this text
 abbrev pub plain_out : Out → List ℕ → PlainSegment
-plain_out out text = says out.seq.0 out.ack.0 out.flags out.window out.mss text
+plain_out out text = plain_segment out.seq.0 out.ack.0 out.flags out.window out.mss text
 
 abbrev pub datagram_of : Out → List ℕ → Datagram
 datagram_of out text = record {
