@@ -1,5 +1,5 @@
 -- Where the file of a name stands among the files.
-use Rattle.std.proofs.Common.{◌≡◌, ℕ, ◌<◌, ◌≤◌, Bool, true, false, List, [], ◌∷◌, Option, None, Some, length, refl, sym, ap, subst, ◌∙◌, arith, true≢false, option_map, position, get_or, cond, is_some, codes, if◌then◌else◌}
+use Rattle.std.proofs.Common.{◌≡◌, ℕ, ◌<◌, ◌≤◌, Bool, true, false, List, [], ◌∷◌, Option, None, Some, length, ◌++◌, take, drop, refl, sym, ap, subst, ◌∙◌, arith, true≢false, option_map, position, get_or, cond, is_some, codes, if◌then◌else◌}
 use Rattle.std.specs.Prelude.{slice_get, IfSome}
 use Rattle.std.specs.List.{position_or_len}
 use Rattle.std.specs.Str.{bytes_eq}
@@ -10,7 +10,10 @@ use Rattle.std.proofs.lemmas.List.Quantifiers.{position-Some}
 use Rattle.std.proofs.lemmas.Option.{get_or_from_slice_get, slice_get-get_or, slice_get_within}
 use Rattle.std.proofs.lemmas.Slice.Eq.{bytes_eq-Decides}
 use Rattle.site_image.specs.Files.{File, has_name}
-use Rattle.file_tree.specs.Site.{AreApart}
+use Rattle.std.proofs.Math.Seq.{take-append_seam}
+use Rattle.file_tree.specs.Site.{AreApart, SiteContent, files_of}
+use Rattle.web_pages.specs.Requests.{Wanted}
+use Rattle.web_pages.specs.WebMeaning.{hits_by}
 use Rattle.file_tree.specs.declared.file_id.FileId.{FileId}
 use Rattle.web_pages.specs.Pages.{place_of}
 
@@ -62,3 +65,10 @@ pub found_place : (files : List File) → AreApart files → (name : List ℕ) (
     → option_map (λ (id : FileId). id.0) o ≡ place_of files name
 found_place files apart name None named there = sym (no_place files name (sym there))
 found_place files apart name (Some id) named there = named_by files apart name id.0 (slice_get files id.0) refl named
+
+-- the hits that a request leaves stand in front of what is kept of them, and are those of the site that both name
+pub hits_left : (new all : List ℕ) (n : ℕ) (site other : SiteContent) (hits others : List ℕ) (before after : Wanted) → n ≡ length new → new ≡ hits_by (files_of site) hits before after → site ≡ other → hits ≡ others
+    → take n (new ++ drop (length new) all) ≡ hits_by (files_of other) others before after
+hits_left new all n site other hits others before after size told is same =
+    ap (λ k. take k (new ++ drop (length new) all)) size ∙ take-append_seam new _ ∙ told
+    ∙ ap (λ (s : SiteContent). hits_by (files_of s) hits before after) is ∙ ap (λ (l : List ℕ). hits_by (files_of other) l before after) same

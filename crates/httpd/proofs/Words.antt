@@ -8,9 +8,11 @@ use Rattle.std.proofs.lemmas.List.{drop_all, take_all, take-append-drop}
 use Rattle.std.proofs.lemmas.List.Folds.{list_any-append}
 use Rattle.std.proofs.lemmas.Slice.Eq.{bytes_eq-Decides}
 use Rattle.site_image.specs.Files.{File, has_name}
+use Rattle.file_tree.specs.Site.{IsLoaded, SiteContent, files_of}
+use Rattle.httpd.proofs.Sizes.{name_short}
 use Rattle.protosocket.specs.declared.stops.Stops.{Stops}
-use Rattle.protosocket.specs.declared.stops.Stops.TheVariants.{Space}
-use Rattle.protosocket.specs.Line.{after, fresh, heard, is_query_mark, is_stop, word_of}
+use Rattle.protosocket.specs.declared.stops.Stops.TheVariants.{Space, SpaceOrLine}
+use Rattle.protosocket.specs.Line.{Line, after, fresh, heard, is_query_mark, is_stop, word_of}
 use Rattle.protosocket.specs.Lemmas.Hearing.{hears_joined, none_at_all, none_before, one_before}
 use Rattle.web_pages.specs.Requests.{after_method, has_ended, method_of, name_in}
 
@@ -150,3 +152,18 @@ pub nobody_named : (files : List File) → ((k : ℕ) (file : File) → Rattle.s
     → has_name files (name_in word) ≡ false
 nobody_named files good word long =
     ap (has_name files) (long_name word long) ∙ nobody files good (before_first is_query_mark word) (ltb-true 64 (length (before_first is_query_mark word)) long)
+
+-- the name that a line holds
+abbrev asked : Line → List ℕ
+asked line = if bytes_eq line.name (codes "/") then codes "/index.html" else line.name
+
+-- a line that heard all of a name holds it
+pub asked_name : (inside line : Line) (bytes : List ℕ) → inside ≡ line → line ≡ heard SpaceOrLine bytes → inside.over ≡ false → asked line ≡ name_in (word_of SpaceOrLine bytes)
+asked_name inside line bytes e holds short =
+    ap asked holds ∙ name_heard (word_of SpaceOrLine bytes) (sym (ap (λ (l : Line). l.over) (e ∙ holds)) ∙ short)
+
+-- and of one that is too long for it no file has the name
+pub asked_nobody : (site : SiteContent) (inside line : Line) (bytes : List ℕ) → IsLoaded site → inside ≡ line → line ≡ heard SpaceOrLine bytes → inside.over ≡ true
+    → has_name (files_of site) (name_in (word_of SpaceOrLine bytes)) ≡ false
+asked_nobody site inside line bytes is e holds over =
+    nobody_named (files_of site) (name_short site is) (word_of SpaceOrLine bytes) (sym (ap (λ (l : Line). l.over) (e ∙ holds)) ∙ over)

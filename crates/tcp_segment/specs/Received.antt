@@ -1,11 +1,11 @@
--- What a received segment plain_segment or why it is dropped (RFC 793, section 3.1).
+-- What a received segment says or why it is dropped (RFC 793, section 3.1).
 use Rattle.std.specs.Prelude.{ℕ, ◌+◌, ◌-◌, ◌*◌, ◌/◌, ◌%◌, ◌==◌, ◌||◌, nat_lt, not, if◌then◌else◌, List, ◌++◌, length, slice_index, slice_range, Result, Ok, Err}
 use Rattle.uip_wire.specs.Checksum.{checksum_of}
 use Rattle.uip_wire.specs.Fields.{word_at, long_at}
 use Rattle.uip_ipv4.specs.Head.{payload_of}
 use Rattle.uip_ipv4.specs.declared.head.IpHead.{IpHead}
 use Rattle.tcp_segment.specs.Options.{mss_in}
-use Rattle.tcp_segment.specs.Segments.{PlainSegment, pseudo_header, plain_segment}
+use Rattle.tcp_segment.specs.Segments.{PlainSegment, plain_segment, pseudo_header}
 use Rattle.tcp_segment.specs.declared.fate.TcpFate.{TcpFate}
 use Rattle.tcp_segment.specs.declared.fate.TcpFate.TheVariants.{Short, Offset, Checksum}
 use Rattle.tcp_segment.specs.declared.segment.Segment.{Segment}

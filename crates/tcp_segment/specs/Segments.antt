@@ -13,7 +13,7 @@ pub record PlainSegment : Type 0 where
   pub mss : Option ℕ
   pub text : List ℕ
 
--- sequence number, acknowledgement number, flags, window, greatest segment size of the peer, text
+-- the segment that has these
 abbrev pub plain_segment : ℕ → ℕ → ℕ → ℕ → Option ℕ → List ℕ → PlainSegment
 plain_segment seq ack flags window mss text = record { seq = seq; ack = ack; flags = flags; window = window; mss = mss; text = text }
 

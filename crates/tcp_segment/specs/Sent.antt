@@ -4,7 +4,7 @@ use Rattle.uip_ipv4.specs.Head.{head_bytes}
 use Rattle.uip_ipv4.specs.declared.proto.Proto.TheVariants.{Tcp}
 use Rattle.uip_wire.specs.Checksum.{checksum_of}
 use Rattle.uip_wire.specs.Fields.{bytes_of}
-use Rattle.tcp_segment.specs.Segments.{Datagram, PlainSegment, datagram_bytes, fixed_words, offset_of, pseudo_header, plain_segment}
+use Rattle.tcp_segment.specs.Segments.{Datagram, PlainSegment, datagram_bytes, fixed_words, offset_of, plain_segment, pseudo_header}
 use Rattle.tcp_segment.specs.declared.out.Out.{Out}
 
 -- with this text

@@ -1,9 +1,8 @@
-use Rattle.std.proofs.Common.{ℕ, List, ◌++◌, length, take, drop, ap, sym, subst, ◌∙◌, arith}
-use Rattle.std.proofs.Math.Seq.{take-append_seam}
-use Rattle.file_tree.specs.Site.{SiteContent, files_of}
+use Rattle.std.proofs.Common.{◌++◌, ap, sym, subst, ◌∙◌, arith}
+use Rattle.file_tree.specs.Site.{SiteContent}
 use Rattle.web_pages.specs.Requests.{wanted}
-use Rattle.web_pages.specs.WebMeaning.{hits_by}
 use Rattle.httpd.specs.Web.{WebContent}
+use Rattle.httpd.proofs.Finding.{hits_left}
 use Rattle.httpd.specs.HttpdStands.{HttpdStands}
 use Rattle.httpd.proofs.httpd.HttpdApp.newdata.Goals as goal
 
@@ -16,11 +15,5 @@ returns-clause-part c = λ p s.
 pub returns-clause-numbers : goal.returns-clause-numbers
 returns-clause-numbers c = λ p s.
     let is = c.tree.ensures ∙ ap (λ (w : WebContent). w.site) c.shared.view_is in
-    let hits = c.deref_mut.ensures.value ∙ ap (λ (w : WebContent). w.hits) c.shared.view_is in
-    let before = wanted p.heard in
-    let after = wanted (p.heard ++ c.args.piece.now) in
-    ap (λ n. take n (c.hear.new.hits ++ drop (length c.hear.new.hits) c.shared.inside.hits.items)) (omega (arith, c.deref_mut.ensures.len, c.hear.auto.hits))
-    ∙ take-append_seam c.hear.new.hits _
-    ∙ c.hear.ensures.hits p (subst (λ (site : SiteContent). HttpdStands c.args.self.now site p) (sym is) s)
-    ∙ ap (λ (site : SiteContent). hits_by (files_of site) c.deref_mut.result.now before after) is
-    ∙ ap (λ (hits : List ℕ). hits_by (files_of c.args.shared.now.site) hits before after) hits
+    hits_left c.hear.new.hits c.shared.inside.hits.items _ _ _ _ _ (wanted p.heard) (wanted (p.heard ++ c.args.piece.now)) (omega (arith, c.deref_mut.ensures.len, c.hear.auto.hits))
+    (c.hear.ensures.hits p (subst (λ (site : SiteContent). HttpdStands c.args.self.now site p) (sym is) s)) is (c.deref_mut.ensures.value ∙ ap (λ (w : WebContent). w.hits) c.shared.view_is)
