@@ -44,7 +44,7 @@ fn plays_the_longest_schedule(rt: HostRuntime) -> Result<(), Fail> {
     let Ok(world) = play(alloc, &schedule, Site::empty(alloc)) else {
         return Err("not played".into());
     };
-    assert!(rt; world.link.sides.len() == 64);
+    assert!(rt; world.sides.len() == 64);
     Ok(())
 }
 

@@ -1,6 +1,7 @@
 -- What a call of the node did is told to the clients and to the list of datagrams.
 use Rattle.std.specs.Option.{option_map_or, is_some}
 use Rattle.std.proofs.Common.{◌≡◌, ◌≤◌, ℕ, zero, suc, Bool, true, false, List, [], length, refl, sym, ap, ◌∙◌, subst, arith, Option, Some, None, slice_get}
+use Rattle.std.specs.Global.{Vec}
 use Rattle.std.specs.Vec.{with_items}
 use Rattle.std.proofs.lemmas.List.{with_items_is}
 use Rattle.uip_wire.specs.declared.addr.Addr.{Addr}
@@ -25,7 +26,8 @@ use Rattle.link_replay.specs.Matched.{Matched}
 use Rattle.link_replay.specs.Noting.{gone_pair, is_sent_again, pair_at, sockets_at}
 use Rattle.link_replay.specs.Stands.{IsLink, LinkStands, SentStands, SideStands}
 use Rattle.link_replay.specs.Telling.{AreTo, IsTo}
-use Rattle.link_replay.specs.declared.link.Link.{Link}
+use Rattle.link_replay.specs.State.{Link, link_of}
+use Rattle.link_replay.specs.declared.sent.Sent.{Sent as CodeSent}
 use Rattle.link_replay.specs.declared.side.Side.{Side as CodeSide}
 use Rattle.link_replay.specs.declared.socket_pair.SocketPair.{SocketPair}
 use Rattle.link_replay.proofs.Pairs.{Partner, partner}
@@ -41,19 +43,19 @@ still_client old new e h =
     subst (λ (z : Client). FitsRequest z new.request.items) (sym e.client) (subst (λ (z : List ℕ). FitsRequest old.client z) (ap (λ v. v.items) (sym e.request)) h)
 
 -- as many clients as before are all written
-with_same : (link : Link) (ys : List CodeSide) → length link.sides.items ≡ length ys → (with_items link.sides ys).items ≡ ys
-with_same link ys e = with_items_is link.sides ys (sym e ∙ sym link.sides.ok.0)
+with_same : (sides : Vec CodeSide) (ys : List CodeSide) → length sides.items ≡ length ys → (with_items sides ys).items ≡ ys
+with_same sides ys e = with_items_is sides ys (sym e ∙ sym sides.ok.0)
 
 -- clients that are epochs on keep what clients keep
-pub link_buried : (addr : Addr) (link : Link) (ys : List CodeSide) → Matched OnlyEpoch link.sides.items ys → IsLink addr link → IsLink addr (record link { sides = with_items link.sides ys })
-link_buried addr link ys m h =
-    let zs : List CodeSide = (with_items link.sides ys).items in
-    let n : Matched OnlyEpoch link.sides.items zs = subst (λ (xs : List CodeSide). Matched OnlyEpoch link.sides.items xs) (sym (with_same link ys m.same_length)) m in
+pub link_buried : (addr : Addr) (sides : Vec CodeSide) (sent : List CodeSent) (ys : List CodeSide) → Matched OnlyEpoch sides.items ys → IsLink addr (link_of sides.items sent)
+    → IsLink addr (link_of (with_items sides ys).items sent)
+link_buried addr sides sent ys m h =
+    let zs : List CodeSide = (with_items sides ys).items in
+    let n : Matched OnlyEpoch sides.items zs = subst (λ (xs : List CodeSide). Matched OnlyEpoch sides.items xs) (sym (with_same sides ys m.same_length)) m in
     record {
-      area = h.area;
       few = subst (λ (k : ℕ). k ≤ 64) n.same_length h.few;
-      clients = λ i y g. (let p = before link.sides.items zs i y n g in still_client p.other y p.pair (h.clients i p.other p.get));
-      servers = λ i y g. (let p = before link.sides.items zs i y n g in subst (λ (z : Client). z.setup.server ≡ addr) (sym p.pair.client) (h.servers i p.other p.get));
+      clients = λ i y g. (let p = before sides.items zs i y n g in still_client p.other y p.pair (h.clients i p.other p.get));
+      servers = λ i y g. (let p = before sides.items zs i y n g in subst (λ (z : Client). z.setup.server ≡ addr) (sym p.pair.client) (h.servers i p.other p.get));
       many = h.many;
       sizes = h.sizes;
     }
@@ -62,22 +64,23 @@ link_buried addr link ys m h =
 abbrev pub left_by : World → AbstractNode → Option Connection → World
 left_by w node gone = record w { node = node; sides = buries gone w.sides }
 
-sent_left : (link : Link) (w : World) (node : AbstractNode) (gone : Option Connection) → node.addr ≡ w.node.addr → LinkStands link w → Matched (SentStands (left_by w node gone)) link.sent.items w.sent
-sent_left link w node gone e h = sent_stays w (left_by w node gone) (sym e) (buried_places gone w.sides) link.sent.items w.sent h.sent
+sent_left : (link : Link) (w : World) (node : AbstractNode) (gone : Option Connection) → node.addr ≡ w.node.addr → LinkStands link w → Matched (SentStands (left_by w node gone)) link.sent w.sent
+sent_left link w node gone e h = sent_stays w (left_by w node gone) (sym e) (buried_places gone w.sides) link.sent w.sent h.sent
 
-sides_left : (link : Link) (w : World) (node : AbstractNode) (g : Connection) (ys : List CodeSide) → length link.sides.items ≡ length ys → node.addr ≡ w.node.addr → LinkStands link w → Matched SideStands ys (buries (Some g) w.sides)
-    → LinkStands (record link { sides = with_items link.sides ys }) (left_by w node (Some g))
-sides_left link w node g ys l e h m = record {
-  sides = subst (λ (xs : List CodeSide). Matched SideStands xs (buries (Some g) w.sides)) (sym (with_same link ys l)) m;
-  sent = sent_left link w node (Some g) e h;
+sides_left : (sides : Vec CodeSide) (sent : List CodeSent) (w : World) (node : AbstractNode) (g : Connection) (ys : List CodeSide) → length sides.items ≡ length ys → node.addr ≡ w.node.addr
+    → LinkStands (link_of sides.items sent) w → Matched SideStands ys (buries (Some g) w.sides) → LinkStands (link_of (with_items sides ys).items sent) (left_by w node (Some g))
+sides_left sides sent w node g ys l e h m = record {
+  sides = subst (λ (xs : List CodeSide). Matched SideStands xs (buries (Some g) w.sides)) (sym (with_same sides ys l)) m;
+  sent = sent_left (link_of sides.items sent) w node (Some g) e h;
 }
 
 -- a connection became CLOSED
-pub one_gone : (link : Link) (w : World) (node : AbstractNode) (gone : Option Connection) (pair : SocketPair) (ys : List CodeSide) → length link.sides.items ≡ length ys → Some pair ≡ gone_pair gone → node.addr ≡ w.node.addr → LinkStands link w
-    → ((ss : List Side) (g : Connection) → pair_at g.sockets ≡ pair → Matched SideStands link.sides.items ss → Matched SideStands ys (buries (Some g) ss))
-    → LinkStands (record link { sides = with_items link.sides ys }) (left_by w node gone)
-one_gone link w node None pair ys l p e h b = absurd (cc)
-one_gone link w node (Some g) pair ys l p e h b = sides_left link w node g ys l e h (b w.sides g (let q : pair ≡ pair_at g.sockets = cc in sym q) h.sides)
+pub one_gone : (sides : Vec CodeSide) (sent : List CodeSent) (w : World) (node : AbstractNode) (gone : Option Connection) (pair : SocketPair) (ys : List CodeSide) → length sides.items ≡ length ys
+    → Some pair ≡ gone_pair gone → node.addr ≡ w.node.addr → LinkStands (link_of sides.items sent) w
+    → ((ss : List Side) (g : Connection) → pair_at g.sockets ≡ pair → Matched SideStands sides.items ss → Matched SideStands ys (buries (Some g) ss))
+    → LinkStands (link_of (with_items sides ys).items sent) (left_by w node gone)
+one_gone sides sent w node None pair ys l p e h b = absurd (cc)
+one_gone sides sent w node (Some g) pair ys l p e h b = sides_left sides sent w node g ys l e h (b w.sides g (let q : pair ≡ pair_at g.sockets = cc in sym q) h.sides)
 
 -- none did
 pub none_gone : (link : Link) (w : World) (node : AbstractNode) (gone : Option Connection) → None ≡ gone_pair gone → node.addr ≡ w.node.addr → LinkStands link w → LinkStands link (left_by w node gone)

@@ -20,7 +20,7 @@ use Rattle.uip_node.proofs.Connections.{get_set_same}
 use Rattle.link_replay.specs.Noting.{pair_at}
 use Rattle.link_replay.specs.Stands.{WorldStands, LinkStands, IsLink}
 use Rattle.link_replay.specs.Telling.{AnswersTo, AreTo, client_told, pair_at_side, sees}
-use Rattle.link_replay.specs.declared.link.Link.{Link}
+use Rattle.link_replay.specs.State.{Link}
 use Rattle.link_replay.specs.State.{CodeWorld}
 use Rattle.link_replay.proofs.Handling.{arrived_to, linked}
 use Rattle.link_replay.proofs.Pairs.{reads}
@@ -35,7 +35,7 @@ pub speaks_to : (link : Link) (w : World) → LinkStands link w → IsLink w.nod
 speaks_to link w h i zero side g = absurd (let z : None ≡ Some side = g in cc)
 speaks_to link w h i (suc n) side g =
     let l = inside w.sides n side g in
-    let r = reads link.sides.items n (omega (arith, l, h.sides.same_length)) in
+    let r = reads link.sides n (omega (arith, l, h.sides.same_length)) in
     ap (λ (k : AbstractClient). k.setup.server) (sym (h.sides.each n r.0 side r.1 g).client) ∙ i.servers n r.0 r.1
 
 -- a client that is put twice
@@ -109,7 +109,7 @@ sees_mark w client k e (Some side) = refl
 module _ {A S : Type 0} (g : Ghosts A S) where
   pub seen : (world : CodeWorld A S) (link : Link) (w : World) (client k : ℕ) (e : Sent) (side : Option Side) → WorldStands g world w → LinkStands link (sees w client k e side) → IsLink w.node.addr link
       → WorldStands g (record world { link = link }) (sees w client k e side)
-  seen world link w client k e side s l i = linked g world link w (sees w client k e side) s (sees_node w client k e side) (sees_mark w client k e side) l i
+  seen world link w client k e side s l i = linked g world link world.area w (sees w client k e side) s (sees_node w client k e side) (sees_mark w client k e side) l i
 
 -- what the node answers does not depend on what a client has seen
 pub answers_seen : (m : Meaning) (served : ℕ → Bool) (w : World) (client k : ℕ) (e : Sent) (side : Option Side) (who : Who) (bytes : List ℕ) →

@@ -21,7 +21,7 @@ use Rattle.link_replay.specs.Noting.{owner, pair_at}
 use Rattle.link_replay.specs.Stands.{WorldStands, LinkStands, IsLink}
 use Rattle.link_replay.specs.Telling.{AreTo, IsTo}
 use Rattle.link_replay.specs.declared.socket_pair.SocketPair.{SocketPair}
-use Rattle.link_replay.specs.declared.link.Link.{Link}
+use Rattle.link_replay.specs.State.{Link}
 use Rattle.link_replay.specs.State.{CodeWorld}
 use Rattle.link_replay.proofs.Pairs.{left_is}
 use Rattle.link_replay.proofs.Replies.{SaidTo, arrived_reply, periodic_reply}
@@ -114,9 +114,9 @@ still_linked before after link keeps = (link.0, keeps link.0 link.1)
 
 module _ {A S : Type 0} (g : Ghosts A S) where
   -- the node and the mark stay
-  pub linked : (world : CodeWorld A S) (link : Link) (w v : World) → WorldStands g world w → v.node ≡ w.node → v.mark ≡ w.mark → LinkStands link v → IsLink w.node.addr link
-      → WorldStands g (record world { link = link }) v
-  linked world link w v s n k l i = record {
+  pub linked : (world : CodeWorld A S) (link : Link) (area : List ℕ) (w v : World) → WorldStands g world w → v.node ≡ w.node → v.mark ≡ w.mark → LinkStands link v → IsLink w.node.addr link
+      → WorldStands g (record world { link = link; area = area }) v
+  linked world link area w v s n k l i = record {
     node = subst (λ (x : AbstractNode). Stands g world.node x x.past) (sym n) s.node;
     link = l;
     home = subst (λ a. IsLink a link) (sym (ap (λ (x : AbstractNode). x.addr) n)) i;
@@ -124,13 +124,13 @@ module _ {A S : Type 0} (g : Ghosts A S) where
     fresh = s.fresh;
   }
 
-  pub own_done : (world : CodeWorld A S) (link : Link) (w : World) (number : ℕ) (act : AbstractClient → ClientStep) → WorldStands g world w → LinkStands link (client_acts w number act) → IsLink w.node.addr link
-      → WorldStands g (record world { link = link }) (client_acts w number act)
-  own_done world link w number act s l i = let k = acts_stay w number act in linked world link w (client_acts w number act) s k.node k.mark l i
+  pub own_done : (world : CodeWorld A S) (link : Link) (area : List ℕ) (w : World) (number : ℕ) (act : AbstractClient → ClientStep) → WorldStands g world w → LinkStands link (client_acts w number act) → IsLink w.node.addr link
+      → WorldStands g (record world { link = link; area = area }) (client_acts w number act)
+  own_done world link area w number act s l i = let k = acts_stay w number act in linked world link area w (client_acts w number act) s k.node k.mark l i
 
-  pub handed_done : (world : CodeWorld A S) (link : Link) (w : World) (number : ℕ) (bytes : List ℕ) → WorldStands g world w → LinkStands link (at_side w number (handed w number bytes)) → IsLink w.node.addr link
-      → WorldStands g (record world { link = link }) (at_side w number (handed w number bytes))
-  handed_done world link w number bytes s l i = let k = handed_stays w number bytes in linked world link w (at_side w number (handed w number bytes)) s k.node k.mark l i
+  pub handed_done : (world : CodeWorld A S) (link : Link) (area : List ℕ) (w : World) (number : ℕ) (bytes : List ℕ) → WorldStands g world w → LinkStands link (at_side w number (handed w number bytes)) → IsLink w.node.addr link
+      → WorldStands g (record world { link = link; area = area }) (at_side w number (handed w number bytes))
+  handed_done world link area w number bytes s l i = let k = handed_stays w number bytes in linked world link area w (at_side w number (handed w number bytes)) s k.node k.mark l i
 
 -- the periodic calls that are left of a tick
 slot_is : (slot : ℕ) → slot < 10 → get_or tick slot (Periodic 0) ≡ Periodic slot

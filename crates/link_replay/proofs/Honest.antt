@@ -28,12 +28,12 @@ use Rattle.link_replay.proofs.Typed.{HasTypes, all_typed, read_keeps}
 
 is_planned : (plan : Plan) → HasTypes plan → client_in_range plan ≡ true → IsPlanned (planned 1 plan)
 is_planned plan types range =
-    let parts = and_parts (is_between 1 65535 plan.side.port.0 && is_between 1 1460 plan.side.seg) (is_between 1 4096 (length plan.request)) range in
-    let sides = and_parts (is_between 1 65535 plan.side.port.0) (is_between 1 1460 plan.side.seg) parts.0 in
-    let ports = and_parts (leb 1 plan.side.port.0) (leb plan.side.port.0 65535) sides.0 in
-    let segs = and_parts (leb 1 plan.side.seg) (leb plan.side.seg 1460) sides.1 in
+    let parts = and_parts (is_between 1 65535 plan.port.0 && is_between 1 1460 plan.seg) (is_between 1 4096 (length plan.request)) range in
+    let sides = and_parts (is_between 1 65535 plan.port.0) (is_between 1 1460 plan.seg) parts.0 in
+    let ports = and_parts (leb 1 plan.port.0) (leb plan.port.0 65535) sides.0 in
+    let segs = and_parts (leb 1 plan.seg) (leb plan.seg 1460) sides.1 in
     let sizes = and_parts (leb 1 (length plan.request)) (leb (length plan.request) 4096) parts.1 in
-    let port : plan.side.port.0 ≤ 65535 = leb-true plan.side.port.0 65535 ports.1 in
+    let port : plan.port.0 ≤ 65535 = leb-true plan.port.0 65535 ports.1 in
     record {
       addr = types.addr;
       port = omega (arith, port);
@@ -43,7 +43,7 @@ is_planned plan types range =
       first = lit< tt;
       short = leb-true (length plan.request) 4096 sizes.1;
       all_bytes = types.all_bytes;
-      seg = (leb-true 1 plan.side.seg segs.0, leb-true plan.side.seg 1460 segs.1);
+      seg = (leb-true 1 plan.seg segs.0, leb-true plan.seg 1460 segs.1);
     }
 
 -- one client alone is a plan

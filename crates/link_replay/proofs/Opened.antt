@@ -8,7 +8,6 @@ use Rattle.std.specs.Str.{bytes_eq}
 use Rattle.std.proofs.lemmas.Option.{slice_get_within}
 use Rattle.uip_wire.specs.declared.addr.Addr.{Addr}
 use Rattle.uip_wire.specs.declared.port.Port.{Port}
-use Rattle.uip_wire.specs.declared.sizes.TheConstants.{LARGEST_DATAGRAM}
 use Rattle.app_events.specs.Pages.{IsAddr, IsByte}
 use Rattle.uip_node.proofs.Stepping.{slice_get-element}
 use Rattle.link_client.specs.Calls.{FitsRequest, standing}
@@ -19,8 +18,6 @@ use Rattle.link_schedule.specs.Clients.{Plan}
 use Rattle.link_schedule.specs.Kept.{are_apart, client_in_range, is_between}
 use Rattle.link_schedule.specs.Reading.{meets}
 use Rattle.tcp_machine.specs.Connection.{Sockets}
-use Rattle.link_schedule.specs.Stands.{plan_at}
-use Rattle.link_schedule.specs.declared.client_plan.ClientPlan.{ClientPlan}
 use Rattle.link_world.specs.World.{World}
 use Rattle.link_world.specs.History.{Planned, IsPlan, IsPlanned, fresh_side, sockets_in}
 use Rattle.uip_node.proofs.Basics.{get_push}
@@ -31,7 +28,7 @@ use Rattle.link_replay.specs.Matched.{Matched}
 use Rattle.link_replay.specs.Opening.{AreFresh, IsFresh, plan_from, planned, server}
 use Rattle.link_replay.specs.Stands.{IsLink, SentStands, SideStands}
 use Rattle.link_replay.specs.declared.sent.Sent.{Sent as CodeSent}
-use Rattle.link_replay.specs.declared.link.Link.{Link}
+use Rattle.link_replay.specs.State.{Link}
 use Rattle.link_replay.specs.declared.side.Side.{Side as CodeSide}
 
 pub server_is_addr : IsAddr server
@@ -41,19 +38,19 @@ server_is_addr = record {
 }
 
 -- one client
-pub fresh : (number : ℕ) (plan : ClientPlan) (setup : Setup) (client : Client) (request received : Vec ℕ) → number ≤ 64 → client_in_range (plan_at plan) ≡ true
-    → setup ≡ (planned number (plan_at plan)).setup → IsAddr plan.addr → plan.port.0 < 65536 → plan.mss < 65536 → All IsByte plan.request.items
-    → request.items ≡ plan.request.items → received.items ≡ [] → ((r : List ℕ) → standing client r [] ≡ idle setup r) → ((r : List ℕ) → length r ≤ 4096 → FitsRequest client r)
-    → IsFresh number (plan_at plan) (record { client = client; request = request; received = received; epoch = 0; first_stale = None })
+pub fresh : (number : ℕ) (plan : Plan) (setup : Setup) (client : Client) (request received : Vec ℕ) → number ≤ 64 → client_in_range plan ≡ true
+    → setup ≡ (planned number plan).setup → IsAddr plan.addr → plan.port.0 < 65536 → plan.mss < 65536 → All IsByte plan.request
+    → request.items ≡ plan.request → received.items ≡ [] → ((r : List ℕ) → standing client r [] ≡ idle setup r) → ((r : List ℕ) → length r ≤ 4096 → FitsRequest client r)
+    → IsFresh number plan (record { client = client; request = request; received = received; epoch = 0; first_stale = None })
 fresh number plan setup client request received few range e addr port mss bytes asked none is_idle fits =
-    let parts = and_parts (is_between 1 65535 plan.port.0 && is_between 1 1460 plan.seg) (is_between 1 4096 (length plan.request.items)) range in
-    let sizes = and_parts (leb 1 (length plan.request.items)) (leb (length plan.request.items) 4096) parts.1 in
+    let parts = and_parts (is_between 1 65535 plan.port.0 && is_between 1 1460 plan.seg) (is_between 1 4096 (length plan.request)) range in
+    let sizes = and_parts (leb 1 (length plan.request)) (leb (length plan.request) 4096) parts.1 in
     let segs = and_parts (leb 1 plan.seg) (leb plan.seg 1460) (and_parts (is_between 1 65535 plan.port.0) (is_between 1 1460 plan.seg) parts.0).1 in
-    let short : length plan.request.items ≤ 4096 = leb-true (length plan.request.items) 4096 sizes.1 in
+    let short : length plan.request ≤ 4096 = leb-true (length plan.request) 4096 sizes.1 in
     record {
       stands = record {
-        client = ap (λ (r : List ℕ). standing client r received.items) asked ∙ ap (λ (r : List ℕ). standing client plan.request.items r) none
-            ∙ is_idle plan.request.items ∙ ap (λ (s : Setup). idle s plan.request.items) e;
+        client = ap (λ (r : List ℕ). standing client r received.items) asked ∙ ap (λ (r : List ℕ). standing client plan.request r) none
+            ∙ is_idle plan.request ∙ ap (λ (s : Setup). idle s plan.request) e;
         epoch = refl;
         first_stale = refl;
       };
@@ -72,34 +69,28 @@ fresh number plan setup client request received few range e addr port mss bytes 
       };
     }
 
-pub in_range_at : (clients : List ClientPlan) (i : ℕ) (plan : ClientPlan) → list_all client_in_range (map plan_at clients) ≡ true → slice_get clients i ≡ Some plan → client_in_range (plan_at plan) ≡ true
+pub in_range_at : (clients : List Plan) (i : ℕ) (plan : Plan) → list_all client_in_range clients ≡ true → slice_get clients i ≡ Some plan → client_in_range plan ≡ true
 in_range_at [] i plan h g = absurd (cc)
 in_range_at (x ∷ xs) zero plan h g =
     let e : x ≡ plan = cc in
-    ap (λ (p : ClientPlan). client_in_range (plan_at p)) (sym e) ∙ (and_parts (client_in_range (plan_at x)) (list_all client_in_range (map plan_at xs)) h).0
-in_range_at (x ∷ xs) (suc i) plan h g = in_range_at xs i plan (and_parts (client_in_range (plan_at x)) (list_all client_in_range (map plan_at xs)) h).1 g
+    ap (λ (p : Plan). client_in_range p) (sym e) ∙ (and_parts (client_in_range x) (list_all client_in_range xs) h).0
+in_range_at (x ∷ xs) (suc i) plan h g = in_range_at xs i plan (and_parts (client_in_range x) (list_all client_in_range xs) h).1 g
 
 -- the clients so far
 abbrev pub FreshTo : List Plan → List CodeSide → Type 0
 FreshTo plans sides = (i : ℕ) (plan : Plan) (side : CodeSide) → slice_get plans i ≡ Some plan → slice_get sides i ≡ Some side → IsFresh (suc i) plan side
 
-plan_there : (clients : List ClientPlan) (i : ℕ) (plan : ClientPlan) (p : Plan) → slice_get clients i ≡ Some plan → slice_get (map plan_at clients) i ≡ Some p → plan_at plan ≡ p
-plan_there clients i plan p g h =
-    let m = get_map plan_at clients i p h in
-    let from = m.get in
-    let e : m.from ≡ plan = cc in
-    ap plan_at (sym e) ∙ m.is
-
 -- one client more
-pub one_more : (clients : List ClientPlan) (sides : List CodeSide) (at : ℕ) (plan : ClientPlan) (new : CodeSide) → slice_get clients at ≡ Some plan → length sides ≡ at
-    → IsFresh (at + 1) (plan_at plan) new → FreshTo (map plan_at clients) sides → FreshTo (map plan_at clients) (sides ++ new ∷ [])
+pub one_more : (clients : List Plan) (sides : List CodeSide) (at : ℕ) (plan : Plan) (new : CodeSide) → slice_get clients at ≡ Some plan → length sides ≡ at
+    → IsFresh (at + 1) plan new → FreshTo clients sides → FreshTo clients (sides ++ new ∷ [])
 one_more clients sides at plan new there size is h i p side g s =
     elim (get_push sides new i side s) [
       | older old ↦ h i p side g old
       | newest j q ↦ (let here : i ≡ at = j ∙ size in
           let number : at + 1 ≡ suc i = omega (arith, here) in
-          let meant : plan_at plan ≡ p = plan_there clients i plan p (ap (slice_get clients) here ∙ there) g in
-          subst (λ (n : ℕ). IsFresh n p side) number (subst (λ (x : Plan). IsFresh (at + 1) x side) meant (subst (λ (x : CodeSide). IsFresh (at + 1) (plan_at plan) x) q is)))
+          let found : slice_get clients i ≡ Some plan = ap (slice_get clients) here ∙ there in
+          let meant : plan ≡ p = cc in
+          subst (λ (n : ℕ). IsFresh n p side) number (subst (λ (x : Plan). IsFresh (at + 1) x side) meant (subst (λ (x : CodeSide). IsFresh (at + 1) plan x) q is)))
     ]
 
 -- what stands at a place of a plan
@@ -148,12 +139,11 @@ fresh_at plans sides h i side g =
     let p = slice_get-element plans i (omega (arith, l, h.same_length)) in
     (p.0, h.each i p.0 side p.1 g)
 
-pub link_opened : (addr : Addr) (link : Link) (plans : List Plan) → AreFresh plans link.sides.items → length plans ≤ 64 → length link.area.items ≡ LARGEST_DATAGRAM → link.sent.items ≡ [] → addr ≡ server → IsLink addr link
-link_opened addr link plans h few area none at = record {
-  area = area;
+pub link_opened : (addr : Addr) (link : Link) (plans : List Plan) → AreFresh plans link.sides → length plans ≤ 64 → link.sent ≡ [] → addr ≡ server → IsLink addr link
+link_opened addr link plans h few none at = record {
   few = omega (arith, few, h.same_length);
-  clients = λ i side g. (fresh_at plans link.sides.items h i side g).1.fits;
-  servers = λ i side g. (fresh_at plans link.sides.items h i side g).1.at_server ∙ sym at;
+  clients = λ i side g. (fresh_at plans link.sides h i side g).1.fits;
+  servers = λ i side g. (fresh_at plans link.sides h i side g).1.at_server ∙ sym at;
   many = omega (arith, ap length none);
   sizes = λ i sent g. absurd (let e = ap (λ xs. slice_get xs i) none in (cc));
 }
@@ -172,10 +162,10 @@ bytes_same : (xs : List ℕ) → bytes_eq xs xs ≡ true
 bytes_same [] = refl
 bytes_same (x ∷ xs) = and_from (eqb x x) (bytes_eq xs xs) (eq-eqb x x refl) (bytes_same xs)
 
-meets_same : (p q : Plan) → p.side.addr ≡ q.side.addr → p.side.port ≡ q.side.port → meets p q ≡ true
+meets_same : (p q : Plan) → p.addr ≡ q.addr → p.port ≡ q.port → meets p q ≡ true
 meets_same p q a b =
-    and_from (bytes_eq p.side.addr.0 q.side.addr.0) (eqb p.side.port.0 q.side.port.0)
-    (ap (λ (z : Addr). bytes_eq p.side.addr.0 z.0) (sym a) ∙ bytes_same p.side.addr.0) (eq-eqb p.side.port.0 q.side.port.0 (ap (λ (z : Port). z.0) b))
+    and_from (bytes_eq p.addr.0 q.addr.0) (eqb p.port.0 q.port.0)
+    (ap (λ (z : Addr). bytes_eq p.addr.0 z.0) (sym a) ∙ bytes_same p.addr.0) (eq-eqb p.port.0 q.port.0 (ap (λ (z : Port). z.0) b))
 
 later_apart : (plans : List Plan) → are_apart plans ≡ true → (j k : ℕ) (p q : Plan) → slice_get plans j ≡ Some p → slice_get plans k ≡ Some q → j < k → meets p q ≡ true → ⊥
 later_apart [] h j k p q g f l m = cc
@@ -198,8 +188,8 @@ is_plan plans apart each = record {
       (let a = planned_at 1 plans j p g in
       let b = planned_at 1 plans k q f in
       let same : sockets_in (planned (1 + j) a.plan) ≡ sockets_in (planned (1 + k) b.plan) = ap sockets_in (sym a.is) ∙ e ∙ ap sockets_in b.is in
-      let addr : a.plan.side.addr ≡ b.plan.side.addr = ap (λ (s : Sockets). s.peer) same in
-      let port : a.plan.side.port ≡ b.plan.side.port = ap (λ (s : Sockets). s.peer_port) same in
+      let addr : a.plan.addr ≡ b.plan.addr = ap (λ (s : Sockets). s.peer) same in
+      let port : a.plan.port ≡ b.plan.port = ap (λ (s : Sockets). s.peer_port) same in
       one_place j k (λ l. later_apart plans apart j k a.plan b.plan a.get b.get l (meets_same a.plan b.plan addr port))
       (λ l. later_apart plans apart k j b.plan a.plan b.get a.get l (meets_same b.plan a.plan (sym addr) (sym port))));
 }

@@ -11,12 +11,11 @@ use Rattle.link_world.specs.Bytes.{bytes_by, client_bytes, node_bytes}
 use Rattle.link_world.specs.declared.who.Who.{Who}
 use Rattle.link_world.specs.declared.who.Who.TheVariants.{FromClient, FromNode, Pinger}
 use Rattle.link_replay.specs.Matched.{Matched}
-use Rattle.std.specs.Vec.{with_item}
 use Rattle.link_client.specs.Calls.{FitsRequest}
 use Rattle.uip_node.proofs.Connections.{get_set}
 use Rattle.uip_node.proofs.Connections.Written.{here, there}
 use Rattle.link_replay.specs.Stands.{SideStands, SentStands, LinkStands, IsLink}
-use Rattle.link_replay.specs.declared.link.Link.{Link}
+use Rattle.link_replay.specs.State.{Link, link_of}
 use Rattle.link_replay.specs.declared.side.Side.{Side as CodeSide}
 use Rattle.link_replay.specs.declared.sent.Sent.{Sent as CodeSent}
 use Rattle.link_replay.proofs.Pairs.{push, put, turn}
@@ -86,19 +85,18 @@ get_put (x ∷ xs) (suc n) old new h e zero = refl
 get_put (x ∷ xs) (suc n) old new h e (suc i) = get_put xs n old new h e i
 
 pub side_put : (link : Link) (w : World) (n : ℕ) (new : CodeSide) (s t : Side) → LinkStands link w → slice_get w.sides n ≡ Some s → t.client.setup ≡ s.client.setup → SideStands new t
-    → LinkStands (record link { sides = with_item link.sides n new }) (with_side w (suc n) t)
+    → LinkStands (record link { sides = set link.sides n new }) (with_side w (suc n) t)
 side_put link w n new s t h g e p = record {
-  sides = put SideStands link.sides.items w.sides n new t h.sides p;
-  sent = sent_stays w (with_side w (suc n) t) refl record { each = get_put w.sides n s t g e } link.sent.items w.sent h.sent;
+  sides = put SideStands link.sides w.sides n new t h.sides p;
+  sent = sent_stays w (with_side w (suc n) t) refl record { each = get_put w.sides n s t g e } link.sent w.sent h.sent;
 }
 
 pub link_put : (addr : Addr) (link : Link) (n : ℕ) (new : CodeSide) → IsLink addr link → FitsRequest new.client new.request.items → new.client.setup.server ≡ addr
-    → IsLink addr (record link { sides = with_item link.sides n new })
+    → IsLink addr (record link { sides = set link.sides n new })
 link_put addr link n new h c e = record {
-  area = h.area;
-  few = subst (λ k. k ≤ 64) (sym (length-set link.sides.items n new)) h.few;
-  clients = λ i side g. elim (get_set link.sides.items n new i side g) [ here q p ↦ subst (λ (z : CodeSide). FitsRequest z.client z.request.items) p c | there q o ↦ h.clients i side o ];
-  servers = λ i side g. elim (get_set link.sides.items n new i side g) [ here q p ↦ subst (λ (z : CodeSide). z.client.setup.server ≡ addr) p e | there q o ↦ h.servers i side o ];
+  few = subst (λ k. k ≤ 64) (sym (length-set link.sides n new)) h.few;
+  clients = λ i side g. elim (get_set link.sides n new i side g) [ here q p ↦ subst (λ (z : CodeSide). FitsRequest z.client z.request.items) p c | there q o ↦ h.clients i side o ];
+  servers = λ i side g. elim (get_set link.sides n new i side g) [ here q p ↦ subst (λ (z : CodeSide). z.client.setup.server ≡ addr) p e | there q o ↦ h.servers i side o ];
   many = h.many;
   sizes = h.sizes;
 }
@@ -108,4 +106,8 @@ same_places xs = record { each = λ i. sames_refl (slice_get xs i) }
 
 -- the mark alone
 pub link_marked : (link : Link) (w : World) (k : ℕ) → LinkStands link w → LinkStands link (record w { mark = k })
-link_marked link w k h = record { sides = h.sides; sent = sent_stays w (record w { mark = k }) refl (same_places w.sides) link.sent.items w.sent h.sent }
+link_marked link w k h = record { sides = h.sides; sent = sent_stays w (record w { mark = k }) refl (same_places w.sides) link.sent w.sent h.sent }
+
+-- clients and datagrams that are read from copies of their lists
+pub link_read : (P : Link → Type 0) (xs ys : List CodeSide) (ps qs : List CodeSent) → xs ≡ ys → ps ≡ qs → P (link_of ys qs) → P (link_of xs ps)
+link_read P xs ys ps qs e f p = subst (λ (zs : List CodeSide). P (link_of zs ps)) (sym e) (subst (λ (zs : List CodeSent). P (link_of ys zs)) (sym f) p)

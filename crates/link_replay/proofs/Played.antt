@@ -5,11 +5,9 @@ use Rattle.std.specs.Result.{IsErrAnd}
 use Rattle.app_events.specs.Part.{Meaning}
 use Rattle.app_events.specs.declared.app.App.{Ghosts}
 use Rattle.app_events.specs.Pages.{Pages, IsPaged, IsWord}
-use Rattle.link_schedule.specs.Answer.{content_at}
 use Rattle.link_schedule.specs.Clients.{Plan}
-use Rattle.link_schedule.specs.Stands.{plan_at}
-use Rattle.link_schedule.specs.declared.client_plan.ClientPlan.{ClientPlan}
-use Rattle.link_schedule.specs.declared.schedule.Schedule.{Schedule}
+use Rattle.link_schedule.specs.Kept.{Keeps}
+use Rattle.link_schedule.specs.Reading.{SchedulePlan}
 use Rattle.link_schedule.specs.declared.line.Line.{Line}
 use Rattle.link_schedule.specs.declared.read_schedule.ReadSchedule.{ReadSchedule}
 use Rattle.link_schedule.specs.declared.read_schedule.ReadSchedule.TheVariants.{Bad, NoMemory as NoRoom}
@@ -122,22 +120,22 @@ handed_on (Err f) e h k = ap Err k
 
 module _ {A S : Type 0} (g : Ghosts A S) where
   -- the lines of a schedule, from the opening world of its clients on
-  pub whole_schedule : (world : CodeWorld A S) (After : World → Type 0) (shared : S) (schedule : Schedule) (clients : List ClientPlan) (lines : List Line) (answer : Result (Unit {0}) ReadSchedule)
-      → clients ≡ schedule.clients.items → lines ≡ schedule.lines.items → world.node.shared ≡ shared
-      → ((k : ℕ) (p : Planned) → slice_get (plan_from 1 (map plan_at clients)) k ≡ Some p → IsPlanned p) → WorldStands g world (opening_for (g.numbers shared) (map plan_at clients))
+  pub whole_schedule : (world : CodeWorld A S) (After : World → Type 0) (shared : S) (schedule : SchedulePlan) (clients : List Plan) (lines : List Line) (answer : Result (Unit {0}) ReadSchedule)
+      → Keeps schedule → clients ≡ schedule.clients → lines ≡ schedule.lines → world.node.shared ≡ shared
+      → ((k : ℕ) (p : Planned) → slice_get (plan_from 1 clients) k ≡ Some p → IsPlanned p) → WorldStands g world (opening_for (g.numbers shared) clients)
       → ((w : World) → IsAt (g.meaning (g.kept world.node.shared)) g.served w → WorldStands g world w
       → LinesEnd (g.meaning (g.kept world.node.shared)) g.served (λ (done : Unit {0}). After) lines answer (plays (g.meaning (g.kept world.node.shared)) g.served (map event_at lines) w))
       → (pages : Pages) → IsPaged (g.meaning (g.kept shared)) pages → HasBytes pages → All IsWord (g.numbers shared)
-      → PlaysSchedule (g.meaning (g.kept shared)) g.served (g.numbers shared) (content_at schedule) (λ (done : Unit {0}). After) answer
-  whole_schedule world After shared schedule clients lines answer same_clients same_lines same_shared each stands ends pages lawful bytes words =
+      → PlaysSchedule (g.meaning (g.kept shared)) g.served (g.numbers shared) schedule (λ (done : Unit {0}). After) answer
+  whole_schedule world After shared schedule clients lines answer kept same_clients same_lines same_shared each stands ends pages lawful bytes words =
       let m = g.meaning (g.kept shared) in
-      let plans = map plan_at schedule.clients.items in
+      let plans = schedule.clients in
       let w = opening_for (g.numbers shared) plans in
       let planned : (k : ℕ) (p : Planned) → slice_get (plan_from 1 plans) k ≡ Some p → IsPlanned p
-      = subst (λ (cs : List ClientPlan). (k : ℕ) (p : Planned) → slice_get (plan_from 1 (map plan_at cs)) k ≡ Some p → IsPlanned p) same_clients each in
-      let at : IsAt m g.served w = at_opening m g.served pages (g.numbers shared) plans lawful bytes words (is_plan plans schedule.kept.apart planned) in
+      = subst (λ (cs : List Plan). (k : ℕ) (p : Planned) → slice_get (plan_from 1 cs) k ≡ Some p → IsPlanned p) same_clients each in
+      let at : IsAt m g.served w = at_opening m g.served pages (g.numbers shared) plans lawful bytes words (is_plan plans kept.apart planned) in
       let now : WorldStands g world w
-      = subst (λ (cs : List ClientPlan). WorldStands g world (opening_for (g.numbers shared) (map plan_at cs))) same_clients stands in
+      = subst (λ (cs : List Plan). WorldStands g world (opening_for (g.numbers shared) cs)) same_clients stands in
       subst (λ (ls : List Line). LinesEnd m g.served (λ (done : Unit {0}). After) ls answer (plays m g.served (map event_at ls) w)) same_lines
       (subst (λ (s : S). IsAt (g.meaning (g.kept s)) g.served w → LinesEnd (g.meaning (g.kept s)) g.served (λ (done : Unit {0}). After) lines answer (plays (g.meaning (g.kept s)) g.served (map event_at lines) w)) same_shared
       (λ h. ends w h now) at)

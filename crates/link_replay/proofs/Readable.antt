@@ -13,7 +13,7 @@ use Rattle.link_world.proofs.Senders.{sent_to_clients}
 use Rattle.link_world.proofs.SoundWorlds.{SoundWorld}
 use Rattle.link_replay.specs.Reaching.{IsAt}
 use Rattle.link_replay.specs.Stands.{LinkStands, SentStands}
-use Rattle.link_replay.specs.declared.link.Link.{Link}
+use Rattle.link_replay.specs.State.{Link}
 use Rattle.link_replay.specs.declared.sent.Sent.{Sent as CodeSent}
 use Rattle.link_replay.proofs.Pairs.{numbered_at, partner, there_is}
 use Rattle.link_replay.proofs.Reaching.{reached_at}
@@ -59,8 +59,8 @@ pub record SentThere (w : World) (number : ℕ) (code : CodeSent) : Type 0 where
   pub there : numbered w.sent number ≡ Some other
   pub pair : SentStands w code other
 
-pub sent_there : (link : Link) (w : World) (number : ℕ) (code : CodeSent) → 0 < number → code ≡ get_or link.sent.items (number - 1) code → number - 1 < length link.sent.items
+pub sent_there : (link : Link) (w : World) (number : ℕ) (code : CodeSent) → 0 < number → code ≡ get_or link.sent (number - 1) code → number - 1 < length link.sent
     → LinkStands link w → SentThere w number code
 sent_there link w number code above read inside h =
-    let p = partner (SentStands w) link.sent.items w.sent (number - 1) code h.sent (there_is link.sent.items (number - 1) code read inside) in
+    let p = partner (SentStands w) link.sent w.sent (number - 1) code h.sent (there_is link.sent (number - 1) code read inside) in
     record { other = p.other; get = p.get; there = numbered_at w.sent number above ∙ p.get; pair = p.pair }

@@ -1,7 +1,5 @@
 -- A client's step in the world.
 use Rattle.std.proofs.Common.{◌≡◌, ℕ, zero, suc, ◌<◌, ◌≤◌, ◌⊎◌, inl, inr, ◌++◌, replicate, drop, false, List, [], ◌∷◌, length, take, set, refl, sym, ap, ◌∙◌, subst, arith, Option, Some, None, slice_get, length-take, if◌then◌else◌}
-use Rattle.std.specs.Global.{Vec}
-use Rattle.std.specs.Vec.{with_item}
 use Rattle.tcp_segment.specs.Segments.{PlainSegment, datagram_bytes}
 use Rattle.std.specs.Option.{option_map_or}
 use Rattle.tcp_machine.specs.Connection.{closed}
@@ -16,17 +14,16 @@ use Rattle.link_world.proofs.Hearing.{same_hearing}
 use Rattle.uip_node.specs.Counters.{ticks_of}
 use Rattle.link_world.specs.Acts.{handed}
 use Rattle.link_world.specs.Bytes.{bytes_by, client_bytes}
-use Rattle.link_world.specs.World.{World, Side, at_side, numbered, epoch, era_of, becomes_opened, client_stepped, posts_of_client, with_client, with_side}
+use Rattle.link_world.specs.World.{World, Side, at_side, numbered, epoch, era_of, becomes_opened, client_stepped, with_client, with_side}
 use Rattle.link_world.specs.World.Content.{OfSegment}
 use Rattle.link_world.specs.declared.who.Who.TheVariants.{FromClient}
 use Rattle.uip_node.proofs.Connections.{get_set_same, set_same}
-use Rattle.link_replay.specs.Matched.{Matched}
 use Rattle.link_replay.specs.Owning.{Stepped}
 use Rattle.uip_wire.specs.declared.addr.Addr.{Addr}
-use Rattle.uip_wire.specs.declared.sizes.TheConstants.{LARGEST_DATAGRAM}
 use Rattle.link_replay.specs.declared.sent.Sent.{Sent as CodeSent}
-use Rattle.link_replay.specs.Stands.{LinkStands, SideStands, SentStands, IsLink}
-use Rattle.link_replay.specs.declared.link.Link.{Link}
+use Rattle.link_replay.specs.Stands.{LinkStands, SideStands, IsLink}
+use Rattle.link_replay.specs.State.{Link, link_of}
+use Rattle.link_replay.specs.Moving.{PostsOfClient}
 use Rattle.link_replay.specs.declared.side.Side.{Side as CodeSide}
 use Rattle.link_replay.proofs.Pairs.{partner}
 use Rattle.link_replay.proofs.Places.{link_put, side_put}
@@ -71,7 +68,7 @@ none_numbered xs (suc n) h = past xs n (elim h [ inl e ↦ absurd (let z : suc n
 
 -- a step of a client is put in its place
 pub stepped_put : (link : Link) (w : World) (n : ℕ) (old new : CodeSide) (s : Side) (step : ClientStep) (answer : Option ℕ) (area : List ℕ) → LinkStands link w → slice_get w.sides n ≡ Some s →
-    SideStands old s → new.client.setup ≡ old.client.setup → Stepped step s new answer area → LinkStands (record link { sides = with_item link.sides n new }) (with_side w (suc n) (with_client s step.client))
+    SideStands old s → new.client.setup ≡ old.client.setup → Stepped step s new answer area → LinkStands (record link { sides = set link.sides n new }) (with_side w (suc n) (with_client s step.client))
 stepped_put link w n old new s step answer area h g o q p =
     side_put link w n new s (with_client s step.client) h g
     (ap (λ (k : AbstractClient). k.setup) (sym p.stands.client) ∙ q ∙ ap (λ (k : AbstractClient). k.setup) o.client) p.stands
@@ -98,59 +95,51 @@ some_side side = record {
 pub area_is : (new old : List ℕ) (n : ℕ) → length new ≡ length old → n ≡ length old → take n (new ++ drop (length new) old) ≡ new
 area_is new old n e f = ap (λ (xs : List ℕ). take n (new ++ xs)) (drop_all (length new) old (omega (arith, e))) ∙ ap (λ (xs : List ℕ). take n xs) (append_nothing new) ∙ take_all n new (omega (arith, e, f))
 
--- a link that has the clients and the datagrams of another stands for what that one does
-pub stands_too : (link other : Link) (w : World) → other.sides ≡ link.sides → other.sent ≡ link.sent → LinkStands link w → LinkStands other w
-stands_too link other w a b h = record {
-  sides = subst (λ (xs : Vec CodeSide). Matched SideStands xs.items w.sides) (sym a) h.sides;
-  sent = subst (λ (xs : Vec CodeSent). Matched (SentStands w) xs.items w.sent) (sym b) h.sent;
-}
+-- a client took a step
+pub kept_put : (addr : Addr) (link : Link) (n : ℕ) (old new : CodeSide) → slice_get link.sides n ≡ Some old → FitsRequest new.client new.request.items
+    → new.client.setup ≡ old.client.setup → IsLink addr link → IsLink addr (record link { sides = set link.sides n new })
+kept_put addr link n old new at fits setup h = link_put addr link n new h fits (ap (λ (x : Setup). x.server) setup ∙ h.servers n old at)
 
-pub kept_too : (addr : Addr) (link other : Link) → other.sides ≡ link.sides → other.sent ≡ link.sent → length other.area.items ≡ LARGEST_DATAGRAM → IsLink addr link → IsLink addr other
-kept_too addr link other a b c h = record {
-  area = c;
-  few = subst (λ (xs : Vec CodeSide). length xs.items ≤ 64) (sym a) h.few;
-  clients = subst (λ (xs : Vec CodeSide). (i : ℕ) (side : CodeSide) → slice_get xs.items i ≡ Some side → FitsRequest side.client side.request.items) (sym a) h.clients;
-  servers = subst (λ (xs : Vec CodeSide). (i : ℕ) (side : CodeSide) → slice_get xs.items i ≡ Some side → side.client.setup.server ≡ addr) (sym a) h.servers;
-  many = subst (λ (xs : Vec CodeSent). length xs.items ≤ 65535) (sym b) h.many;
-  sizes = subst (λ (xs : Vec CodeSent). (i : ℕ) (sent : CodeSent) → slice_get xs.items i ≡ Some sent → length sent.bytes.items ≤ LARGEST_DATAGRAM) (sym b) h.sizes;
-}
+-- what is posted keeps what clients and datagrams keep, where the clients are read from a copy of their list
+pub kept_posted : (addr : Addr) (xs ys : List CodeSide) (before after : List CodeSent) → xs ≡ ys
+    → (IsLink addr (link_of xs before) → IsLink addr (link_of xs after)) → IsLink addr (link_of ys before) → IsLink addr (link_of ys after)
+kept_posted addr xs ys before after e keeps =
+    subst (λ (zs : List CodeSide). IsLink addr (link_of zs before) → IsLink addr (link_of zs after)) e keeps
 
--- a client took a step, and wrote as much as there was
-pub kept_put : (addr : Addr) (link other : Link) (n : ℕ) (old new : CodeSide) → other.sides ≡ with_item link.sides n new → other.sent ≡ link.sent → length other.area.items ≡ length link.area.items
-    → slice_get link.sides.items n ≡ Some old → FitsRequest new.client new.request.items → new.client.setup ≡ old.client.setup → IsLink addr link → IsLink addr other
-kept_put addr link other n old new a b l at client setup h =
-    kept_too addr (record link { sides = with_item link.sides n new }) other a b (l ∙ h.area)
-    (link_put addr link n new h client (ap (λ (x : Setup). x.server) setup ∙ h.servers n old at))
+-- the same of what a client sends, with a copy of the area
+pub posted_as : (number tick : ℕ) (len : Option ℕ) (x y : List ℕ) (xs ys : List CodeSide) (before after : List CodeSent) → x ≡ y → xs ≡ ys
+    → PostsOfClient number len tick x (link_of xs before) (link_of xs after) → PostsOfClient number len tick y (link_of ys before) (link_of ys after)
+posted_as number tick len x y xs ys before after e f p =
+    subst (λ (z : List ℕ). PostsOfClient number len tick z (link_of ys before) (link_of ys after)) e
+    (subst (λ (zs : List CodeSide). PostsOfClient number len tick x (link_of zs before) (link_of zs after)) f p)
 
 -- the client at a place took a step
 module _ (link : Link) (w : World) (number n : ℕ) (old new : CodeSide) (s : Side) (is : number ≡ suc n) (h : LinkStands link w) (g : slice_get w.sides n ≡ Some s) (o : SideStands old s) (q : new.client.setup ≡ old.client.setup) where
   numbered_new : (t : Side) → numbered (with_side w number t).sides number ≡ Some t
   numbered_new t = subst (λ k. numbered (with_side w k t).sides k ≡ Some t) (sym is) (get_set_same w.sides n s t g)
 
-  step_put : (step : ClientStep) (answer : Option ℕ) (area : List ℕ) → Stepped step s new answer area → LinkStands (record link { sides = with_item link.sides n new }) (with_side w number (with_client s step.client))
+  step_put : (step : ClientStep) (answer : Option ℕ) (area : List ℕ) → Stepped step s new answer area → LinkStands (record link { sides = set link.sides n new }) (with_side w number (with_client s step.client))
   step_put step answer area p =
-      subst (λ k. LinkStands (record link { sides = with_item link.sides n new }) (with_side w k (with_client s step.client))) (sym is) (stepped_put link w n old new s step answer area h g o q p)
+      subst (λ k. LinkStands (record link { sides = set link.sides n new }) (with_side w k (with_client s step.client))) (sym is) (stepped_put link w n old new s step answer area h g o q p)
 
   setup_stays : (step : ClientStep) (answer : Option ℕ) (area : List ℕ) → Stepped step s new answer area → (with_client s step.client).client.setup ≡ s.client.setup
   setup_stays step answer area p = ap (λ (k : AbstractClient). k.setup) (sym p.stands.client) ∙ q ∙ ap (λ (k : AbstractClient). k.setup) o.client
 
   -- what it sent is posted where it stands at the front of the area
-  pub step_posted : (step : ClientStep) (answer : Option ℕ) (area : List ℕ) (other after : Link) (tick : ℕ) → Stepped step s new answer area → other.sides ≡ with_item link.sides n new → other.sent ≡ link.sent → other.area.items ≡ area
-      → ((v : World) (side : Side) (t : Option PlainSegment) → LinkStands other v → numbered v.sides number ≡ Some side → Sends side.client.setup t answer other.area.items → tick ≡ ticks_of v.node.past → LinkStands after (posts_of_client v number t))
+  pub step_posted : (step : ClientStep) (answer : Option ℕ) (area : List ℕ) (after : Link) (tick : ℕ) → Stepped step s new answer area
+      → PostsOfClient number answer tick area (record link { sides = set link.sides n new }) after
       → tick ≡ ticks_of w.node.past → LinkStands after (client_stepped w number s step)
-  step_posted step answer area other after tick p a b c posted t =
+  step_posted step answer area after tick p posted t =
       let new_side : Side = with_client s step.client in
-      let sends : Sends new_side.client.setup step.sent answer other.area.items
-      = subst (λ (xs : List ℕ). Sends new_side.client.setup step.sent answer xs) (sym c)
-      (subst (λ (x : Setup). Sends x step.sent answer area) (sym (setup_stays step answer area p)) p.sent) in
-      posted (with_side w number new_side) new_side step.sent
-      (stands_too (record link { sides = with_item link.sides n new }) other (with_side w number new_side) a b (step_put step answer area p)) (numbered_new new_side) sends t
+      let sends : Sends new_side.client.setup step.sent answer area
+      = subst (λ (x : Setup). Sends x step.sent answer area) (sym (setup_stays step answer area p)) p.sent in
+      posted (with_side w number new_side) new_side step.sent (step_put step answer area p) (numbered_new new_side) sends t
 
 -- what is done to the client at a number is done in the world
-pub done_at : (link after : Link) (w : World) (number n : ℕ) (old : CodeSide) (act : Side → World) → number ≡ suc n → LinkStands link w → slice_get link.sides.items n ≡ Some old
+pub done_at : (link after : Link) (w : World) (number n : ℕ) (old : CodeSide) (act : Side → World) → number ≡ suc n → LinkStands link w → slice_get link.sides n ≡ Some old
     → ((s : Side) → slice_get w.sides n ≡ Some s → SideStands old s → LinkStands after (act s)) → LinkStands after (at_side w number act)
 done_at link after w number n old act is h at done =
-    let p = partner SideStands link.sides.items w.sides n old h.sides at in
+    let p = partner SideStands link.sides w.sides n old h.sides at in
     subst (λ (x : Option Side). LinkStands after (option_map_or act x w)) (sym (ap (numbered w.sides) is ∙ p.get)) (done p.other p.get p.pair)
 
 stays : (st : ClientState) → becomes_opened st st ≡ false

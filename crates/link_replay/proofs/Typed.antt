@@ -26,8 +26,8 @@ use Rattle.link_replay.proofs.Quads.{quad_is_addr}
 
 -- a client's address is four bytes, the size that it offers has 16 bits, and its request is bytes
 pub record HasTypes (plan : Plan) : Type 0 where
-  pub addr : IsAddr plan.side.addr
-  pub offered : plan.side.mss < 65536
+  pub addr : IsAddr plan.addr
+  pub offered : plan.mss < 65536
   pub all_bytes : All IsByte plan.request
 
 abbrev SideTyped : ClientSide → Type 0

@@ -23,10 +23,10 @@ use Rattle.link_replay.specs.Reaching.{IsAt}
 use Rattle.link_replay.specs.Stands.{IsLink, LinkStands, SentStands, WorldStands}
 use Rattle.link_replay.specs.Telling.{AreTo, IsTo}
 use Rattle.link_replay.specs.declared.before.Before.{Before}
-use Rattle.link_replay.specs.declared.link.Link.{Link}
 use Rattle.link_replay.specs.declared.sent.Sent.{Sent as CodeSent}
+use Rattle.link_replay.specs.declared.side.Side.{Side as CodeSide}
 use Rattle.link_replay.specs.declared.socket_pair.SocketPair.{SocketPair}
-use Rattle.link_replay.specs.State.{CodeWorld}
+use Rattle.link_replay.specs.State.{CodeWorld, Link, link_of}
 
 -- ---- a world
 
@@ -74,10 +74,10 @@ PostsReply to tick again datagram old new =
     → datagram ≡ reply_bytes w.node.addr reply → LinkStands old w → LinkStands new (posts_reply w (Some reply))
 
 -- what a client sends, which stands in the area, is posted
-abbrev pub PostsOfClient : ℕ → Option ℕ → ℕ → Link → Link → Type 0
-PostsOfClient number sent tick old new =
+abbrev pub PostsOfClient : ℕ → Option ℕ → ℕ → List ℕ → Link → Link → Type 0
+PostsOfClient number sent tick area old new =
     (w : World) (side : Side) (s : Option PlainSegment) → LinkStands old w → numbered w.sides number ≡ Some side
-    → Sends side.client.setup s sent old.area.items → tick ≡ ticks_of w.node.past → LinkStands new (posts_of_client w number s)
+    → Sends side.client.setup s sent area → tick ≡ ticks_of w.node.past → LinkStands new (posts_of_client w number s)
 
 -- This holds of every world whose clients and datagrams these are.
 abbrev pub OfLink : Addr → Link → (World → Type 0) → Type 0
@@ -85,8 +85,9 @@ OfLink addr link P =
     (m : Meaning) (served : ℕ → Bool) (w : World) → addr ≡ w.node.addr → LinkStands link w → IsLink w.node.addr link → IsAt m served w
     → P w
 
--- This holds of every datagram that this one stands for.
-abbrev pub OfDatagram : Addr → Link → CodeSent → (Sent → Type 0) → Type 0
-OfDatagram addr link sent P =
-    (w : World) (e : Sent) → addr ≡ w.node.addr → LinkStands link w → IsLink w.node.addr link → SentStands w sent e
+-- This holds of every datagram that this one stands for, in the worlds of these clients.
+abbrev pub OfDatagram : Addr → List CodeSide → CodeSent → (Sent → Type 0) → Type 0
+OfDatagram addr sides sent P =
+    (w : World) (e : Sent) (all : List CodeSent) → addr ≡ w.node.addr → LinkStands (link_of sides all) w
+    → IsLink w.node.addr (link_of sides all) → SentStands w sent e
     → IsRead w e.who e.content (sent_bytes w e) → IsSentBy w.sides e.who e.content → P e

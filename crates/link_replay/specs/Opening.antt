@@ -18,10 +18,10 @@ server = record { 0 = 10 ∷ 0 ∷ 0 ∷ 1 ∷ [] }
 abbrev pub planned : ℕ → Plan → Planned
 planned number plan = record {
   setup = record {
-    addr = plan.side.addr;
-    port = plan.side.port;
-    mss = plan.side.mss;
-    seg = plan.side.seg;
+    addr = plan.addr;
+    port = plan.port;
+    mss = plan.mss;
+    seg = plan.seg;
     iss = record { 0 = 1000 * number };
     server = server;
     server_port = record { 0 = WEB_PORT };

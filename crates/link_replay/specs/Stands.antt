@@ -1,5 +1,5 @@
 -- What it means that a world of the code stands for a world over plain data.
-use Rattle.std.specs.Prelude.{◌≡◌, ℕ, ◌≤◌, false, length, Some, slice_get}
+use Rattle.std.specs.Prelude.{◌≡◌, ℕ, ◌≤◌, false, List, length, Some, slice_get}
 use Rattle.uip_wire.specs.declared.addr.Addr.{Addr}
 use Rattle.uip_wire.specs.declared.sizes.TheConstants.{LARGEST_DATAGRAM}
 use Rattle.app_events.specs.declared.app.App.{Ghosts}
@@ -10,8 +10,7 @@ use Rattle.link_world.specs.Bytes.{sent_bytes}
 use Rattle.link_replay.specs.Matched.{Matched}
 use Rattle.link_replay.specs.declared.sent.Sent.{Sent as CodeSent}
 use Rattle.link_replay.specs.declared.side.Side.{Side as CodeSide}
-use Rattle.link_replay.specs.declared.link.Link.{Link}
-use Rattle.link_replay.specs.State.{CodeWorld}
+use Rattle.link_replay.specs.State.{CodeWorld, Link}
 
 -- a client of the code for one over plain data
 pub record SideStands (side : CodeSide) (s : Side) : Type 0 where
@@ -29,18 +28,22 @@ pub record SentStands (w : World) (sent : CodeSent) (e : Sent) : Type 0 where
 
 -- clients and datagrams for those of a world
 pub record LinkStands (link : Link) (w : World) : Type 0 where
-  pub sides : Matched SideStands link.sides.items w.sides
-  pub sent : Matched (SentStands w) link.sent.items w.sent
+  pub sides : Matched SideStands link.sides w.sides
+  pub sent : Matched (SentStands w) link.sent w.sent
 
--- What clients and datagrams keep: a client's datagram has room, each datagram has a number, none is longer than the
--- largest, and all clients speak to one server.
+-- What clients and datagrams keep: all clients speak to one server, each datagram has a number, and none is longer than the
+-- largest.
 pub record IsLink (addr : Addr) (link : Link) : Type 0 where
-  pub area : length link.area.items ≡ LARGEST_DATAGRAM
-  pub few : length link.sides.items ≤ 64
-  pub clients : (i : ℕ) (side : CodeSide) → slice_get link.sides.items i ≡ Some side → FitsRequest side.client side.request.items
-  pub servers : (i : ℕ) (side : CodeSide) → slice_get link.sides.items i ≡ Some side → side.client.setup.server ≡ addr
-  pub many : length link.sent.items ≤ 65535
-  pub sizes : (i : ℕ) (sent : CodeSent) → slice_get link.sent.items i ≡ Some sent → length sent.bytes.items ≤ LARGEST_DATAGRAM
+  pub few : length link.sides ≤ 64
+  pub clients : (i : ℕ) (side : CodeSide) → slice_get link.sides i ≡ Some side → FitsRequest side.client side.request.items
+  pub servers : (i : ℕ) (side : CodeSide) → slice_get link.sides i ≡ Some side → side.client.setup.server ≡ addr
+  pub many : length link.sent ≤ 65535
+  pub sizes : (i : ℕ) (sent : CodeSent) → slice_get link.sent i ≡ Some sent → length sent.bytes.items ≤ LARGEST_DATAGRAM
+
+-- What a world keeps: its clients and datagrams are sound at one address, and a client's datagram has room.
+pub record IsKept (both : Link) (area : List ℕ) : Type 0 where
+  pub link : (addr : Addr) × IsLink addr both
+  pub room : length area ≡ LARGEST_DATAGRAM
 
 pub record WorldStands {A S : Type 0} (g : Ghosts A S) (world : CodeWorld A S) (w : World) : Type 0 where
   pub node : Stands g world.node w.node w.node.past

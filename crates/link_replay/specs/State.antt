@@ -1,10 +1,20 @@
 -- A world of the code as plain data.
-use Rattle.std.specs.Prelude.{ℕ, Bool}
+use Rattle.std.specs.Prelude.{ℕ, Bool, List}
 use Rattle.uip_node.specs.State.{Node}
-use Rattle.link_replay.specs.declared.link.Link.{Link}
+use Rattle.link_replay.specs.declared.sent.Sent.{Sent}
+use Rattle.link_replay.specs.declared.side.Side.{Side}
+
+-- the clients, and every datagram that was sent, both numbered from 1
+pub record Link : Type 0 where
+  pub sides : List Side
+  pub sent : List Sent
+
+abbrev pub link_of : List Side → List Sent → Link
+link_of sides sent = record { sides = sides; sent = sent }
 
 pub record CodeWorld (A S : Type 0) : Type 0 where
   pub node : Node A S
   pub link : Link
   pub mark : ℕ
   pub spent : Bool
+  pub area : List ℕ

@@ -3,13 +3,14 @@
 ghost use Rattle.uip_edge.specs.Causes.{HasCause};
 ghost use Rattle.link_replay.specs.Moving.{OfDatagram, OfLink};
 ghost use Rattle.text_room.specs.Words.{word_if};
+ghost use Rattle.link_replay.specs.State.{link_of};
 ghost use Rattle.link_replay.specs.Report.{line_of_datagram, numbered_texts};
 ghost use Rattle.link_replay.specs.Writing.{Wrote};
 
 use crate::datagram_line::datagram_line;
 use crate::kinds::kind_of;
-use crate::link::Link;
 use crate::sent::Sent;
+use crate::side::Side;
 use crate::texts::write_word;
 use uip_edge::{Failed, Sink};
 use uip_wire::Addr;
@@ -18,27 +19,33 @@ use uip_wire::Addr;
 pub(crate) fn write_shown<K: Sink>(
     show: bool,
     addr: Addr,
-    link: &Link,
+    sides: &[Side],
+    sent: &[Sent],
     sink: &mut K,
 ) -> Result<(), Failed>
-    ensures wrote { OfLink addr link.now (λ w. Wrote (K.written sink.old) (K.written sink.new) result
+    ensures wrote { OfLink addr (link_of sides.now sent.now) (λ w. Wrote (K.written sink.old) (K.written sink.new) result
         (word_if show (numbered_texts line_of_datagram 1 w.sent))) }
     ensures cause { HasCause (K.faults sink.old) (K.faults sink.new) result }
 {
     if show {
-        return write_datagrams(addr, link, sink);
+        return write_datagrams(addr, sides, sent, sink);
     }
     Ok(())
 }
 
 /// Writes the line of each datagram.
-fn write_datagrams<K: Sink>(addr: Addr, link: &Link, sink: &mut K) -> Result<(), Failed>
-    ensures wrote { OfLink addr link.now (λ w. Wrote (K.written sink.old) (K.written sink.new) result
+fn write_datagrams<K: Sink>(
+    addr: Addr,
+    sides: &[Side],
+    sent: &[Sent],
+    sink: &mut K,
+) -> Result<(), Failed>
+    ensures wrote { OfLink addr (link_of sides.now sent.now) (λ w. Wrote (K.written sink.old) (K.written sink.new) result
         (numbered_texts line_of_datagram 1 w.sent)) }
     ensures cause { HasCause (K.faults sink.old) (K.faults sink.new) result }
 {
-    for (place, sent) in link.sent.iter().enumerate() {
-        write_datagram(addr, link, place + 1, sent, sink)?;
+    for (place, datagram) in sent.iter().enumerate() {
+        write_datagram(addr, sides, place + 1, datagram, sink)?;
     }
     Ok(())
 }
@@ -46,15 +53,15 @@ fn write_datagrams<K: Sink>(addr: Addr, link: &Link, sink: &mut K) -> Result<(),
 /// Writes the line of a datagram with its number.
 fn write_datagram<K: Sink>(
     addr: Addr,
-    link: &Link,
+    sides: &[Side],
     number: usize,
     sent: &Sent,
     sink: &mut K,
 ) -> Result<(), Failed>
-    ensures wrote { OfDatagram addr link.now sent.now
+    ensures wrote { OfDatagram addr sides.now sent.now
         (λ e. Wrote (K.written sink.old) (K.written sink.new) result (line_of_datagram number e)) }
     ensures cause { HasCause (K.faults sink.old) (K.faults sink.new) result }
 {
-    let line = datagram_line(number, sent, kind_of(addr, link, sent));
+    let line = datagram_line(number, sent, kind_of(addr, sides, sent));
     write_word(line.bytes(), sink)
 }

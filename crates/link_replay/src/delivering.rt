@@ -16,8 +16,11 @@ ghost use Rattle.link_world.specs.Headline.{IsAct};
 ghost use Rattle.link_replay.specs.Stands.{WorldStands};
 ghost use Rattle.link_replay.specs.Telling.{AnswersTo, AreTo, client_told};
 
+use crate::acting::{act_alone, hear, tell_window};
 use crate::before::Before;
+use crate::marks::{pair_of, see};
 use crate::own::Own;
+use crate::posting::post;
 use crate::socket_pair::SocketPair;
 use crate::telling::tell;
 use crate::world::WorldOf;
@@ -39,8 +42,15 @@ impl<A: App> WorldOf<A> {
             (event_of w.node.addr bytes.now))) }
     {
         let before = Before::of(&self.node);
-        let sent = self.node.input(bytes);
-        tell(&self.node, &mut self.link, &before, sent, to)?;
+        let answer = self.node.input(bytes);
+        tell(
+            &self.node,
+            &mut self.sides,
+            &mut self.sent,
+            &before,
+            answer,
+            to,
+        )?;
         Ok(())
     }
 
@@ -53,8 +63,16 @@ impl<A: App> WorldOf<A> {
             → WorldStands A.App self.new (node_handles (A.meaning (A.kept self.old.node.shared)) A.served w (Periodic slot))) }
     {
         let before = Before::of(&self.node);
-        let sent = self.node.periodic(slot);
-        tell(&self.node, &mut self.link, &before, sent, before.pair(slot))?;
+        let answer = self.node.periodic(slot);
+        let to = before.pair(slot);
+        tell(
+            &self.node,
+            &mut self.sides,
+            &mut self.sent,
+            &before,
+            answer,
+            to,
+        )?;
         Ok(())
     }
 
@@ -78,7 +96,15 @@ impl<A: App> WorldOf<A> {
         ensures acted { OnOk result ((w : PlainWorld) → WorldStands A.App self.old w
             → WorldStands A.App self.new (client_acts w number (own_step own))) }
     {
-        self.link.act(number, own, self.node.ticks())?;
+        let tick = self.node.ticks();
+        act_alone(
+            &mut self.sides,
+            &mut self.sent,
+            &mut self.area,
+            number,
+            own,
+            tick,
+        )?;
         Ok(())
     }
 
@@ -91,12 +117,19 @@ impl<A: App> WorldOf<A> {
     {
         let Ok(bytes) = echo_request(source, self.node.addr())
             .as_slice()
-            .to_vec(self.link.alloc)
+            .to_vec(*self.sent.allocator())
         else {
             return Err(NoMemory);
         };
-        self.link
-            .post(Who::Pinger, self.node.ticks(), false, bytes)?;
+        let tick = self.node.ticks();
+        post(
+            self.sides.as_slice(),
+            &mut self.sent,
+            Who::Pinger,
+            tick,
+            false,
+            bytes,
+        )?;
         Ok(())
     }
 
@@ -115,12 +148,20 @@ impl<A: App> WorldOf<A> {
                 Ok(())
             }
             Who::FromClient(client) => {
-                let to = self.link.pair_of(client);
+                let to = pair_of(self.sides.as_slice(), client);
                 self.node_hears(bytes, to)?;
                 Ok(())
             }
             Who::FromNode(client) => {
-                self.link.hear(client, bytes, self.node.ticks())?;
+                let tick = self.node.ticks();
+                hear(
+                    &mut self.sides,
+                    &mut self.sent,
+                    &mut self.area,
+                    client,
+                    bytes,
+                    tick,
+                )?;
                 Ok(())
             }
         }
@@ -134,16 +175,16 @@ impl<A: App> WorldOf<A> {
             (λ m served w. WorldStands A.App self.new (does m served w (Act.Give number)))) }
     {
         let place = number as usize;
-        if place == 0 || place > self.link.sent.len() {
+        if place == 0 || place > self.sent.len() {
             return Ok(());
         }
-        let sent = &self.link.sent[place - 1];
+        let sent = &self.sent[place - 1];
         let who = sent.who;
         let epoch = sent.epoch;
-        let Ok(bytes) = sent.bytes.as_slice().to_vec(self.link.alloc) else {
+        let Ok(bytes) = sent.bytes.as_slice().to_vec(*self.sent.allocator()) else {
             return Err(NoMemory);
         };
-        self.link.see(client_of(who), number, epoch);
+        see(&mut self.sides, client_of(who), number, epoch);
         self.hand(who, bytes.as_slice())?;
         Ok(())
     }
@@ -156,12 +197,12 @@ impl<A: App> WorldOf<A> {
         ensures damaged { OnOk result (DoesAct A.App (Act.Damage number at mask) self.old self.new) }
     {
         let place = number as usize;
-        if place == 0 || place > self.link.sent.len() {
+        if place == 0 || place > self.sent.len() {
             return Ok(());
         }
-        let sent = &self.link.sent[place - 1];
+        let sent = &self.sent[place - 1];
         let who = sent.who;
-        let Ok(mut bytes) = sent.bytes.as_slice().to_vec(self.link.alloc) else {
+        let Ok(mut bytes) = sent.bytes.as_slice().to_vec(*self.sent.allocator()) else {
             return Err(NoMemory);
         };
         change(bytes.as_mut_slice(), usize::from(at), mask);
@@ -183,7 +224,7 @@ impl<A: App> WorldOf<A> {
             Act::Closes(number) => self.own(number, Own::Closes),
             Act::Aborts(number) => self.own(number, Own::Aborts),
             Act::Window(number, window) => {
-                self.link.tell_window(number, window);
+                tell_window(&mut self.sides, number, window);
                 Ok(())
             }
             Act::Ping(source) => self.ping(source),

@@ -5,10 +5,11 @@ ghost use Rattle.link_world.specs.Acts.{fault_of, if_idle, is_idle, named_fault,
 ghost use Rattle.link_world.specs.World.{Side as PlainSide, World as PlainWorld, numbered};
 ghost use Rattle.link_replay.specs.Matched.{Matched};
 ghost use Rattle.link_replay.specs.Reaching.{IsNamed};
-ghost use Rattle.link_replay.specs.Stands.{LinkStands, SideStands};
+ghost use Rattle.link_replay.specs.Stands.{LinkStands, SentStands, SideStands};
+ghost use Rattle.link_replay.specs.State.{link_of};
 
 use crate::acts::needs;
-use crate::link::Link;
+use crate::sent::Sent;
 use crate::side::Side;
 use link_client::{Client, ClientState};
 use link_world::{Act, StepFault};
@@ -54,71 +55,68 @@ fn if_idle(sides: &[Side], number: u8) -> Option<StepFault>
     }
 }
 
-impl Link {
-    /// The datagram with a number is not yet sent.
-    fn no_datagram(&self, number: u32) -> Option<StepFault>
-        ensures exact { (w : PlainWorld) → LinkStands self.now w → result ≡ named_fault w (Act.Give number) }
-        ensures named { IfSome result IsNamed }
-    {
-        if number == 0 || number as usize > self.sent.len() {
-            Some(StepFault::NoDatagram)
-        } else {
-            None
-        }
+/// The datagram with a number is not yet sent.
+fn no_datagram(sent: &[Sent], number: u32) -> Option<StepFault>
+    ensures exact { (w : PlainWorld) → Matched (SentStands w) sent.now w.sent → result ≡ named_fault w (Act.Give number) }
+    ensures named { IfSome result IsNamed }
+{
+    if number == 0 || number as usize > sent.len() {
+        Some(StepFault::NoDatagram)
+    } else {
+        None
     }
+}
 
-    /// The datagram with a number is not yet sent, or has no byte at this place.
-    fn no_byte(&self, number: u32, at: u16) -> Option<StepFault>
-        ensures exact { (w : PlainWorld) (mask : ℕ) → LinkStands self.now w → result ≡ named_fault w (Act.Damage number at mask) }
-        ensures named { IfSome result IsNamed }
-    {
-        if number == 0 || number as usize > self.sent.len() {
-            return Some(StepFault::NoDatagram);
-        }
-        if usize::from(at) < self.sent[number as usize - 1].bytes.len() {
-            None
-        } else {
-            Some(StepFault::NoByte)
-        }
+/// The datagram with a number is not yet sent, or has no byte at this place.
+fn no_byte(sent: &[Sent], number: u32, at: u16) -> Option<StepFault>
+    ensures exact { (w : PlainWorld) (mask : ℕ) → Matched (SentStands w) sent.now w.sent
+        → result ≡ named_fault w (Act.Damage number at mask) }
+    ensures named { IfSome result IsNamed }
+{
+    if number == 0 || number as usize > sent.len() {
+        return Some(StepFault::NoDatagram);
     }
+    if usize::from(at) < sent[number as usize - 1].bytes.len() {
+        None
+    } else {
+        Some(StepFault::NoByte)
+    }
+}
 
-    /// Why an act is refused, apart from want of numbers.
-    fn named_fault(&self, act: &Act) -> Option<StepFault>
-        ensures window { (number size : ℕ) → act.now ≡ Act.Window number size → result ≡ None }
-        ensures exact { (w : PlainWorld) → LinkStands self.now w → result ≡ named_fault w act.now }
-        ensures named { IfSome result IsNamed }
-    {
-        match *act {
-            Act::Opens(number) => {
-                if is_idle(self.sides.as_slice(), number) {
-                    None
-                } else {
-                    Some(StepFault::AlreadyOpen)
-                }
+/// Why an act is refused, apart from want of numbers.
+fn named_fault(sides: &[Side], sent: &[Sent], act: &Act) -> Option<StepFault>
+    ensures window { (number size : ℕ) → act.now ≡ Act.Window number size → result ≡ None }
+    ensures exact { (w : PlainWorld) → LinkStands (link_of sides.now sent.now) w → result ≡ named_fault w act.now }
+    ensures named { IfSome result IsNamed }
+{
+    match *act {
+        Act::Opens(number) => {
+            if is_idle(sides, number) {
+                None
+            } else {
+                Some(StepFault::AlreadyOpen)
             }
-            Act::Again(number) | Act::Closes(number) | Act::Aborts(number) => {
-                if_idle(self.sides.as_slice(), number)
-            }
-            Act::Give(number) => self.no_datagram(number),
-            Act::Damage { number, at, .. } => self.no_byte(number, at),
-            Act::Window(..) | Act::Ping(_) | Act::Tick => None,
         }
+        Act::Again(number) | Act::Closes(number) | Act::Aborts(number) => if_idle(sides, number),
+        Act::Give(number) => no_datagram(sent, number),
+        Act::Damage { number, at, .. } => no_byte(sent, number, at),
+        Act::Window(..) | Act::Ping(_) | Act::Tick => None,
     }
+}
 
-    /// Why an act is refused.
-    pub(crate) fn fault_of(&self, act: &Act) -> Option<StepFault>
-        ensures window { (number size : ℕ) → act.now ≡ Act.Window number size → length self.now.sent.items ≤ 65535 → result ≡ None }
-        ensures exact { (w : PlainWorld) → LinkStands self.now w → result ≡ fault_of w act.now }
-        ensures named { IfSome result IsNamed }
-    {
-        match self.named_fault(act) {
-            Some(fault) => Some(fault),
-            None => {
-                if self.sent.len() > MOST_DATAGRAMS - needs(act) {
-                    Some(StepFault::Full)
-                } else {
-                    None
-                }
+/// Why an act is refused.
+pub(crate) fn fault_of(sides: &[Side], sent: &[Sent], act: &Act) -> Option<StepFault>
+    ensures window { (number size : ℕ) → act.now ≡ Act.Window number size → length sent.now ≤ 65535 → result ≡ None }
+    ensures exact { (w : PlainWorld) → LinkStands (link_of sides.now sent.now) w → result ≡ fault_of w act.now }
+    ensures named { IfSome result IsNamed }
+{
+    match named_fault(sides, sent, act) {
+        Some(fault) => Some(fault),
+        None => {
+            if sent.len() > MOST_DATAGRAMS - needs(act) {
+                Some(StepFault::Full)
+            } else {
+                None
             }
         }
     }

@@ -14,7 +14,6 @@ ghost use Rattle.link_replay.specs.Stands.{SideStands};
 ghost use Rattle.link_replay.specs.Report.{kind_sent as kind_meant, segment_kind};
 
 use crate::kind::Kind;
-use crate::link::Link;
 use crate::sent::Sent;
 use crate::side::Side;
 use link_client::Client;
@@ -25,13 +24,13 @@ use uip_wire::Addr;
 
 /// What a datagram is at the node of this address. A segment is read as its receiver reads it; what no receiver can read is told as
 /// an echo reply.
-pub(crate) fn kind_of(addr: Addr, link: &Link, sent: &Sent) -> Kind
-    ensures { OfDatagram addr link.now sent.now (λ e. result ≡ kind_meant e.content) }
+pub(crate) fn kind_of(addr: Addr, sides: &[Side], sent: &Sent) -> Kind
+    ensures { OfDatagram addr sides.now sent.now (λ e. result ≡ kind_meant e.content) }
 {
     match sent.who {
         Who::Pinger => Kind::EchoRequest,
         Who::FromClient(_) => read_at(addr, &sent.bytes),
-        Who::FromNode(number) => match address_of(link.sides.as_slice(), number) {
+        Who::FromNode(number) => match address_of(sides, number) {
             Some(own) => read_at(own, &sent.bytes),
             None => Kind::EchoReply,
         },

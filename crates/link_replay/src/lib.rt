@@ -18,12 +18,12 @@ mod kind;
 mod kinds;
 mod laws;
 mod line;
-mod link;
 mod loading;
 mod marks;
 mod opening;
 mod own;
 mod playing;
+mod posting;
 mod readers;
 mod replay_end;
 mod replaying;
@@ -49,7 +49,6 @@ pub use laws::{
     abort_and_close_apart, damage_loses, hits_are_counted, honest_replay, honest_web_peer,
     load_is_told, only_full, replay_is_told, worked_reports, worked_summaries,
 };
-pub use link::Link;
 pub use link_schedule::{ClientPlan, Event, Line, ReadSchedule, Schedule, Why};
 pub use link_world::{Act, StepFault, Who};
 pub use loading::load;

@@ -1,14 +1,16 @@
 //! What a delivery tells of a client.
 
-ghost use Rattle.std.specs.Prelude.{◌≡◌};
+ghost use Rattle.std.specs.Prelude.{◌≡◌, List};
 ghost use Rattle.link_world.specs.World.{Sent as PlainSent, Side as PlainSide, World as PlainWorld, marked, numbered};
 ghost use Rattle.uip_wire.specs.declared.addr.Addr.{Addr as Address};
+ghost use Rattle.link_replay.specs.Matched.{Matched};
 ghost use Rattle.link_replay.specs.Epochs.{sockets_for};
 ghost use Rattle.link_replay.specs.Noting.{pair_at};
 ghost use Rattle.link_replay.specs.Stands.{IsLink, LinkStands, SideStands};
+ghost use Rattle.link_replay.specs.State.{link_of};
+ghost use Rattle.link_replay.specs.declared.sent.Sent.{Sent as CodeSent};
 ghost use Rattle.link_replay.specs.Telling.{pair_at_side, sees};
 
-use crate::link::Link;
 use crate::side::Side;
 use crate::socket_pair::SocketPair;
 use link_client::Client;
@@ -37,28 +39,27 @@ fn pair_at(client: &Client) -> SocketPair
     }
 }
 
-impl Link {
-    /// A datagram of an epoch is delivered from or to a client.
-    pub(crate) fn see(&mut self, client: u8, number: u32, epoch: u32)
-        ensures stands { (w : PlainWorld) (e : PlainSent) → LinkStands self.old w → epoch ≡ e.epoch
-            → LinkStands self.new (sees w client number e (numbered w.sides client)) }
-        ensures kept { (addr : Address) → IsLink addr self.old → IsLink addr self.new }
-    {
-        let place = usize::from(client);
-        if place == 0 || place > self.sides.len() {
-            return;
-        }
-        self.sides[place - 1].see(number, epoch);
+/// A datagram of an epoch is delivered from or to a client.
+pub(crate) fn see(sides: &mut Vec<Side>, client: u8, number: u32, epoch: u32)
+    ensures stands { (w : PlainWorld) (e : PlainSent) (sent : List CodeSent) → LinkStands (link_of sides.old.items sent) w
+        → epoch ≡ e.epoch → LinkStands (link_of sides.new.items sent) (sees w client number e (numbered w.sides client)) }
+    ensures kept { (addr : Address) (sent : List CodeSent) → IsLink addr (link_of sides.old.items sent)
+        → IsLink addr (link_of sides.new.items sent) }
+{
+    let place = usize::from(client);
+    if place == 0 || place > sides.len() {
+        return;
     }
+    sides[place - 1].see(number, epoch);
+}
 
-    /// The sockets of the server's connection with the client of a number.
-    pub(crate) fn pair_of(&self, client: u8) -> Option<SocketPair>
-        ensures { (w : PlainWorld) → LinkStands self.now w → result ≡ pair_at_side (numbered w.sides client) }
-    {
-        let place = usize::from(client);
-        if place == 0 || place > self.sides.len() {
-            return None;
-        }
-        Some(pair_at(&self.sides[place - 1].client))
+/// The sockets of the server's connection with the client of a number.
+pub(crate) fn pair_of(sides: &[Side], client: u8) -> Option<SocketPair>
+    ensures { (ss : List PlainSide) → Matched SideStands sides.now ss → result ≡ pair_at_side (numbered ss client) }
+{
+    let place = usize::from(client);
+    if place == 0 || place > sides.len() {
+        return None;
     }
+    Some(pair_at(&sides[place - 1].client))
 }

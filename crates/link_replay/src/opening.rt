@@ -1,15 +1,13 @@
 //! The world before the first line.
 
 ghost use Rattle.std.specs.List.{list_all};
-ghost use Rattle.std.specs.Prelude.{◌≡◌, ◌<◌, ◌≤◌, ℕ, Some, true, IfOk, length, map, slice_get};
+ghost use Rattle.std.specs.Prelude.{◌≡◌, ◌<◌, ◌≤◌, ℕ, Some, true, IfOk, length, slice_get};
 ghost use Rattle.app_events.specs.Pages.{IsAddr};
 ghost use Rattle.link_schedule.specs.Kept.{client_in_range};
-ghost use Rattle.link_schedule.specs.Stands.{plan_at};
 ghost use Rattle.link_world.specs.History.{IsPlanned, Planned};
 ghost use Rattle.link_replay.specs.Opening.{AreFresh, IsFresh, opening_for, plan_from, planned};
 ghost use Rattle.link_replay.specs.Stands.{WorldStands};
 
-use crate::link::Link;
 use crate::side::Side;
 use crate::types::{is_addr, is_bytes, is_short};
 use crate::world::{World, WorldOf};
@@ -35,7 +33,7 @@ const FIRST_NUMBERS: u32 = 1000;
 /// What the client with a number is given.
 fn setup_for(number: u16, plan: &ClientPlan) -> Setup
     requires { number ≤ 64 }
-    ensures setup { result ≡ (planned number (plan_at plan.now)).setup }
+    ensures setup { result ≡ (planned number plan.now).setup }
     ensures addr { IsAddr plan.now.addr }
     ensures port { plan.now.port.0 < 65536 }
     ensures mss { plan.now.mss < 65536 }
@@ -57,8 +55,8 @@ fn setup_for(number: u16, plan: &ClientPlan) -> Setup
 /// The client with a number, before its first act.
 fn side_for(alloc: Global, number: u16, plan: &ClientPlan) -> Result<Side, NoMemory>
     requires few { number ≤ 64 }
-    requires range { client_in_range (plan_at plan.now) ≡ true }
-    ensures { IfOk result (λ side. IsFresh number (plan_at plan.now) side) }
+    requires range { client_in_range plan.now ≡ true }
+    ensures { IfOk result (λ side. IsFresh number plan.now side) }
 {
     let setup = setup_for(number, plan);
     let asked = plan.request.as_slice();
@@ -78,8 +76,8 @@ fn side_for(alloc: Global, number: u16, plan: &ClientPlan) -> Result<Side, NoMem
 /// The clients of a schedule in order, numbered from 1.
 fn sides_for(alloc: Global, clients: &[ClientPlan]) -> Result<Vec<Side>, NoMemory>
     requires few { length clients.now ≤ 64 }
-    requires ranges { list_all client_in_range (map plan_at clients.now) ≡ true }
-    ensures { IfOk result (λ sides. AreFresh (map plan_at clients.now) sides.items) }
+    requires ranges { list_all client_in_range clients.now ≡ true }
+    ensures { IfOk result (λ sides. AreFresh clients.now sides.items) }
 {
     let mut sides = Vec::new(alloc);
     for (at, plan) in clients.iter().enumerate() {
@@ -99,10 +97,10 @@ impl<A: App> WorldOf<A> {
         shared: A::Shared,
     ) -> Result<WorldOf<A>, NoMemory>
         requires few { length clients.now ≤ 64 }
-        requires ranges { list_all client_in_range (map plan_at clients.now) ≡ true }
-        ensures stands { IfOk result (λ world. WorldStands A.App world (opening_for (A.numbers shared) (map plan_at clients.now))) }
+        requires ranges { list_all client_in_range clients.now ≡ true }
+        ensures stands { IfOk result (λ world. WorldStands A.App world (opening_for (A.numbers shared) clients.now)) }
         ensures shared { IfOk result (λ world. world.node.shared ≡ shared) }
-        ensures planned { IfOk result (λ world. (k : ℕ) (p : Planned) → slice_get (plan_from 1 (map plan_at clients.now)) k ≡ Some p
+        ensures planned { IfOk result (λ world. (k : ℕ) (p : Planned) → slice_get (plan_from 1 clients.now) k ≡ Some p
             → IsPlanned p) }
     {
         let sides = sides_for(alloc, clients)?;
@@ -110,17 +108,13 @@ impl<A: App> WorldOf<A> {
             return Err(NoMemory);
         };
         let node = Node::new(alloc, SERVER, shared)?;
-        let link = Link {
-            sides,
-            sent: Vec::new(alloc),
-            area,
-            alloc,
-        };
         Ok(WorldOf {
             node,
-            link,
+            sides,
+            sent: Vec::new(alloc),
             mark: 0,
             spent: false,
+            area,
         })
     }
 }
@@ -128,14 +122,13 @@ impl<A: App> WorldOf<A> {
 impl World {
     ghost use Rattle.file_tree.specs.Site.{files_of};
     ghost use Rattle.httpd.specs.contracts.httpd.HttpdApp.TheImpl.{ghosts};
-    ghost use Rattle.link_schedule.specs.Answer.{content_at};
     ghost use Rattle.web_pages.specs.Serving.{no_hits};
 
     /// The opening world of a schedule's clients and the web server of a site: the node at 10.0.0.1, every client idle, and no
     /// datagram sent. On NoMemory the site is dropped.
     pub fn new(alloc: Global, schedule: &Schedule, site: Site) -> Result<World, NoMemory>
         ensures stands { IfOk result (λ world. WorldStands ghosts world
-            (opening_for (no_hits (files_of site)) (content_at schedule.now).clients)) }
+            (opening_for (no_hits (files_of site)) schedule.now.clients)) }
         ensures site { IfOk result (λ world. world.node.shared.site ≡ site) }
     {
         let web = Web::new(alloc, site)?;

@@ -7,7 +7,6 @@ ghost use Rattle.file_tree.specs.Site.{files_of};
 ghost use Rattle.httpd.specs.contracts.httpd.HttpdApp.TheImpl.{ghosts};
 ghost use Rattle.web_pages.specs.Serving.{is_served, no_hits};
 ghost use Rattle.web_pages.specs.WebMeaning.{web_meaning};
-ghost use Rattle.link_schedule.specs.Answer.{content_at};
 ghost use Rattle.link_schedule.specs.Kept.{event_in_range};
 ghost use Rattle.link_world.specs.Headline.{IsAct, OfLine};
 ghost use Rattle.link_world.specs.History.{IsPlanned, Planned};
@@ -88,9 +87,9 @@ pub(crate) fn play_by<A: App>(
     shared: A::Shared,
 ) -> Result<WorldOf<A>, ReadSchedule>
     ensures planned { IfOk result (λ world. (k : ℕ) (p : Planned)
-        → slice_get (plan_from 1 (content_at schedule.now).clients) k ≡ Some p → IsPlanned p) }
+        → slice_get (plan_from 1 schedule.now.clients) k ≡ Some p → IsPlanned p) }
     ensures plays { (pages : Pages) → IsPaged (A.meaning (A.kept shared)) pages → HasBytes pages → All IsWord (A.numbers shared)
-        → PlaysSchedule (A.meaning (A.kept shared)) A.served (A.numbers shared) (content_at schedule.now) (WorldStands A.App) result }
+        → PlaysSchedule (A.meaning (A.kept shared)) A.served (A.numbers shared) schedule.now (WorldStands A.App) result }
 {
     let Ok(mut world) = WorldOf::opening(alloc, schedule.clients.as_slice(), shared) else {
         return Err(ReadSchedule::NoMemory);
@@ -103,8 +102,8 @@ pub(crate) fn play_by<A: App>(
 /// refusal and after NoMemory the site is dropped.
 pub fn play(alloc: Global, schedule: &Schedule, site: Site) -> Result<World, ReadSchedule>
     ensures planned { IfOk result (λ world. (k : ℕ) (p : Planned)
-        → slice_get (plan_from 1 (content_at schedule.now).clients) k ≡ Some p → IsPlanned p) }
-    ensures plays { PlaysSchedule (web_meaning (files_of site)) is_served (no_hits (files_of site)) (content_at schedule.now)
+        → slice_get (plan_from 1 schedule.now.clients) k ≡ Some p → IsPlanned p) }
+    ensures plays { PlaysSchedule (web_meaning (files_of site)) is_served (no_hits (files_of site)) schedule.now
         (WorldStands ghosts) result }
 {
     see_loaded(&site);

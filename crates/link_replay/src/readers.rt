@@ -16,17 +16,17 @@ impl<A: App> WorldOf<A> {
     /// The client with a number, counted from 1, and what is kept of it.
     pub fn side(&self, number: u8) -> &Side
         requires least { 1 ≤ number }
-        requires most { number ≤ length self.now.link.sides.items }
+        requires most { number ≤ length self.now.link.sides }
         ensures { (w : PlainWorld) (s : PlainSide) → WorldStands A.App self.now w → numbered w.sides number ≡ Some s
             → SideStands result.now s }
     {
-        &self.link.sides[usize::from(number) - 1]
+        &self.sides[usize::from(number) - 1]
     }
 
     /// The client with a number, counted from 1.
     pub fn client(&self, number: u8) -> &Client
         requires least { 1 ≤ number }
-        requires most { number ≤ length self.now.link.sides.items }
+        requires most { number ≤ length self.now.link.sides }
         ensures { (w : PlainWorld) (s : PlainSide) → WorldStands A.App self.now w → numbered w.sides number ≡ Some s
             → standing result.now s.client.request s.client.received ≡ s.client }
     {
@@ -36,7 +36,7 @@ impl<A: App> WorldOf<A> {
     /// The bytes of its page that the client with a number took.
     pub fn received(&self, number: u8) -> &[u8]
         requires least { 1 ≤ number }
-        requires most { number ≤ length self.now.link.sides.items }
+        requires most { number ≤ length self.now.link.sides }
         ensures { (w : PlainWorld) (s : PlainSide) → WorldStands A.App self.now w → numbered w.sides number ≡ Some s
             → result.now ≡ s.client.received }
     {
@@ -46,7 +46,7 @@ impl<A: App> WorldOf<A> {
     /// Whether no stale datagram was delivered from or to the client with a number.
     pub fn clean(&self, number: u8) -> bool
         requires least { 1 ≤ number }
-        requires most { number ≤ length self.now.link.sides.items }
+        requires most { number ≤ length self.now.link.sides }
         ensures { (w : PlainWorld) (s : PlainSide) → WorldStands A.App self.now w → numbered w.sides number ≡ Some s → result ≡ is_clean s }
     {
         match self.side(number).first_stale {
@@ -58,7 +58,7 @@ impl<A: App> WorldOf<A> {
     /// The number of the first stale datagram that was delivered from or to the client with a number.
     pub fn first_stale(&self, number: u8) -> Option<u32>
         requires least { 1 ≤ number }
-        requires most { number ≤ length self.now.link.sides.items }
+        requires most { number ≤ length self.now.link.sides }
         ensures { (w : PlainWorld) (s : PlainSide) → WorldStands A.App self.now w → numbered w.sides number ≡ Some s
             → result ≡ s.first_stale }
     {
@@ -67,9 +67,9 @@ impl<A: App> WorldOf<A> {
 
     /// Every datagram that was sent, numbered from 1.
     pub fn sent(&self) -> &[Sent]
-        ensures { result.now ≡ self.now.link.sent.items }
+        ensures { result.now ≡ self.now.link.sent }
     {
-        self.link.sent.as_slice()
+        self.sent.as_slice()
     }
 
     /// The ticks so far, modulo 2^32.

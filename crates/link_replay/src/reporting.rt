@@ -40,8 +40,10 @@ fn write_report<A: App, K: Sink>(world: &WorldOf<A>, show: bool, sink: &mut K) -
         → Wrote (K.written sink.old) (K.written sink.new) result (report_of show w) }
     ensures cause { HasCause (K.faults sink.old) (K.faults sink.new) result }
 {
-    write_shown(show, world.node.addr(), &world.link, sink)?;
-    write_clients(show, world.link.sides.as_slice(), sink)?;
-    let line = last_line(world.node.ticks(), world.link.sent.len());
+    let sides = world.sides.as_slice();
+    let sent = world.sent.as_slice();
+    write_shown(show, world.node.addr(), sides, sent, sink)?;
+    write_clients(show, sides, sink)?;
+    let line = last_line(world.node.ticks(), sent.len());
     write_word(line.bytes(), sink)
 }

@@ -23,7 +23,8 @@ impl<A: App> WorldOf<A> {
             → AppendsPrefix (K.written sink.old) (K.written sink.new) (summary_of w)) }
         ensures cause { HasCause (K.faults sink.old) (K.faults sink.new) result }
     {
-        let line = line_of(&count_up(&self.link));
+        let tally = count_up(self.sides.as_slice(), self.sent.as_slice());
+        let line = line_of(&tally);
         sink.write_whole(line.bytes())
     }
 }

@@ -3,11 +3,11 @@
 ghost use Rattle.std.specs.Prelude.{◌≡◌, count_by, is_none, length, not, sum_by};
 ghost use Rattle.link_world.specs.World.{World as PlainWorld};
 ghost use Rattle.link_replay.specs.Stands.{LinkStands};
+ghost use Rattle.link_replay.specs.State.{link_of};
 ghost use Rattle.link_client.specs.Calls.{is_opened as open_state};
 ghost use Rattle.link_replay.specs.Kinds.{is_closed as closed_state, is_other as other_state, is_reset as reset_state};
 ghost use Rattle.link_replay.specs.Summary.{tally_of};
 
-use crate::link::Link;
 use crate::sent::Sent;
 use crate::side::Side;
 use link_client::ClientState;
@@ -27,11 +27,9 @@ pub struct Tally {
 }
 
 /// The tally of a replay's clients and datagrams.
-pub(crate) fn count_up(link: &Link) -> Tally
-    ensures { (w : PlainWorld) → LinkStands link.now w → result ≡ tally_of w }
+pub(crate) fn count_up(sides: &[Side], sent: &[Sent]) -> Tally
+    ensures { (w : PlainWorld) → LinkStands (link_of sides.now sent.now) w → result ≡ tally_of w }
 {
-    let sides = link.sides.as_slice();
-    let sent = link.sent.as_slice();
     Tally {
         closed: closed(sides),
         opened: opened(sides),

@@ -1,12 +1,16 @@
 //! What a call of the node did is told to the clients and to the list of datagrams.
 
-ghost use Rattle.std.specs.Prelude.{◌≡◌, ◌≤◌, OnOk, Option, Some, length};
+ghost use Rattle.std.specs.Prelude.{◌≡◌, ◌≤◌, List, OnOk, Option, Some, length};
 ghost use Rattle.uip_wire.specs.declared.addr.Addr.{Addr as Address};
 ghost use Rattle.link_replay.specs.Moving.{Buries, PostsReply, TellsStep};
 ghost use Rattle.link_replay.specs.Stands.{IsLink};
+ghost use Rattle.link_replay.specs.State.{link_of};
+ghost use Rattle.link_replay.specs.declared.sent.Sent.{Sent as CodeSent};
 
 use crate::before::Before;
-use crate::link::Link;
+use crate::posting::post;
+use crate::sent::Sent;
+use crate::side::Side;
 use crate::sides::{addressed, bury};
 use crate::socket_pair::SocketPair;
 use app_events::App;
@@ -15,67 +19,78 @@ use uip_edge::NoMemory;
 use uip_node::Node;
 use uip_wire::LARGEST_DATAGRAM;
 
-impl Link {
-    /// The clients of a connection that became CLOSED are one epoch on.
-    fn bury(&mut self, gone: Option<SocketPair>) -> Result<(), NoMemory>
-        ensures kept { (addr : Address) → IsLink addr self.old → IsLink addr self.new }
-        ensures few { length self.new.sides.items ≡ length self.old.sides.items }
-        ensures buried { OnOk result (Buries gone self.old self.new) }
-    {
-        if let Some(pair) = gone {
-            bury(self.sides.as_mut_slice(), pair)?;
-        }
-        Ok(())
+/// The clients of a connection that became CLOSED, if one did, are one epoch on.
+fn bury_gone(sides: &mut Vec<Side>, gone: Option<SocketPair>) -> Result<(), NoMemory>
+    ensures kept { (addr : Address) (sent : List CodeSent) → IsLink addr (link_of sides.old.items sent)
+        → IsLink addr (link_of sides.new.items sent) }
+    ensures few { length sides.new.items ≡ length sides.old.items }
+    ensures buried { OnOk result ((sent : List CodeSent) → Buries gone (link_of sides.old.items sent) (link_of sides.new.items sent)) }
+{
+    if let Some(pair) = gone {
+        bury(sides.as_mut_slice(), pair)?;
     }
+    Ok(())
+}
 
-    /// The node's answer is posted to the client with these sockets, or as an echo reply. What goes to no client has no bytes.
-    fn post_reply(
-        &mut self,
-        to: Option<SocketPair>,
-        tick: u32,
-        again: bool,
-        datagram: &[u8],
-    ) -> Result<(), NoMemory>
-        requires few { length self.old.sides.items ≤ 64 }
-        requires most { length datagram.now ≤ LARGEST_DATAGRAM }
-        ensures kept { (addr : Address) → IsLink addr self.old → IsLink addr self.new }
-        ensures posted { OnOk result (PostsReply to tick again datagram.now self.old self.new) }
-    {
-        let number = match to {
-            None => 0,
-            Some(pair) => addressed(self.sides.as_slice(), pair),
-        };
-        let meant = if number == 0 && to.is_some() {
-            &datagram[..0]
-        } else {
-            datagram
-        };
-        let Ok(bytes) = meant.to_vec(self.alloc) else {
-            return Err(NoMemory);
-        };
-        self.post(Who::FromNode(number), tick, again, bytes)?;
-        Ok(())
-    }
+/// The node's answer is posted to the client with these sockets, or as an echo reply. What goes to no client has no bytes.
+fn post_reply(
+    sides: &[Side],
+    sent: &mut Vec<Sent>,
+    to: Option<SocketPair>,
+    tick: u32,
+    again: bool,
+    datagram: &[u8],
+) -> Result<(), NoMemory>
+    requires few { length sides.now ≤ 64 }
+    requires most { length datagram.now ≤ LARGEST_DATAGRAM }
+    ensures kept { (addr : Address) → IsLink addr (link_of sides.now sent.old.items) → IsLink addr (link_of sides.now sent.new.items) }
+    ensures posted { OnOk result
+        (PostsReply to tick again datagram.now (link_of sides.now sent.old.items) (link_of sides.now sent.new.items)) }
+{
+    let number = match to {
+        None => 0,
+        Some(pair) => addressed(sides, pair),
+    };
+    let meant = if number == 0 && to.is_some() {
+        &datagram[..0]
+    } else {
+        datagram
+    };
+    let Ok(bytes) = meant.to_vec(*sent.allocator()) else {
+        return Err(NoMemory);
+    };
+    post(sides, sent, Who::FromNode(number), tick, again, bytes)?;
+    Ok(())
 }
 
 /// The node was called, and answered or not: a connection that it lost is buried, and then the answer is posted.
 pub(crate) fn tell<A: App>(
     node: &Node<A>,
-    link: &mut Link,
+    sides: &mut Vec<Side>,
+    sent: &mut Vec<Sent>,
     before: &Before,
-    sent: Option<usize>,
+    answer: Option<usize>,
     to: Option<SocketPair>,
 ) -> Result<(), NoMemory>
-    requires few { length link.old.sides.items ≤ 64 }
-    ensures kept { (addr : Address) → IsLink addr link.old → IsLink addr link.new }
-    ensures told { OnOk result (TellsStep A.App before.now node.now to sent link.old link.new) }
+    requires few { length sides.old.items ≤ 64 }
+    ensures kept { (addr : Address) → IsLink addr (link_of sides.old.items sent.old.items)
+        → IsLink addr (link_of sides.new.items sent.new.items) }
+    ensures told { OnOk result (TellsStep A.App before.now node.now to answer (link_of sides.old.items sent.old.items)
+        (link_of sides.new.items sent.new.items)) }
 {
     let again = before.again(node);
-    link.bury(before.gone(node))?;
-    match sent {
+    bury_gone(sides, before.gone(node))?;
+    match answer {
         None => Ok(()),
         Some(_) => {
-            link.post_reply(to, node.ticks(), again, node.packet())?;
+            post_reply(
+                sides.as_slice(),
+                sent,
+                to,
+                node.ticks(),
+                again,
+                node.packet(),
+            )?;
             Ok(())
         }
     }

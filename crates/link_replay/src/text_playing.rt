@@ -6,7 +6,6 @@ ghost use Rattle.uip_edge.specs.Causes.{HasCause};
 ghost use Rattle.uip_edge.specs.Writing.{AppendsPrefix, WritesEnd};
 ghost use Rattle.app_events.specs.Part.{Meaning};
 ghost use Rattle.file_tree.specs.Site.{files_of};
-ghost use Rattle.link_schedule.specs.Answer.{content_at};
 ghost use Rattle.link_world.specs.World.{World as PlainWorld};
 ghost use Rattle.link_replay.specs.Reaching.{IsAt};
 ghost use Rattle.link_replay.specs.Stands.{WorldStands};
@@ -51,7 +50,7 @@ pub(crate) fn play_schedule<K: Sink>(
     telling: Telling,
     out: &mut K,
 ) -> ReplayEnd
-    ensures { WritesDue (IsPlayDue (files_of site) (content_at schedule.now) telling)
+    ensures { WritesDue (IsPlayDue (files_of site) schedule.now telling)
         (sink_told K.Sink out.old) (sink_told K.Sink out.new) result }
 {
     see_loaded(&site);

@@ -10,7 +10,9 @@ ghost use Rattle.link_replay.specs.Reaching.{ActsEnd, IsNamed, ActSteps, Stops};
 ghost use Rattle.link_replay.specs.Stands.{WorldStands};
 
 use crate::acts::{acts_of, mark_after};
-use crate::link::Link;
+use crate::faults::fault_of;
+use crate::sent::Sent;
+use crate::side::Side;
 use app_events::App;
 use httpd::Httpd;
 use link_schedule::Event;
@@ -22,23 +24,33 @@ use uip_node::Node;
 #[derive(Drop)]
 pub struct WorldOf<A: App> {
     pub node: Node<A>,
-    pub link: Link,
+    /// The clients, numbered from 1.
+    pub sides: Vec<Side>,
+    /// Every datagram that was sent, numbered from 1.
+    pub sent: Vec<Sent>,
     /// The highest number that a round has gone past.
     pub mark: u32,
     /// An allocation failed in an act: nothing is claimed of the world any more.
     pub spent: bool,
+    /// Where a client writes what it sends.
+    pub area: Vec<u8>,
 }
 
 impl<A: App> Model for WorldOf<A> {
-    ghost use Rattle.link_replay.specs.State.{CodeWorld};
-    ghost use Rattle.link_replay.specs.Stands.{IsLink};
-    ghost use Rattle.uip_wire.specs.declared.addr.Addr.{Addr as Address};
+    ghost use Rattle.link_replay.specs.State.{CodeWorld, link_of};
+    ghost use Rattle.link_replay.specs.Stands.{IsKept};
 
     ghost Value = { CodeWorld A A.Shared };
 
-    ghost view = { λ world. record { node = world.node; link = world.link; mark = world.mark; spent = world.spent } };
+    ghost view = { λ world. record {
+      node = world.node;
+      link = link_of world.sides.items world.sent.items;
+      mark = world.mark;
+      spent = world.spent;
+      area = world.area.items;
+    } };
 
-    ghost invariant = { λ world. (addr : Address) × IsLink addr world.link };
+    ghost invariant = { λ world. IsKept (link_of world.sides.items world.sent.items) world.area.items };
 }
 
 /// The world of a replay by the web server of a site.
@@ -61,7 +73,7 @@ impl<A: App> WorldOf<A> {
         if self.spent {
             return Err(StepFault::NoMemory);
         }
-        if let Some(fault) = self.link.fault_of(act) {
+        if let Some(fault) = fault_of(self.sides.as_slice(), self.sent.as_slice(), act) {
             return Err(fault);
         }
         if self.perform(act).is_err() {
@@ -104,8 +116,8 @@ impl<A: App> WorldOf<A> {
             return Err(StepFault::NoMemory);
         }
         let mark = self.mark;
-        let sent = self.link.sent.len() as u32;
-        let Ok(acts) = acts_of(self.link.alloc, event, mark, sent) else {
+        let sent = self.sent.len() as u32;
+        let Ok(acts) = acts_of(*self.sent.allocator(), event, mark, sent) else {
             self.spent = true;
             return Err(StepFault::NoMemory);
         };

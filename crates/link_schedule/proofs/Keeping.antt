@@ -9,7 +9,7 @@ use Rattle.std.proofs.lemmas.List.Folds.{list_all-append, list_any-append}
 use Rattle.hex.specs.Hex.{decode_of}
 use Rattle.hex.specs.declared.error.FromHexError.{FromHexError}
 use Rattle.link_schedule.specs.declared.event.Event.{Event}
-use Rattle.link_schedule.specs.declared.event.Event.TheVariants.{Opens, Again, Closes, Aborts, Window, Ping, Give, Damage, Tick, Round, Twice, Reverse, Half, Lose}
+use Rattle.link_schedule.specs.declared.event.Event.TheVariants.{Opens, Again, Closes, Aborts, Window}
 use Rattle.link_schedule.specs.declared.line.Line.{Line}
 use Rattle.link_schedule.specs.declared.sides.ClientSide.{ClientSide}
 use Rattle.link_schedule.specs.declared.why.Why.{Why}
@@ -74,8 +74,8 @@ PlanFine plan = client_in_range plan ≡ true
 with_fine : (addr port mss seg how what : List ℕ) → IfOk (plan_with addr port mss seg how what) PlanFine
 with_fine addr port mss seg how what =
     behind SideFine PlanFine (side_of addr port mss seg)
-    (λ side. request_of how what >>= λ request. Ok (record { side = side; request = request })) (side_fine addr port mss seg)
-    (λ side fine. behind RequestFine PlanFine (request_of how what) (λ request. Ok (record { side = side; request = request })) (request_fine how what)
+    (λ side. request_of how what >>= λ request. Ok (record { addr = side.addr; port = side.port; mss = side.mss; seg = side.seg; request = request })) (side_fine addr port mss seg)
+    (λ side fine. behind RequestFine PlanFine (request_of how what) (λ request. Ok (record { addr = side.addr; port = side.port; mss = side.mss; seg = side.seg; request = request })) (request_fine how what)
     (λ request good. and_from (is_between 1 65535 side.port.0 && is_between 1 1460 side.seg) (is_between 1 4096 (length request))
     (and_from (is_between 1 65535 side.port.0) (is_between 1 1460 side.seg) fine.0 fine.1) good))
 

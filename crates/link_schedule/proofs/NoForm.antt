@@ -1,5 +1,5 @@
 -- Words of no form's length.
-use Rattle.std.proofs.Common.{◌≡◌, ◌≤◌, List, [], ◌∷◌, ℕ, map, length, Result, Err, refl, arith}
+use Rattle.std.proofs.Common.{◌≡◌, ◌≤◌, List, [], ◌∷◌, ℕ, map, length, Err, refl, arith}
 use Rattle.link_schedule.specs.Clients.{plan_of}
 use Rattle.link_schedule.specs.Events.{event_of_words}
 use Rattle.link_schedule.specs.declared.why.Why.TheVariants.{Form}

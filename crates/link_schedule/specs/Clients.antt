@@ -4,6 +4,8 @@ use Rattle.std.specs.List.{list_all}
 use Rattle.std.specs.Str.{bytes_eq}
 use Rattle.hex.specs.Hex.{decode_of}
 use Rattle.hex.specs.declared.error.FromHexError.{FromHexError}
+use Rattle.uip_wire.specs.declared.addr.Addr.{Addr}
+use Rattle.uip_wire.specs.declared.port.Port.{Port}
 use Rattle.link_schedule.specs.declared.sides.ClientSide.{ClientSide}
 use Rattle.link_schedule.specs.declared.why.Why.{Why}
 use Rattle.link_schedule.specs.declared.why.Why.TheVariants.{Form}
@@ -11,7 +13,10 @@ use Rattle.link_schedule.specs.Numbers.{◌>>=◌, within, address}
 
 -- a client of a schedule: where it stands, how it cuts its text, and what it asks for
 pub record Plan : Type 0 where
-  pub side : ClientSide
+  pub addr : Addr
+  pub port : Port
+  pub mss : ℕ
+  pub seg : ℕ
   pub request : List ℕ
 
 -- `ADDR PORT MSS SEG`
@@ -47,7 +52,7 @@ abbrev pub plan_with : List ℕ → List ℕ → List ℕ → List ℕ → List 
 plan_with addr port mss seg how what = do
   side ← side_of addr port mss seg
   request ← request_of how what
-  Ok (record { side = side; request = request })
+  Ok (record { addr = side.addr; port = side.port; mss = side.mss; seg = side.seg; request = request })
 
 -- the words behind `client`: `ADDR PORT MSS SEG`, and the request
 abbrev pub plan_of : List (List ℕ) → Result Plan Why

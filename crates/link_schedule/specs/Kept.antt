@@ -13,7 +13,7 @@ is_between low high n = nat_le low n && nat_le n high
 -- a port, a segment's text and a request of a size that they may have
 abbrev pub client_in_range : Plan → Bool
 client_in_range plan =
-    is_between 1 65535 plan.side.port.0 && is_between 1 1460 plan.side.seg && is_between 1 4096 (length plan.request)
+    is_between 1 65535 plan.port.0 && is_between 1 1460 plan.seg && is_between 1 4096 (length plan.request)
 
 -- each client is one of so many, and each other number has a size that it may have
 abbrev pub event_in_range : ℕ → Event → Bool

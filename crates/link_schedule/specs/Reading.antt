@@ -22,7 +22,7 @@ pub record BadText : Type 0 where
 
 -- two clients stand at one address and port
 abbrev pub meets : Plan → Plan → Bool
-meets p q = bytes_eq p.side.addr.0 q.side.addr.0 && p.side.port.0 == q.side.port.0
+meets p q = bytes_eq p.addr.0 q.addr.0 && p.port.0 == q.port.0
 
 -- one more client behind those of the lines above: the 65th is too many, and no two stand at one address and port
 unfoldable pub with_plan : SchedulePlan → Plan → Result SchedulePlan Why

@@ -1,7 +1,6 @@
 -- How what the code has read stands for what the text means.
-use Rattle.std.specs.Prelude.{◌≡◌, ℕ, List, length, map, Result, Ok, Err}
+use Rattle.std.specs.Prelude.{◌≡◌, ℕ, List, length, Result, Ok, Err}
 use Rattle.std.specs.Global.{Vec}
-use Rattle.link_schedule.specs.declared.client_plan.ClientPlan.{ClientPlan}
 use Rattle.link_schedule.specs.declared.line.Line.{Line}
 use Rattle.link_schedule.specs.declared.why.Why.{Why}
 use Rattle.link_schedule.specs.declared.refusal.Refusal.{Refusal}
@@ -15,20 +14,18 @@ use Rattle.link_schedule.specs.Reading.{SchedulePlan, with_plan}
 abbrev pub request_at : Vec ℕ → List ℕ
 request_at request = request.items
 
-abbrev pub plan_at : ClientPlan → Plan
-plan_at plan = record {
-  side = record { addr = plan.addr; port = plan.port; mss = plan.mss; seg = plan.seg };
-  request = plan.request.items;
-}
-
-abbrev pub content_of : List ClientPlan → List Line → SchedulePlan
-content_of clients lines = record { clients = map plan_at clients; lines = lines }
+abbrev pub content_of : List Plan → List Line → SchedulePlan
+content_of clients lines = record { clients = clients; lines = lines }
 
 -- an answer is the meaning, or memory was wanting
 abbrev pub GivesAs : {A B : Type 0} → (A → B) → Result A Refusal → Result B Why → Type 0
 GivesAs at (Ok x) meant = meant ≡ Ok (at x)
 GivesAs at (Err (Faulty why)) meant = meant ≡ Err why
 GivesAs at (Err NoMemory) meant = Unit {0}
+
+-- the same of a client's plan, which is seen as it is meant
+abbrev pub GivesPlan : Result Plan Refusal → Result Plan Why → Type 0
+GivesPlan result meant = GivesAs (λ plan. plan) result meant
 
 -- a line was read into what stands after it, or refused, or memory was wanting
 abbrev pub LineGives : Result (Unit {0}) Refusal → SchedulePlan → Result SchedulePlan Why → Type 0
@@ -37,14 +34,14 @@ LineGives (Err (Faulty why)) after meant = meant ≡ Err why
 LineGives (Err NoMemory) after meant = Unit {0}
 
 -- the same of a client's line, whatever the other lines have line_said
-abbrev pub ClientGives : Result (Unit {0}) Refusal → List ClientPlan → (SchedulePlan → Result SchedulePlan Why) → List ClientPlan → Type 0
+abbrev pub ClientGives : Result (Unit {0}) Refusal → List Plan → (SchedulePlan → Result SchedulePlan Why) → List Plan → Type 0
 ClientGives result after meant before =
     (lines : List Line) → LineGives result (content_of after lines) (meant (content_of before lines))
 
 -- the same of another line, under so many clients
 abbrev pub EventGives : Result (Unit {0}) Refusal → ℕ → List Line → (SchedulePlan → Result SchedulePlan Why) → List Line → Type 0
 EventGives result count after meant before =
-    (clients : List ClientPlan) → length clients ≡ count → LineGives result (content_of clients after) (meant (content_of clients before))
+    (clients : List Plan) → length clients ≡ count → LineGives result (content_of clients after) (meant (content_of clients before))
 
 -- the words behind `client`
 abbrev pub read_client : List (List ℕ) → SchedulePlan → Result SchedulePlan Why

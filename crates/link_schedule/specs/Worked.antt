@@ -12,7 +12,10 @@ use Rattle.link_schedule.specs.Reading.{SchedulePlan, BadText, read_text}
 -- a client at 10.0.0.2 and a port, that takes segments of 536 bytes and tells no size of its own
 abbrev pub plan : ℕ → List ℕ → Plan
 plan port request = record {
-  side = record { addr = record { 0 = 10 ∷ 0 ∷ 0 ∷ 2 ∷ [] }; port = record { 0 = port }; mss = 0; seg = 536 };
+  addr = record { 0 = 10 ∷ 0 ∷ 0 ∷ 2 ∷ [] };
+  port = record { 0 = port };
+  mss = 0;
+  seg = 536;
   request = request;
 }
 

@@ -1,3 +1,4 @@
+use std::marker::Model;
 use uip_wire::{Addr, Port};
 
 /// A client of a schedule: where it stands, which maximum segment size its SYN tells (0 for none), how many bytes it sends in one
@@ -9,4 +10,18 @@ pub struct ClientPlan {
     pub mss: u16,
     pub seg: u16,
     pub request: Vec<u8>,
+}
+
+impl Model for ClientPlan {
+    ghost use Rattle.link_schedule.specs.Clients.{Plan};
+
+    ghost Value = { Plan };
+
+    ghost view = { λ plan. record {
+      addr = plan.addr;
+      port = plan.port;
+      mss = plan.mss;
+      seg = plan.seg;
+      request = plan.request.items;
+    } };
 }

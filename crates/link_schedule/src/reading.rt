@@ -3,7 +3,7 @@ ghost use Rattle.std.specs.List.{list_any, slice_split};
 ghost use Rattle.link_schedule.specs.Clients.{Plan};
 ghost use Rattle.link_schedule.specs.Reading.{is_passed_over as passed_over, meets as meeting, read_line as line_meant, read_words as words_meant};
 ghost use Rattle.link_schedule.specs.Reading.{with_plan as client_meant, with_event as event_meant};
-ghost use Rattle.link_schedule.specs.Stands.{ClientGives, EventGives, LineGives, content_of, plan_at, read_client as client_read};
+ghost use Rattle.link_schedule.specs.Stands.{ClientGives, EventGives, LineGives, content_of, read_client as client_read};
 
 use crate::client_plan::ClientPlan;
 use crate::events::{event_of, is_word};
@@ -89,7 +89,7 @@ fn read_client(alloc: Global, clients: &mut Vec<ClientPlan>, words: &[&[u8]]) ->
 /// One more client behind those of the lines above.
 fn add_client(clients: &mut Vec<ClientPlan>, plan: ClientPlan) -> Result<(), Refusal>
     requires { vec_len clients.old ≤ 64 }
-    ensures meant { ClientGives result clients.new.items (λ above. client_meant above (plan_at plan)) clients.old.items }
+    ensures meant { ClientGives result clients.new.items (λ above. client_meant above plan) clients.old.items }
     ensures room { vec_len clients.new ≤ 64 }
 {
     let earlier = clients.as_slice();
@@ -107,14 +107,14 @@ fn add_client(clients: &mut Vec<ClientPlan>, plan: ClientPlan) -> Result<(), Ref
 
 /// Whether a client stands at the address and port of this one.
 fn stands_at(clients: &[ClientPlan], plan: &ClientPlan) -> bool
-    ensures { result ≡ list_any (λ earlier. meeting (plan_at earlier) (plan_at plan.now)) clients.now }
+    ensures { result ≡ list_any (λ earlier. meeting earlier plan.now) clients.now }
 {
     clients.iter().any(|earlier| meets(earlier, plan))
 }
 
 /// Whether two clients stand at one address and port.
 fn meets(earlier: &ClientPlan, plan: &ClientPlan) -> bool
-    ensures { result ≡ meeting (plan_at earlier.now) (plan_at plan.now) }
+    ensures { result ≡ meeting earlier.now plan.now }
 {
     earlier.addr == plan.addr && earlier.port == plan.port
 }

@@ -3,7 +3,7 @@ ghost use Rattle.std.specs.List.{list_all};
 ghost use Rattle.hex.specs.Hex.{decode_of};
 ghost use Rattle.link_schedule.specs.Clients.{got as got_meant, is_target as target_meant, plan_of as plan_meant, plan_with as parts_meant};
 ghost use Rattle.link_schedule.specs.Clients.{raw as raw_meant, request_of as request_meant};
-ghost use Rattle.link_schedule.specs.Stands.{GivesAs, plan_at, request_at};
+ghost use Rattle.link_schedule.specs.Stands.{GivesAs, GivesPlan, request_at};
 
 use crate::client_plan::ClientPlan;
 use crate::events::is_word;
@@ -15,7 +15,7 @@ use std::alloc::Global;
 
 /// The client that the words behind `client` make.
 pub fn plan_of(alloc: Global, words: &[&[u8]]) -> Result<ClientPlan, Refusal>
-    ensures { GivesAs plan_at result (plan_meant (map (λ word. word.now) words.now)) }
+    ensures { GivesPlan result (plan_meant (map (λ word. word.now) words.now)) }
 {
     match words {
         [addr, port, mss, seg, how, what] => plan_with(alloc, addr, port, mss, seg, how, what),
@@ -32,7 +32,7 @@ fn plan_with(
     how: &[u8],
     what: &[u8],
 ) -> Result<ClientPlan, Refusal>
-    ensures { GivesAs plan_at result (parts_meant addr.now port.now mss.now seg.now how.now what.now) }
+    ensures { GivesPlan result (parts_meant addr.now port.now mss.now seg.now how.now what.now) }
 {
     match side_of(addr, port, mss, seg) {
         Ok(side) => match request_of(alloc, how, what) {

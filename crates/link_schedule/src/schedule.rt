@@ -1,6 +1,3 @@
-ghost use Rattle.link_schedule.specs.Kept.{Keeps};
-ghost use Rattle.link_schedule.specs.Stands.{content_of};
-
 use crate::client_plan::ClientPlan;
 use crate::line::Line;
 use crate::read_schedule::ReadSchedule;
@@ -8,13 +5,25 @@ use crate::texts::lines_of;
 use crate::whole_text::read_lines;
 use crate::why::Why;
 use std::alloc::Global;
+use std::marker::Model;
 
 /// A schedule: its clients in the order of their numbers, from 1 on, and its other lines in order.
 #[derive(Debug, Drop)]
 pub struct Schedule {
     pub clients: Vec<ClientPlan>,
     pub lines: Vec<Line>,
-    pub ghost kept: { Keeps (content_of clients.items lines.items) },
+}
+
+impl Model for Schedule {
+    ghost use Rattle.link_schedule.specs.Kept.{Keeps};
+    ghost use Rattle.link_schedule.specs.Reading.{SchedulePlan};
+    ghost use Rattle.link_schedule.specs.Stands.{content_of};
+
+    ghost Value = { SchedulePlan };
+
+    ghost view = { λ schedule. content_of schedule.clients.items schedule.lines.items };
+
+    ghost invariant = { λ schedule. Keeps (content_of schedule.clients.items schedule.lines.items) };
 }
 
 /// The most bytes of a text.

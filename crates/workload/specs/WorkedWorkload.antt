@@ -13,11 +13,17 @@ pub record AreWorkedWorkloads : Type 0 where
   pub lines_of_one : length (workload_of 42 1).lines ≡ 441
   pub clients_of_two : (workload_of 42 2).clients
       ≡ record {
-        side = record { addr = record { 0 = 10 ∷ 0 ∷ 1 ∷ 1 ∷ [] }; port = record { 0 = 1025 }; mss = 0; seg = 16 };
+        addr = record { 0 = 10 ∷ 0 ∷ 1 ∷ 1 ∷ [] };
+        port = record { 0 = 1025 };
+        mss = 0;
+        seg = 16;
         request = codes "GET / HTTP/1.0\r\n\r\n";
       }
       ∷ record {
-        side = record { addr = record { 0 = 10 ∷ 0 ∷ 1 ∷ 2 ∷ [] }; port = record { 0 = 1026 }; mss = 200; seg = 16 };
+        addr = record { 0 = 10 ∷ 0 ∷ 1 ∷ 2 ∷ [] };
+        port = record { 0 = 1026 };
+        mss = 200;
+        seg = 16;
         request = codes "GET /stats.shtml HTTP/1.0\r\n\r\n";
       }
       ∷ []

@@ -14,8 +14,10 @@ use Rattle.link_schedule.specs.Reading.{SchedulePlan}
 -- asks for the script
 abbrev pub client_of : ℕ → Plan
 client_of k = record {
-  side =
-      record { addr = record { 0 = 10 ∷ 0 ∷ 1 ∷ k ∷ [] }; port = record { 0 = 1024 + k }; mss = if k % 2 == 1 then 0 else 200; seg = 16 };
+  addr = record { 0 = 10 ∷ 0 ∷ 1 ∷ k ∷ [] };
+  port = record { 0 = 1024 + k };
+  mss = if k % 2 == 1 then 0 else 200;
+  seg = 16;
   request = if k % 2 == 1 then codes "GET / HTTP/1.0\r\n\r\n" else codes "GET /stats.shtml HTTP/1.0\r\n\r\n";
 }
 

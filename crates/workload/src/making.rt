@@ -1,7 +1,5 @@
 ghost use Rattle.std.specs.Prelude.{◌≡◌, ◌≤◌, IfOk, codes, if◌then◌else◌, map};
 ghost use Rattle.std.specs.List.{range_with_len};
-ghost use Rattle.link_schedule.specs.Answer.{content_at};
-ghost use Rattle.link_schedule.specs.Stands.{plan_at};
 ghost use Rattle.workload.specs.Workload.{client_of as client_meant, workload_of};
 
 use crate::events::{lines_from, push_drawn, push_opens, push_rounds};
@@ -15,7 +13,7 @@ use uip_wire::{Addr, Port};
 pub fn make(alloc: Global, seed: u64, clients: u8) -> Result<Schedule, NoMemory>
     requires some { 1 ≤ clients }
     requires few { clients ≤ 64 }
-    ensures { IfOk result (λ schedule. content_at schedule ≡ workload_of seed clients) }
+    ensures { IfOk result (λ schedule. schedule ≡ workload_of seed clients) }
 {
     let mut events = Vec::new(alloc);
     push_opens(&mut events, clients)?;
@@ -29,7 +27,7 @@ pub fn make(alloc: Global, seed: u64, clients: u8) -> Result<Schedule, NoMemory>
 /// The clients in order.
 fn clients_of(alloc: Global, clients: u8) -> Result<Vec<ClientPlan>, NoMemory>
     requires { clients ≤ 64 }
-    ensures { IfOk result (λ plans. map plan_at plans.items ≡ map client_meant (range_with_len 1 clients)) }
+    ensures { IfOk result (λ plans. plans.items ≡ map client_meant (range_with_len 1 clients)) }
 {
     let mut plans = Vec::new(alloc);
     for place in 0..clients {
@@ -44,7 +42,7 @@ fn clients_of(alloc: Global, clients: u8) -> Result<Vec<ClientPlan>, NoMemory>
 /// The client with a number.
 fn client_of(alloc: Global, number: u8) -> Result<ClientPlan, NoMemory>
     requires { number ≤ 64 }
-    ensures { IfOk result (λ plan. plan_at plan ≡ client_meant number) }
+    ensures { IfOk result (λ plan. plan ≡ client_meant number) }
 {
     let odd = number % 2 == 1;
     let Ok(request) = Vec::from_slice(alloc, request_by(odd)) else {

@@ -1,10 +1,9 @@
-use Rattle.std.proofs.Common.{◌≡◌, length, map}
-use Rattle.link_schedule.specs.Stands.{plan_at}
+use Rattle.std.proofs.Common.{◌≡◌, length}
 use Rattle.link_replay.proofs.Opened.{FreshTo}
 use Rattle.link_replay.proofs.opening.sides_for.Given as goal
 
 abbrev pub invariant-loop-at : goal.invariant-loop-at
 invariant-loop-at l = record {
   same_length : length l.sides.items ≡ l.at;
-  each : FreshTo (map plan_at l.clients) l.sides.items;
+  each : FreshTo l.clients l.sides.items;
 }

@@ -1,50 +1,54 @@
-use Rattle.std.proofs.Common.{◌≡◌, ◌++◌, List, length, sym, subst, ◌∙◌, append_assoc, arith}
+use Rattle.std.proofs.Common.{◌≡◌, ◌++◌, ℕ, length, sym, ◌∙◌, append_assoc}
 use Rattle.std.proofs.lemmas.Result.{err_from_is_err_and}
-use Rattle.link_replay.specs.Matched.{Matched}
-use Rattle.link_replay.specs.Stands.{SideStands}
-use Rattle.link_replay.specs.declared.side.Side.{Side as CodeSide}
+use Rattle.link_replay.specs.Stands.{IsLink, LinkStands}
+use Rattle.link_replay.specs.State.{Link, link_of}
 use Rattle.text_room.specs.Words.{word_if}
 use Rattle.link_replay.specs.Report.{counts_line, last_line, line_of_datagram, lines_of_client, numbered_texts}
+use Rattle.link_replay.proofs.Places.{link_read}
 use Rattle.link_replay.proofs.Saying.{wrote_by, wrote_stop, wrote_then}
 use Rattle.link_replay.proofs.Standing.{counts_stand}
 use Rattle.link_replay.proofs.reporting.write_report.Goals as goal
 
 pub returns-in_err-write_shown-clause-wrote : goal.returns-in_err-write_shown-clause-wrote
 returns-in_err-write_shown-clause-wrote g c = rw (← c.world.view_is) (λ m served w stands reached.
+    let read : LinkStands (link_of c.as_slice-sides.result.now c.as_slice-sent.result.now) w × IsLink w.node.addr (link_of c.as_slice-sides.result.now c.as_slice-sent.result.now)
+    = link_read (λ (l : Link). LinkStands l w × IsLink w.node.addr l) _ _ _ _ c.as_slice-sides.ensures.value c.as_slice-sent.ensures.value (stands.link, stands.home) in
     let show = c.args.show in
     let p = err_from_is_err_and c.from_residual.result c.from_residual.ensures.1 in
     let shown = word_if show (numbered_texts line_of_datagram 1 w.sent) in
     let clients = numbered_texts (lines_of_client show) 1 w.sides in
     wrote_by _ _ c.from_residual.result _ _ (sym (append_assoc shown clients (last_line w)))
     (wrote_stop _ _ shown (clients ++ last_line w)
-    c.in_err-write_shown.field-0.0 p.0 c.from_residual.result p.1 (c.in_err-write_shown.ensures.wrote m served w (c.addr.ensures ∙ stands.node.addr) stands.link stands.home reached)))
+    c.in_err-write_shown.field-0.0 p.0 c.from_residual.result p.1 (c.in_err-write_shown.ensures.wrote m served w (c.addr.ensures ∙ stands.node.addr) read.0 read.1 reached)))
 
 pub returns-in_err-write_clients-clause-wrote : goal.returns-in_err-write_clients-clause-wrote
 returns-in_err-write_clients-clause-wrote g c = rw (← c.world.view_is) (λ m served w stands reached.
+    let read : LinkStands (link_of c.as_slice-sides.result.now c.as_slice-sent.result.now) w × IsLink w.node.addr (link_of c.as_slice-sides.result.now c.as_slice-sent.result.now)
+    = link_read (λ (l : Link). LinkStands l w × IsLink w.node.addr l) _ _ _ _ c.as_slice-sides.ensures.value c.as_slice-sent.ensures.value (stands.link, stands.home) in
     let show = c.args.show in
     let clients = numbered_texts (lines_of_client show) 1 w.sides in
     let r = c.from_residual-in_err-write_clients.result in
     let p = err_from_is_err_and r c.from_residual-in_err-write_clients.ensures.1 in
-    let matched = subst (λ (l : List CodeSide). Matched SideStands l w.sides) (sym c.as_slice.ensures.value) stands.link.sides in
     let shown = word_if show (numbered_texts line_of_datagram 1 w.sent) in
     wrote_by _ _ r _ _ (sym (append_assoc shown clients (last_line w)))
     (wrote_then _ _ _ shown (clients ++ last_line w) c.in_ok-write_shown.field-0 r
-    (c.in_ok-write_shown.ensures.wrote m served w (c.addr.ensures ∙ stands.node.addr) stands.link stands.home reached)
-    (wrote_stop _ _ clients (last_line w) c.in_err-write_clients.field-0.0 p.0 r p.1 (c.in_err-write_clients.ensures.wrote w.sides matched))))
+    (c.in_ok-write_shown.ensures.wrote m served w (c.addr.ensures ∙ stands.node.addr) read.0 read.1 reached)
+    (wrote_stop _ _ clients (last_line w) c.in_err-write_clients.field-0.0 p.0 r p.1 (c.in_err-write_clients.ensures.wrote w.sides read.0.sides))))
 
 pub returns-clause-wrote : goal.returns-clause-wrote
 returns-clause-wrote g c = rw (← c.world.view_is) (λ m served w stands reached.
+    let read : LinkStands (link_of c.as_slice-sides.result.now c.as_slice-sent.result.now) w × IsLink w.node.addr (link_of c.as_slice-sides.result.now c.as_slice-sent.result.now)
+    = link_read (λ (l : Link). LinkStands l w × IsLink w.node.addr l) _ _ _ _ c.as_slice-sides.ensures.value c.as_slice-sent.ensures.value (stands.link, stands.home) in
     let show = c.args.show in
     let shown = word_if show (numbered_texts line_of_datagram 1 w.sent) in
     let clients = numbered_texts (lines_of_client show) 1 w.sides in
     let r = c.write_word.result in
-    let matched = subst (λ (l : List CodeSide). Matched SideStands l w.sides) (sym c.as_slice.ensures.value) stands.link.sides in
-    let count : c.len.result ≡ length w.sent = omega (arith, c.len.ensures, c.world.inside.link.sent.ok.0, stands.link.sent.same_length) in
-    let text = counts_line c.ticks.result c.len.result in
+    let count : ℕ = length c.as_slice-sent.result.now in
+    let text = counts_line c.ticks.result count in
     let made : c.bytes.result.now ≡ text = ◌∙◌ {b = c.last_line-line.result} {c = text} c.bytes.ensures c.last_line-line.ensures in
-    let line : text ≡ last_line w = counts_stand _ _ _ _ (c.ticks.ensures ∙ stands.node.counts.ticks) count in
+    let line : text ≡ last_line w = counts_stand _ _ _ _ (c.ticks.ensures ∙ stands.node.counts.ticks) read.0.sent.same_length in
     wrote_by _ _ r _ _ (sym (append_assoc shown clients (last_line w)))
     (wrote_then _ _ _ shown (clients ++ last_line w) c.in_ok-write_shown.field-0 r
-    (c.in_ok-write_shown.ensures.wrote m served w (c.addr.ensures ∙ stands.node.addr) stands.link stands.home reached)
-    (wrote_then _ _ _ clients (last_line w) c.in_ok-write_clients.field-0 r (c.in_ok-write_clients.ensures.wrote w.sides matched)
+    (c.in_ok-write_shown.ensures.wrote m served w (c.addr.ensures ∙ stands.node.addr) read.0 read.1 reached)
+    (wrote_then _ _ _ clients (last_line w) c.in_ok-write_clients.field-0 r (c.in_ok-write_clients.ensures.wrote w.sides read.0.sides)
     (wrote_by _ _ r text (last_line w) line (wrote_by _ _ r c.bytes.result.now text made c.write_word.ensures.wrote)))))

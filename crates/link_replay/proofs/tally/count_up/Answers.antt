@@ -1,8 +1,4 @@
-use Rattle.std.proofs.Common.{List, sym, subst, ◌∙◌}
-use Rattle.link_replay.specs.Matched.{Matched}
-use Rattle.link_replay.specs.Stands.{SideStands, SentStands}
-use Rattle.link_replay.specs.declared.sent.Sent.{Sent as CodeSent}
-use Rattle.link_replay.specs.declared.side.Side.{Side as CodeSide}
+use Rattle.std.proofs.Common.{◌∙◌}
 use Rattle.link_client.specs.Calls.{is_opened}
 use Rattle.link_replay.specs.Kinds.{is_closed, is_reset, is_other}
 use Rattle.link_replay.proofs.Counted.{again_stand, bytes_stand, kinds_stand, same_tally, stale_stand}
@@ -10,10 +6,10 @@ use Rattle.link_replay.proofs.tally.count_up.Goals as goal
 
 pub returns : goal.returns
 returns c = λ w st.
-    let sides = c.as_slice-sides.result.now in
-    let sent = c.as_slice-sent.result.now in
-    let m : Matched SideStands sides w.sides = subst (λ (l : List CodeSide). Matched SideStands l w.sides) (sym c.as_slice-sides.ensures.value) st.sides in
-    let n : Matched (SentStands w) sent w.sent = subst (λ (l : List CodeSent). Matched (SentStands w) l w.sent) (sym c.as_slice-sent.ensures.value) st.sent in
+    let sides = c.args.sides.now in
+    let sent = c.args.sent.now in
+    let m = st.sides in
+    let n = st.sent in
     same_tally _ _ _ _ _ _ _ _ _ _ _ _ _ _ _ _
     (c.closed.ensures ∙ kinds_stand is_closed sides w.sides m)
     (c.opened.ensures ∙ kinds_stand is_opened sides w.sides m)

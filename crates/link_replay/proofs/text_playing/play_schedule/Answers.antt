@@ -1,5 +1,4 @@
 use Rattle.std.specs.Prelude.{⊤}
-use Rattle.link_schedule.specs.Answer.{content_at}
 use Rattle.link_replay.specs.Stands.{WorldStands}
 use Rattle.link_replay.proofs.PlayedText.{played_due, refused_due}
 use Rattle.uip_edge.specs.Telling.{sink_told}
@@ -7,11 +6,11 @@ use Rattle.link_replay.proofs.text_playing.play_schedule.Goals as goal
 
 pub returns-in-Ok : goal.returns-in-Ok
 returns-in-Ok g c =
-    played_due c.args.site c.see_loaded.ensures.loaded (content_at c.args.schedule.now) c.args.telling (sink_told g.K.Sink c.args.out.now)
+    played_due c.args.site c.see_loaded.ensures.loaded c.args.schedule.now c.args.telling (sink_told g.K.Sink c.args.out.now)
     (sink_told g.K.Sink c.tell.new.out) c.tell.result c.see_loaded.ensures.bytes (WorldStands _ c.in-Ok.world) c.in-Ok.ensures.planned
     c.in-Ok.ensures.plays c.tell.ensures
 
 pub returns-in-Err : goal.returns-in-Err
 returns-in-Err g c =
-    refused_due c.args.site c.see_loaded.ensures.loaded (content_at c.args.schedule.now) c.args.telling (sink_told g.K.Sink c.args.out.now)
+    refused_due c.args.site c.see_loaded.ensures.loaded c.args.schedule.now c.args.telling (sink_told g.K.Sink c.args.out.now)
     (sink_told g.K.Sink c.refuse.new.out) c.refuse.result (λ (x : ⊤) w. ⊤) c.in-Err.fault c.in-Err.ensures.plays c.refuse.ensures

@@ -1,7 +1,7 @@
 use Rattle.std.proofs.Common.{◌≡◌, ◌∷◌, [], ◌++◌, sym, ap, ◌∙◌, arith, length, Ok, rules, tests}
 use Rattle.std.specs.List.{list_any}
 use Rattle.link_schedule.specs.Reading.{meets}
-use Rattle.link_schedule.specs.Stands.{content_of, plan_at}
+use Rattle.link_schedule.specs.Stands.{content_of}
 use Rattle.link_schedule.proofs.Clients.{added, taken, too_many}
 use Rattle.link_schedule.proofs.reading.add_client.Goals as goal
 
@@ -9,13 +9,13 @@ pub returns-then-earlier-ge-MOST_CLIENTS-clause-meant :
     goal.returns-then-earlier-ge-MOST_CLIENTS-clause-meant
 returns-then-earlier-ge-MOST_CLIENTS-clause-meant c lines =
     let same = ap length c.as_slice-earlier.ensures.value in
-    too_many c.args.clients.now.items lines (plan_at c.args.plan) (omega (arith, same))
+    too_many c.args.clients.now.items lines c.args.plan (omega (arith, same))
 
 pub returns-then-stands_at-clause-meant : goal.returns-then-stands_at-clause-meant
 returns-then-stands_at-clause-meant c lines =
     let same = ap length c.as_slice-earlier.ensures.value in
-    taken c.args.clients.now.items lines (plan_at c.args.plan) (omega (arith, same))
-    (ap (list_any (λ earlier. meets (plan_at earlier) (plan_at c.args.plan))) (sym c.as_slice-earlier.ensures.value)
+    taken c.args.clients.now.items lines c.args.plan (omega (arith, same))
+    (ap (list_any (λ earlier. meets earlier c.args.plan)) (sym c.as_slice-earlier.ensures.value)
     ∙ sym c.stands_at.ensures ∙ c.if-stands_at.true)
 
 pub returns-clause-meant : goal.returns-clause-meant
@@ -23,6 +23,6 @@ returns-clause-meant c lines =
     let same = ap length c.as_slice-earlier.ensures.value in
     let items : c.push.new.self.items ≡ c.args.clients.now.items ++ c.args.plan ∷ [] = search (rules, tests) in
     added c.args.clients.now.items lines c.args.plan (omega (arith, same))
-    (ap (list_any (λ earlier. meets (plan_at earlier) (plan_at c.args.plan))) (sym c.as_slice-earlier.ensures.value)
+    (ap (list_any (λ earlier. meets earlier c.args.plan)) (sym c.as_slice-earlier.ensures.value)
     ∙ sym c.stands_at.ensures ∙ c.if-stands_at.false)
     ∙ ap (λ cs. Ok (content_of cs lines)) (sym items)

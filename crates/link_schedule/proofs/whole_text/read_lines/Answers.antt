@@ -11,6 +11,4 @@ invariant_of-result c =
     let above = content_of c.loop-at.clients.items c.loop-at.said.items in
     let whole : read_lines (c.loop-at.at + 1) above (map (λ (line : Bor (List ℕ)). line.now) (drop c.loop-at.at c.args.lines.now)) ≡ Ok above
     = ap (λ ls. read_lines (c.loop-at.at + 1) above (map (λ (line : Bor (List ℕ)). line.now) ls)) rest in
-    record {
-      kept = kept_where_read above (map (λ (line : Bor (List ℕ)). line.now) c.args.lines.now) (sym c.loop-at.invariant.1 ∙ whole);
-    }
+    kept_where_read above (map (λ (line : Bor (List ℕ)). line.now) c.args.lines.now) (sym c.loop-at.invariant.1 ∙ whole)

@@ -1,10 +1,7 @@
 use Rattle.std.proofs.Common.{◌≡◌, ◌++◌, ◌+◌, List, [], ◌∷◌, map, sym, ap, ◌∙◌, arith, rules, tests}
 use Rattle.std.specs.List.{range_with_len}
-use Rattle.std.proofs.lemmas.List.{map-append}
 use Rattle.std.proofs.lemmas.List.FromFn.{map-range_with_len_more}
 use Rattle.link_schedule.specs.Clients.{Plan}
-use Rattle.link_schedule.specs.Stands.{plan_at}
-use Rattle.link_schedule.specs.declared.client_plan.ClientPlan.{ClientPlan}
 use Rattle.workload.specs.Workload.{client_of}
 use Rattle.workload.proofs.making.clients_of.Goals as goal
 
@@ -14,7 +11,7 @@ loop-place-preserved c =
     let plan = c.in_ok-plan.plan in
     let front = c.loop-place.plans.items in
     let items : c.push.new.self.items ≡ front ++ plan ∷ [] = search (rules, tests) in
-    ap (λ (l : List ClientPlan). map plan_at l) items ∙ map-append plan_at front (plan ∷ [])
-    ∙ ap (λ (l : List Plan). l ++ plan_at plan ∷ []) c.loop-place.invariant
+    items
+    ∙ ap (λ (l : List Plan). l ++ plan ∷ []) c.loop-place.invariant
     ∙ ap (λ (p : Plan). map client_of (range_with_len 1 place) ++ p ∷ []) c.in_ok-plan.ensures
     ∙ sym (map-range_with_len_more client_of 1 place (place + 1) (omega arith))

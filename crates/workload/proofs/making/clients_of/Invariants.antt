@@ -1,8 +1,7 @@
 use Rattle.std.proofs.Common.{◌≡◌, map}
 use Rattle.std.specs.List.{range_with_len}
-use Rattle.link_schedule.specs.Stands.{plan_at}
 use Rattle.workload.specs.Workload.{client_of}
 use Rattle.workload.proofs.making.clients_of.Given as goal
 
 abbrev pub invariant-loop-place : goal.invariant-loop-place
-invariant-loop-place l = map plan_at l.plans.items ≡ map client_of (range_with_len 1 l.place)
+invariant-loop-place l = l.plans.items ≡ map client_of (range_with_len 1 l.place)

@@ -10,6 +10,7 @@ use Rattle.link_world.specs.Bytes.{sent_bytes, changed}
 use Rattle.link_world.specs.World.{World, Sent}
 use Rattle.link_world.specs.declared.who.Who.{Who}
 use Rattle.link_replay.specs.Stands.{WorldStands}
+use Rattle.link_replay.specs.State.{link_of}
 use Rattle.link_replay.specs.Telling.{AnswersTo}
 use Rattle.link_replay.proofs.Damaging.{damage_answers}
 use Rattle.link_replay.proofs.Readable.{sent_there}
@@ -20,7 +21,7 @@ pub returns-then-place-eq0-clause-damaged : goal.returns-then-place-eq0-clause-d
 returns-then-place-eq0-clause-damaged g c = λ w h f s.
     let a = g.A.App in
     let t = subst (λ x. WorldStands a x w) (sym c.self.view_is) s in
-    let many : length c.self.inside.link.sent.items ≡ length w.sent = t.link.sent.same_length in
+    let many : length c.self.inside.sent.items ≡ length w.sent = t.link.sent.same_length in
     let out : (c.args.number ≡ 0) ⊎ (length w.sent < c.args.number) = grind (arith, common_steps) in
     subst (λ (x : Option Sent). WorldStands a c.args.self.now (damaged (a.meaning (a.kept c.args.self.now.node.shared)) a.served w c.args.at c.args.mask x)) (sym (none_numbered w.sent c.args.number out)) s
 
@@ -29,7 +30,7 @@ returns-clause-damaged g c = λ w h f s.
     let a = g.A.App in
     let t = subst (λ x. WorldStands a x w) (sym c.self.view_is) s in
     let m = a.meaning (a.kept c.args.self.now.node.shared) in
-    let p = sent_there c.self.inside.link w c.args.number c.index-sent.result.now (omega arith) c.index-sent.ensures (omega arith) t.link in
+    let p = sent_there (link_of c.self.inside.sides.items c.self.inside.sent.items) w c.args.number c.index-sent.result.now (omega arith) c.index-sent.ensures (omega arith) t.link in
     let e : Sent = p.other in
     let items : c.in-Ok.bytes.items ≡ c.as_slice.result.now = search (rules, tests) in
     let old : c.as_mut_slice.result.now ≡ sent_bytes w e = c.as_mut_slice.ensures.value ∙ items ∙ c.as_slice.ensures.value ∙ p.pair.bytes in

@@ -11,6 +11,7 @@ use Rattle.link_world.specs.Bytes.{sent_bytes}
 use Rattle.link_world.specs.World.{World, Sent, delivers, numbered}
 use Rattle.link_world.specs.declared.who.Who.{Who}
 use Rattle.link_replay.specs.Stands.{LinkStands, WorldStands}
+use Rattle.link_replay.specs.State.{Link, link_of}
 use Rattle.link_replay.specs.Telling.{AnswersTo, client_told, sees}
 use Rattle.link_replay.specs.declared.sent.Sent.{Sent as CodeSent}
 use Rattle.link_replay.proofs.Delivered.{answers_seen, hands, seen, speaks_to}
@@ -21,17 +22,17 @@ use Rattle.link_replay.proofs.Sending.{none_numbered}
 use Rattle.link_replay.proofs.world.WorldOf.give.Goals as goal
 
 pub invariant_of-self : goal.invariant_of-self
-invariant_of-self g c = still_linked _ _ c.self.invariant c.see.ensures.kept
+invariant_of-self g c = record { link = still_linked _ _ c.self.invariant.link (λ addr. c.see.ensures.kept addr c.self.inside.sent.items); room = c.self.invariant.room }
 
 pub hand-requires : goal.hand-requires
 hand-requires g c = record {
   most =
-      let sent : List CodeSent = c.self.inside.link.sent.items in
+      let sent : List CodeSent = c.self.inside.sent.items in
       let n : ℕ = c.args.number - 1 in
       let at : slice_get sent n ≡ Some c.index-sent.result.now = there_is sent n c.index-sent.result.now c.index-sent.ensures (omega arith) in
       let items : c.in-Ok.bytes.items ≡ c.as_slice.result.now = search (rules, tests) in
       let all : c.as_slice-2.result.now ≡ c.index-sent.result.now.bytes.items = c.as_slice-2.ensures.value ∙ items ∙ c.as_slice.ensures.value in
-      subst (λ (xs : List ℕ). length xs ≤ LARGEST_DATAGRAM) (sym all) (c.self.invariant.1.sizes n c.index-sent.result.now at);
+      subst (λ (xs : List ℕ). length xs ≤ LARGEST_DATAGRAM) (sym all) (c.self.invariant.link.1.sizes n c.index-sent.result.now at);
 }
 
 pub returns-then-place-eq0-clause-given : goal.returns-then-place-eq0-clause-given
@@ -39,7 +40,7 @@ returns-then-place-eq0-clause-given g c = λ w h s.
     let a = g.A.App in
     let m = a.meaning (a.kept c.args.self.now.node.shared) in
     let t = subst (λ x. WorldStands a x w) (sym c.self.view_is) s in
-    let many : length c.self.inside.link.sent.items ≡ length w.sent = t.link.sent.same_length in
+    let many : length c.self.inside.sent.items ≡ length w.sent = t.link.sent.same_length in
     let out : (c.args.number ≡ 0) ⊎ (length w.sent < c.args.number) = grind (arith, common_steps) in
     subst (λ (x : Option Sent). WorldStands a c.args.self.now (option_map_or (λ d. delivers m a.served w c.args.number d d.who d.content) x w)) (sym (none_numbered w.sent c.args.number out)) s
 
@@ -47,16 +48,18 @@ pub returns-clause-given : goal.returns-clause-given
 returns-clause-given g c = rw (← c.self.view_is) (λ w h s.
     let a = g.A.App in
     let m = a.meaning (a.kept c.self.inside.node.shared) in
-    let p = sent_there c.self.inside.link w c.args.number c.index-sent.result.now (omega arith) c.index-sent.ensures (omega arith) s.link in
+    let p = sent_there (link_of c.self.inside.sides.items c.self.inside.sent.items) w c.args.number c.index-sent.result.now (omega arith) c.index-sent.ensures (omega arith) s.link in
     let e : Sent = p.other in
     let items : c.in-Ok.bytes.items ≡ c.as_slice.result.now = search (rules, tests) in
     let bytes : c.as_slice-2.result.now ≡ sent_bytes w e = c.as_slice-2.ensures.value ∙ items ∙ c.as_slice.ensures.value ∙ p.pair.bytes in
     let client : c.client_of.result ≡ client_told e.who = c.client_of.ensures ∙ ap client_told p.pair.who in
     let v : World = sees w (client_told e.who) c.args.number e (numbered w.sides (client_told e.who)) in
-    let facts = hands m a.served w c.args.number e (speaks_to c.self.inside.link w s.link s.home) e.who e.content (sent_bytes w e) (read_at m a.served w h (c.args.number - 1) e p.get) (sent_at m a.served w h (c.args.number - 1) e p.get) in
-    let stands : WorldStands a (record { node = c.self.inside.node; link = c.see.new.self; mark = c.self.inside.mark; spent = c.self.inside.spent }) v
-    = seen a _ c.see.new.self w (client_told e.who) c.args.number e (numbered w.sides (client_told e.who)) s
-    (subst (λ k. LinkStands c.see.new.self (sees w k c.args.number e (numbered w.sides k))) client (c.see.ensures.stands w e s.link p.pair.epoch)) (c.see.ensures.kept w.node.addr s.home) in
+    let facts = hands m a.served w c.args.number e (speaks_to (link_of c.self.inside.sides.items c.self.inside.sent.items) w s.link s.home) e.who e.content (sent_bytes w e) (read_at m a.served w h (c.args.number - 1) e p.get) (sent_at m a.served w h (c.args.number - 1) e p.get) in
+    let sent : List CodeSent = c.self.inside.sent.items in
+    let link : Link = link_of c.see.new.sides.items sent in
+    let stands : WorldStands a (record { node = c.self.inside.node; link = link; mark = c.self.inside.mark; spent = c.self.inside.spent; area = c.self.inside.area.items }) v
+    = seen a _ link w (client_told e.who) c.args.number e (numbered w.sides (client_told e.who)) s
+    (subst (λ k. LinkStands link (sees w k c.args.number e (numbered w.sides k))) client (c.see.ensures.stands w e sent s.link p.pair.epoch)) (c.see.ensures.kept w.node.addr sent s.home) in
     let answer : Option Reply = (step m a.served v.node (event_of v.node.addr c.as_slice-2.result.now)).sent in
     let answers : AnswersTo v c.index-sent.result.now.who answer
     = subst (λ (who : Who). AnswersTo v who answer) (sym p.pair.who)

@@ -1,28 +1,29 @@
-use Rattle.std.proofs.Common.{◌≡◌, length, map, refl, arith, rules}
-use Rattle.std.proofs.lemmas.List.{length-map}
-use Rattle.link_schedule.specs.Stands.{plan_at}
+use Rattle.std.proofs.Common.{◌≡◌, length, refl, rules}
 use Rattle.link_replay.specs.Opening.{server}
 use Rattle.link_replay.proofs.Opened.{all_planned, link_opened, none_stand, sides_stand}
 use Rattle.link_replay.proofs.world.WorldOf.opening.Goals as goal
 
 pub invariant_of-result : goal.invariant_of-result
 invariant_of-result g c =
-    let size : length c.in-Ok.area.items ≡ 1500 = search rules in (
-      server,
-      link_opened server _ (map plan_at c.args.clients.now) c.in_ok-sides.ensures (omega (arith, c.requires.few, length-map c.args.clients.now plan_at)) size
-          c.new-2.ensures.items refl,
-    )
+    let size : length c.in-Ok.area.items ≡ 1500 = search rules in
+    record {
+      link = (
+        server,
+        link_opened server _ c.args.clients.now c.in_ok-sides.ensures c.requires.few
+            c.new-2.ensures.items refl,
+      );
+      room = size;
+    }
 
 pub returns-clause-stands : goal.returns-clause-stands
 returns-clause-stands g c =
-    let size : length c.in-Ok.area.items ≡ 1500 = search rules in
     record {
       node = c.in_ok-node.ensures.stands;
-      link = record { sides = sides_stand (map plan_at c.args.clients.now) c.in_ok-sides.sides.items c.in_ok-sides.ensures; sent = none_stand _ c.new-2.result.items c.new-2.ensures.items };
-      home = link_opened server _ (map plan_at c.args.clients.now) c.in_ok-sides.ensures (omega (arith, c.requires.few, length-map c.args.clients.now plan_at)) size c.new-2.ensures.items refl;
+      link = record { sides = sides_stand c.args.clients.now c.in_ok-sides.sides.items c.in_ok-sides.ensures; sent = none_stand _ c.new-2.result.items c.new-2.ensures.items };
+      home = link_opened server _ c.args.clients.now c.in_ok-sides.ensures c.requires.few c.new-2.ensures.items refl;
       mark = refl;
       fresh = refl;
     }
 
 pub returns-clause-planned : goal.returns-clause-planned
-returns-clause-planned g c = all_planned (map plan_at c.args.clients.now) c.in_ok-sides.sides.items c.in_ok-sides.ensures
+returns-clause-planned g c = all_planned c.args.clients.now c.in_ok-sides.sides.items c.in_ok-sides.ensures

@@ -9,6 +9,6 @@ returns g c = rw (← c.self.view_is) (λ w s h e.
     let above : 0 < c.args.number = omega arith in
     let same : c.args.number - 1 ≡ n = omega arith in
     let side : CodeSide = c.index.result.now in
-    let at : slice_get c.self.inside.link.sides.items n ≡ Some side = there_is c.self.inside.link.sides.items n side c.index.ensures (omega (arith, c.requires.most, ap (λ x. length x.link.sides.items) c.self.view_is)) in
+    let at : slice_get c.self.inside.sides.items n ≡ Some side = there_is c.self.inside.sides.items n side c.index.ensures (omega (arith, c.requires.most, ap (λ x. length x.link.sides) c.self.view_is)) in
     let there : slice_get w.sides n ≡ Some s = ap (slice_get w.sides) (sym same) ∙ sym (numbered_at w.sides c.args.number above) ∙ e in
     h.link.sides.each n side s at there)

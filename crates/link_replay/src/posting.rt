@@ -1,4 +1,4 @@
-//! What is beside the node in a replay.
+//! A datagram is posted.
 
 ghost use Rattle.std.specs.Prelude.{◌≡◌, ◌≤◌, OnOk, List, length};
 ghost use Rattle.std.specs.Option.{option_map_or};
@@ -8,27 +8,14 @@ ghost use Rattle.link_world.specs.Bytes.{bytes_by};
 ghost use Rattle.link_world.specs.World.{Content, Side as PlainSide, World as PlainWorld, epoch, epoch_of, numbered, posts};
 ghost use Rattle.link_replay.specs.Matched.{Matched};
 ghost use Rattle.link_replay.specs.Stands.{IsLink, LinkStands, SideStands};
+ghost use Rattle.link_replay.specs.State.{link_of};
 
 use crate::faults::MOST_DATAGRAMS;
 use crate::sent::Sent;
 use crate::side::Side;
 use link_world::Who;
-use std::alloc::Global;
 use uip_edge::NoMemory;
 use uip_wire::LARGEST_DATAGRAM;
-
-/// What is beside the node: the clients, and every datagram that was sent.
-#[derive(Drop)]
-pub struct Link {
-    /// The clients, numbered from 1.
-    pub sides: Vec<Side>,
-    /// Every datagram that was sent, numbered from 1.
-    pub sent: Vec<Sent>,
-    /// Where a client writes what it sends.
-    pub area: Vec<u8>,
-    /// What memory is taken from.
-    pub alloc: Global,
-}
 
 /// The epoch of the client that a datagram concerns, by its sender; 0 where it concerns none.
 fn epoch_of(sides: &[Side], who: Who) -> u32
@@ -51,35 +38,34 @@ fn epoch_at(sides: &[Side], number: u8) -> u32
     sides[place - 1].epoch
 }
 
-impl Link {
-    /// One more datagram. NoMemory also where no number is left for it.
-    pub(crate) fn post(
-        &mut self,
-        who: Who,
-        tick: u32,
-        again: bool,
-        bytes: Vec<u8>,
-    ) -> Result<(), NoMemory>
-        requires most { length bytes.items ≤ LARGEST_DATAGRAM }
-        ensures kept { (addr : Address) → IsLink addr self.old → IsLink addr self.new }
-        ensures posted { OnOk result ((w : PlainWorld) (content : Content) → LinkStands self.old w → tick ≡ ticks_of w.node.past
-            → bytes.items ≡ bytes_by w who content
-            → LinkStands self.new (posts w who again content)) }
-    {
-        if self.sent.len() >= MOST_DATAGRAMS {
-            return Err(NoMemory);
-        }
-        let epoch = epoch_of(self.sides.as_slice(), who);
-        let sent = Sent {
-            who,
-            tick,
-            epoch,
-            again,
-            bytes,
-        };
-        if self.sent.push(sent).is_err() {
-            return Err(NoMemory);
-        }
-        Ok(())
+/// One more datagram. NoMemory also where no number is left for it.
+pub(crate) fn post(
+    sides: &[Side],
+    sent: &mut Vec<Sent>,
+    who: Who,
+    tick: u32,
+    again: bool,
+    bytes: Vec<u8>,
+) -> Result<(), NoMemory>
+    requires most { length bytes.items ≤ LARGEST_DATAGRAM }
+    ensures kept { (addr : Address) → IsLink addr (link_of sides.now sent.old.items) → IsLink addr (link_of sides.now sent.new.items) }
+    ensures posted { OnOk result ((w : PlainWorld) (content : Content) → LinkStands (link_of sides.now sent.old.items) w
+        → tick ≡ ticks_of w.node.past → bytes.items ≡ bytes_by w who content
+        → LinkStands (link_of sides.now sent.new.items) (posts w who again content)) }
+{
+    if sent.len() >= MOST_DATAGRAMS {
+        return Err(NoMemory);
     }
+    let epoch = epoch_of(sides, who);
+    let datagram = Sent {
+        who,
+        tick,
+        epoch,
+        again,
+        bytes,
+    };
+    if sent.push(datagram).is_err() {
+        return Err(NoMemory);
+    }
+    Ok(())
 }

@@ -1,18 +1,17 @@
 use Rattle.std.proofs.Common.{◌≡◌, ◌∷◌, [], ◌++◌, sym, refl, rules, tests, subst, List}
 use Rattle.link_world.specs.World.{posts}
 use Rattle.link_replay.specs.Matched.{Matched}
-use Rattle.link_replay.specs.Stands.{SentStands, SideStands}
+use Rattle.link_replay.specs.Stands.{SentStands}
 use Rattle.link_replay.specs.declared.sent.Sent.{Sent as CodeSent}
-use Rattle.link_replay.specs.declared.side.Side.{Side as CodeSide}
 use Rattle.link_replay.proofs.Places.{posted}
-use Rattle.link_replay.proofs.link.Link.post.Goals as goal
+use Rattle.link_replay.proofs.posting.post.Goals as goal
 
 pub returns-clause-posted : goal.returns-clause-posted
 returns-clause-posted c = λ w content h t b.
     let x : CodeSent = record { who = c.args.who; tick = c.args.tick; epoch = c.epoch_of-epoch.result; again = c.args.again; bytes = c.args.bytes } in
-    let items : c.push.new.self.items ≡ c.args.self.now.sent.items ++ x ∷ [] = search (rules, tests) in
+    let items : c.push.new.self.items ≡ c.args.sent.now.items ++ x ∷ [] = search (rules, tests) in
     record {
       sides = h.sides;
       sent = subst (λ (xs : List CodeSent). Matched (SentStands (posts w c.args.who c.args.again content)) xs (posts w c.args.who c.args.again content).sent) (sym items)
-          (posted w c.args.self.now.sent.items x c.args.who c.args.again content h.sent record { who = refl; tick = t; epoch = c.epoch_of-epoch.ensures w.sides (subst (λ (xs : List CodeSide). Matched SideStands xs w.sides) (sym c.as_slice.ensures.value) h.sides); again = refl; bytes = b });
+          (posted w c.args.sent.now.items x c.args.who c.args.again content h.sent record { who = refl; tick = t; epoch = c.epoch_of-epoch.ensures w.sides h.sides; again = refl; bytes = b });
     }

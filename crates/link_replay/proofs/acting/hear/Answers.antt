@@ -1,0 +1,64 @@
+use Rattle.std.proofs.Common.{◌≡◌, ℕ, ◌-◌, suc, sym, ap, ◌∙◌, arith, subst, length, List, set, ◌≤◌}
+use Rattle.link_client.specs.Calls.{client_hears, client_hands}
+use Rattle.link_world.specs.Acts.{handed}
+use Rattle.link_world.specs.World.{World}
+use Rattle.link_replay.specs.Stands.{LinkStands}
+use Rattle.link_replay.specs.State.{Link, link_of}
+use Rattle.link_replay.specs.declared.side.Side.{Side as CodeSide}
+use Rattle.link_replay.proofs.Pairs.{there_is}
+use Rattle.link_replay.proofs.Sending
+use Rattle.link_replay.proofs.acting.hear.Goals as goal
+
+pub post_front-requires : goal.post_front-requires
+post_front-requires c =
+    let s = Sending.some_side c.index_mut.result.now in
+    let area : List ℕ = c.hear.new.area in
+    let size : length area ≡ length c.args.area.now.items = c.hear.ensures.room ∙ ap length c.as_mut_slice.ensures.value in
+    let read : c.as_slice-2.result.now ≡ area
+    = c.as_slice-2.ensures.value ∙ Sending.area_is area c.args.area.now.items c.args.area.now.len size (sym c.as_mut_slice.ensures.len ∙ ap length c.as_mut_slice.ensures.value) in
+    record {
+      area = ap length read ∙ size ∙ c.requires.room;
+      inside = λ n e. subst (λ (xs : List ℕ). n ≤ length xs) (sym read) (Sending.sends_inside s.plain.client.setup _ c.in_ok-len.len n area (c.in_ok-len.ensures.step s.plain s.stands).sent e);
+    }
+
+pub returns-clause-kept : goal.returns-clause-kept
+returns-clause-kept c = λ addr h.
+    let n : ℕ = c.from-place.result - 1 in
+    Sending.kept_posted addr _ (set c.args.sides.now.items n c.hear.new.self) c.args.sent.now.items c.post_front.new.sent.items c.as_slice.ensures.value (c.post_front.ensures.kept addr)
+    (Sending.kept_put addr (link_of c.args.sides.now.items c.args.sent.now.items) n c.index_mut.result.now c.hear.new.self
+    (there_is c.args.sides.now.items n c.index_mut.result.now c.index_mut.ensures.value (omega arith)) c.hear.ensures.fits c.hear.ensures.setup h)
+
+pub returns-in_err-post_front-clause-kept : goal.returns-in_err-post_front-clause-kept
+returns-in_err-post_front-clause-kept c = λ addr h.
+    let n : ℕ = c.from-place.result - 1 in
+    Sending.kept_posted addr _ (set c.args.sides.now.items n c.hear.new.self) c.args.sent.now.items c.post_front.new.sent.items c.as_slice.ensures.value (c.post_front.ensures.kept addr)
+    (Sending.kept_put addr (link_of c.args.sides.now.items c.args.sent.now.items) n c.index_mut.result.now c.hear.new.self
+    (there_is c.args.sides.now.items n c.index_mut.result.now c.index_mut.ensures.value (omega arith)) c.hear.ensures.fits c.hear.ensures.setup h)
+
+pub returns-clause-room : goal.returns-clause-room
+returns-clause-room c =
+    let size : length c.hear.new.area ≡ length c.args.area.now.items = c.hear.ensures.room ∙ ap length c.as_mut_slice.ensures.value in
+    ap length (Sending.area_is c.hear.new.area c.args.area.now.items c.args.area.now.len size (sym c.as_mut_slice.ensures.len ∙ ap length c.as_mut_slice.ensures.value)) ∙ size ∙ c.requires.room
+
+pub returns-in_err-post_front-clause-room : goal.returns-in_err-post_front-clause-room
+returns-in_err-post_front-clause-room c =
+    let size : length c.hear.new.area ≡ length c.args.area.now.items = c.hear.ensures.room ∙ ap length c.as_mut_slice.ensures.value in
+    ap length (Sending.area_is c.hear.new.area c.args.area.now.items c.args.area.now.len size (sym c.as_mut_slice.ensures.len ∙ ap length c.as_mut_slice.ensures.value)) ∙ size ∙ c.requires.room
+
+pub returns-clause-heard : goal.returns-clause-heard
+returns-clause-heard c = λ w h t.
+    let n : ℕ = c.from-place.result - 1 in
+    let is : c.args.number ≡ suc n = omega arith in
+    let old : CodeSide = c.index_mut.result.now in
+    let new : CodeSide = c.hear.new.self in
+    let link : Link = link_of c.args.sides.now.items c.args.sent.now.items in
+    let after : Link = link_of (set c.args.sides.now.items n new) c.post_front.new.sent.items in
+    let size : length c.hear.new.area ≡ length c.args.area.now.items = c.hear.ensures.room ∙ ap length c.as_mut_slice.ensures.value in
+    let read : c.as_slice-2.result.now ≡ c.hear.new.area
+    = c.as_slice-2.ensures.value ∙ Sending.area_is c.hear.new.area c.args.area.now.items c.args.area.now.len size (sym c.as_mut_slice.ensures.len ∙ ap length c.as_mut_slice.ensures.value) in
+    Sending.done_at link after w c.args.number n old (handed w c.args.number c.args.datagram.now) is h
+    (there_is c.args.sides.now.items n old c.index_mut.ensures.value (omega arith))
+    (λ s g o. subst (λ (x : World). LinkStands after x) (Sending.heard_handed w c.args.number n s c.args.datagram.now is g)
+    (Sending.step_posted link w c.args.number n old new s is h g o c.hear.ensures.setup (client_hands s.client (client_hears s.client.setup c.args.datagram.now)) c.in_ok-len.len c.hear.new.area after c.args.tick
+    (c.in_ok-len.ensures.step s o)
+    (Sending.posted_as c.args.number c.args.tick c.in_ok-len.len _ c.hear.new.area _ (set c.args.sides.now.items n new) c.args.sent.now.items c.post_front.new.sent.items read c.as_slice.ensures.value c.in_ok-post_front.ensures.posted) t))

@@ -1,6 +1,0 @@
-use Rattle.std.proofs.Common.{sym, ap, ◌∙◌}
-use Rattle.link_world.specs.Acts.{named_fault}
-use Rattle.link_replay.proofs.link.Link.named_fault.Goals as goal
-
-pub returns-in-Damage-clause-exact : goal.returns-in-Damage-clause-exact
-returns-in-Damage-clause-exact c = λ w h. c.no_byte.ensures.exact w 0 h ∙ sym (ap (named_fault w) c.in-Damage.is)

@@ -1,0 +1,34 @@
+use Rattle.std.proofs.Common.{◌≡◌, ℕ, ◌-◌, suc, Some, Option, slice_get, set, refl, sym, ap, ◌∙◌, arith, subst}
+use Rattle.link_client.specs.Calls.{FitsRequest}
+use Rattle.link_world.specs.World.{Side, marked, numbered, with_side}
+use Rattle.link_replay.specs.Stands.{LinkStands, SideStands}
+use Rattle.link_replay.specs.State.{Link, link_of}
+use Rattle.link_replay.specs.Telling.{sees}
+use Rattle.link_replay.specs.declared.side.Side.{Side as CodeSide}
+use Rattle.link_replay.proofs.Pairs.{there_is, partner}
+use Rattle.link_replay.proofs.Places.{side_put, link_put}
+use Rattle.link_replay.proofs.marks.see.Goals as goal
+
+pub returns-clause-stands : goal.returns-clause-stands
+returns-clause-stands c = λ w e sent h q.
+    let n : ℕ = c.from-place.result - 1 in
+    let is : c.args.client ≡ suc n = omega arith in
+    let link : Link = link_of c.args.sides.now.items sent in
+    let old : CodeSide = c.index_mut.result.now in
+    let new : CodeSide = c.see.new.self in
+    let after : Link = record link { sides = set link.sides n new } in
+    let at : slice_get link.sides n ≡ Some old = there_is link.sides n old c.index_mut.ensures.value (omega arith) in
+    let p = partner SideStands link.sides w.sides n old h.sides at in
+    let put : LinkStands after (with_side w (suc n) (marked p.other c.args.number e))
+    = side_put link w n new p.other (marked p.other c.args.number e) h p.get refl (c.see.ensures.stands p.other e p.pair q) in
+    subst (λ (x : Option Side). LinkStands after (sees w c.args.client c.args.number e x)) (sym (ap (numbered w.sides) is ∙ p.get))
+    (subst (λ k. LinkStands after (with_side w k (marked p.other c.args.number e))) (sym is) put)
+
+pub returns-clause-kept : goal.returns-clause-kept
+returns-clause-kept c = λ addr sent h.
+    let n : ℕ = c.from-place.result - 1 in
+    let link : Link = link_of c.args.sides.now.items sent in
+    let old : CodeSide = c.index_mut.result.now in
+    let at : slice_get link.sides n ≡ Some old = there_is link.sides n old c.index_mut.ensures.value (omega arith) in
+    link_put addr link n c.see.new.self h (subst (λ (z : CodeSide). FitsRequest z.client z.request.items) (sym c.see.ensures.kept) (h.clients n old at))
+    (subst (λ (z : CodeSide). z.client.setup.server ≡ addr) (sym c.see.ensures.kept) (h.servers n old at))
