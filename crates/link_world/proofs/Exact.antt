@@ -38,7 +38,9 @@ use Rattle.link_world.proofs.Sides.{clean_before}
 use Rattle.link_world.proofs.Runs.{reached}
 use Rattle.link_world.proofs.Any.{Framed, Steps, Takes, speech, entry, does_framed}
 use Rattle.link_world.proofs.Any
+use Rattle.link_world.proofs.Same.{near_by}
 use Rattle.link_world.proofs.Same
+use Rattle.uip_node.proofs.SoundSegments.{asked_lens, on_segment_lens, on_tick_lens}
 use Rattle.uip_node.proofs.Stepped.{off_low, stepped_fits, stepped_tells}
 use Rattle.link_world.proofs.Prefix.{everywhere}
 use Rattle.link_world.proofs.Prefix
@@ -286,7 +288,8 @@ module _ (m : Meaning) (pages : Pages) (lawful : IsPaged m pages) where
       let fit : FitConn (asked m now o).connection = stepped_fits m (steady_of m pages lawful) IsShort (short_said m pages lawful) now o is fo in
       let h : OutTold m (steady_of m pages lawful) IsShort (short_said m pages lawful) old (asked m now o) = stepped_tells m (steady_of m pages lawful) IsShort (short_said m pages lawful) now old o is fo (segment_tells m (steady_of m pages lawful) IsShort (short_said m pages lawful) old numbers (seg e) (g.told.safe lv)) in
       steps_by w old (asked m now o) (not (has_rst (seg e).flags) && is_acked old (seg e)) k side lv g fit h (asked_moves m _ old now o (segment_moves m old numbers (seg e)))
-      (Same.steps_by m (steady_of m pages lawful) IsShort (short_said m pages lawful) w old (asked m now o) k side lv fit h g.told) (Prefix.segment m (everywhere m pages lawful) w old numbers now k j side e lv f n is sent who fresh g.good)
+      (Same.steps_by m (steady_of m pages lawful) IsShort (short_said m pages lawful) w old (asked m now o) k side lv fit (asked_lens m now o (on_segment_lens m old numbers (seg e) g.told.lens))
+      (near_by _ old (asked m now o).connection (asked_moves m _ old now o (segment_moves m old numbers (seg e)))) h g.told) (Prefix.segment m (everywhere m pages lawful) w old numbers now k j side e lv f n is sent who fresh g.good)
       (λ cl p q a. acked_by k side.client side.past old w.sent side.opened j e sent who lv f (g.told.safe lv) (g.good cl).opened_good (g.exact cl) p q a)
 
   tick : (w : World) (old : Connection) (numbers : List ℕ) (now : Connection → Now) (k : ℕ) (side : Side) → is_live old.state ≡ true → FitConn old → All IsWord numbers → ((c : Connection) → FitConn c → IsNow (now c)) →
@@ -297,7 +300,8 @@ module _ (m : Meaning) (pages : Pages) (lawful : IsPaged m pages) where
       let fit : FitConn (asked m now o).connection = stepped_fits m (steady_of m pages lawful) IsShort (short_said m pages lawful) now o is fo in
       let h : OutTold m (steady_of m pages lawful) IsShort (short_said m pages lawful) old (asked m now o) = stepped_tells m (steady_of m pages lawful) IsShort (short_said m pages lawful) now old o is fo (tick_tells m (steady_of m pages lawful) IsShort (short_said m pages lawful) old numbers (g.told.safe lv)) in
       steps_by w old (asked m now o) false k side lv g fit h (asked_moves m false old now o (tick_moves m old numbers))
-      (Same.steps_by m (steady_of m pages lawful) IsShort (short_said m pages lawful) w old (asked m now o) k side lv fit h g.told) (Prefix.tick m (everywhere m pages lawful) w old numbers now k side lv f n is g.good) (λ cl p q a. absurd (cc))
+      (Same.steps_by m (steady_of m pages lawful) IsShort (short_said m pages lawful) w old (asked m now o) k side lv fit (asked_lens m now o (on_tick_lens m old numbers g.told.lens))
+      (near_by _ old (asked m now o).connection (asked_moves m false old now o (tick_moves m old numbers))) h g.told) (Prefix.tick m (everywhere m pages lawful) w old numbers now k side lv f n is g.good) (λ cl p q a. absurd (cc))
 
   born_exact : (k : ℕ) (client : AbstractClient) (past : List Era) (d : Connection) (sent : List Sent) (opened : Option ℕ) → ((o : ℕ) → opened ≡ Some o → length past ≤ o) → OpenedGood (paged pages) client past closed opened → ExactOpen k client past d sent opened
   born_exact k client past d sent None b h = tt
