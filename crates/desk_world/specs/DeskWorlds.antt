@@ -10,7 +10,7 @@ use Rattle.tcp_machine.specs.Connection.{Connection}
 use Rattle.uip_node.specs.Events.Event.{Periodic}
 use Rattle.uip_node.specs.Node.{AbstractNode, step}
 use Rattle.link_world.specs.World.{World, Side, is_clean}
-use Rattle.link_world.specs.Headline.{IsReached, IsReachedPlainly, IsServed, RepeatsSameBytes, IsExpired, SendsAgain}
+use Rattle.link_world.specs.Headline.{IsReached, IsReachedPlainly, IsServed, RepeatsSameBytes, MarksRepeats, IsExpired, SendsAgain}
 use Rattle.telnet_shell.specs.declared.shell.TheConstants.{TELNET_PORT}
 use Rattle.telnet_shell.specs.Talks.{talks}
 use Rattle.telnet_shell.specs.DeskMeaning.{desk_meaning}
@@ -39,6 +39,10 @@ TalksAreShort = (heard : List ℕ) (captures : List Moment) → All IsMoment cap
 -- This holds of the shell's clients too, and of those that are not clean.
 abbrev pub DeskRepeatsSameBytes : Type 0
 DeskRepeatsSameBytes = (site : SiteContent) → IsLoaded site → (w : World) → IsReachedByDesk site w → RepeatsSameBytes w
+
+-- And of two datagrams to a client in one epoch that carry SYN, text or FIN at one number, the later one is marked so.
+abbrev pub DeskMarksRepeats : Type 0
+DeskMarksRepeats = (site : SiteContent) → IsLoaded site → (w : World) → IsReachedByDesk site w → MarksRepeats w
 
 -- At every node, whatever happened to it.
 abbrev pub DeskSendsAgain : Type 0
