@@ -481,7 +481,7 @@ again_exactly m pages lawful w r =
     marks_repeats m (steady_of m pages lawful) IsShort (short_said m pages lawful) w (told_paged m pages lawful w r) (room_where m pages (steady_of m pages lawful) (λ c. Unit {0}) (pages_say_bytes m pages lawful) w r)
 
 -- any number is as low as is needed where no page is spoken of
-abbrev Any_low : ℕ → Type 0
+abbrev pub Any_low : ℕ → Type 0
 Any_low n = Unit {0}
 
 module _ (m : Meaning) (steady : IsSteady m) where
