@@ -1,4 +1,4 @@
-ghost use Rattle.desk_world.specs.DeskWorlds.{DeskMarksRepeats, DeskRepeatsSameBytes, DeskSendsAgain, DeskServes, TalksAreShort};
+ghost use Rattle.desk_world.specs.DeskWorlds.{DeskMarksRepeats, DeskOneSegment, DeskRepeatsSameBytes, DeskSendsAgain, DeskServes, TalksAreShort};
 ghost use Rattle.desk_world.specs.Worked.{AreWorkedWorlds};
 
 /// A clean client has received a front of what is due at its port, a page or a talk, and all of it where it saw a plain close.
@@ -19,6 +19,11 @@ pub fn desk_repeats_same_bytes()
 /// Exactly what is sent again is marked so.
 pub fn desk_marks_repeats()
     ensures { DeskMarksRepeats }
+{}
+
+/// While its connection lives, a clean client expects a number inside what is outstanding there, and has acknowledged no more.
+pub fn desk_one_segment()
+    ensures { DeskOneSegment }
 {}
 
 /// An expired timer below its limit sends what is outstanding in that tick, at port 80 and at port 23.

@@ -6,6 +6,6 @@
 mod laws;
 
 pub use laws::{
-    desk_marks_repeats, desk_repeats_same_bytes, desk_sends_again, desk_serves, talks_are_short,
-    worked_worlds,
+    desk_marks_repeats, desk_one_segment, desk_repeats_same_bytes, desk_sends_again, desk_serves,
+    talks_are_short, worked_worlds,
 };

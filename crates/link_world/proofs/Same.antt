@@ -24,7 +24,7 @@ use Rattle.uip_node.specs.Laws.{serving, Alike}
 use Rattle.link_world.specs.History.{Planned, IsPlan, opening_world}
 use Rattle.link_world.specs.Headline.{IsReached, RepeatsSameBytes, MarksRepeats, SameBytes, SameBytesPlainly, AgainExactly, AgainExactlyPlainly, IsReachedPlainly}
 use Rattle.uip_node.specs.Steady.{IsSteady}
-use Rattle.uip_node.proofs.Steadiness.{steady_of, IsShort, short_said}
+use Rattle.uip_node.proofs.Steadiness.{steady_of}
 use Rattle.uip_node.proofs.Basics.{choose, cut_length, zero_or_more, same_place, get_push, nothing_placed, only_some}
 use Rattle.uip_node.proofs.Basics.AtEnd.{older, newest}
 use Rattle.link_world.proofs.Good.{seg, segment_in, from, to}
@@ -465,22 +465,7 @@ module _ (m : Meaning) (steady : IsSteady m) (Low : ℕ → Type 0) (low_text : 
       let a = (told k side x).agree few i j e f g h lt we wf ep (ap has_place q ∙ pe) (ap has_place q' ∙ pf) (ap (λ n. n.seq) q ∙ se ∙ ap (λ n. n.seq) (sym q')) in
       (a.0, subst (λ n. Alike n s) q' (subst (λ n. Alike (seg f) n) q a.1))
 
-module _ (m : Meaning) (pages : Pages) (lawful : IsPaged m pages) (w : World) (r : IsReached m pages w) where
-  told_paged : (k : ℕ) (side : Side) → slice_get w.sides k ≡ Some side
-      → Told m (steady_of m pages lawful) IsShort (short_said m pages lawful) k side (serving (client_sockets side) w.node.connections) w.sent
-  told_paged =
-      (reached m pages lawful
-      (λ v. Framed m (Told m (steady_of m pages lawful) IsShort (short_said m pages lawful)) (other m (steady_of m pages lawful) IsShort (short_said m pages lawful)) (reset m (steady_of m pages lawful) IsShort (short_said m pages lawful)) (evict m (steady_of m pages lawful) IsShort (short_said m pages lawful)) (mark m (steady_of m pages lawful) IsShort (short_said m pages lawful)) v)
-      (told_step m (steady_of m pages lawful) IsShort (short_said m pages lawful)) (opening_told m (steady_of m pages lawful) IsShort (short_said m pages lawful)) w r).each
-
-pub same_bytes : SameBytes
-same_bytes m pages lawful w r = repeats_bytes m (steady_of m pages lawful) IsShort (short_said m pages lawful) w (told_paged m pages lawful w r)
-
-pub again_exactly : AgainExactly
-again_exactly m pages lawful w r =
-    marks_repeats m (steady_of m pages lawful) IsShort (short_said m pages lawful) w (told_paged m pages lawful w r) (room_where m pages (steady_of m pages lawful) (λ c. Unit {0}) (pages_say_bytes m pages lawful) w r)
-
--- any number is as low as is needed where no page is spoken of
+-- any number is as low as is needed: that none comes round is told by the list of datagrams
 abbrev pub Any_low : ℕ → Type 0
 Any_low n = Unit {0}
 
@@ -506,3 +491,10 @@ same_bytes_where m pages steady H bytes w r = repeats_bytes m steady Any_low (λ
 
 pub again_exactly_where : (m : Meaning) (pages : Pages) (steady : IsSteady m) (H : Connection → Type 0) → (HasBytes pages → SaysBytesWhere m H) → (w : World) → IsReached m pages w → MarksRepeats w
 again_exactly_where m pages steady H bytes w r = marks_repeats m steady Any_low (λ p f. tt) w (told_where m steady pages H bytes w r).each (room_where m pages steady H bytes w r)
+
+-- an application whose text is a page
+pub same_bytes : SameBytes
+same_bytes m pages lawful w r = same_bytes_where m pages (steady_of m pages lawful) (λ c. Unit {0}) (pages_say_bytes m pages lawful) w r
+
+pub again_exactly : AgainExactly
+again_exactly m pages lawful w r = again_exactly_where m pages (steady_of m pages lawful) (λ c. Unit {0}) (pages_say_bytes m pages lawful) w r
