@@ -149,7 +149,7 @@ module _ (m : Meaning) (ports : AtPorts m) where
   steady = (ports.laws 0).steady
 
   -- where there are no more datagrams than a world can have, no number of a connection comes round
-  top_low : (k : ℕ) (side : Side) (c : Connection) (sent : List Sent) → Same.Told m steady Any_low (λ p f. tt) k side c sent → length sent ≤ 65535 → is_live c.state ≡ true → c.acked + c.len < 4294967296
+  top_low : (k : ℕ) (side : Side) (c : Connection) (sent : List Sent) → Same.Told m steady k side c sent → length sent ≤ 65535 → is_live c.state ≡ true → c.acked + c.len < 4294967296
   top_low k side c sent t h l = (let r = t.room l in omega (arith, r, h))
 
   -- what is outstanding is no longer than it says
@@ -175,7 +175,7 @@ module _ (m : Meaning) (ports : AtPorts m) where
       omega (arith, here, z, t, u)
 
   record G (k : ℕ) (side : Side) (c : Connection) (sent : List Sent) : Type 0 where
-    told : Same.Told m steady Any_low (λ p f. tt) k side c sent
+    told : Same.Told m steady k side c sent
     good : Prefix.G m ports k side c sent
     ends : length sent ≤ 65535 → Ends k side c sent
     exact : length sent ≤ 65535 → is_clean side ≡ true → ExactOpen k side.client side.past c sent side.opened
@@ -185,7 +185,7 @@ module _ (m : Meaning) (ports : AtPorts m) where
 
   other : (k : ℕ) (side : Side) (c : Connection) (sent : List Sent) (e : Sent) → G k side c sent → (e.who ≡ to k → ⊥) → (e.who ≡ from k → ⊥) → G k side c (sent ++ e ∷ [])
   other k side c sent e g t f = record {
-    told = Same.other m steady Any_low (λ p f. tt) k side c sent e g.told t f;
+    told = Same.other m steady k side c sent e g.told t f;
     good = Prefix.other m ports k side c sent e g.good t f;
     ends = λ r. push_ends k side c sent e (g.ends (room_before sent e r)) (λ l w. absurd (t w));
     exact = push_aside k side c sent e f g.exact;
@@ -196,7 +196,7 @@ module _ (m : Meaning) (ports : AtPorts m) where
 
   reset : (k : ℕ) (side : Side) (c : Connection) (sent : List Sent) (e : Sent) → G k side c sent → e.epoch ≡ length side.past → has_syn (seg e).flags ≡ false → has_fin (seg e).flags ≡ false → (seg e).text ≡ [] → has_rst (seg e).flags ≡ true → e.again ≡ false → e.who ≡ to k → G k side c (sent ++ e ∷ [])
   reset k side c sent e g q sy fi te rs ag w = record {
-    told = Same.reset m steady Any_low (λ p f. tt) k side c sent e g.told q sy fi te rs ag w;
+    told = Same.reset m steady k side c sent e g.told q sy fi te rs ag w;
     good = Prefix.reset m ports k side c sent e g.good q sy fi te rs ag w;
     ends = λ r. push_ends k side c sent e (g.ends (room_before sent e r)) (λ l x p. absurd (nothing_placed (seg e) sy fi te p));
     exact = push_aside k side c sent e (to_not_from k e w) g.exact;
@@ -210,7 +210,7 @@ module _ (m : Meaning) (ports : AtPorts m) where
 
   evict : (k : ℕ) (side : Side) (c : Connection) (sent : List Sent) → is_live c.state ≡ true → G k side c sent → G k (Any.older side c) closed sent
   evict k side c sent l g = record {
-    told = Same.evict m steady Any_low (λ p f. tt) k side c sent l g.told;
+    told = Same.evict m steady k side c sent l g.told;
     good = Prefix.evict m ports k side c sent l g.good;
     ends = λ r x. absurd (cc);
     exact = λ r cl. dead_exact (Prefix.speaker_of m ports side) k side.client side.past c c sent side.opened refl (g.good cl).opened_good (g.exact r cl);
@@ -218,7 +218,7 @@ module _ (m : Meaning) (ports : AtPorts m) where
 
   mark : (k : ℕ) (side : Side) (c : Connection) (sent : List Sent) (n : ℕ) (e : Sent) → G k side c sent → G k (marked side n e) c sent
   mark k side c sent n e g = record {
-    told = Same.mark m steady Any_low (λ p f. tt) k side c sent n e g.told;
+    told = Same.mark m steady k side c sent n e g.told;
     good = Prefix.mark m ports k side c sent n e g.good;
     ends = g.ends;
     exact = λ r cl. g.exact r (clean_before side n e cl).0;
@@ -236,7 +236,7 @@ module _ (m : Meaning) (ports : AtPorts m) where
       )) x
 
   abbrev ToldSteps : World → Outcome → ℕ → Side → Type 0
-  ToldSteps w o k side = Steps m (Same.Told m steady Any_low (λ p f. tt)) (Same.other m steady Any_low (λ p f. tt)) (Same.reset m steady Any_low (λ p f. tt)) (Same.evict m steady Any_low (λ p f. tt)) (Same.mark m steady Any_low (λ p f. tt)) w o k side
+  ToldSteps w o k side = Steps m (Same.Told m steady) (Same.other m steady) (Same.reset m steady) (Same.evict m steady) (Same.mark m steady) w o k side
 
   abbrev GoodSteps : World → Outcome → ℕ → Side → Type 0
   GoodSteps w o k side = Steps m (Prefix.G m ports) (Prefix.other m ports) (Prefix.reset m ports) (Prefix.evict m ports) (Prefix.mark m ports) w o k side
@@ -297,7 +297,7 @@ module _ (m : Meaning) (ports : AtPorts m) where
       let fit : FitConn (asked m now o).connection = stepped_fits m steady Any_low (λ p f. tt) now o is fo in
       let h : OutTold m steady Any_low (λ p f. tt) old (asked m now o) = stepped_tells m steady Any_low (λ p f. tt) now old o is fo (segment_tells m steady Any_low (λ p f. tt) old numbers (seg e) (g.told.safe lv)) in
       steps_by w old (asked m now o) (not (has_rst (seg e).flags) && is_acked old (seg e)) k side lv g fit h (asked_moves m _ old now o (segment_moves m old numbers (seg e)))
-      (Same.steps_by m steady Any_low (λ p f. tt) w old (asked m now o) k side lv fit (asked_lens m now o (on_segment_lens m old numbers (seg e) g.told.lens))
+      (Same.steps_by m steady w old (asked m now o) k side lv fit (asked_lens m now o (on_segment_lens m old numbers (seg e) g.told.lens))
       (near_by _ old (asked m now o).connection (asked_moves m _ old now o (segment_moves m old numbers (seg e)))) h g.told) (Prefix.segment m ports w old numbers now k j side e lv f n is sent who fresh g.good)
       (λ r cl p q a. acked_by (Prefix.speaker_of m ports side) k side.client side.past old w.sent side.opened j e sent who lv (top_low k side old w.sent g.told r lv) (g.good cl).opened_good (g.exact r cl) p q a)
 
@@ -309,7 +309,7 @@ module _ (m : Meaning) (ports : AtPorts m) where
       let fit : FitConn (asked m now o).connection = stepped_fits m steady Any_low (λ p f. tt) now o is fo in
       let h : OutTold m steady Any_low (λ p f. tt) old (asked m now o) = stepped_tells m steady Any_low (λ p f. tt) now old o is fo (tick_tells m steady Any_low (λ p f. tt) old numbers (g.told.safe lv)) in
       steps_by w old (asked m now o) false k side lv g fit h (asked_moves m false old now o (tick_moves m old numbers))
-      (Same.steps_by m steady Any_low (λ p f. tt) w old (asked m now o) k side lv fit (asked_lens m now o (on_tick_lens m old numbers g.told.lens))
+      (Same.steps_by m steady w old (asked m now o) k side lv fit (asked_lens m now o (on_tick_lens m old numbers g.told.lens))
       (near_by _ old (asked m now o).connection (asked_moves m false old now o (tick_moves m old numbers))) h g.told) (Prefix.tick m ports w old numbers now k side lv f n is g.good) (λ r cl p q a. absurd (cc))
 
   born_exact : (speaker : Speaker) (k : ℕ) (client : AbstractClient) (past : List Era) (d : Connection) (sent : List Sent) (opened : Option ℕ) → ((o : ℕ) → opened ≡ Some o → length past ≤ o) → OpenedGood speaker client past closed opened → ExactOpen k client past d sent opened
@@ -321,7 +321,7 @@ module _ (m : Meaning) (ports : AtPorts m) where
   birth w first sockets k j side e own sent who fresh plain fit g tick id =
       let c : Connection = accepted first sockets (seg e) in
       let new : Sent = entry (to k) side tick id (speech false (syn_ack c)) in
-      let t : Same.Told m steady Any_low (λ p f. tt) k side c (w.sent ++ new ∷ []) = Same.birth m steady Any_low (λ p f. tt) w first sockets k j side e own sent who fresh plain fit g.told tick id in
+      let t : Same.Told m steady k side c (w.sent ++ new ∷ []) = Same.birth m steady w first sockets k j side e own sent who fresh plain fit g.told tick id in
       record {
         told = t;
         good = Prefix.birth m ports w first sockets k j side e own sent who fresh plain fit g.good tick id;
@@ -406,7 +406,7 @@ module _ (m : Meaning) (ports : AtPorts m) where
       exact_either false o = tt
 
   abbrev ToldTakes : World → ℕ → Side → Connection → ClientStep → Type 0
-  ToldTakes w k base c t = Takes m (Same.Told m steady Any_low (λ p f. tt)) (Same.other m steady Any_low (λ p f. tt)) (Same.reset m steady Any_low (λ p f. tt)) (Same.evict m steady Any_low (λ p f. tt)) (Same.mark m steady Any_low (λ p f. tt)) w k base c t
+  ToldTakes w k base c t = Takes m (Same.Told m steady) (Same.other m steady) (Same.reset m steady) (Same.evict m steady) (Same.mark m steady) w k base c t
 
   abbrev GoodTakes : World → ℕ → Side → Connection → ClientStep → Type 0
   GoodTakes w k base c t = Takes m (Prefix.G m ports) (Prefix.other m ports) (Prefix.reset m ports) (Prefix.evict m ports) (Prefix.mark m ports) w k base c t
@@ -414,7 +414,7 @@ module _ (m : Meaning) (ports : AtPorts m) where
   took_by : (w : World) (k : ℕ) (base : Side) (c : Connection) (t : ClientStep) → G k base c w.sent → GoodTakes w k base c t → Acks t →
       (length w.sent ≤ 65535 → is_clean base ≡ true → ExactOpen k t.client base.past c w.sent (with_client base t.client).opened) → Takes m G other reset evict mark w k base c t
   took_by w k base c t g p a x =
-      let told : ToldTakes w k base c t = Same.takes m steady Any_low (λ p f. tt) w k base c t g.told in
+      let told : ToldTakes w k base c t = Same.takes m steady w k base c t g.told in
       record {
         quiet = λ n. record { told = told.quiet n; good = p.quiet n; ends = g.ends; exact = x };
         says = λ s e tick. record {
@@ -447,7 +447,7 @@ module _ (m : Meaning) (ports : AtPorts m) where
 
   opening_exact : (addr : Addr) (numbers : List ℕ) (plan : List Planned) → IsPlan plan → Framed m G other reset evict mark (opening_world addr numbers plan)
   opening_exact addr numbers plan is =
-      let a = Same.opening_told m steady Any_low (λ p f. tt) addr numbers plan is in
+      let a = Same.opening_told m steady addr numbers plan is in
       let b = Prefix.opening_framed m ports addr numbers plan is in
       record {
         apart = a.apart;

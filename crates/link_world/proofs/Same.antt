@@ -1,13 +1,12 @@
 -- Same bytes: what is sent again while it is outstanding is the same, and is marked so.
-use Rattle.std.specs.List.{All}
 use Rattle.std.proofs.Common.{◌≡◌, ℕ, suc, ◌+◌, ◌*◌, length-append, ◌<◌, ◌≤◌, min, Bool, true, false, ◌⊎◌, inl, inr, List, [], ◌∷◌, ◌++◌, length, replicate, refl, sym, ap, ◌∙◌, subst, arith, Option, Some, None, slice_get, eqb, if◌then◌else◌}
 use Rattle.std.proofs.lemmas.Grind.{common_steps}
 use Rattle.uip_wire.specs.Numbers.{wrap}
 use Rattle.uip_wire.specs.declared.addr.Addr.{Addr}
 use Rattle.uip_wire.specs.declared.sizes.TheConstants.{OWN_MSS}
 use Rattle.tcp_segment.specs.Segments.{PlainSegment, has_syn, has_fin, has_rst}
-use Rattle.app_events.specs.Part.{Part, Meaning}
-use Rattle.app_events.specs.Pages.{Pages, IsPaged, IsMoment}
+use Rattle.app_events.specs.Part.{Meaning}
+use Rattle.app_events.specs.Pages.{Pages}
 use Rattle.tcp_machine.specs.Connection.{Sockets, Connection, closed, is_live}
 use Rattle.tcp_machine.specs.Segments.{segment_of, is_again, has_place, is_plain_syn, syn_ack}
 use Rattle.tcp_machine.specs.Ask.{Outcome, asked}
@@ -38,7 +37,7 @@ use Rattle.link_world.proofs.FitWorlds.{FitWorld}
 use Rattle.uip_node.proofs.FitNodes.{closed_fits}
 use Rattle.uip_node.specs.Laws.{HasBytes}
 use Rattle.link_world.proofs.SaidBytes.{SaysBytesWhere, pages_say_bytes}
-use Rattle.link_world.proofs.Runs.{reached, reached_plainly, reached_where, room_plainly, room_where}
+use Rattle.link_world.proofs.Runs.{reached_plainly, reached_where, room_plainly, room_where}
 use Rattle.link_world.proofs.Any.{Framed, Steps, Takes, any_step, speech, entry, does_framed}
 use Rattle.link_world.proofs.Any
 use Rattle.uip_node.proofs.Stepped.{stepped_fits, stepped_tells}
@@ -87,11 +86,15 @@ pub record IsOld (c : Connection) (s : PlainSegment) : Type 0 where
   pub seq : s.seq ≡ wrap (c.first + at)
   pub past : at < c.acked
 
+-- any number is as low as is needed: that none comes round is told by the list of datagrams
+abbrev pub Any_low : ℕ → Type 0
+Any_low n = Unit {0}
+
 -- what is acknowledged comes no further than what was outstanding
 pub near_by : (acked : Bool) (c d : Connection) → Moves acked c d → d.acked ≤ c.acked + c.len
 near_by acked c d h = elim (h.place) [ inl e ↦ omega (arith, e) | inr e ↦ omega (arith, e.1) ]
 
-module _ (m : Meaning) (steady : IsSteady m) (Low : ℕ → Type 0) (low_text : (p : Part) → All IsMoment p.captures → Low (length (m.said p))) where
+module _ (m : Meaning) (steady : IsSteady m) where
   -- what is outstanding was sent
   pub record WasSent (k : ℕ) (side : Side) (c : Connection) (sent : List Sent) : Type 0 where
     pub place : ℕ
@@ -100,17 +103,17 @@ module _ (m : Meaning) (steady : IsSteady m) (Low : ℕ → Type 0) (low_text : 
     pub who : it.who ≡ to k
     pub epoch : it.epoch ≡ length side.past
     pub placed : has_place (seg it) ≡ true
-    pub due_now : IsDue m steady Low low_text c (seg it)
+    pub due_now : IsDue m steady Any_low (λ p f. tt) c (seg it)
 
   pub record Told (k : ℕ) (side : Side) (c : Connection) (sent : List Sent) : Type 0 where
     pub fit : FitConn c
     pub lens : Lens c
     -- each number that was used is of a datagram, of which each has 1460 at most
     pub room : is_live c.state ≡ true → c.acked + c.len ≤ 1460 * length sent
-    pub safe : is_live c.state ≡ true → Safe m steady Low low_text c
+    pub safe : is_live c.state ≡ true → Safe m steady Any_low (λ p f. tt) c
     pub was_sent : is_live c.state ≡ true → 0 < c.len → WasSent k side c sent
     pub time : (j : ℕ) (e : Sent) → slice_get sent j ≡ Some e → e.who ≡ to k → e.epoch ≤ length side.past
-    pub tells : (j : ℕ) (e : Sent) → slice_get sent j ≡ Some e → e.who ≡ to k → has_place (seg e) ≡ true → e.epoch ≡ length side.past → (is_live c.state ≡ true) × (IsOld c (seg e) ⊎ IsDue m steady Low low_text c (seg e))
+    pub tells : (j : ℕ) (e : Sent) → slice_get sent j ≡ Some e → e.who ≡ to k → has_place (seg e) ≡ true → e.epoch ≡ length side.past → (is_live c.state ≡ true) × (IsOld c (seg e) ⊎ IsDue m steady Any_low (λ p f. tt) c (seg e))
     pub repeats : (i : ℕ) (e : Sent) → slice_get sent i ≡ Some e → e.who ≡ to k → e.again ≡ true → Before sent e i
     pub agree : length sent ≤ 65535 → (i j : ℕ) (e f : Sent) → slice_get sent i ≡ Some e → slice_get sent j ≡ Some f → j < i → e.who ≡ to k → f.who ≡ to k → e.epoch ≡ f.epoch →
         has_place (seg e) ≡ true → has_place (seg f) ≡ true → (seg e).seq ≡ (seg f).seq → (e.again ≡ true) × Alike (seg f) (seg e)
@@ -184,7 +187,7 @@ module _ (m : Meaning) (steady : IsSteady m) (Low : ℕ → Type 0) (low_text : 
   size s = length s.text + one_if (has_fin s.flags) + one_if (has_syn s.flags)
 
   -- what is outstanding is as long as what is due
-  due_size : (c : Connection) (st : State) → SafeState m steady Low low_text c st → 0 < c.len → c.len ≡ size (due m st c)
+  due_size : (c : Connection) (st : State) → SafeState m steady Any_low (λ p f. tt) c st → 0 < c.len → c.len ≡ size (due m st c)
   due_size c Closed h l = absurd h
   due_size c SynRcvd h l = h.len
   due_size c Established h l = (let e = cut_length (m.said c.part) c.part.acked c.len h.fits in omega (arith, e))
@@ -203,8 +206,8 @@ module _ (m : Meaning) (steady : IsSteady m) (Low : ℕ → Type 0) (low_text : 
       omega (arith, x, f, y)
 
   -- what was told of c holds of d, into which it goes on, apart from what is outstanding
-  module _ (k : ℕ) (side : Side) (c d : Connection) (sent : List Sent) (t : Told k side c sent) (live : is_live c.state ≡ true) (l : is_live d.state ≡ true) (o : Onto m steady Low low_text c d) (f : Safe m steady Low low_text d) (fit : FitConn d) (lens : Lens d) (near : d.acked ≤ c.acked + c.len) where
-    tells_on : (j : ℕ) (e : Sent) → slice_get sent j ≡ Some e → e.who ≡ to k → has_place (seg e) ≡ true → e.epoch ≡ length side.past → (is_live d.state ≡ true) × (IsOld d (seg e) ⊎ IsDue m steady Low low_text d (seg e))
+  module _ (k : ℕ) (side : Side) (c d : Connection) (sent : List Sent) (t : Told k side c sent) (live : is_live c.state ≡ true) (l : is_live d.state ≡ true) (o : Onto m steady Any_low (λ p f. tt) c d) (f : Safe m steady Any_low (λ p f. tt) d) (fit : FitConn d) (lens : Lens d) (near : d.acked ≤ c.acked + c.len) where
+    tells_on : (j : ℕ) (e : Sent) → slice_get sent j ≡ Some e → e.who ≡ to k → has_place (seg e) ≡ true → e.epoch ≡ length side.past → (is_live d.state ≡ true) × (IsOld d (seg e) ⊎ IsDue m steady Any_low (λ p f. tt) d (seg e))
     tells_on j e x w p q = (
       l,
       elim (t.tells j e x w p q).1 [
@@ -240,7 +243,7 @@ module _ (m : Meaning) (steady : IsSteady m) (Low : ℕ → Type 0) (low_text : 
         }
 
     -- what is outstanding was so before: it uses no more numbers
-    still_room : (0 < d.len → Still m steady Low low_text c d) → d.acked + d.len ≤ 1460 * length sent
+    still_room : (0 < d.len → Still m steady Any_low (λ p f. tt) c d) → d.acked + d.len ≤ 1460 * length sent
     still_room s =
         let r = t.room live in
         elim (zero_or_more d.len) [
@@ -252,7 +255,7 @@ module _ (m : Meaning) (steady : IsSteady m) (Low : ℕ → Type 0) (low_text : 
               omega (arith, r, y.same, a, b, e))
         ]
 
-    moves : (0 < d.len → Still m steady Low low_text c d) → Told k side d sent
+    moves : (0 < d.len → Still m steady Any_low (λ p f. tt) c d) → Told k side d sent
     moves s = record {
       fit = fit;
       lens = lens;
@@ -266,7 +269,7 @@ module _ (m : Meaning) (steady : IsSteady m) (Low : ℕ → Type 0) (low_text : 
     }
 
     -- a new datagram that has a place
-    module _ (again : Bool) (new : Sent) (who : new.who ≡ to k) (epoch : new.epoch ≡ length side.past) (mark_is : new.again ≡ again) (placed : has_place (seg new) ≡ true) (h : Tells m steady Low low_text c d again (seg new)) where
+    module _ (again : Bool) (new : Sent) (who : new.who ≡ to k) (epoch : new.epoch ≡ length side.past) (mark_is : new.again ≡ again) (placed : has_place (seg new) ≡ true) (h : Tells m steady Any_low (λ p f. tt) c d again (seg new)) where
       low : length (sent ++ new ∷ []) ≤ 65535 → d.acked < 4294967296
       low few = (let r = t.room live in omega (arith, few, near, r, length-append sent (new ∷ [])))
 
@@ -316,7 +319,7 @@ module _ (m : Meaning) (steady : IsSteady m) (Low : ℕ → Type 0) (low_text : 
         time = λ j e x w. elim (get_push sent new j e x) [ older g ↦ t.time j e g w | newest i g ↦ (let q : e.epoch ≡ length side.past = ap (λ n. n.epoch) (sym g) ∙ epoch in omega (arith, q)) ];
         tells = λ j e x w p q. elim (get_push sent new j e x) [
           | older g ↦ tells_on j e g w p q
-          | newest i g ↦ (l, inr (subst (λ n. IsDue m steady Low low_text d (seg n)) g h.due_now))
+          | newest i g ↦ (l, inr (subst (λ n. IsDue m steady Any_low (λ p f. tt) d (seg n)) g h.due_now))
         ];
         repeats = λ j e x w a. elim (get_push sent new j e x) [
           | older g ↦ before_more sent new e j (t.repeats j e g w a)
@@ -335,7 +338,7 @@ module _ (m : Meaning) (steady : IsSteady m) (Low : ℕ → Type 0) (low_text : 
         ];
       }
 
-  pub steps_by : (w : World) (old : Connection) (o : Outcome) (k : ℕ) (side : Side) → is_live old.state ≡ true → FitConn o.connection → Lens o.connection → o.connection.acked ≤ old.acked + old.len → StepTells m steady Low low_text old o.connection (segment_of m o.connection o.step) (is_again o.step) → Told k side old w.sent → Steps m Told other reset evict mark w o k side
+  pub steps_by : (w : World) (old : Connection) (o : Outcome) (k : ℕ) (side : Side) → is_live old.state ≡ true → FitConn o.connection → Lens o.connection → o.connection.acked ≤ old.acked + old.len → StepTells m steady Any_low (λ p f. tt) old o.connection (segment_of m o.connection o.step) (is_again o.step) → Told k side old w.sent → Steps m Told other reset evict mark w o k side
   steps_by w old o k side live fit lens near h t = record {
     quiet = λ n l. moves k side old o.connection w.sent t live l (h.onto l) (h.safe l) fit lens near
         (λ z. elim (h.still l z) [
@@ -368,7 +371,7 @@ module _ (m : Meaning) (steady : IsSteady m) (Low : ℕ → Type 0) (low_text : 
   birth w first sockets k j side e own sent who fresh plain fit t tick id =
       let c : Connection = accepted first sockets (seg e) in
       let new : Sent = entry (to k) side tick id (speech false (syn_ack c)) in
-      let due_now : IsDue m steady Low low_text c (syn_ack c) = record { len = omega arith; seq = refl; alike = alike_refl (syn_ack c) } in
+      let due_now : IsDue m steady Any_low (λ p f. tt) c (syn_ack c) = record { len = omega arith; seq = refl; alike = alike_refl (syn_ack c) } in
       let none : (j : ℕ) (x : Sent) → slice_get w.sent j ≡ Some x → x.who ≡ to k → has_place (seg x) ≡ true → x.epoch ≡ length side.past → ⊥ = λ j x g w p q. absurd (let z = (t.tells j x g w p q).0 in cc) in
       record {
         fit = fit;
@@ -377,7 +380,7 @@ module _ (m : Meaning) (steady : IsSteady m) (Low : ℕ → Type 0) (low_text : 
         safe = λ l. record { mss = mss_some (seg e).mss; initial = mss_some (seg e).mss; state = record { len = refl; acked = refl } };
         was_sent = λ x z. record { place = length w.sent; it = new; there = get_newest w.sent new; who = refl; epoch = refl; placed = refl; due_now = due_now };
         time = λ i x g wh. elim (get_push w.sent new i x g) [ older h ↦ t.time i x h wh | newest b h ↦ (let q : x.epoch ≡ length side.past = ap (λ n. n.epoch) (sym h) in omega (arith, q)) ];
-        tells = λ i x g wh p q. elim (get_push w.sent new i x g) [ older h ↦ absurd (none i x h wh p q) | newest b h ↦ (refl, inr (subst (λ n. IsDue m steady Low low_text c (seg n)) h due_now)) ];
+        tells = λ i x g wh p q. elim (get_push w.sent new i x g) [ older h ↦ absurd (none i x h wh p q) | newest b h ↦ (refl, inr (subst (λ n. IsDue m steady Any_low (λ p f. tt) c (seg n)) h due_now)) ];
         repeats = λ i x g wh a. elim (get_push w.sent new i x g) [ older h ↦ before_more w.sent new x i (t.repeats i x h wh a) | newest b h ↦ absurd (let z : false ≡ true = ap (λ n. n.again) h ∙ a in cc) ];
         agree = λ few i j x y g g' lt we wf ep pe pf se. elim (get_push w.sent new i x g) [
           | older h ↦ elim (get_push w.sent new j y g') [
@@ -411,13 +414,13 @@ module _ (m : Meaning) (steady : IsSteady m) (Low : ℕ → Type 0) (low_text : 
       (λ w old numbers now k j side e l f n is sent who fresh t.
       let o : Outcome = on_segment m old numbers (seg e) in
       let fo : FitOut o = on_segment_fits m steady old numbers (seg e) f n in
-      steps_by w old (asked m now o) k side l (stepped_fits m steady Low low_text now o is fo) (asked_lens m now o (on_segment_lens m old numbers (seg e) t.lens))
-      (near_by _ old (asked m now o).connection (asked_moves m _ old now o (segment_moves m old numbers (seg e)))) (stepped_tells m steady Low low_text now old o is fo (segment_tells m steady Low low_text old numbers (seg e) (t.safe l))) t)
+      steps_by w old (asked m now o) k side l (stepped_fits m steady Any_low (λ p f. tt) now o is fo) (asked_lens m now o (on_segment_lens m old numbers (seg e) t.lens))
+      (near_by _ old (asked m now o).connection (asked_moves m _ old now o (segment_moves m old numbers (seg e)))) (stepped_tells m steady Any_low (λ p f. tt) now old o is fo (segment_tells m steady Any_low (λ p f. tt) old numbers (seg e) (t.safe l))) t)
       (λ w old numbers now k side l f n is t.
       let o : Outcome = on_tick m old numbers in
       let fo : FitOut o = on_tick_fits m steady old numbers f n in
-      steps_by w old (asked m now o) k side l (stepped_fits m steady Low low_text now o is fo) (asked_lens m now o (on_tick_lens m old numbers t.lens))
-      (near_by _ old (asked m now o).connection (asked_moves m false old now o (tick_moves m old numbers))) (stepped_tells m steady Low low_text now old o is fo (tick_tells m steady Low low_text old numbers (t.safe l))) t)
+      steps_by w old (asked m now o) k side l (stepped_fits m steady Any_low (λ p f. tt) now o is fo) (asked_lens m now o (on_tick_lens m old numbers t.lens))
+      (near_by _ old (asked m now o).connection (asked_moves m false old now o (tick_moves m old numbers))) (stepped_tells m steady Any_low (λ p f. tt) now old o is fo (tick_tells m steady Any_low (λ p f. tt) old numbers (t.safe l))) t)
       birth
       (any_step m Told other reset evict mark takes)
       v act harm g fits
@@ -434,8 +437,8 @@ is_segment (OfPing d) h = absurd (let z : false ≡ true = h in cc)
 is_segment (OfEcho d) h = absurd (let z : false ≡ true = h in cc)
 
 -- what is told of a world says that it repeats the same bytes, and, where it has no more datagrams than it can have, that it marks repeats
-module _ (m : Meaning) (steady : IsSteady m) (Low : ℕ → Type 0) (low_text : (p : Part) → All IsMoment p.captures → Low (length (m.said p))) (w : World)
-    (told : (k : ℕ) (side : Side) → slice_get w.sides k ≡ Some side → Told m steady Low low_text k side (serving (client_sockets side) w.node.connections) w.sent) where
+module _ (m : Meaning) (steady : IsSteady m) (w : World)
+    (told : (k : ℕ) (side : Side) → slice_get w.sides k ≡ Some side → Told m steady k side (serving (client_sockets side) w.node.connections) w.sent) where
   repeats_bytes : RepeatsSameBytes w
   repeats_bytes k side x i e id s g who content again =
       let b = (told k side x).repeats i e g who again in
@@ -465,32 +468,28 @@ module _ (m : Meaning) (steady : IsSteady m) (Low : ℕ → Type 0) (low_text : 
       let a = (told k side x).agree few i j e f g h lt we wf ep (ap has_place q ∙ pe) (ap has_place q' ∙ pf) (ap (λ n. n.seq) q ∙ se ∙ ap (λ n. n.seq) (sym q')) in
       (a.0, subst (λ n. Alike n s) q' (subst (λ n. Alike (seg f) n) q a.1))
 
--- any number is as low as is needed: that none comes round is told by the list of datagrams
-abbrev pub Any_low : ℕ → Type 0
-Any_low n = Unit {0}
-
 module _ (m : Meaning) (steady : IsSteady m) where
   abbrev ToldWorld : World → Type 0
-  ToldWorld v = Framed m (Told m steady Any_low (λ p f. tt)) (other m steady Any_low (λ p f. tt)) (reset m steady Any_low (λ p f. tt)) (evict m steady Any_low (λ p f. tt)) (mark m steady Any_low (λ p f. tt)) v
+  ToldWorld v = Framed m (Told m steady) (other m steady) (reset m steady) (evict m steady) (mark m steady) v
 
   told_plainly : (w : World) → IsReachedPlainly m w → ToldWorld w
-  told_plainly w r = reached_plainly m steady ToldWorld (told_step m steady Any_low (λ p f. tt)) (opening_told m steady Any_low (λ p f. tt)) w r
+  told_plainly w r = reached_plainly m steady ToldWorld (told_step m steady) (opening_told m steady) w r
 
   -- and where bytes are said, damage or not
   told_where : (pages : Pages) (H : Connection → Type 0) → (HasBytes pages → SaysBytesWhere m H) → (w : World) → IsReached m pages w → ToldWorld w
-  told_where pages H bytes w r = reached_where m pages steady H bytes ToldWorld (told_step m steady Any_low (λ p f. tt)) (opening_told m steady Any_low (λ p f. tt)) w r
+  told_where pages H bytes w r = reached_where m pages steady H bytes ToldWorld (told_step m steady) (opening_told m steady) w r
 
 pub same_bytes_plainly : SameBytesPlainly
-same_bytes_plainly m steady w r = repeats_bytes m steady Any_low (λ p f. tt) w (told_plainly m steady w r).each
+same_bytes_plainly m steady w r = repeats_bytes m steady w (told_plainly m steady w r).each
 
 pub again_exactly_plainly : AgainExactlyPlainly
-again_exactly_plainly m steady w r = marks_repeats m steady Any_low (λ p f. tt) w (told_plainly m steady w r).each (room_plainly m w r)
+again_exactly_plainly m steady w r = marks_repeats m steady w (told_plainly m steady w r).each (room_plainly m w r)
 
 pub same_bytes_where : (m : Meaning) (pages : Pages) (steady : IsSteady m) (H : Connection → Type 0) → (HasBytes pages → SaysBytesWhere m H) → (w : World) → IsReached m pages w → RepeatsSameBytes w
-same_bytes_where m pages steady H bytes w r = repeats_bytes m steady Any_low (λ p f. tt) w (told_where m steady pages H bytes w r).each
+same_bytes_where m pages steady H bytes w r = repeats_bytes m steady w (told_where m steady pages H bytes w r).each
 
 pub again_exactly_where : (m : Meaning) (pages : Pages) (steady : IsSteady m) (H : Connection → Type 0) → (HasBytes pages → SaysBytesWhere m H) → (w : World) → IsReached m pages w → MarksRepeats w
-again_exactly_where m pages steady H bytes w r = marks_repeats m steady Any_low (λ p f. tt) w (told_where m steady pages H bytes w r).each (room_where m pages steady H bytes w r)
+again_exactly_where m pages steady H bytes w r = marks_repeats m steady w (told_where m steady pages H bytes w r).each (room_where m pages steady H bytes w r)
 
 -- an application whose text is a page
 pub same_bytes : SameBytes
