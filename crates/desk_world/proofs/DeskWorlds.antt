@@ -6,14 +6,15 @@ use Rattle.web_pages.specs.Pages.{pages_of}
 use Rattle.node_laws.proofs.Hearing.{HeardBytes}
 use Rattle.link_world.specs.World.{World}
 use Rattle.link_world.proofs.Any.{Framed}
+use Rattle.link_world.proofs.Exact.{in_step_plainly, in_step_where}
 use Rattle.link_world.proofs.Prefix.{AtPorts, G, other, reset, evict, mark, act_good, opening_framed, served_in}
 use Rattle.link_world.proofs.Runs.{reached_plainly, reached_where}
-use Rattle.link_world.proofs.Same.{same_bytes_plainly, same_bytes_where}
+use Rattle.link_world.proofs.Same.{again_exactly_plainly, again_exactly_where, same_bytes_plainly, same_bytes_where}
 use Rattle.link_world.proofs.Ticks.{tick}
 use Rattle.telnet_shell.specs.declared.shell.TheConstants.{TELNET_PORT}
 use Rattle.telnet_shell.specs.DeskMeaning.{desk_meaning}
 use Rattle.telnet_shell.proofs.DeskSteady.{desk_steady}
-use Rattle.desk_world.specs.DeskWorlds.{DeskRepeatsSameBytes, DeskSendsAgain, DeskServes, IsReachedByDesk}
+use Rattle.desk_world.specs.DeskWorlds.{DeskMarksRepeats, DeskOneSegment, DeskRepeatsSameBytes, DeskSendsAgain, DeskServes, IsReachedByDesk}
 use Rattle.desk_world.proofs.DeskBytes.{desk_says}
 use Rattle.desk_world.proofs.DeskSpeakers.{desk_ports, served_due}
 
@@ -21,6 +22,12 @@ pub repeats_same_bytes : DeskRepeatsSameBytes
 repeats_same_bytes site loaded w r = elim r [
   | inl any ↦ same_bytes_where (desk_meaning (files_of site)) (pages_of (files_of site)) (desk_steady site loaded) HeardBytes (desk_says site loaded) w any
   | inr plain ↦ same_bytes_plainly (desk_meaning (files_of site)) (desk_steady site loaded) w plain
+]
+
+pub marks_repeats : DeskMarksRepeats
+marks_repeats site loaded w r = elim r [
+  | inl any ↦ again_exactly_where (desk_meaning (files_of site)) (pages_of (files_of site)) (desk_steady site loaded) HeardBytes (desk_says site loaded) w any
+  | inr plain ↦ again_exactly_plainly (desk_meaning (files_of site)) (desk_steady site loaded) w plain
 ]
 
 pub sends_again : DeskSendsAgain
@@ -47,3 +54,9 @@ pub serves : DeskServes
 serves site loaded w r k side x clean =
     served_due site loaded w side (side.client.setup.server_port.0 == TELNET_PORT)
     (served_in (desk_meaning (files_of site)) (desk_ports site loaded) w (walked site loaded w r) k side x clean)
+
+pub one_segment : DeskOneSegment
+one_segment site loaded w r = elim r [
+  | inl any ↦ in_step_where (desk_meaning (files_of site)) (desk_ports site loaded) (pages_of (files_of site)) HeardBytes (desk_says site loaded) w any
+  | inr plain ↦ in_step_plainly (desk_meaning (files_of site)) (desk_ports site loaded) w plain
+]

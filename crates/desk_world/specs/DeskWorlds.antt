@@ -1,6 +1,6 @@
 -- The worlds whose node has the web server at port 80 and the shell at port 23.
 use Rattle.std.specs.List.{All}
-use Rattle.std.specs.Prelude.{◌≡◌, ◌*◌, ◌≤◌, ◌==◌, ◌⊎◌, ℕ, Bool, true, List, length, Some, slice_get, if◌then◌else◌}
+use Rattle.std.specs.Prelude.{◌≡◌, ◌*◌, ◌≤◌, ◌==◌, ◌⊎◌, ℕ, suc, Bool, true, List, length, Some, slice_get, if◌then◌else◌}
 use Rattle.app_events.specs.Pages.{Pages, IsMoment}
 use Rattle.app_events.specs.Part.{Moment}
 use Rattle.site_image.specs.Files.{File}
@@ -10,7 +10,8 @@ use Rattle.tcp_machine.specs.Connection.{Connection}
 use Rattle.uip_node.specs.Events.Event.{Periodic}
 use Rattle.uip_node.specs.Node.{AbstractNode, step}
 use Rattle.link_world.specs.World.{World, Side, is_clean}
-use Rattle.link_world.specs.Headline.{IsReached, IsReachedPlainly, IsServed, RepeatsSameBytes, IsExpired, SendsAgain}
+use Rattle.link_world.specs.History.{era}
+use Rattle.link_world.specs.Headline.{IsReached, IsReachedPlainly, IsServed, RepeatsSameBytes, MarksRepeats, IsInStep, server_side, IsExpired, SendsAgain}
 use Rattle.telnet_shell.specs.declared.shell.TheConstants.{TELNET_PORT}
 use Rattle.telnet_shell.specs.Talks.{talks}
 use Rattle.telnet_shell.specs.DeskMeaning.{desk_meaning}
@@ -39,6 +40,18 @@ TalksAreShort = (heard : List ℕ) (captures : List Moment) → All IsMoment cap
 -- This holds of the shell's clients too, and of those that are not clean.
 abbrev pub DeskRepeatsSameBytes : Type 0
 DeskRepeatsSameBytes = (site : SiteContent) → IsLoaded site → (w : World) → IsReachedByDesk site w → RepeatsSameBytes w
+
+-- And of two datagrams to a client in one epoch that carry SYN, text or FIN at one number, the later one is marked so.
+abbrev pub DeskMarksRepeats : Type 0
+DeskMarksRepeats = (site : SiteContent) → IsLoaded site → (w : World) → IsReachedByDesk site w → MarksRepeats w
+
+-- A clean client that has opened expects a number inside what is outstanding at its connection, while that lives, and has acknowledged
+-- no more.
+abbrev pub DeskOneSegment : Type 0
+DeskOneSegment =
+    (site : SiteContent) → IsLoaded site → (w : World) → IsReachedByDesk site w →
+    (k : ℕ) (side : Side) → slice_get w.sides k ≡ Some side → is_clean side ≡ true → (o : ℕ) → side.opened ≡ Some o →
+    IsInStep w (suc k) side.client (server_side w side) (era side.past (server_side w side) o).first
 
 -- At every node, whatever happened to it.
 abbrev pub DeskSendsAgain : Type 0

@@ -1,4 +1,4 @@
-ghost use Rattle.desk_world.specs.DeskWorlds.{DeskRepeatsSameBytes, DeskSendsAgain, DeskServes, TalksAreShort};
+ghost use Rattle.desk_world.specs.DeskWorlds.{DeskMarksRepeats, DeskOneSegment, DeskRepeatsSameBytes, DeskSendsAgain, DeskServes, TalksAreShort};
 ghost use Rattle.desk_world.specs.Worked.{AreWorkedWorlds};
 
 /// A clean client has received a front of what is due at its port, a page or a talk, and all of it where it saw a plain close.
@@ -14,6 +14,16 @@ pub fn talks_are_short()
 /// What is sent again, of a page or of a talk, has the number, flags and text of the first time.
 pub fn desk_repeats_same_bytes()
     ensures { DeskRepeatsSameBytes }
+{}
+
+/// Exactly what is sent again is marked so.
+pub fn desk_marks_repeats()
+    ensures { DeskMarksRepeats }
+{}
+
+/// While its connection lives, a clean client expects a number inside what is outstanding there, and has acknowledged no more.
+pub fn desk_one_segment()
+    ensures { DeskOneSegment }
 {}
 
 /// An expired timer below its limit sends what is outstanding in that tick, at port 80 and at port 23.

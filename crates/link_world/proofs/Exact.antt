@@ -5,7 +5,7 @@ use Rattle.uip_wire.specs.Numbers.{wrap}
 use Rattle.uip_wire.specs.declared.addr.Addr.{Addr}
 use Rattle.tcp_segment.specs.Segments.{PlainSegment, has_syn, has_fin, has_rst, has_ack}
 use Rattle.app_events.specs.Part.{Moment, Meaning}
-use Rattle.app_events.specs.Pages.{Pages, IsPaged, IsMoment, IsNow, IsWord}
+use Rattle.app_events.specs.Pages.{Pages, IsMoment, IsNow, IsWord}
 use Rattle.app_events.specs.declared.now.Now.{Now}
 use Rattle.app_events.specs.declared.state.State.{State}
 use Rattle.app_events.specs.declared.state.State.TheVariants.{Closed, SynRcvd, Established, CloseWait, FinWait1, FinWait2, Closing, TimeWait, LastAck}
@@ -19,12 +19,10 @@ use Rattle.link_client.specs.declared.client_state.ClientState.{ClientState}
 use Rattle.link_client.specs.declared.client_state.ClientState.TheVariants as Is
 use Rattle.link_world.specs.World.{client_sockets, World, Side, Sent, Era, becomes_opened, with_client, marked, is_clean, era_of}
 use Rattle.link_world.specs.History.{era, Planned, IsPlan, opening_world}
-use Rattle.uip_node.specs.Laws.{serving}
-use Rattle.link_world.specs.Headline.{IsReached, IsInStep, OneSegment}
-use Rattle.uip_node.proofs.Steadiness.{steady_of, IsShort, short_said}
+use Rattle.link_world.specs.Headline.{IsReached, IsReachedPlainly, IsInStep, OneSegment, server_side}
 use Rattle.uip_node.proofs.Basics.{and_true, eqb-eq, same_place, wrap_wrap, get_push, nothing_placed, not-true}
 use Rattle.uip_node.proofs.Basics.AtEnd.{older, newest}
-use Rattle.link_world.proofs.Speaking.{paged}
+use Rattle.link_world.proofs.Speaking.{Speaker}
 use Rattle.link_world.proofs.Good.{seg, segment_in, from, to, ToGood, ClientSaid, NodeSaid, OpenedGood, HasOpened, Good, is_unasked, unopened}
 use Rattle.link_world.proofs.Good.NodeSaid.{node_reset, node_syn, node_ack, node_text, node_fin}
 use Rattle.link_world.proofs.Good.ClientSaid.{said_reset, said_syn, said_data}
@@ -35,12 +33,22 @@ use Rattle.uip_node.proofs.Moves.{Moves, asked_moves, segment_moves, tick_moves}
 use Rattle.link_world.proofs.Counts.{count, Kind, Counted, Idles, Acks, client_counted, opens_idles, again_idles, closes_idles, aborts_idles, idles_quiet, same_becomes}
 use Rattle.link_world.proofs.Counts.Kind.{kept, took_text, took_open}
 use Rattle.link_world.proofs.Sides.{clean_before}
-use Rattle.link_world.proofs.Runs.{reached}
+use Rattle.link_world.proofs.Runs.{reached_plainly, reached_where, room_plainly, room_where}
+use Rattle.link_world.proofs.Room.{HasRoom}
+use Rattle.link_world.proofs.SaidBytes.{SaysBytesWhere, pages_say_bytes}
+use Rattle.link_world.proofs.Harmless.{Harmless}
+use Rattle.link_world.proofs.FitWorlds.{FitWorld}
+use Rattle.link_world.specs.Acts.{does}
+use Rattle.link_world.specs.declared.act.Act.{Act}
+use Rattle.uip_node.specs.Laws.{HasBytes}
+use Rattle.uip_node.specs.Steady.{IsSteady}
 use Rattle.link_world.proofs.Any.{Framed, Steps, Takes, speech, entry, does_framed}
 use Rattle.link_world.proofs.Any
+use Rattle.link_world.proofs.Same.{Any_low, near_by}
 use Rattle.link_world.proofs.Same
-use Rattle.uip_node.proofs.Stepped.{off_low, stepped_fits, stepped_tells}
-use Rattle.link_world.proofs.Prefix.{everywhere}
+use Rattle.uip_node.proofs.SoundSegments.{asked_lens, on_segment_lens, on_tick_lens}
+use Rattle.uip_node.proofs.Stepped.{stepped_fits, stepped_tells}
+use Rattle.link_world.proofs.Prefix.{AtPorts, everywhere}
 use Rattle.link_world.proofs.Prefix
 
 -- a number that the client acknowledges
@@ -132,9 +140,20 @@ receiving_stays Is.Opened x h = refl
 receiving_stays Is.Closing x h = refl
 receiving_stays _ x h = absurd (cc)
 
-module _ (m : Meaning) (pages : Pages) (lawful : IsPaged m pages) where
+-- a list of datagrams that has room has it before its last one
+room_before : (sent : List Sent) (e : Sent) → length (sent ++ e ∷ []) ≤ 65535 → length sent ≤ 65535
+room_before sent e h = omega (arith, h, length-append sent (e ∷ []))
+
+module _ (m : Meaning) (ports : AtPorts m) where
+  abbrev steady : IsSteady m
+  steady = (ports.laws 0).steady
+
+  -- where there are no more datagrams than a world can have, no number of a connection comes round
+  top_low : (k : ℕ) (side : Side) (c : Connection) (sent : List Sent) → Same.Told m steady k side c sent → length sent ≤ 65535 → is_live c.state ≡ true → c.acked + c.len < 4294967296
+  top_low k side c sent t h l = (let r = t.room l in omega (arith, r, h))
+
   -- what is outstanding is no longer than it says
-  span : (c : Connection) (st : State) → SafeState m (steady_of m pages lawful) IsShort (short_said m pages lawful) c st → 0 < c.len → length (due m st c).text + one_if (has_fin (due m st c).flags) ≤ c.len
+  span : (c : Connection) (st : State) → SafeState m steady Any_low (λ p f. tt) c st → 0 < c.len → length (due m st c).text + one_if (has_fin (due m st c).flags) ≤ c.len
   span c Closed h l = absurd h
   span c SynRcvd h l = omega arith
   span c Established h l = (let e = length-take c.len (drop c.part.acked (m.said c.part)) in omega (arith, e))
@@ -145,37 +164,30 @@ module _ (m : Meaning) (pages : Pages) (lawful : IsPaged m pages) where
   span c TimeWait h l = omega arith
   span c LastAck h l = omega (arith, l)
 
-  top_low : (c : Connection) (st : State) → FitConn c → SafeState m (steady_of m pages lawful) IsShort (short_said m pages lawful) c st → c.acked + c.len < 4294967296
-  top_low c Closed f h = absurd h
-  top_low c SynRcvd f h = omega (arith, h.len, h.acked)
-  top_low c Established f h = (let s : length (m.said c.part) < 1073741824 = short_said m pages lawful c.part f.captures in omega (arith, h.fits, h.count, s))
-  top_low c CloseWait f h = (let s : length (m.said c.part) < 1073741824 = short_said m pages lawful c.part f.captures in let a = h.text.fits in let b = h.text.count in omega (arith, a, b, s))
-  top_low c _ f h = (let low : h.low.at < 1073741824 = h.low.low in omega (arith, h.len, low, h.low.near))
-
   -- what the connection just said ends where it says
-  new_ends : (d : Connection) (s : PlainSegment) → FitConn d → Safe m (steady_of m pages lawful) IsShort (short_said m pages lawful) d → (has_place s ≡ true → IsDue m (steady_of m pages lawful) IsShort (short_said m pages lawful) d s) → EndsBy d s
-  new_ends d s fit f n p at low q =
-      let w : IsDue m (steady_of m pages lawful) IsShort (short_said m pages lawful) d s = n p in
-      let here : at ≡ d.acked = same_place d.first at d.acked low (off_low m (steady_of m pages lawful) IsShort (short_said m pages lawful) (λ n h. h) d d.state fit.captures f.state) (sym q ∙ w.seq) in
+  new_ends : (d : Connection) (s : PlainSegment) → d.acked < 4294967296 → Safe m steady Any_low (λ p f. tt) d → (has_place s ≡ true → IsDue m steady Any_low (λ p f. tt) d s) → EndsBy d s
+  new_ends d s top f n p at low q =
+      let w : IsDue m steady Any_low (λ p f. tt) d s = n p in
+      let here : at ≡ d.acked = same_place d.first at d.acked low top (sym q ∙ w.seq) in
       let z = span d d.state f.state w.len in
       let t : length s.text ≡ length (due m d.state d).text = ap (λ (x : List ℕ). length x) w.alike.text in
       let u : one_if (has_fin s.flags) ≡ one_if (has_fin (due m d.state d).flags) = ap (λ n. one_if (has_fin n)) w.alike.flags in
       omega (arith, here, z, t, u)
 
   record G (k : ℕ) (side : Side) (c : Connection) (sent : List Sent) : Type 0 where
-    told : Same.Told m (steady_of m pages lawful) IsShort (short_said m pages lawful) k side c sent
-    good : Prefix.G m (everywhere m pages lawful) k side c sent
-    ends : Ends k side c sent
-    exact : is_clean side ≡ true → ExactOpen k side.client side.past c sent side.opened
+    told : Same.Told m steady k side c sent
+    good : Prefix.G m ports k side c sent
+    ends : length sent ≤ 65535 → Ends k side c sent
+    exact : length sent ≤ 65535 → is_clean side ≡ true → ExactOpen k side.client side.past c sent side.opened
 
-  push_aside : (k : ℕ) (side : Side) (c : Connection) (sent : List Sent) (e : Sent) → (e.who ≡ from k → ⊥) → (is_clean side ≡ true → ExactOpen k side.client side.past c sent side.opened) → is_clean side ≡ true → ExactOpen k side.client side.past c (sent ++ e ∷ []) side.opened
-  push_aside k side c sent e n x cl = push_exact k side.client side.past c sent e side.opened (x cl) (λ o q w. absurd (n w))
+  push_aside : (k : ℕ) (side : Side) (c : Connection) (sent : List Sent) (e : Sent) → (e.who ≡ from k → ⊥) → (length sent ≤ 65535 → is_clean side ≡ true → ExactOpen k side.client side.past c sent side.opened) → length (sent ++ e ∷ []) ≤ 65535 → is_clean side ≡ true → ExactOpen k side.client side.past c (sent ++ e ∷ []) side.opened
+  push_aside k side c sent e n x r cl = push_exact k side.client side.past c sent e side.opened (x (room_before sent e r) cl) (λ o q w. absurd (n w))
 
   other : (k : ℕ) (side : Side) (c : Connection) (sent : List Sent) (e : Sent) → G k side c sent → (e.who ≡ to k → ⊥) → (e.who ≡ from k → ⊥) → G k side c (sent ++ e ∷ [])
   other k side c sent e g t f = record {
-    told = Same.other m (steady_of m pages lawful) IsShort (short_said m pages lawful) k side c sent e g.told t f;
-    good = Prefix.other m (everywhere m pages lawful) k side c sent e g.good t f;
-    ends = push_ends k side c sent e g.ends (λ l w. absurd (t w));
+    told = Same.other m steady k side c sent e g.told t f;
+    good = Prefix.other m ports k side c sent e g.good t f;
+    ends = λ r. push_ends k side c sent e (g.ends (room_before sent e r)) (λ l w. absurd (t w));
     exact = push_aside k side c sent e f g.exact;
   }
 
@@ -184,32 +196,32 @@ module _ (m : Meaning) (pages : Pages) (lawful : IsPaged m pages) where
 
   reset : (k : ℕ) (side : Side) (c : Connection) (sent : List Sent) (e : Sent) → G k side c sent → e.epoch ≡ length side.past → has_syn (seg e).flags ≡ false → has_fin (seg e).flags ≡ false → (seg e).text ≡ [] → has_rst (seg e).flags ≡ true → e.again ≡ false → e.who ≡ to k → G k side c (sent ++ e ∷ [])
   reset k side c sent e g q sy fi te rs ag w = record {
-    told = Same.reset m (steady_of m pages lawful) IsShort (short_said m pages lawful) k side c sent e g.told q sy fi te rs ag w;
-    good = Prefix.reset m (everywhere m pages lawful) k side c sent e g.good q sy fi te rs ag w;
-    ends = push_ends k side c sent e g.ends (λ l x p. absurd (nothing_placed (seg e) sy fi te p));
+    told = Same.reset m steady k side c sent e g.told q sy fi te rs ag w;
+    good = Prefix.reset m ports k side c sent e g.good q sy fi te rs ag w;
+    ends = λ r. push_ends k side c sent e (g.ends (room_before sent e r)) (λ l x p. absurd (nothing_placed (seg e) sy fi te p));
     exact = push_aside k side c sent e (to_not_from k e w) g.exact;
   }
 
   -- the connection is gone
-  dead_exact : (k : ℕ) (client : AbstractClient) (past : List Era) (c d : Connection) (sent : List Sent) (opened : Option ℕ) → d.first ≡ c.first → OpenedGood (paged pages) client past c opened →
+  dead_exact : (speaker : Speaker) (k : ℕ) (client : AbstractClient) (past : List Era) (c d : Connection) (sent : List Sent) (opened : Option ℕ) → d.first ≡ c.first → OpenedGood speaker client past c opened →
       ExactOpen k client past c sent opened → ExactOpen k client (past ++ era_of d ∷ []) closed sent opened
-  dead_exact k client past c d sent None f h x = tt
-  dead_exact k client past c d sent (Some o) f h x = same_exact k client past (past ++ era_of d ∷ []) c closed o sent (first_dead past c d closed f o h.time) (λ l. absurd (cc)) x
+  dead_exact speaker k client past c d sent None f h x = tt
+  dead_exact speaker k client past c d sent (Some o) f h x = same_exact k client past (past ++ era_of d ∷ []) c closed o sent (first_dead past c d closed f o h.time) (λ l. absurd (cc)) x
 
   evict : (k : ℕ) (side : Side) (c : Connection) (sent : List Sent) → is_live c.state ≡ true → G k side c sent → G k (Any.older side c) closed sent
   evict k side c sent l g = record {
-    told = Same.evict m (steady_of m pages lawful) IsShort (short_said m pages lawful) k side c sent l g.told;
-    good = Prefix.evict m (everywhere m pages lawful) k side c sent l g.good;
-    ends = λ x. absurd (cc);
-    exact = λ cl. dead_exact k side.client side.past c c sent side.opened refl (g.good cl).opened_good (g.exact cl);
+    told = Same.evict m steady k side c sent l g.told;
+    good = Prefix.evict m ports k side c sent l g.good;
+    ends = λ r x. absurd (cc);
+    exact = λ r cl. dead_exact (Prefix.speaker_of m ports side) k side.client side.past c c sent side.opened refl (g.good cl).opened_good (g.exact r cl);
   }
 
   mark : (k : ℕ) (side : Side) (c : Connection) (sent : List Sent) (n : ℕ) (e : Sent) → G k side c sent → G k (marked side n e) c sent
   mark k side c sent n e g = record {
-    told = Same.mark m (steady_of m pages lawful) IsShort (short_said m pages lawful) k side c sent n e g.told;
-    good = Prefix.mark m (everywhere m pages lawful) k side c sent n e g.good;
+    told = Same.mark m steady k side c sent n e g.told;
+    good = Prefix.mark m ports k side c sent n e g.good;
     ends = g.ends;
-    exact = λ cl. g.exact (clean_before side n e cl).0;
+    exact = λ r cl. g.exact r (clean_before side n e cl).0;
   }
 
   -- the connection goes on
@@ -224,112 +236,113 @@ module _ (m : Meaning) (pages : Pages) (lawful : IsPaged m pages) where
       )) x
 
   abbrev ToldSteps : World → Outcome → ℕ → Side → Type 0
-  ToldSteps w o k side = Steps m (Same.Told m (steady_of m pages lawful) IsShort (short_said m pages lawful)) (Same.other m (steady_of m pages lawful) IsShort (short_said m pages lawful)) (Same.reset m (steady_of m pages lawful) IsShort (short_said m pages lawful)) (Same.evict m (steady_of m pages lawful) IsShort (short_said m pages lawful)) (Same.mark m (steady_of m pages lawful) IsShort (short_said m pages lawful)) w o k side
+  ToldSteps w o k side = Steps m (Same.Told m steady) (Same.other m steady) (Same.reset m steady) (Same.evict m steady) (Same.mark m steady) w o k side
 
   abbrev GoodSteps : World → Outcome → ℕ → Side → Type 0
-  GoodSteps w o k side = Steps m (Prefix.G m (everywhere m pages lawful)) (Prefix.other m (everywhere m pages lawful)) (Prefix.reset m (everywhere m pages lawful)) (Prefix.evict m (everywhere m pages lawful)) (Prefix.mark m (everywhere m pages lawful)) w o k side
+  GoodSteps w o k side = Steps m (Prefix.G m ports) (Prefix.other m ports) (Prefix.reset m ports) (Prefix.evict m ports) (Prefix.mark m ports) w o k side
 
-  steps_by : (w : World) (old : Connection) (o : Outcome) (acked : Bool) (k : ℕ) (side : Side) → is_live old.state ≡ true → G k side old w.sent → FitConn o.connection → OutTold m (steady_of m pages lawful) IsShort (short_said m pages lawful) old o → Moves acked old o.connection →
-      ToldSteps w o k side → GoodSteps w o k side → (is_clean side ≡ true → (n : ℕ) → side.opened ≡ Some n → acked ≡ true → old.acked + old.len ≤ 1 + count side.client) → Steps m G other reset evict mark w o k side
+  steps_by : (w : World) (old : Connection) (o : Outcome) (acked : Bool) (k : ℕ) (side : Side) → is_live old.state ≡ true → G k side old w.sent → FitConn o.connection → OutTold m steady Any_low (λ p f. tt) old o → Moves acked old o.connection →
+      ToldSteps w o k side → GoodSteps w o k side → (length w.sent ≤ 65535 → is_clean side ≡ true → (n : ℕ) → side.opened ≡ Some n → acked ≡ true → old.acked + old.len ≤ 1 + count side.client) → Steps m G other reset evict mark w o k side
   steps_by w old o acked k side lv g fit h mv t p a =
-      let live : is_clean side ≡ true → ExactOpen k side.client side.past o.connection w.sent side.opened = λ cl. live_exact k side.client side.past old o.connection acked w.sent side.opened lv mv (g.exact cl) (a cl) in
-      let dead : is_clean side ≡ true → ExactOpen k side.client (side.past ++ era_of o.connection ∷ []) closed w.sent side.opened = λ cl. dead_exact k side.client side.past old o.connection w.sent side.opened mv.first (g.good cl).opened_good (g.exact cl) in
+      let live : length w.sent ≤ 65535 → is_clean side ≡ true → ExactOpen k side.client side.past o.connection w.sent side.opened = λ r cl. live_exact k side.client side.past old o.connection acked w.sent side.opened lv mv (g.exact r cl) (a r cl) in
+      let dead : length w.sent ≤ 65535 → is_clean side ≡ true → ExactOpen k side.client (side.past ++ era_of o.connection ∷ []) closed w.sent side.opened = λ r cl. dead_exact (Prefix.speaker_of m ports side) k side.client side.past old o.connection w.sent side.opened mv.first (g.good cl).opened_good (g.exact r cl) in
       record {
-        quiet = λ n l. record { told = t.quiet n l; good = p.quiet n l; ends = moved_ends k side old o.connection acked w.sent lv mv g.ends; exact = live };
-        quiet_last = λ n l. record { told = t.quiet_last n l; good = p.quiet_last n l; ends = λ x. absurd (cc); exact = dead };
+        quiet = λ n l. record { told = t.quiet n l; good = p.quiet n l; ends = λ r. moved_ends k side old o.connection acked w.sent lv mv (g.ends r); exact = live };
+        quiet_last = λ n l. record { told = t.quiet_last n l; good = p.quiet_last n l; ends = λ r x. absurd (cc); exact = dead };
         says = λ s e l tick id. record {
           told = t.says s e l tick id;
           good = p.says s e l tick id;
-          ends = push_ends k side o.connection w.sent (entry (to k) side tick id (speech (is_again o.step) s)) (moved_ends k side old o.connection acked w.sent lv mv g.ends)
-              (λ x y. new_ends o.connection s fit (h.safe l) (λ z. (h.said s e z).due_now));
+          ends = λ r. push_ends k side o.connection w.sent (entry (to k) side tick id (speech (is_again o.step) s)) (moved_ends k side old o.connection acked w.sent lv mv (g.ends (room_before w.sent (entry (to k) side tick id (speech (is_again o.step) s)) r)))
+              (λ x y. new_ends o.connection s (let z = (t.says s e l tick id).room l in omega (arith, z, r)) (h.safe l) (λ z. (h.said s e z).due_now));
           exact = push_aside k side o.connection w.sent (entry (to k) side tick id (speech (is_again o.step) s)) (λ y. absurd (cc)) live;
         };
         says_last = λ s e l tick id. record {
           told = t.says_last s e l tick id;
           good = p.says_last s e l tick id;
-          ends = λ x. absurd (cc);
+          ends = λ r x. absurd (cc);
           exact = push_aside k (Any.older side o.connection) closed w.sent (entry (to k) (Any.older side o.connection) tick id (speech (is_again o.step) s)) (λ y. absurd (cc)) dead;
         };
       }
 
-  first_here : (client : AbstractClient) (past : List Era) (c : Connection) (o : ℕ) → is_live c.state ≡ true → HasOpened (paged pages) client past c o → (era past c o).first ≡ c.first
-  first_here client past c o l h = ap (λ (z : Era). z.first) (era_now past c o (let q : o ≡ length past = h.live_then l in omega (arith, q)))
+  first_here : (speaker : Speaker) (client : AbstractClient) (past : List Era) (c : Connection) (o : ℕ) → is_live c.state ≡ true → HasOpened speaker client past c o → (era past c o).first ≡ c.first
+  first_here speaker client past c o l h = ap (λ (z : Era). z.first) (era_now past c o (let q : o ≡ length past = h.live_then l in omega (arith, q)))
 
   -- an acknowledgement that counts was told by the client
-  acked_here : (c : Connection) (s : PlainSegment) (client : AbstractClient) → FitConn c → Safe m (steady_of m pages lawful) IsShort (short_said m pages lawful) c → 1 + count client ≤ c.acked + c.len → is_acked c s ≡ true → Acked client c.first s → c.acked + c.len ≤ 1 + count client
-  acked_here c s client fit f high h a =
+  acked_here : (c : Connection) (s : PlainSegment) (client : AbstractClient) → c.acked + c.len < 4294967296 → 1 + count client ≤ c.acked + c.len → is_acked c s ≡ true → Acked client c.first s → c.acked + c.len ≤ 1 + count client
+  acked_here c s client top high h a =
       let y = and_true (has_ack s.flags) (ltb 0 c.len && eqb s.ack (wrap (snd_nxt c + c.len))) h in
       let z = and_true (ltb 0 c.len) (eqb s.ack (wrap (snd_nxt c + c.len))) y.1 in
       let q : s.ack ≡ wrap (snd_nxt c + c.len) = eqb-eq s.ack (wrap (snd_nxt c + c.len)) z.1 in
       let r : wrap (snd_nxt c + c.len) ≡ wrap (c.first + (c.acked + c.len)) = wrap_wrap (c.first + c.acked) c.len ∙ ap wrap (omega arith) in
       let t : wrap (c.first + (1 + a.at)) ≡ s.ack = ap wrap (omega arith) ∙ sym a.is in
-      let top : c.acked + c.len < 4294967296 = top_low c c.state fit f.state in
       let l = a.low in
       let e : c.acked + c.len ≡ 1 + a.at = same_place c.first (c.acked + c.len) (1 + a.at) top (omega (arith, l, high, top)) (sym r ∙ sym q ∙ sym t) in
       omega (arith, l, e)
 
-  acked_by : (k : ℕ) (client : AbstractClient) (past : List Era) (c : Connection) (sent : List Sent) (opened : Option ℕ) (j : ℕ) (e : Sent) → slice_get sent j ≡ Some e → e.who ≡ from k → is_live c.state ≡ true → FitConn c → Safe m (steady_of m pages lawful) IsShort (short_said m pages lawful) c →
-      OpenedGood (paged pages) client past c opened → ExactOpen k client past c sent opened → (o : ℕ) → opened ≡ Some o → not (has_rst (seg e).flags) && is_acked c (seg e) ≡ true → c.acked + c.len ≤ 1 + count client
-  acked_by k client past c sent None j e x w l fit f h y o q a = absurd (cc)
-  acked_by k client past c sent (Some p) j e x w l fit f h y o q a =
+  acked_by : (speaker : Speaker) (k : ℕ) (client : AbstractClient) (past : List Era) (c : Connection) (sent : List Sent) (opened : Option ℕ) (j : ℕ) (e : Sent) → slice_get sent j ≡ Some e → e.who ≡ from k → is_live c.state ≡ true → c.acked + c.len < 4294967296 →
+      OpenedGood speaker client past c opened → ExactOpen k client past c sent opened → (o : ℕ) → opened ≡ Some o → not (has_rst (seg e).flags) && is_acked c (seg e) ≡ true → c.acked + c.len ≤ 1 + count client
+  acked_by speaker k client past c sent None j e x w l top h y o q a = absurd (cc)
+  acked_by speaker k client past c sent (Some p) j e x w l top h y o q a =
       let b = and_true (not (has_rst (seg e).flags)) (is_acked c (seg e)) a in
       let d = and_true (has_ack (seg e).flags) (ltb 0 c.len && eqb (seg e).ack (wrap (snd_nxt c + c.len))) b.1 in
       let n : has_rst (seg e).flags ≡ false = not-true (has_rst (seg e).flags) b.0 in
       let t = y.acks j e x w n d.0 in
-      acked_here c (seg e) client fit f (y.high l) b.1 record { at = t.at; low = t.low; is = t.is ∙ ap (λ z. wrap (z + 1 + t.at)) (first_here client past c p l h) }
+      acked_here c (seg e) client top (y.high l) b.1 record { at = t.at; low = t.low; is = t.is ∙ ap (λ z. wrap (z + 1 + t.at)) (first_here speaker client past c p l h) }
 
   segment : (w : World) (old : Connection) (numbers : List ℕ) (now : Connection → Now) (k j : ℕ) (side : Side) (e : Sent) → is_live old.state ≡ true → FitConn old → All IsWord numbers → ((c : Connection) → FitConn c → IsNow (now c)) →
       slice_get w.sent j ≡ Some e → e.who ≡ from k → (is_clean side ≡ true → e.epoch ≡ length side.past) → G k side old w.sent → Steps m G other reset evict mark w (asked m now (on_segment m old numbers (seg e))) k side
   segment w old numbers now k j side e lv f n is sent who fresh g =
       let o : Outcome = on_segment m old numbers (seg e) in
-      let fo : FitOut o = on_segment_fits m (steady_of m pages lawful) old numbers (seg e) f n in
-      let fit : FitConn (asked m now o).connection = stepped_fits m (steady_of m pages lawful) IsShort (short_said m pages lawful) now o is fo in
-      let h : OutTold m (steady_of m pages lawful) IsShort (short_said m pages lawful) old (asked m now o) = stepped_tells m (steady_of m pages lawful) IsShort (short_said m pages lawful) now old o is fo (segment_tells m (steady_of m pages lawful) IsShort (short_said m pages lawful) old numbers (seg e) (g.told.safe lv)) in
+      let fo : FitOut o = on_segment_fits m steady old numbers (seg e) f n in
+      let fit : FitConn (asked m now o).connection = stepped_fits m steady Any_low (λ p f. tt) now o is fo in
+      let h : OutTold m steady Any_low (λ p f. tt) old (asked m now o) = stepped_tells m steady Any_low (λ p f. tt) now old o is fo (segment_tells m steady Any_low (λ p f. tt) old numbers (seg e) (g.told.safe lv)) in
       steps_by w old (asked m now o) (not (has_rst (seg e).flags) && is_acked old (seg e)) k side lv g fit h (asked_moves m _ old now o (segment_moves m old numbers (seg e)))
-      (Same.steps_by m (steady_of m pages lawful) IsShort (short_said m pages lawful) w old (asked m now o) k side lv fit h g.told) (Prefix.segment m (everywhere m pages lawful) w old numbers now k j side e lv f n is sent who fresh g.good)
-      (λ cl p q a. acked_by k side.client side.past old w.sent side.opened j e sent who lv f (g.told.safe lv) (g.good cl).opened_good (g.exact cl) p q a)
+      (Same.steps_by m steady w old (asked m now o) k side lv fit (asked_lens m now o (on_segment_lens m old numbers (seg e) g.told.lens))
+      (near_by _ old (asked m now o).connection (asked_moves m _ old now o (segment_moves m old numbers (seg e)))) h g.told) (Prefix.segment m ports w old numbers now k j side e lv f n is sent who fresh g.good)
+      (λ r cl p q a. acked_by (Prefix.speaker_of m ports side) k side.client side.past old w.sent side.opened j e sent who lv (top_low k side old w.sent g.told r lv) (g.good cl).opened_good (g.exact r cl) p q a)
 
   tick : (w : World) (old : Connection) (numbers : List ℕ) (now : Connection → Now) (k : ℕ) (side : Side) → is_live old.state ≡ true → FitConn old → All IsWord numbers → ((c : Connection) → FitConn c → IsNow (now c)) →
       G k side old w.sent → Steps m G other reset evict mark w (asked m now (on_tick m old numbers)) k side
   tick w old numbers now k side lv f n is g =
       let o : Outcome = on_tick m old numbers in
-      let fo : FitOut o = on_tick_fits m (steady_of m pages lawful) old numbers f n in
-      let fit : FitConn (asked m now o).connection = stepped_fits m (steady_of m pages lawful) IsShort (short_said m pages lawful) now o is fo in
-      let h : OutTold m (steady_of m pages lawful) IsShort (short_said m pages lawful) old (asked m now o) = stepped_tells m (steady_of m pages lawful) IsShort (short_said m pages lawful) now old o is fo (tick_tells m (steady_of m pages lawful) IsShort (short_said m pages lawful) old numbers (g.told.safe lv)) in
+      let fo : FitOut o = on_tick_fits m steady old numbers f n in
+      let fit : FitConn (asked m now o).connection = stepped_fits m steady Any_low (λ p f. tt) now o is fo in
+      let h : OutTold m steady Any_low (λ p f. tt) old (asked m now o) = stepped_tells m steady Any_low (λ p f. tt) now old o is fo (tick_tells m steady Any_low (λ p f. tt) old numbers (g.told.safe lv)) in
       steps_by w old (asked m now o) false k side lv g fit h (asked_moves m false old now o (tick_moves m old numbers))
-      (Same.steps_by m (steady_of m pages lawful) IsShort (short_said m pages lawful) w old (asked m now o) k side lv fit h g.told) (Prefix.tick m (everywhere m pages lawful) w old numbers now k side lv f n is g.good) (λ cl p q a. absurd (cc))
+      (Same.steps_by m steady w old (asked m now o) k side lv fit (asked_lens m now o (on_tick_lens m old numbers g.told.lens))
+      (near_by _ old (asked m now o).connection (asked_moves m false old now o (tick_moves m old numbers))) h g.told) (Prefix.tick m ports w old numbers now k side lv f n is g.good) (λ r cl p q a. absurd (cc))
 
-  born_exact : (k : ℕ) (client : AbstractClient) (past : List Era) (d : Connection) (sent : List Sent) (opened : Option ℕ) → ((o : ℕ) → opened ≡ Some o → length past ≤ o) → OpenedGood (paged pages) client past closed opened → ExactOpen k client past d sent opened
-  born_exact k client past d sent None b h = tt
-  born_exact k client past d sent (Some o) b h = absurd (let z : false ≡ true = h.then_live (let y = b o refl in let t = h.time in omega (arith, t, y)) in cc)
+  born_exact : (speaker : Speaker) (k : ℕ) (client : AbstractClient) (past : List Era) (d : Connection) (sent : List Sent) (opened : Option ℕ) → ((o : ℕ) → opened ≡ Some o → length past ≤ o) → OpenedGood speaker client past closed opened → ExactOpen k client past d sent opened
+  born_exact speaker k client past d sent None b h = tt
+  born_exact speaker k client past d sent (Some o) b h = absurd (let z : false ≡ true = h.then_live (let y = b o refl in let t = h.time in omega (arith, t, y)) in cc)
 
   birth : (w : World) (first : ℕ) (sockets : Sockets) (k j : ℕ) (side : Side) (e : Sent) → client_sockets side ≡ sockets → slice_get w.sent j ≡ Some e → e.who ≡ from k → (is_clean side ≡ true → e.epoch ≡ length side.past) → is_plain_syn (seg e) ≡ true → FitConn (accepted first sockets (seg e)) → G k side closed w.sent →
       (tick id : ℕ) → G k side (accepted first sockets (seg e)) (w.sent ++ entry (to k) side tick id (speech false (syn_ack (accepted first sockets (seg e)))) ∷ [])
   birth w first sockets k j side e own sent who fresh plain fit g tick id =
       let c : Connection = accepted first sockets (seg e) in
       let new : Sent = entry (to k) side tick id (speech false (syn_ack c)) in
-      let t : Same.Told m (steady_of m pages lawful) IsShort (short_said m pages lawful) k side c (w.sent ++ new ∷ []) = Same.birth m (steady_of m pages lawful) IsShort (short_said m pages lawful) w first sockets k j side e own sent who fresh plain fit g.told tick id in
+      let t : Same.Told m steady k side c (w.sent ++ new ∷ []) = Same.birth m steady w first sockets k j side e own sent who fresh plain fit g.told tick id in
       record {
         told = t;
-        good = Prefix.birth m (everywhere m pages lawful) w first sockets k j side e own sent who fresh plain fit g.good tick id;
-        ends = push_ends k side c w.sent new (λ l i f x wf q pl. absurd (let z : false ≡ true = (g.told.tells i f x wf pl q).0 in cc))
-            (λ l x. new_ends c (syn_ack c) fit (t.safe refl) (λ y. record { len = omega arith; seq = refl; alike = Rattle.uip_node.proofs.Told.alike_refl (syn_ack c) }));
+        good = Prefix.birth m ports w first sockets k j side e own sent who fresh plain fit g.good tick id;
+        ends = λ r. push_ends k side c w.sent new (λ l i f x wf q pl. absurd (let z : false ≡ true = (g.told.tells i f x wf pl q).0 in cc))
+            (λ l x. new_ends c (syn_ack c) (omega arith) (t.safe refl) (λ y. record { len = omega arith; seq = refl; alike = Rattle.uip_node.proofs.Told.alike_refl (syn_ack c) }));
         exact = push_aside k side c w.sent new (λ y. absurd (cc))
-            (λ cl. (let y = Prefix.born_by m (everywhere m pages lawful) side e ((g.good cl).of_client j e sent who).said (Prefix.plain_is m (everywhere m pages lawful) (seg e) plain) in
-            born_exact k side.client side.past c w.sent side.opened (λ o q. subst (λ n. n ≤ o) (fresh cl) (y.before o q)) (g.good cl).opened_good));
+            (λ r cl. (let y = Prefix.born_by m ports side e ((g.good cl).of_client j e sent who).said (Prefix.plain_is m ports (seg e) plain) in
+            born_exact (Prefix.speaker_of m ports side) k side.client side.past c w.sent side.opened (λ o q. subst (λ n. n ≤ o) (fresh cl) (y.before o q)) (g.good cl).opened_good));
       }
 
-  text_exact : (k : ℕ) (client d : AbstractClient) (past : List Era) (c : Connection) (sent : List Sent) (opened : Option ℕ) (s : PlainSegment) → is_live c.state ≡ true → FitConn c → Safe m (steady_of m pages lawful) IsShort (short_said m pages lawful) c → EndsBy c s → OpenedGood (paged pages) client past c opened → is_receiving client.state ≡ true →
+  text_exact : (speaker : Speaker) (k : ℕ) (client d : AbstractClient) (past : List Era) (c : Connection) (sent : List Sent) (opened : Option ℕ) (s : PlainSegment) → is_live c.state ≡ true → c.acked + c.len < 4294967296 → EndsBy c s → OpenedGood speaker client past c opened → is_receiving client.state ≡ true →
       s.seq ≡ client.expected → has_place s ≡ true → d.received ≡ client.received ++ s.text → d.expected ≡ wrap (client.expected + length s.text + one_if (has_fin s.flags)) → has_closed d.state ≡ has_fin s.flags →
       ExactOpen k client past c sent opened → ExactOpen k d past c sent opened
-  text_exact k client d past c sent None s l fit f en h i q p r e n x = tt
-  text_exact k client d past c sent (Some o) s l fit f en h i q p r e n x =
-      let first : (era past c o).first ≡ c.first = first_here client past c o l h in
+  text_exact speaker k client d past c sent None s l top en h i q p r e n x = tt
+  text_exact speaker k client d past c sent (Some o) s l top en h i q p r e n x =
+      let first : (era past c o).first ≡ c.first = first_here speaker client past c o l h in
       let unclosed : one_if (has_closed client.state) ≡ 0 = ap one_if (receiving_not_done client.state i) in
       let longer : length d.received ≡ length client.received + length s.text = ap (λ (y : List ℕ). length y) r ∙ length-append client.received s.text in
       let fin : one_if (has_closed d.state) ≡ one_if (has_fin s.flags) = ap one_if n in
       let b : count d ≡ count client + length s.text + one_if (has_fin s.flags) = omega (arith, unclosed, longer, fin) in
-      let low : 1 + count client < 4294967296 = (let z = x.high l in let t = top_low c c.state fit f.state in omega (arith, z, t)) in
+      let low : 1 + count client < 4294967296 = (let z = x.high l in omega (arith, z, top)) in
       let seq : s.seq ≡ wrap (c.first + (1 + count client)) = q ∙ x.expected ∙ ap (λ z. wrap (z + 1 + count client)) first ∙ ap wrap (omega arith) in
       let end : 1 + count client + length s.text + one_if (has_fin s.flags) ≤ c.acked + c.len = en p (1 + count client) low seq in
       record {
@@ -343,29 +356,29 @@ module _ (m : Meaning) (pages : Pages) (lawful : IsPaged m pages) where
       }
 
   -- a client that opens
-  syn_seq : (client : AbstractClient) (P : Type 0) (first : ℕ) (captures : List Moment) (s : PlainSegment) → has_rst s.flags ≡ false → has_syn s.flags ≡ true → NodeSaid (paged pages) client P first captures s → s.seq ≡ wrap first
-  syn_seq client P first captures s nr sy (node_reset r) = absurd (cc)
-  syn_seq client P first captures s nr sy (node_syn r n) = n.seq
-  syn_seq client P first captures s nr sy (node_ack r n) = absurd (let z : has_syn s.flags ≡ false = n.no_syn in cc)
-  syn_seq client P first captures s nr sy (node_text r p n) = absurd (let z : has_syn s.flags ≡ false = n.no_syn in cc)
-  syn_seq client P first captures s nr sy (node_fin r p n) = absurd (let z : has_syn s.flags ≡ false = n.no_syn in cc)
+  syn_seq : (speaker : Speaker) (client : AbstractClient) (P : Type 0) (first : ℕ) (captures : List Moment) (s : PlainSegment) → has_rst s.flags ≡ false → has_syn s.flags ≡ true → NodeSaid speaker client P first captures s → s.seq ≡ wrap first
+  syn_seq speaker client P first captures s nr sy (node_reset r) = absurd (cc)
+  syn_seq speaker client P first captures s nr sy (node_syn r n) = n.seq
+  syn_seq speaker client P first captures s nr sy (node_ack r n) = absurd (let z : has_syn s.flags ≡ false = n.no_syn in cc)
+  syn_seq speaker client P first captures s nr sy (node_text r p n) = absurd (let z : has_syn s.flags ≡ false = n.no_syn in cc)
+  syn_seq speaker client P first captures s nr sy (node_fin r p n) = absurd (let z : has_syn s.flags ≡ false = n.no_syn in cc)
 
   never_acked : (client : AbstractClient) (at_epoch : ℕ) (s : PlainSegment) → ClientSaid client None at_epoch s → has_rst s.flags ≡ false → has_ack s.flags ≡ true → ⊥
   never_acked client at_epoch s (said_reset r) n a = absurd (cc)
   never_acked client at_epoch s (said_syn y) n a = absurd (let z : has_ack s.flags ≡ false = y.no_ack in cc)
   never_acked client at_epoch s (said_data d) n a = absurd (let z : false ≡ true = d.opened_is in cc)
 
-  open_exact : (k : ℕ) (client d : AbstractClient) (past : List Era) (c : Connection) (sent : List Sent) (s : PlainSegment) (P : Type 0) → is_live c.state ≡ true → Good (paged pages) k client None past c sent →
-      has_rst s.flags ≡ false → has_syn s.flags ≡ true → NodeSaid (paged pages) client P (era past c (length past)).first (era past c (length past)).captures s → d.received ≡ client.received → d.expected ≡ wrap (s.seq + 1) → has_closed d.state ≡ false →
+  open_exact : (speaker : Speaker) (k : ℕ) (client d : AbstractClient) (past : List Era) (c : Connection) (sent : List Sent) (s : PlainSegment) (P : Type 0) → is_live c.state ≡ true → Good speaker k client None past c sent →
+      has_rst s.flags ≡ false → has_syn s.flags ≡ true → NodeSaid speaker client P (era past c (length past)).first (era past c (length past)).captures s → d.received ≡ client.received → d.expected ≡ wrap (s.seq + 1) → has_closed d.state ≡ false →
       Exact k d past c (length past) sent
-  open_exact k client d past c sent s P l g nr sy said r e n =
+  open_exact speaker k client d past c sent s P l g nr sy said r e n =
       let empty : length d.received ≡ 0 = ap (λ (x : List ℕ). length x) (r ∙ g.opened_good.nothing) in
       let unclosed : one_if (has_closed d.state) ≡ 0 = ap one_if n in
       let z : count d ≡ 0 = omega (arith, empty, unclosed) in
-      let y = (unopened (paged pages) client c c.state l (g.connection l).state).1 in
+      let y = (unopened speaker client c c.state l (g.connection l).state).1 in
       let y0 = y.acked in
       let y1 = y.len in
-      let q : s.seq ≡ wrap (era past c (length past)).first = syn_seq client P (era past c (length past)).first (era past c (length past)).captures s nr sy said in
+      let q : s.seq ≡ wrap (era past c (length past)).first = syn_seq speaker client P (era past c (length past)).first (era past c (length past)).captures s nr sy said in
       record {
         expected = e ∙ ap (λ x. wrap (x + 1)) q ∙ wrap_wrap (era past c (length past)).first 1 ∙ ap wrap (omega (arith, z));
         low = λ x. omega (arith, y0, z);
@@ -374,18 +387,18 @@ module _ (m : Meaning) (pages : Pages) (lawful : IsPaged m pages) where
       }
 
   -- the client takes a datagram
-  kind_exact : (k : ℕ) (client d : AbstractClient) (past : List Era) (c : Connection) (sent : List Sent) (opened : Option ℕ) (e : Sent) → Kind client (seg e) d → e.epoch ≡ length past → FitConn c → (is_live c.state ≡ true → Safe m (steady_of m pages lawful) IsShort (short_said m pages lawful) c) → (is_live c.state ≡ true → EndsBy c (seg e)) →
-      ToGood (paged pages) client opened past c e → Good (paged pages) k client opened past c sent → ExactOpen k client past c sent opened → ExactOpen k d past c sent (if becomes_opened client.state d.state then Some (length past) else opened)
-  kind_exact k client d past c sent opened e (kept r x n b) fresh fit f en t g y =
+  kind_exact : (speaker : Speaker) (k : ℕ) (client d : AbstractClient) (past : List Era) (c : Connection) (sent : List Sent) (opened : Option ℕ) (e : Sent) → Kind client (seg e) d → e.epoch ≡ length past → (is_live c.state ≡ true → c.acked + c.len < 4294967296) → (is_live c.state ≡ true → EndsBy c (seg e)) →
+      ToGood speaker client opened past c e → Good speaker k client opened past c sent → ExactOpen k client past c sent opened → ExactOpen k d past c sent (if becomes_opened client.state d.state then Some (length past) else opened)
+  kind_exact speaker k client d past c sent opened e (kept r x n b) fresh f en t g y =
       subst (λ z. ExactOpen k d past c sent (if z then Some (length past) else opened)) (sym b) (kept_exact k client d past c sent opened x (count_kept client d r n) y)
-  kind_exact k client d past c sent opened e (took_text q i nr p r x n) fresh fit f en t g y =
+  kind_exact speaker k client d past c sent opened e (took_text q i nr p r x n) fresh f en t g y =
       let l : is_live c.state ≡ true = t.lives nr fresh in
       subst (λ z. ExactOpen k d past c sent (if z then Some (length past) else opened)) (sym (receiving_stays client.state d.state i))
-      (text_exact k client d past c sent opened (seg e) l fit (f l) (en l) g.opened_good i q p r x n y)
-  kind_exact k client d past c sent (Some o) e (took_open st nr sy r x n) fresh fit f en t g y = absurd (let h : is_unasked client.state ≡ false = g.opened_good.asked in let z : is_unasked client.state ≡ true = ap is_unasked st in cc)
-  kind_exact k client d past c sent None e (took_open st nr sy r x n) fresh fit f en t g y =
+      (text_exact speaker k client d past c sent opened (seg e) l (f l) (en l) g.opened_good i q p r x n y)
+  kind_exact speaker k client d past c sent (Some o) e (took_open st nr sy r x n) fresh f en t g y = absurd (let h : is_unasked client.state ≡ false = g.opened_good.asked in let z : is_unasked client.state ≡ true = ap is_unasked st in cc)
+  kind_exact speaker k client d past c sent None e (took_open st nr sy r x n) fresh f en t g y =
       let l : is_live c.state ≡ true = t.lives nr fresh in
-      let o : Exact k d past c (length past) sent = open_exact k client d past c sent (seg e) (None ≡ Some e.epoch) l g nr sy (subst (λ z. NodeSaid (paged pages) client (None ≡ Some e.epoch) (era past c z).first (era past c z).captures (seg e)) fresh t.said) r x n in
+      let o : Exact k d past c (length past) sent = open_exact speaker k client d past c sent (seg e) (None ≡ Some e.epoch) l g nr sy (subst (λ z. NodeSaid speaker client (None ≡ Some e.epoch) (era past c z).first (era past c z).captures (seg e)) fresh t.said) r x n in
       exact_either (becomes_opened client.state d.state) o
     where
       exact_either : (b : Bool) → Exact k d past c (length past) sent → ExactOpen k d past c sent (if b then Some (length past) else None)
@@ -393,23 +406,23 @@ module _ (m : Meaning) (pages : Pages) (lawful : IsPaged m pages) where
       exact_either false o = tt
 
   abbrev ToldTakes : World → ℕ → Side → Connection → ClientStep → Type 0
-  ToldTakes w k base c t = Takes m (Same.Told m (steady_of m pages lawful) IsShort (short_said m pages lawful)) (Same.other m (steady_of m pages lawful) IsShort (short_said m pages lawful)) (Same.reset m (steady_of m pages lawful) IsShort (short_said m pages lawful)) (Same.evict m (steady_of m pages lawful) IsShort (short_said m pages lawful)) (Same.mark m (steady_of m pages lawful) IsShort (short_said m pages lawful)) w k base c t
+  ToldTakes w k base c t = Takes m (Same.Told m steady) (Same.other m steady) (Same.reset m steady) (Same.evict m steady) (Same.mark m steady) w k base c t
 
   abbrev GoodTakes : World → ℕ → Side → Connection → ClientStep → Type 0
-  GoodTakes w k base c t = Takes m (Prefix.G m (everywhere m pages lawful)) (Prefix.other m (everywhere m pages lawful)) (Prefix.reset m (everywhere m pages lawful)) (Prefix.evict m (everywhere m pages lawful)) (Prefix.mark m (everywhere m pages lawful)) w k base c t
+  GoodTakes w k base c t = Takes m (Prefix.G m ports) (Prefix.other m ports) (Prefix.reset m ports) (Prefix.evict m ports) (Prefix.mark m ports) w k base c t
 
   took_by : (w : World) (k : ℕ) (base : Side) (c : Connection) (t : ClientStep) → G k base c w.sent → GoodTakes w k base c t → Acks t →
-      (is_clean base ≡ true → ExactOpen k t.client base.past c w.sent (with_client base t.client).opened) → Takes m G other reset evict mark w k base c t
+      (length w.sent ≤ 65535 → is_clean base ≡ true → ExactOpen k t.client base.past c w.sent (with_client base t.client).opened) → Takes m G other reset evict mark w k base c t
   took_by w k base c t g p a x =
-      let told : ToldTakes w k base c t = Same.takes m (steady_of m pages lawful) IsShort (short_said m pages lawful) w k base c t g.told in
+      let told : ToldTakes w k base c t = Same.takes m steady w k base c t g.told in
       record {
         quiet = λ n. record { told = told.quiet n; good = p.quiet n; ends = g.ends; exact = x };
         says = λ s e tick. record {
           told = told.says s e tick;
           good = p.says s e tick;
-          ends = push_ends k (with_client base t.client) c w.sent (entry (from k) (with_client base t.client) tick 0 (speech false s)) g.ends (λ l z. absurd (cc));
-          exact = λ cl. push_exact k t.client base.past c w.sent (entry (from k) (with_client base t.client) tick 0 (speech false s)) (with_client base t.client).opened (x cl)
-              (λ o q f n h. said_acks k t.client base.past c w.sent (with_client base t.client).opened s (x cl) (a s e n h) o q);
+          ends = λ r. push_ends k (with_client base t.client) c w.sent (entry (from k) (with_client base t.client) tick 0 (speech false s)) (g.ends (room_before w.sent (entry (from k) (with_client base t.client) tick 0 (speech false s)) r)) (λ l z. absurd (cc));
+          exact = λ r cl. push_exact k t.client base.past c w.sent (entry (from k) (with_client base t.client) tick 0 (speech false s)) (with_client base t.client).opened (x (room_before w.sent (entry (from k) (with_client base t.client) tick 0 (speech false s)) r) cl)
+              (λ o q f n h. said_acks k t.client base.past c w.sent (with_client base t.client).opened s (x (room_before w.sent (entry (from k) (with_client base t.client) tick 0 (speech false s)) r) cl) (a s e n h) o q);
         };
       }
 
@@ -417,16 +430,16 @@ module _ (m : Meaning) (pages : Pages) (lawful : IsPaged m pages) where
       Takes m G other reset evict mark w k (marked side number e) c (client_takes side.client (seg e))
   took w k j side c number e fit sent who g =
       let n : Counted side.client (seg e) (client_takes side.client (seg e)) = client_counted side.client (seg e) in
-      took_by w k (marked side number e) c (client_takes side.client (seg e)) (mark k side c w.sent number e g) (Prefix.took m (everywhere m pages lawful) w k j side c number e fit sent who g.good) n.acks
-      (λ cl. (let a = clean_before side number e cl in
+      took_by w k (marked side number e) c (client_takes side.client (seg e)) (mark k side c w.sent number e g) (Prefix.took m ports w k j side c number e fit sent who g.good) n.acks
+      (λ r cl. (let a = clean_before side number e cl in
       let h = g.good a.0 in
-      kind_exact k side.client (client_takes side.client (seg e)).client side.past c w.sent side.opened e n.kind a.1 g.told.fit g.told.safe (λ l. g.ends l j e sent who a.1) (h.of_node j e sent who) h (g.exact a.0)))
+      kind_exact (Prefix.speaker_of m ports side) k side.client (client_takes side.client (seg e)).client side.past c w.sent side.opened e n.kind a.1 (top_low k side c w.sent g.told r) (λ l. g.ends r l j e sent who a.1) (h.of_node j e sent who) h (g.exact r a.0)))
 
   own_by : (w : World) (k : ℕ) (side : Side) (c : Connection) (t : ClientStep) → G k side c w.sent → Idles side.client t → GoodTakes w k side c t → Takes m G other reset evict mark w k side c t
   own_by w k side c t g n p =
       took_by w k side c t g p n.acks
-      (λ cl. subst (λ z. ExactOpen k t.client side.past c w.sent (if z then Some (length side.past) else side.opened)) (sym n.same)
-      (kept_exact k side.client t.client side.past c w.sent side.opened n.expected (count_kept side.client t.client n.received n.done) (g.exact cl)))
+      (λ r cl. subst (λ z. ExactOpen k t.client side.past c w.sent (if z then Some (length side.past) else side.opened)) (sym n.same)
+      (kept_exact k side.client t.client side.past c w.sent side.opened n.expected (count_kept side.client t.client n.received n.done) (g.exact r cl)))
 
   nothing_opened : (o : Option ℕ) → o ≡ None → (k : ℕ) (client : AbstractClient) (past : List Era) (c : Connection) (sent : List Sent) → ExactOpen k client past c sent o
   nothing_opened None e k client past c sent = tt
@@ -434,31 +447,33 @@ module _ (m : Meaning) (pages : Pages) (lawful : IsPaged m pages) where
 
   opening_exact : (addr : Addr) (numbers : List ℕ) (plan : List Planned) → IsPlan plan → Framed m G other reset evict mark (opening_world addr numbers plan)
   opening_exact addr numbers plan is =
-      let a = Same.opening_told m (steady_of m pages lawful) IsShort (short_said m pages lawful) addr numbers plan is in
-      let b = Prefix.opening_framed m (everywhere m pages lawful) addr numbers plan is in
+      let a = Same.opening_told m steady addr numbers plan is in
+      let b = Prefix.opening_framed m ports addr numbers plan is in
       record {
         apart = a.apart;
         single = a.single;
         each = λ k side x. (let p = Rattle.uip_node.proofs.Connections.get_map Rattle.link_world.specs.History.fresh_side plan k side x in record {
           told = a.each k side x;
           good = b.each k side x;
-          ends = λ l j e y. absurd (cc);
-          exact = λ cl. nothing_opened side.opened (ap (λ (o : Side). o.opened) (sym p.is)) k side.client side.past _ [];
+          ends = λ r l j e y. absurd (cc);
+          exact = λ r cl. nothing_opened side.opened (ap (λ (o : Side). o.opened) (sym p.is)) k side.client side.past _ [];
         });
       }
 
-  all_exact : (w : World) → IsReached m pages w → Framed m G other reset evict mark w
-  all_exact w r = reached m pages lawful (λ v. Framed m G other reset evict mark v)
-      (λ served v act harm g fits. does_framed m G other reset evict mark (steady_of m pages lawful) served segment tick birth record {
-        took = took;
-        opens = λ w k side c fit g. own_by w k side c (client_opens side.client) g (opens_idles side.client) (Prefix.own_open m (everywhere m pages lawful) w k side c fit g.good);
-        again = λ w k side c fit g. own_by w k side c (client_again side.client) g (again_idles side.client) (Prefix.own_again m (everywhere m pages lawful) w k side c fit g.good);
-        closes = λ w k side c fit g. own_by w k side c (client_closes side.client) g (closes_idles side.client) (Prefix.own_close m (everywhere m pages lawful) w k side c fit g.good);
-        aborts = λ w k side c fit g. own_by w k side c (client_aborts side.client) g (aborts_idles side.client) (Prefix.own_abort m (everywhere m pages lawful) w k side c fit g.good);
-        windows = λ x w k side c fit g. own_by w k side c (tells_window x side.client) g (idles_quiet side.client (record side.client { window = x }) refl refl refl (same_becomes side.client.state)) (Prefix.own_window m (everywhere m pages lawful) x w k side c fit g.good);
-      }
-      v act harm g fits)
-      opening_exact w r
+  -- what each harmless act keeps
+  act_exact : (served : ℕ → Bool) (v : World) (act : Act) → Harmless m served v act → Framed m G other reset evict mark v → FitWorld v → Framed m G other reset evict mark (does m served v act)
+  act_exact served v act harm g fits = does_framed m G other reset evict mark steady served segment tick birth record {
+    took = took;
+    opens = λ w k side c fit g. own_by w k side c (client_opens side.client) g (opens_idles side.client) (Prefix.own_open m ports w k side c fit g.good);
+    again = λ w k side c fit g. own_by w k side c (client_again side.client) g (again_idles side.client) (Prefix.own_again m ports w k side c fit g.good);
+    closes = λ w k side c fit g. own_by w k side c (client_closes side.client) g (closes_idles side.client) (Prefix.own_close m ports w k side c fit g.good);
+    aborts = λ w k side c fit g. own_by w k side c (client_aborts side.client) g (aborts_idles side.client) (Prefix.own_abort m ports w k side c fit g.good);
+    windows = λ x w k side c fit g. own_by w k side c (tells_window x side.client) g (idles_quiet side.client (record side.client { window = x }) refl refl refl (same_becomes side.client.state)) (Prefix.own_window m ports x w k side c fit g.good);
+  }
+      v act harm g fits
+
+  abbrev ExactWorld : World → Type 0
+  ExactWorld w = Framed m G other reset evict mark w
 
   in_step : (w : World) (k : ℕ) (side : Side) (c : Connection) (o : Option ℕ) → ExactOpen k side.client side.past c w.sent o → (n : ℕ) → o ≡ Some n → IsInStep w (Rattle.std.proofs.Common.suc k) side.client c (era side.past c n).first
   in_step w k side c None x n e = absurd (cc)
@@ -472,6 +487,19 @@ module _ (m : Meaning) (pages : Pages) (lawful : IsPaged m pages) where
     most = x.high;
   }
 
+  -- each clean client stands in step, where the walk comes so far
+  in_step_by : (w : World) → ExactWorld w → HasRoom w → (k : ℕ) (side : Side) → slice_get w.sides k ≡ Some side → is_clean side ≡ true → (o : ℕ) → side.opened ≡ Some o →
+      IsInStep w (Rattle.std.proofs.Common.suc k) side.client (server_side w side) (era side.past (server_side w side) o).first
+  in_step_by w g room k side x clean o e = in_step w k side (server_side w side) side.opened ((g.each k side x).exact room clean) o e
+
+  pub in_step_plainly : (w : World) → IsReachedPlainly m w → (k : ℕ) (side : Side) → slice_get w.sides k ≡ Some side → is_clean side ≡ true → (o : ℕ) → side.opened ≡ Some o →
+      IsInStep w (Rattle.std.proofs.Common.suc k) side.client (server_side w side) (era side.past (server_side w side) o).first
+  in_step_plainly w r = in_step_by w (reached_plainly m steady ExactWorld act_exact opening_exact w r) (room_plainly m w r)
+
+  pub in_step_where : (pages : Pages) (H : Connection → Type 0) → (HasBytes pages → SaysBytesWhere m H) → (w : World) → IsReached m pages w → (k : ℕ) (side : Side) → slice_get w.sides k ≡ Some side → is_clean side ≡ true → (o : ℕ) → side.opened ≡ Some o →
+      IsInStep w (Rattle.std.proofs.Common.suc k) side.client (server_side w side) (era side.past (server_side w side) o).first
+  in_step_where pages H bytes w r = in_step_by w (reached_where m pages steady H bytes ExactWorld act_exact opening_exact w r) (room_where m pages steady H bytes w r)
+
 pub one_segment : OneSegment
 one_segment m pages lawful w r k side x clean o e =
-    in_step m pages lawful w k side (serving (Rattle.link_world.specs.World.client_sockets side) w.node.connections) side.opened (((all_exact m pages lawful w r).each k side x).exact clean) o e
+    in_step_where m (everywhere m pages lawful) pages (λ c. Unit {0}) (pages_say_bytes m pages lawful) w r k side x clean o e

@@ -26,6 +26,7 @@ pub mod SaidBytes
 pub mod SoundNodes
 pub mod SoundWorlds
 pub mod Damages
+pub mod Room
 pub mod Runs
 pub mod Counts
 pub mod Exact

@@ -23,6 +23,7 @@ use Rattle.link_world.proofs.FitWorlds.{FitSide, FitWorld}
 use Rattle.uip_node.proofs.FitNodes.{closed_fits}
 use Rattle.link_world.proofs.FitActs.{does_fit}
 use Rattle.link_world.proofs.Harmless.{Harmless, plain_harmless}
+use Rattle.link_world.proofs.Room.{HasRoom, keeps_room}
 use Rattle.uip_node.proofs.SoundSegments.{Lens, closed_lens}
 use Rattle.link_world.proofs.Sound.{IsSoundClient}
 use Rattle.link_world.proofs.SaidBytes.{SaysBytesWhere, pages_say_bytes}
@@ -85,6 +86,7 @@ module _ (m : Meaning) (pages : Pages) (steady : IsSteady m) (H : Connection →
     record Kept (w : World) : Type 0 where
       fact : P w
       fits : FitWorld w
+      room : HasRoom w
       known : HasBytes pages → KnownWorld H w
 
     abbrev Fine : Act → Type 0
@@ -99,6 +101,7 @@ module _ (m : Meaning) (pages : Pages) (steady : IsSteady m) (H : Connection →
         record {
           fact = step w act h k.fact k.fits;
           fits = does_fit m steady served w act h k.fits;
+          room = keeps_room m served w act h n;
           known = λ page. does_sound m steady H (bytes page) served w act f.0 h k.fits (k.known page);
         }
 
@@ -115,7 +118,7 @@ module _ (m : Meaning) (pages : Pages) (steady : IsSteady m) (H : Connection →
         runs m served schedule (opening_world addr numbers plan) ≡ Ok w → P (opening_world addr numbers plan) → Kept w
     schedule_keeps addr numbers plan schedule w a n is f e p =
         run_keeps m served Fine Kept act_keeps schedule (opening_world addr numbers plan) w f
-        record { fact = p; fits = opening_fits addr numbers plan n is; known = opening_known addr numbers plan a is } e
+        record { fact = p; fits = opening_fits addr numbers plan n is; room = omega arith; known = opening_known addr numbers plan a is } e
 
   -- any fact that each harmless act keeps
   pub reached_where : (P : World → Type 0) → ((served : ℕ → Bool) (w : World) (act : Act) → Harmless m served w act → P w → FitWorld w → P (does m served w act)) →
@@ -130,6 +133,12 @@ module _ (m : Meaning) (pages : Pages) (steady : IsSteady m) (H : Connection →
       (schedule_keeps r.served (λ v. Unit {0}) (λ v act h p f. tt) r.start.addr r.start.numbers r.start.plan r.schedule w r.start.is_addr r.start.in_range r.start.is_plan
       (fine r.served (λ v. Unit {0}) (λ v act h p f. tt) r.schedule r.are_acts r.bytes) r.accepted tt).known page
 
+  -- and has room
+  pub room_where : (w : World) → IsReached m pages w → HasRoom w
+  room_where w r =
+      (schedule_keeps r.served (λ v. Unit {0}) (λ v act h p f. tt) r.start.addr r.start.numbers r.start.plan r.schedule w r.start.is_addr r.start.in_range r.start.is_plan
+      (fine r.served (λ v. Unit {0}) (λ v act h p f. tt) r.schedule r.are_acts r.bytes) r.accepted tt).room
+
   -- any fact that each harmless act keeps, from a world that is reached to a later one
   on_where : (P : World → Type 0) → ((served : ℕ → Bool) (w : World) (act : Act) → Harmless m served w act → P w → FitWorld w → P (does m served w act)) →
       (v w : World) → IsLater m pages v w → P v → P w
@@ -138,7 +147,7 @@ module _ (m : Meaning) (pages : Pages) (steady : IsSteady m) (H : Connection →
       let k = schedule_keeps r.served (λ u. Unit {0}) (λ u act h q f. tt) r.start.addr r.start.numbers r.start.plan r.schedule v r.start.is_addr r.start.in_range r.start.is_plan
       (fine r.served (λ u. Unit {0}) (λ u act h q f. tt) r.schedule r.are_acts r.bytes) r.accepted tt in
       (run_keeps m r.served (Fine r.served P (step r.served)) (Kept r.served P (step r.served)) (act_keeps r.served P (step r.served)) l.more v w
-      (fine r.served P (step r.served) l.more l.are_acts l.bytes) record { fact = p; fits = k.fits; known = k.known } l.accepted).fact
+      (fine r.served P (step r.served) l.more l.are_acts l.bytes) record { fact = p; fits = k.fits; room = k.room; known = k.known } l.accepted).fact
 
 -- ---- of an application whose text is a page
 
@@ -160,3 +169,8 @@ reached_plainly m steady P step opening w r =
     (run_keeps m r.served IsPlainAct (λ v. P v × FitWorld v)
     (λ v act plain ok k. (let h : Harmless m r.served v act = plain_harmless m r.served v act plain in (step r.served v act h k.0 k.1, does_fit m steady r.served v act h k.1)))
     r.schedule (started r.start) w r.plain (opening r.start.addr r.start.numbers r.start.plan r.start.is_plan, opening_fits r.start.addr r.start.numbers r.start.plan r.start.in_range r.start.is_plan) r.accepted).0
+
+-- and such a world has room
+pub room_plainly : (m : Meaning) (w : World) → IsReachedPlainly m w → HasRoom w
+room_plainly m w r =
+    run_keeps m r.served IsPlainAct HasRoom (λ v act plain ok k. keeps_room m r.served v act (plain_harmless m r.served v act plain) ok) r.schedule (started r.start) w r.plain (omega arith) r.accepted

@@ -1,45 +1,49 @@
 -- Same bytes: what is sent again while it is outstanding is the same, and is marked so.
-use Rattle.std.specs.List.{All}
-use Rattle.std.proofs.Common.{◌≡◌, ℕ, suc, ◌+◌, ◌<◌, ◌≤◌, min, Bool, true, false, ◌⊎◌, inl, inr, List, [], ◌∷◌, ◌++◌, length, replicate, refl, sym, ap, ◌∙◌, subst, arith, Option, Some, None, slice_get, eqb, if◌then◌else◌}
+use Rattle.std.proofs.Common.{◌≡◌, ℕ, suc, ◌+◌, ◌*◌, length-append, ◌<◌, ◌≤◌, min, Bool, true, false, ◌⊎◌, inl, inr, List, [], ◌∷◌, ◌++◌, length, replicate, refl, sym, ap, ◌∙◌, subst, arith, Option, Some, None, slice_get, eqb, if◌then◌else◌}
 use Rattle.std.proofs.lemmas.Grind.{common_steps}
 use Rattle.uip_wire.specs.Numbers.{wrap}
 use Rattle.uip_wire.specs.declared.addr.Addr.{Addr}
 use Rattle.uip_wire.specs.declared.sizes.TheConstants.{OWN_MSS}
 use Rattle.tcp_segment.specs.Segments.{PlainSegment, has_syn, has_fin, has_rst}
-use Rattle.app_events.specs.Part.{Part, Meaning}
-use Rattle.app_events.specs.Pages.{Pages, IsPaged, IsMoment}
+use Rattle.app_events.specs.Part.{Meaning}
+use Rattle.app_events.specs.Pages.{Pages}
 use Rattle.tcp_machine.specs.Connection.{Sockets, Connection, closed, is_live}
 use Rattle.tcp_machine.specs.Segments.{segment_of, is_again, has_place, is_plain_syn, syn_ack}
 use Rattle.tcp_machine.specs.Ask.{Outcome, asked}
 use Rattle.tcp_machine.specs.OnSegment.{first_mss, accepted, on_segment}
 use Rattle.tcp_machine.specs.OnTick.{on_tick}
-use Rattle.link_client.specs.Client.{ClientStep}
+use Rattle.app_events.specs.declared.state.State.{State}
+use Rattle.app_events.specs.declared.state.State.TheVariants.{Closed, SynRcvd, Established, CloseWait, FinWait1, FinWait2, Closing, TimeWait, LastAck}
+use Rattle.link_client.specs.Client.{ClientStep, one_if}
 use Rattle.link_world.specs.World.{World, Side, Sent, Content, client_sockets, with_client, marked, is_clean, era_of}
 use Rattle.link_world.specs.World.Content.{OfSegment, OfPing, OfEcho}
 use Rattle.link_world.specs.Acts.{does}
 use Rattle.link_world.specs.declared.act.Act.{Act}
 use Rattle.uip_node.specs.Laws.{serving, Alike}
 use Rattle.link_world.specs.History.{Planned, IsPlan, opening_world}
-use Rattle.link_world.specs.Headline.{IsReached, RepeatsSameBytes, MarksRepeats, SameBytes, SameBytesPlainly, AgainExactly}
+use Rattle.link_world.specs.Headline.{IsReached, RepeatsSameBytes, MarksRepeats, SameBytes, SameBytesPlainly, AgainExactly, AgainExactlyPlainly, IsReachedPlainly}
 use Rattle.uip_node.specs.Steady.{IsSteady}
-use Rattle.uip_node.proofs.Steadiness.{steady_of, IsShort, short_said}
-use Rattle.uip_node.proofs.Basics.{choose, same_place, get_push, nothing_placed, only_some}
+use Rattle.uip_node.proofs.Steadiness.{steady_of}
+use Rattle.uip_node.proofs.Basics.{choose, cut_length, zero_or_more, same_place, get_push, nothing_placed, only_some}
 use Rattle.uip_node.proofs.Basics.AtEnd.{older, newest}
 use Rattle.link_world.proofs.Good.{seg, segment_in, from, to}
 use Rattle.link_world.proofs.Views.{length_push}
 use Rattle.uip_node.proofs.Connections.{serving_free, none_serves}
 use Rattle.uip_node.proofs.Fits.{FitConn, FitOut, on_segment_fits, on_tick_fits}
-use Rattle.uip_node.proofs.Told.{Safe, IsDue, Onto, Tells, StepTells, due, alike_trans, alike_sym, alike_refl, segment_tells, tick_tells}
+use Rattle.uip_node.proofs.Told.{Safe, IsDue, Onto, SafeState, Still, Tells, StepTells, due, alike_trans, alike_sym, alike_refl, segment_tells, tick_tells}
 use Rattle.link_world.proofs.Prefix.{opening_apart}
 use Rattle.link_world.proofs.Harmless.{Harmless}
 use Rattle.link_world.proofs.FitWorlds.{FitWorld}
 use Rattle.uip_node.proofs.FitNodes.{closed_fits}
 use Rattle.uip_node.specs.Laws.{HasBytes}
-use Rattle.link_world.proofs.SaidBytes.{SaysBytesWhere}
-use Rattle.link_world.proofs.Runs.{reached, reached_plainly, reached_where}
+use Rattle.link_world.proofs.SaidBytes.{SaysBytesWhere, pages_say_bytes}
+use Rattle.link_world.proofs.Runs.{reached_plainly, reached_where, room_plainly, room_where}
 use Rattle.link_world.proofs.Any.{Framed, Steps, Takes, any_step, speech, entry, does_framed}
 use Rattle.link_world.proofs.Any
-use Rattle.uip_node.proofs.Stepped.{Few, off_low, stepped_fits, stepped_tells}
+use Rattle.uip_node.proofs.Stepped.{stepped_fits, stepped_tells}
+use Rattle.uip_node.proofs.Moves.{Moves, asked_moves, segment_moves, tick_moves}
+use Rattle.uip_node.proofs.SoundSegments.{Lens, closed_lens, accepted_lens, asked_lens, on_segment_lens, on_tick_lens}
+use Rattle.link_world.proofs.Room.{HasRoom}
 
 not_zero : (w : ℕ) → eqb w 0 ≡ false → 0 < w
 not_zero w h = grind (arith, common_steps)
@@ -82,7 +86,15 @@ pub record IsOld (c : Connection) (s : PlainSegment) : Type 0 where
   pub seq : s.seq ≡ wrap (c.first + at)
   pub past : at < c.acked
 
-module _ (m : Meaning) (steady : IsSteady m) (Low : ℕ → Type 0) (low_text : (p : Part) → All IsMoment p.captures → Low (length (m.said p))) where
+-- any number is as low as is needed: that none comes round is told by the list of datagrams
+abbrev pub Any_low : ℕ → Type 0
+Any_low n = Unit {0}
+
+-- what is acknowledged comes no further than what was outstanding
+pub near_by : (acked : Bool) (c d : Connection) → Moves acked c d → d.acked ≤ c.acked + c.len
+near_by acked c d h = elim (h.place) [ inl e ↦ omega (arith, e) | inr e ↦ omega (arith, e.1) ]
+
+module _ (m : Meaning) (steady : IsSteady m) where
   -- what is outstanding was sent
   pub record WasSent (k : ℕ) (side : Side) (c : Connection) (sent : List Sent) : Type 0 where
     pub place : ℕ
@@ -91,16 +103,19 @@ module _ (m : Meaning) (steady : IsSteady m) (Low : ℕ → Type 0) (low_text : 
     pub who : it.who ≡ to k
     pub epoch : it.epoch ≡ length side.past
     pub placed : has_place (seg it) ≡ true
-    pub due_now : IsDue m steady Low low_text c (seg it)
+    pub due_now : IsDue m steady Any_low (λ p f. tt) c (seg it)
 
   pub record Told (k : ℕ) (side : Side) (c : Connection) (sent : List Sent) : Type 0 where
     pub fit : FitConn c
-    pub safe : is_live c.state ≡ true → Safe m steady Low low_text c
+    pub lens : Lens c
+    -- each number that was used is of a datagram, of which each has 1460 at most
+    pub room : is_live c.state ≡ true → c.acked + c.len ≤ 1460 * length sent
+    pub safe : is_live c.state ≡ true → Safe m steady Any_low (λ p f. tt) c
     pub was_sent : is_live c.state ≡ true → 0 < c.len → WasSent k side c sent
     pub time : (j : ℕ) (e : Sent) → slice_get sent j ≡ Some e → e.who ≡ to k → e.epoch ≤ length side.past
-    pub tells : (j : ℕ) (e : Sent) → slice_get sent j ≡ Some e → e.who ≡ to k → has_place (seg e) ≡ true → e.epoch ≡ length side.past → (is_live c.state ≡ true) × (IsOld c (seg e) ⊎ IsDue m steady Low low_text c (seg e))
+    pub tells : (j : ℕ) (e : Sent) → slice_get sent j ≡ Some e → e.who ≡ to k → has_place (seg e) ≡ true → e.epoch ≡ length side.past → (is_live c.state ≡ true) × (IsOld c (seg e) ⊎ IsDue m steady Any_low (λ p f. tt) c (seg e))
     pub repeats : (i : ℕ) (e : Sent) → slice_get sent i ≡ Some e → e.who ≡ to k → e.again ≡ true → Before sent e i
-    pub agree : Few m steady Low low_text → (i j : ℕ) (e f : Sent) → slice_get sent i ≡ Some e → slice_get sent j ≡ Some f → j < i → e.who ≡ to k → f.who ≡ to k → e.epoch ≡ f.epoch →
+    pub agree : length sent ≤ 65535 → (i j : ℕ) (e f : Sent) → slice_get sent i ≡ Some e → slice_get sent j ≡ Some f → j < i → e.who ≡ to k → f.who ≡ to k → e.epoch ≡ f.epoch →
         has_place (seg e) ≡ true → has_place (seg f) ≡ true → (seg e).seq ≡ (seg f).seq → (e.again ≡ true) × Alike (seg f) (seg e)
 
   -- a list with one more, of which nothing has to be told
@@ -112,6 +127,8 @@ module _ (m : Meaning) (steady : IsSteady m) (Low : ℕ → Type 0) (low_text : 
   push_silent : (k : ℕ) (side : Side) (c : Connection) (sent : List Sent) (new : Sent) → Told k side c sent → (new.who ≡ to k → IsSilent side new) → Told k side c (sent ++ new ∷ [])
   push_silent k side c sent new t q = record {
     fit = t.fit;
+    lens = t.lens;
+    room = λ l. (let r = t.room l in omega (arith, r, length-append sent (new ∷ [])));
     safe = t.safe;
     was_sent = λ l z. (let x = t.was_sent l z in record { place = x.place; it = x.it; there = get_older sent new x.it x.place x.there; who = x.who; epoch = x.epoch; placed = x.placed; due_now = x.due_now });
     time = λ j e x w. elim (get_push sent new j e x) [ older h ↦ t.time j e h w | newest i h ↦ (let s = (q (ap (λ n. n.who) h ∙ w)).epoch in subst (λ n. n ≤ length side.past) (ap (λ n. n.epoch) h) s) ];
@@ -119,7 +136,7 @@ module _ (m : Meaning) (steady : IsSteady m) (Low : ℕ → Type 0) (low_text : 
     repeats = λ j e x w a. elim (get_push sent new j e x) [ older h ↦ before_more sent new e j (t.repeats j e h w a) | newest i h ↦ absurd ((q (ap (λ n. n.who) h ∙ w)).unmarked (ap (λ n. n.again) h ∙ a)) ];
     agree = λ few i j e f x y l we wf ep pe pf se. elim (get_push sent new i e x) [
       | older h ↦ elim (get_push sent new j f y) [
-        | older g ↦ t.agree few i j e f h g l we wf ep pe pf se
+        | older g ↦ t.agree (omega (arith, few, length-append sent (new ∷ []))) i j e f h g l we wf ep pe pf se
         | newest b g ↦ absurd ((q (ap (λ n. n.who) g ∙ wf)).unplaced (ap (λ n. has_place (seg n)) g ∙ pf))
       ]
       | newest b h ↦ absurd ((q (ap (λ n. n.who) h ∙ we)).unplaced (ap (λ n. has_place (seg n)) h ∙ pe))
@@ -133,9 +150,11 @@ module _ (m : Meaning) (steady : IsSteady m) (Low : ℕ → Type 0) (low_text : 
   reset k side c sent e t q a b x rs ag w = push_silent k side c sent e t (λ w. record { epoch = omega (arith, q); unplaced = λ p. nothing_placed (seg e) a b x p; unmarked = λ p. absurd (cc) })
 
   -- the connection is gone
-  leaves : (k : ℕ) (side : Side) (c d dead : Connection) (sent : List Sent) → is_live dead.state ≡ false → FitConn dead → Told k side c sent → Told k (Any.older side d) dead sent
-  leaves k side c d dead sent l f t = record {
+  leaves : (k : ℕ) (side : Side) (c d dead : Connection) (sent : List Sent) → is_live dead.state ≡ false → FitConn dead → Lens dead → Told k side c sent → Told k (Any.older side d) dead sent
+  leaves k side c d dead sent l f n t = record {
     fit = f;
+    lens = n;
+    room = λ x. absurd (cc);
     safe = λ x. absurd (cc);
     was_sent = λ x. absurd (cc);
     time = λ j e x w. omega (arith, t.time j e x w, length_push side.past (era_of d));
@@ -145,11 +164,13 @@ module _ (m : Meaning) (steady : IsSteady m) (Low : ℕ → Type 0) (low_text : 
   }
 
   pub evict : (k : ℕ) (side : Side) (c : Connection) (sent : List Sent) → is_live c.state ≡ true → Told k side c sent → Told k (Any.older side c) closed sent
-  evict k side c sent l t = leaves k side c c closed sent refl closed_fits t
+  evict k side c sent l t = leaves k side c c closed sent refl closed_fits closed_lens t
 
   same_past : (k : ℕ) (side new : Side) (c : Connection) (sent : List Sent) → new.past ≡ side.past → Told k side c sent → Told k new c sent
   same_past k side new c sent q t = record {
     fit = t.fit;
+    lens = t.lens;
+    room = t.room;
     safe = t.safe;
     was_sent = λ l z. (let x = t.was_sent l z in record { place = x.place; it = x.it; there = x.there; who = x.who; epoch = x.epoch ∙ ap length (sym q); placed = x.placed; due_now = x.due_now });
     time = λ j e x w. subst (λ p. e.epoch ≤ length p) (sym q) (t.time j e x w);
@@ -161,9 +182,32 @@ module _ (m : Meaning) (steady : IsSteady m) (Low : ℕ → Type 0) (low_text : 
   pub mark : (k : ℕ) (side : Side) (c : Connection) (sent : List Sent) (n : ℕ) (e : Sent) → Told k side c sent → Told k (marked side n e) c sent
   mark k side c sent n e t = same_past k side (marked side n e) c sent refl t
 
+  -- how many numbers a segment uses
+  abbrev size : PlainSegment → ℕ
+  size s = length s.text + one_if (has_fin s.flags) + one_if (has_syn s.flags)
+
+  -- what is outstanding is as long as what is due
+  due_size : (c : Connection) (st : State) → SafeState m steady Any_low (λ p f. tt) c st → 0 < c.len → c.len ≡ size (due m st c)
+  due_size c Closed h l = absurd h
+  due_size c SynRcvd h l = h.len
+  due_size c Established h l = (let e = cut_length (m.said c.part) c.part.acked c.len h.fits in omega (arith, e))
+  due_size c CloseWait h l = (let e = cut_length (m.said c.part) c.part.acked c.len h.text.fits in omega (arith, e))
+  due_size c FinWait1 h l = h.len
+  due_size c FinWait2 h l = absurd (let z = h.len in omega (arith, z, l))
+  due_size c Closing h l = h.len
+  due_size c TimeWait h l = absurd (let z = h.len in omega (arith, z, l))
+  due_size c LastAck h l = h.len
+
+  size_alike : (s t : PlainSegment) → Alike s t → size s ≡ size t
+  size_alike s t a =
+      let x : length s.text ≡ length t.text = ap (λ (y : List ℕ). length y) a.text in
+      let f : one_if (has_fin s.flags) ≡ one_if (has_fin t.flags) = ap (λ n. one_if (has_fin n)) a.flags in
+      let y : one_if (has_syn s.flags) ≡ one_if (has_syn t.flags) = ap (λ n. one_if (has_syn n)) a.flags in
+      omega (arith, x, f, y)
+
   -- what was told of c holds of d, into which it goes on, apart from what is outstanding
-  module _ (k : ℕ) (side : Side) (c d : Connection) (sent : List Sent) (t : Told k side c sent) (live : is_live c.state ≡ true) (l : is_live d.state ≡ true) (o : Onto m steady Low low_text c d) (f : Safe m steady Low low_text d) (fit : FitConn d) where
-    tells_on : (j : ℕ) (e : Sent) → slice_get sent j ≡ Some e → e.who ≡ to k → has_place (seg e) ≡ true → e.epoch ≡ length side.past → (is_live d.state ≡ true) × (IsOld d (seg e) ⊎ IsDue m steady Low low_text d (seg e))
+  module _ (k : ℕ) (side : Side) (c d : Connection) (sent : List Sent) (t : Told k side c sent) (live : is_live c.state ≡ true) (l : is_live d.state ≡ true) (o : Onto m steady Any_low (λ p f. tt) c d) (f : Safe m steady Any_low (λ p f. tt) d) (fit : FitConn d) (lens : Lens d) (near : d.acked ≤ c.acked + c.len) where
+    tells_on : (j : ℕ) (e : Sent) → slice_get sent j ≡ Some e → e.who ≡ to k → has_place (seg e) ≡ true → e.epoch ≡ length side.past → (is_live d.state ≡ true) × (IsOld d (seg e) ⊎ IsDue m steady Any_low (λ p f. tt) d (seg e))
     tells_on j e x w p q = (
       l,
       elim (t.tells j e x w p q).1 [
@@ -198,16 +242,39 @@ module _ (m : Meaning) (steady : IsSteady m) (Low : ℕ → Type 0) (low_text : 
           };
         }
 
-    moves : (0 < d.len → WasSent k side d sent) → Told k side d sent
-    moves was = record { fit = fit; safe = λ x. f; was_sent = λ x z. was z; time = t.time; tells = tells_on; repeats = t.repeats; agree = t.agree }
+    -- what is outstanding was so before: it uses no more numbers
+    still_room : (0 < d.len → Still m steady Any_low (λ p f. tt) c d) → d.acked + d.len ≤ 1460 * length sent
+    still_room s =
+        let r = t.room live in
+        elim (zero_or_more d.len) [
+          | inl z ↦ omega (arith, z, near, r)
+          | inr p ↦ (let y = s p in
+              let a : d.len ≡ size (due m d.state d) = due_size d d.state f.state p in
+              let b : c.len ≡ size (due m c.state c) = due_size c c.state (t.safe live).state y.some in
+              let e : size (due m d.state d) ≡ size (due m c.state c) = size_alike (due m d.state d) (due m c.state c) (o.kept y.some y.same).1 in
+              omega (arith, r, y.same, a, b, e))
+        ]
+
+    moves : (0 < d.len → Still m steady Any_low (λ p f. tt) c d) → Told k side d sent
+    moves s = record {
+      fit = fit;
+      lens = lens;
+      room = λ x. still_room s;
+      safe = λ x. f;
+      was_sent = λ x z. (let y = s z in still_sent y.some y.same);
+      time = t.time;
+      tells = tells_on;
+      repeats = t.repeats;
+      agree = t.agree;
+    }
 
     -- a new datagram that has a place
-    module _ (again : Bool) (new : Sent) (who : new.who ≡ to k) (epoch : new.epoch ≡ length side.past) (mark_is : new.again ≡ again) (placed : has_place (seg new) ≡ true) (h : Tells m steady Low low_text c d again (seg new)) where
-      low : Few m steady Low low_text → d.acked < 4294967296
-      low few = off_low m steady Low low_text few d d.state fit.captures f.state
+    module _ (again : Bool) (new : Sent) (who : new.who ≡ to k) (epoch : new.epoch ≡ length side.past) (mark_is : new.again ≡ again) (placed : has_place (seg new) ≡ true) (h : Tells m steady Any_low (λ p f. tt) c d again (seg new)) where
+      low : length (sent ++ new ∷ []) ≤ 65535 → d.acked < 4294967296
+      low few = (let r = t.room live in omega (arith, few, near, r, length-append sent (new ∷ [])))
 
       -- an earlier datagram at its number is the same, and then this one is a repetition
-      meets : Few m steady Low low_text → (j : ℕ) (e : Sent) → slice_get sent j ≡ Some e → e.who ≡ to k → has_place (seg e) ≡ true → e.epoch ≡ length side.past → (seg e).seq ≡ (seg new).seq → (again ≡ true) × Alike (seg e) (seg new)
+      meets : length (sent ++ new ∷ []) ≤ 65535 → (j : ℕ) (e : Sent) → slice_get sent j ≡ Some e → e.who ≡ to k → has_place (seg e) ≡ true → e.epoch ≡ length side.past → (seg e).seq ≡ (seg new).seq → (again ≡ true) × Alike (seg e) (seg new)
       meets few j e x w p q s =
           elim (t.tells j e x w p q).1 [
             | inl a ↦ (let z : a.at ≡ d.acked = same_place d.first a.at d.acked (let g = a.past in let b = low few in omega (arith, g, b, o.grows)) (low few) (ap (λ n. wrap (n + a.at)) o.first ∙ sym a.seq ∙ s ∙ h.due_now.seq) in absurd (let g = a.past in omega (arith, g, o.grows, z)))
@@ -245,12 +312,14 @@ module _ (m : Meaning) (steady : IsSteady m) (Low : ℕ → Type 0) (low_text : 
       says_placed : Told k side d (sent ++ new ∷ [])
       says_placed = record {
         fit = fit;
+        lens = lens;
+        room = λ x. (let r = t.room live in let n = lens.len in omega (arith, near, r, n, length-append sent (new ∷ [])));
         safe = λ x. f;
         was_sent = λ x z. record { place = length sent; it = new; there = get_newest sent new; who = who; epoch = epoch; placed = placed; due_now = h.due_now };
         time = λ j e x w. elim (get_push sent new j e x) [ older g ↦ t.time j e g w | newest i g ↦ (let q : e.epoch ≡ length side.past = ap (λ n. n.epoch) (sym g) ∙ epoch in omega (arith, q)) ];
         tells = λ j e x w p q. elim (get_push sent new j e x) [
           | older g ↦ tells_on j e g w p q
-          | newest i g ↦ (l, inr (subst (λ n. IsDue m steady Low low_text d (seg n)) g h.due_now))
+          | newest i g ↦ (l, inr (subst (λ n. IsDue m steady Any_low (λ p f. tt) d (seg n)) g h.due_now))
         ];
         repeats = λ j e x w a. elim (get_push sent new j e x) [
           | older g ↦ before_more sent new e j (t.repeats j e g w a)
@@ -258,7 +327,7 @@ module _ (m : Meaning) (steady : IsSteady m) (Low : ℕ → Type 0) (low_text : 
         ];
         agree = λ few i j e e' x y lt we wf ep pe pf se. elim (get_push sent new i e x) [
           | older g ↦ elim (get_push sent new j e' y) [
-            | older g' ↦ t.agree few i j e e' g g' lt we wf ep pe pf se
+            | older g' ↦ t.agree (omega (arith, few, length-append sent (new ∷ []))) i j e e' g g' lt we wf ep pe pf se
             | newest b g' ↦ absurd (let n = get_inside sent e i g in omega (arith, n, b, lt))
           ]
           | newest b g ↦ elim (get_push sent new j e' y) [
@@ -269,24 +338,24 @@ module _ (m : Meaning) (steady : IsSteady m) (Low : ℕ → Type 0) (low_text : 
         ];
       }
 
-  pub steps_by : (w : World) (old : Connection) (o : Outcome) (k : ℕ) (side : Side) → is_live old.state ≡ true → FitConn o.connection → StepTells m steady Low low_text old o.connection (segment_of m o.connection o.step) (is_again o.step) → Told k side old w.sent → Steps m Told other reset evict mark w o k side
-  steps_by w old o k side live fit h t = record {
-    quiet = λ n l. moves k side old o.connection w.sent t live l (h.onto l) (h.safe l) fit
+  pub steps_by : (w : World) (old : Connection) (o : Outcome) (k : ℕ) (side : Side) → is_live old.state ≡ true → FitConn o.connection → Lens o.connection → o.connection.acked ≤ old.acked + old.len → StepTells m steady Any_low (λ p f. tt) old o.connection (segment_of m o.connection o.step) (is_again o.step) → Told k side old w.sent → Steps m Told other reset evict mark w o k side
+  steps_by w old o k side live fit lens near h t = record {
+    quiet = λ n l. moves k side old o.connection w.sent t live l (h.onto l) (h.safe l) fit lens near
         (λ z. elim (h.still l z) [
-          | inl y ↦ still_sent k side old o.connection w.sent t live l (h.onto l) (h.safe l) fit y.some y.same
+          | inl y ↦ y
           | inr y ↦ absurd (let e : Some y.said ≡ None = sym y.is ∙ n in cc)
         ]);
-    quiet_last = λ n l. leaves k side old o.connection closed w.sent refl closed_fits t;
+    quiet_last = λ n l. leaves k side old o.connection closed w.sent refl closed_fits closed_lens t;
     says = λ s e l tick id. Rattle.uip_node.proofs.Basics.both_ways (has_place s)
-        (λ p. says_placed k side old o.connection w.sent t live l (h.onto l) (h.safe l) fit (is_again o.step) (entry (to k) side tick id (speech (is_again o.step) s)) refl refl refl p (h.said s e p))
+        (λ p. says_placed k side old o.connection w.sent t live l (h.onto l) (h.safe l) fit lens near (is_again o.step) (entry (to k) side tick id (speech (is_again o.step) s)) refl refl refl p (h.said s e p))
         (λ p. push_silent k side o.connection w.sent (entry (to k) side tick id (speech (is_again o.step) s))
-        (moves k side old o.connection w.sent t live l (h.onto l) (h.safe l) fit
+        (moves k side old o.connection w.sent t live l (h.onto l) (h.safe l) fit lens near
         (λ z. elim (h.still l z) [
-          | inl y ↦ still_sent k side old o.connection w.sent t live l (h.onto l) (h.safe l) fit y.some y.same
+          | inl y ↦ y
           | inr y ↦ absurd (let q : Some y.said ≡ Some s = sym y.is ∙ e in let u : has_place s ≡ true = only_some (λ x. has_place x ≡ true) y.said s q y.placed in cc)
         ]))
         (λ w'. record { epoch = omega arith; unplaced = λ x. absurd (cc); unmarked = λ x. absurd (let u : has_place s ≡ true = h.marked s e x in cc) }));
-    says_last = λ s e l tick id. push_silent k (Any.older side o.connection) closed w.sent (entry (to k) (Any.older side o.connection) tick id (speech (is_again o.step) s)) (leaves k side old o.connection closed w.sent refl closed_fits t)
+    says_last = λ s e l tick id. push_silent k (Any.older side o.connection) closed w.sent (entry (to k) (Any.older side o.connection) tick id (speech (is_again o.step) s)) (leaves k side old o.connection closed w.sent refl closed_fits closed_lens t)
         (λ w'. record { epoch = omega arith; unplaced = λ x. absurd (let u : is_live o.connection.state ≡ true = (h.said s e x).live in cc); unmarked = λ x. absurd (let u : is_live o.connection.state ≡ true = (h.said s e (h.marked s e x)).live in cc) });
   }
 
@@ -302,18 +371,20 @@ module _ (m : Meaning) (steady : IsSteady m) (Low : ℕ → Type 0) (low_text : 
   birth w first sockets k j side e own sent who fresh plain fit t tick id =
       let c : Connection = accepted first sockets (seg e) in
       let new : Sent = entry (to k) side tick id (speech false (syn_ack c)) in
-      let due_now : IsDue m steady Low low_text c (syn_ack c) = record { len = omega arith; seq = refl; alike = alike_refl (syn_ack c) } in
+      let due_now : IsDue m steady Any_low (λ p f. tt) c (syn_ack c) = record { len = omega arith; seq = refl; alike = alike_refl (syn_ack c) } in
       let none : (j : ℕ) (x : Sent) → slice_get w.sent j ≡ Some x → x.who ≡ to k → has_place (seg x) ≡ true → x.epoch ≡ length side.past → ⊥ = λ j x g w p q. absurd (let z = (t.tells j x g w p q).0 in cc) in
       record {
         fit = fit;
+        lens = accepted_lens first sockets (seg e);
+        room = λ l. omega (arith, length-append w.sent (new ∷ []));
         safe = λ l. record { mss = mss_some (seg e).mss; initial = mss_some (seg e).mss; state = record { len = refl; acked = refl } };
         was_sent = λ x z. record { place = length w.sent; it = new; there = get_newest w.sent new; who = refl; epoch = refl; placed = refl; due_now = due_now };
         time = λ i x g wh. elim (get_push w.sent new i x g) [ older h ↦ t.time i x h wh | newest b h ↦ (let q : x.epoch ≡ length side.past = ap (λ n. n.epoch) (sym h) in omega (arith, q)) ];
-        tells = λ i x g wh p q. elim (get_push w.sent new i x g) [ older h ↦ absurd (none i x h wh p q) | newest b h ↦ (refl, inr (subst (λ n. IsDue m steady Low low_text c (seg n)) h due_now)) ];
+        tells = λ i x g wh p q. elim (get_push w.sent new i x g) [ older h ↦ absurd (none i x h wh p q) | newest b h ↦ (refl, inr (subst (λ n. IsDue m steady Any_low (λ p f. tt) c (seg n)) h due_now)) ];
         repeats = λ i x g wh a. elim (get_push w.sent new i x g) [ older h ↦ before_more w.sent new x i (t.repeats i x h wh a) | newest b h ↦ absurd (let z : false ≡ true = ap (λ n. n.again) h ∙ a in cc) ];
         agree = λ few i j x y g g' lt we wf ep pe pf se. elim (get_push w.sent new i x g) [
           | older h ↦ elim (get_push w.sent new j y g') [
-            | older h' ↦ t.agree few i j x y h h' lt we wf ep pe pf se
+            | older h' ↦ t.agree (omega (arith, few, length-append w.sent (new ∷ []))) i j x y h h' lt we wf ep pe pf se
             | newest b h' ↦ absurd (let n = get_inside w.sent x i h in omega (arith, n, b, lt))
           ]
           | newest b h ↦ elim (get_push w.sent new j y g') [
@@ -334,7 +405,7 @@ module _ (m : Meaning) (steady : IsSteady m) (Low : ℕ → Type 0) (low_text : 
     apart = opening_apart plan is;
     single = λ p i j x y a b u v. absurd (let z = none_serves 10 p i x a in cc);
     each = λ k side x. (let e : serving (client_sockets side) (replicate 10 closed) ≡ closed = serving_free (replicate 10 closed) (client_sockets side) (none_serves 10 (client_sockets side)) in
-        subst (λ c. Told k side c []) (sym e) (record { fit = closed_fits; safe = λ l. absurd (cc); was_sent = λ l. absurd (cc); time = λ j e' y. absurd (cc); tells = λ j e' y. absurd (cc); repeats = λ j e' y. absurd (cc); agree = λ few i j e' f y. absurd (cc) }));
+        subst (λ c. Told k side c []) (sym e) (record { fit = closed_fits; lens = closed_lens; room = λ l. absurd (cc); safe = λ l. absurd (cc); was_sent = λ l. absurd (cc); time = λ j e' y. absurd (cc); tells = λ j e' y. absurd (cc); repeats = λ j e' y. absurd (cc); agree = λ few i j e' f y. absurd (cc) }));
   }
 
   told_step : (served : ℕ → Bool) (v : World) (act : Act) → Harmless m served v act → Framed m Told other reset evict mark v → FitWorld v → Framed m Told other reset evict mark (does m served v act)
@@ -343,11 +414,13 @@ module _ (m : Meaning) (steady : IsSteady m) (Low : ℕ → Type 0) (low_text : 
       (λ w old numbers now k j side e l f n is sent who fresh t.
       let o : Outcome = on_segment m old numbers (seg e) in
       let fo : FitOut o = on_segment_fits m steady old numbers (seg e) f n in
-      steps_by w old (asked m now o) k side l (stepped_fits m steady Low low_text now o is fo) (stepped_tells m steady Low low_text now old o is fo (segment_tells m steady Low low_text old numbers (seg e) (t.safe l))) t)
+      steps_by w old (asked m now o) k side l (stepped_fits m steady Any_low (λ p f. tt) now o is fo) (asked_lens m now o (on_segment_lens m old numbers (seg e) t.lens))
+      (near_by _ old (asked m now o).connection (asked_moves m _ old now o (segment_moves m old numbers (seg e)))) (stepped_tells m steady Any_low (λ p f. tt) now old o is fo (segment_tells m steady Any_low (λ p f. tt) old numbers (seg e) (t.safe l))) t)
       (λ w old numbers now k side l f n is t.
       let o : Outcome = on_tick m old numbers in
       let fo : FitOut o = on_tick_fits m steady old numbers f n in
-      steps_by w old (asked m now o) k side l (stepped_fits m steady Low low_text now o is fo) (stepped_tells m steady Low low_text now old o is fo (tick_tells m steady Low low_text old numbers (t.safe l))) t)
+      steps_by w old (asked m now o) k side l (stepped_fits m steady Any_low (λ p f. tt) now o is fo) (asked_lens m now o (on_tick_lens m old numbers t.lens))
+      (near_by _ old (asked m now o).connection (asked_moves m false old now o (tick_moves m old numbers))) (stepped_tells m steady Any_low (λ p f. tt) now old o is fo (tick_tells m steady Any_low (λ p f. tt) old numbers (t.safe l))) t)
       birth
       (any_step m Told other reset evict mark takes)
       v act harm g fits
@@ -363,9 +436,9 @@ is_segment (OfSegment id s) h = record { id = id; segment = s; is = refl }
 is_segment (OfPing d) h = absurd (let z : false ≡ true = h in cc)
 is_segment (OfEcho d) h = absurd (let z : false ≡ true = h in cc)
 
--- what is told of a world says that it repeats the same bytes, and, where the numbers are low, that it marks repeats
-module _ (m : Meaning) (steady : IsSteady m) (Low : ℕ → Type 0) (low_text : (p : Part) → All IsMoment p.captures → Low (length (m.said p))) (w : World)
-    (told : (k : ℕ) (side : Side) → slice_get w.sides k ≡ Some side → Told m steady Low low_text k side (serving (client_sockets side) w.node.connections) w.sent) where
+-- what is told of a world says that it repeats the same bytes, and, where it has no more datagrams than it can have, that it marks repeats
+module _ (m : Meaning) (steady : IsSteady m) (w : World)
+    (told : (k : ℕ) (side : Side) → slice_get w.sides k ≡ Some side → Told m steady k side (serving (client_sockets side) w.node.connections) w.sent) where
   repeats_bytes : RepeatsSameBytes w
   repeats_bytes k side x i e id s g who content again =
       let b = (told k side x).repeats i e g who again in
@@ -388,40 +461,39 @@ module _ (m : Meaning) (steady : IsSteady m) (Low : ℕ → Type 0) (low_text : 
         },
       )
 
-  marks_repeats : Few m steady Low low_text → MarksRepeats w
+  marks_repeats : HasRoom w → MarksRepeats w
   marks_repeats few k side x i j e f id id' s t g h lt we wf ce cf ep se pe pf =
       let q : seg e ≡ s = ap segment_in ce in
       let q' : seg f ≡ t = ap segment_in cf in
       let a = (told k side x).agree few i j e f g h lt we wf ep (ap has_place q ∙ pe) (ap has_place q' ∙ pf) (ap (λ n. n.seq) q ∙ se ∙ ap (λ n. n.seq) (sym q')) in
       (a.0, subst (λ n. Alike n s) q' (subst (λ n. Alike (seg f) n) q a.1))
 
-module _ (m : Meaning) (pages : Pages) (lawful : IsPaged m pages) (w : World) (r : IsReached m pages w) where
-  told_paged : (k : ℕ) (side : Side) → slice_get w.sides k ≡ Some side
-      → Told m (steady_of m pages lawful) IsShort (short_said m pages lawful) k side (serving (client_sockets side) w.node.connections) w.sent
-  told_paged =
-      (reached m pages lawful
-      (λ v. Framed m (Told m (steady_of m pages lawful) IsShort (short_said m pages lawful)) (other m (steady_of m pages lawful) IsShort (short_said m pages lawful)) (reset m (steady_of m pages lawful) IsShort (short_said m pages lawful)) (evict m (steady_of m pages lawful) IsShort (short_said m pages lawful)) (mark m (steady_of m pages lawful) IsShort (short_said m pages lawful)) v)
-      (told_step m (steady_of m pages lawful) IsShort (short_said m pages lawful)) (opening_told m (steady_of m pages lawful) IsShort (short_said m pages lawful)) w r).each
+module _ (m : Meaning) (steady : IsSteady m) where
+  abbrev ToldWorld : World → Type 0
+  ToldWorld v = Framed m (Told m steady) (other m steady) (reset m steady) (evict m steady) (mark m steady) v
 
-pub same_bytes : SameBytes
-same_bytes m pages lawful w r = repeats_bytes m (steady_of m pages lawful) IsShort (short_said m pages lawful) w (told_paged m pages lawful w r)
+  told_plainly : (w : World) → IsReachedPlainly m w → ToldWorld w
+  told_plainly w r = reached_plainly m steady ToldWorld (told_step m steady) (opening_told m steady) w r
 
-pub again_exactly : AgainExactly
-again_exactly m pages lawful w r = marks_repeats m (steady_of m pages lawful) IsShort (short_said m pages lawful) w (told_paged m pages lawful w r) (λ n h. h)
-
--- any number is as low as is needed where marks are not spoken of
-abbrev Any_low : ℕ → Type 0
-Any_low n = Unit {0}
+  -- and where bytes are said, damage or not
+  told_where : (pages : Pages) (H : Connection → Type 0) → (HasBytes pages → SaysBytesWhere m H) → (w : World) → IsReached m pages w → ToldWorld w
+  told_where pages H bytes w r = reached_where m pages steady H bytes ToldWorld (told_step m steady) (opening_told m steady) w r
 
 pub same_bytes_plainly : SameBytesPlainly
-same_bytes_plainly m steady w r =
-    repeats_bytes m steady Any_low (λ p f. tt) w
-    (reached_plainly m steady (λ v. Framed m (Told m steady Any_low (λ p f. tt)) (other m steady Any_low (λ p f. tt)) (reset m steady Any_low (λ p f. tt)) (evict m steady Any_low (λ p f. tt)) (mark m steady Any_low (λ p f. tt)) v)
-    (told_step m steady Any_low (λ p f. tt)) (opening_told m steady Any_low (λ p f. tt)) w r).each
+same_bytes_plainly m steady w r = repeats_bytes m steady w (told_plainly m steady w r).each
 
--- and where bytes are said, damage or not
+pub again_exactly_plainly : AgainExactlyPlainly
+again_exactly_plainly m steady w r = marks_repeats m steady w (told_plainly m steady w r).each (room_plainly m w r)
+
 pub same_bytes_where : (m : Meaning) (pages : Pages) (steady : IsSteady m) (H : Connection → Type 0) → (HasBytes pages → SaysBytesWhere m H) → (w : World) → IsReached m pages w → RepeatsSameBytes w
-same_bytes_where m pages steady H bytes w r =
-    repeats_bytes m steady Any_low (λ p f. tt) w
-    (reached_where m pages steady H bytes (λ v. Framed m (Told m steady Any_low (λ p f. tt)) (other m steady Any_low (λ p f. tt)) (reset m steady Any_low (λ p f. tt)) (evict m steady Any_low (λ p f. tt)) (mark m steady Any_low (λ p f. tt)) v)
-    (told_step m steady Any_low (λ p f. tt)) (opening_told m steady Any_low (λ p f. tt)) w r).each
+same_bytes_where m pages steady H bytes w r = repeats_bytes m steady w (told_where m steady pages H bytes w r).each
+
+pub again_exactly_where : (m : Meaning) (pages : Pages) (steady : IsSteady m) (H : Connection → Type 0) → (HasBytes pages → SaysBytesWhere m H) → (w : World) → IsReached m pages w → MarksRepeats w
+again_exactly_where m pages steady H bytes w r = marks_repeats m steady w (told_where m steady pages H bytes w r).each (room_where m pages steady H bytes w r)
+
+-- an application whose text is a page
+pub same_bytes : SameBytes
+same_bytes m pages lawful w r = same_bytes_where m pages (steady_of m pages lawful) (λ c. Unit {0}) (pages_say_bytes m pages lawful) w r
+
+pub again_exactly : AgainExactly
+again_exactly m pages lawful w r = again_exactly_where m pages (steady_of m pages lawful) (λ c. Unit {0}) (pages_say_bytes m pages lawful) w r

@@ -167,6 +167,10 @@ MarksRepeats w =
 abbrev pub AgainExactly : Type 0
 AgainExactly = (m : Meaning) (pages : Pages) → IsPaged m pages → (w : World) → IsReached m pages w → MarksRepeats w
 
+-- It needs no page either, nor a bound on what is said, where nothing is damaged.
+abbrev pub AgainExactlyPlainly : Type 0
+AgainExactlyPlainly = (m : Meaning) → IsSteady m → (w : World) → IsReachedPlainly m w → MarksRepeats w
+
 -- the connection that serves a client
 abbrev pub server_side : World → Side → Connection
 server_side w side = serving (client_sockets side) w.node.connections

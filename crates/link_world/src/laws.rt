@@ -5,7 +5,7 @@
 ghost use Rattle.link_world.specs.Parts.{CleanParts};
 ghost use Rattle.link_world.specs.Honest.{HonestLink};
 ghost use Rattle.link_world.specs.Reading.{BytesAreRead, SentToClients};
-ghost use Rattle.link_world.specs.Headline.{PrefixAndWhole, SameBytes, SameBytesPlainly, AgainExactly, Tick, DamageIsLoss, DamageIsLossThere, OneSegment, LinesAreActs};
+ghost use Rattle.link_world.specs.Headline.{PrefixAndWhole, SameBytes, SameBytesPlainly, AgainExactly, AgainExactlyPlainly, Tick, DamageIsLoss, DamageIsLossThere, OneSegment, LinesAreActs};
 ghost use Rattle.link_world.specs.Nodes.{CapturesFit, TextNumbers, TextsAreShort};
 ghost use Rattle.link_world.specs.Times.{AcknowledgedLater, EpochsAreFew, MarkIsLow, NoneIsEmpty, OneConnection, SidesAsPlanned};
 
@@ -27,6 +27,11 @@ pub fn same_bytes_plainly()
 /// A datagram is marked as sent again exactly where an earlier one of the same connection stands at its number.
 pub fn again_exactly()
     ensures { AgainExactly }
+{}
+
+/// The same without a page, and with no bound on what is said, where nothing is damaged.
+pub fn again_exactly_plainly()
+    ensures { AgainExactlyPlainly }
 {}
 
 /// An expired timer below its limit sends what is outstanding in that tick.
