@@ -1,7 +1,7 @@
 -- The text of a dump: one line for each frame of a serial line.
 use Rattle.std.specs.Prelude.{ℕ, List, [], ◌∷◌, ◌++◌, length, slice_index, Option, Some, Result, Ok, Err, if◌then◌else◌, codes, decimal}
 use Rattle.std.specs.List.{enumerate_from, flat_map}
-use Rattle.uip_wire.specs.Addr.{address_at}
+use Rattle.uip_wire.specs.Addr.{address_at, quad_text}
 use Rattle.uip_ipv4.specs.Head.{head_or_fate, payload_of}
 use Rattle.uip_ipv4.specs.declared.fate.IpFate.{IpFate}
 use Rattle.uip_ipv4.specs.declared.fate.IpFate.TheVariants as ip
@@ -12,25 +12,13 @@ use Rattle.icmp_echo.specs.Echo.{echo_fate}
 use Rattle.icmp_echo.specs.declared.fate.IcmpFate.{IcmpFate}
 use Rattle.icmp_echo.specs.declared.fate.IcmpFate.TheVariants as icmp
 use Rattle.tcp_segment.specs.Received.{segment_or_fate}
-use Rattle.tcp_segment.specs.Segments.{has_ack, has_fin, has_psh, has_rst, has_syn}
+use Rattle.tcp_segment.specs.Segments.{letters_of}
 use Rattle.tcp_segment.specs.declared.fate.TcpFate.{TcpFate}
 use Rattle.tcp_segment.specs.declared.fate.TcpFate.TheVariants as tcp
 use Rattle.tcp_segment.specs.declared.segment.Segment.{Segment}
 use Rattle.uip_edge.specs.declared.item.Item.{Item}
 use Rattle.uip_slip.specs.Frames.{Frame, Datagram, Overlong, frames}
 use Rattle.uip_edge.specs.Coming.{bytes_among}
-
--- an address as a dotted quad
-abbrev pub quad_text : List ℕ → List ℕ
-quad_text address =
-    decimal (slice_index address 0) ++ codes "." ++ decimal (slice_index address 1) ++ codes "."
-    ++ decimal (slice_index address 2) ++ codes "." ++ decimal (slice_index address 3)
-
--- the letters of the flags that are set (RFC 793, section 3.1), URG left out
-abbrev pub letters_of : ℕ → List ℕ
-letters_of flags =
-    (if has_syn flags then codes "S" else []) ++ (if has_ack flags then codes "A" else []) ++ (if has_psh flags then codes "P" else [])
-    ++ (if has_fin flags then codes "F" else []) ++ (if has_rst flags then codes "R" else [])
 
 -- a dash stands for none
 abbrev pub letters_or_dash : List ℕ → List ℕ
