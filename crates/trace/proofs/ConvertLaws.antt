@@ -5,6 +5,7 @@ use Rattle.uip_edge.specs.Coming.{Consumes, bytes_among}
 use Rattle.uip_edge.specs.Ending.{EndsBy}
 use Rattle.uip_edge.specs.declared.item.Item.{Item}
 use Rattle.uip_edge.specs.declared.item.Item.TheVariants.{Byte, Quiet}
+use Rattle.uip_edge.specs.declared.serve_end.ServeEnd.{ServeEnd}
 use Rattle.uip_edge.specs.declared.serve_end.ServeEnd.TheVariants as line
 use Rattle.uip_edge.proofs.Breaking.{breaks_front}
 use Rattle.uip_edge.proofs.Told.{bytes_among-append, bytes_among-map}
@@ -13,6 +14,9 @@ use Rattle.trace.specs.CaptureReading.{Captured, IsReadAs, Reading, cut_in, capt
 use Rattle.trace.specs.CaptureReading.Reading.{BadHeader, BadLength, InRecord, InHeader, Whole}
 use Rattle.trace.specs.Converting.{Converts, HasNewFault, IsFoundSoon, SlipEndsBy, WroteLine}
 use Rattle.trace.specs.Gathering.{IsReadTo, IsOpen, IsReadSound, StopBy, Stopped, StopsAt, end_at}
+use Rattle.trace.specs.LineReading.{EndsRead, StopsRead}
+use Rattle.trace.specs.contracts.reader.ReaderLineReader.TheImpl.{ghosts}
+use Rattle.trace.specs.declared.reader.Reader.{Reader}
 use Rattle.trace.specs.declared.reader.Stop.{Stop}
 use Rattle.trace.specs.declared.reader.Stop.TheVariants as stops
 use Rattle.trace.specs.declared.slip_end.CaptureWhy.{CaptureWhy}
@@ -146,20 +150,20 @@ module _ (n : ℕ) (taken : List Item) (old new : LineTold) (stage : Stage) (num
   abbrev sound : IsSoundAt old.sink.written new.sink.written (bytes_among taken) (end_at stage part number)
   sound = sound_at _ _ _ stage number part want at is
 
-  pub ended : EndsBy n old new taken line.End → Converts n old new (end_at stage part number)
+  ended : EndsBy n old new taken line.End → Converts n old new (end_at stage part number)
   ended e = ended_so (end_at stage part number) sound e
 
-  pub link_failed : EndsBy n old new taken line.LinkFault → Converts n old new ends.LinkFault
+  link_failed : EndsBy n old new taken line.LinkFault → Converts n old new ends.LinkFault
   link_failed e = converted ends.LinkFault (end_at stage part number) sound (e, sound.sound) (λ is. cc is) sound.written
 
-  pub spent : EndsBy n old new taken line.Budget → Converts n old new ends.Budget
+  spent : EndsBy n old new taken line.Budget → Converts n old new ends.Budget
   spent e = converted ends.Budget (end_at stage part number) sound (e, sound.sound) (λ is. cc is) sound.written
 
 -- the reader stopped among bytes that came in one answer
 module _ (n : ℕ) (before : List Item) (bytes : List ℕ) (old new : LineTold) (number : ℕ)
     (c : Consumes old.link.coming new.link.coming (before ++ map Byte bytes)) (within : length (before ++ map Byte bytes) ≤ n)
     (calm : new.link.faults ≡ old.link.faults) where
-  pub write_failed : Stopped stops.WriteFault old.sink.written before bytes old.sink.faults new.sink number → Converts n old new ends.WriteFault
+  write_failed : Stopped stops.WriteFault old.sink.written before bytes old.sink.faults new.sink number → Converts n old new ends.WriteFault
   write_failed s = record {
     taken = before ++ map Byte bytes;
     consumed = c;
@@ -179,7 +183,7 @@ module _ (n : ℕ) (before : List Item) (bytes : List ℕ) (old new : LineTold) 
   found_so whys.Length reading fault all fresh = (within, all, fault, fresh)
   found_so whys.Cut reading fault all fresh = absurd (never_cut reading number fault)
 
-  pub file_fault : (why : CaptureWhy) → Stopped (stops.Bad why) old.sink.written before bytes old.sink.faults new.sink number
+  file_fault : (why : CaptureWhy) → Stopped (stops.Bad why) old.sink.written before bytes old.sink.faults new.sink number
       → Converts n old new (ends.Bad number why)
   file_fault why s = record {
     taken = before ++ map Byte bytes;
@@ -191,7 +195,36 @@ module _ (n : ℕ) (before : List Item) (bytes : List ℕ) (old new : LineTold) 
     wrote = s.stops.written;
   }
 
-  pub found_soon : (why : CaptureWhy) → length bytes ≤ 4096 → IsReadSound (bytes_among before) → IsFoundSoon old new (ends.Bad number why)
+  found_soon : (why : CaptureWhy) → length bytes ≤ 4096 → IsReadSound (bytes_among before) → IsFoundSoon old new (ends.Bad number why)
   found_soon whys.Cut few s = tt
   found_soon whys.Head few s = (before ++ map Byte bytes, c, new_fault s, few)
   found_soon whys.Length few s = (before ++ map Byte bytes, c, new_fault s, few)
+
+-- the same, from what is told of a line that the reader read
+module _ (n : ℕ) (old new : LineTold) (reader : Reader) where
+  abbrev Ends : ServeEnd → Type 0
+  Ends end = EndsRead ghosts old.sink.written n old new reader end
+
+  abbrev Stops : Stop → Type 0
+  Stops stop = StopsRead ghosts old.sink.written n old new reader stop
+
+  pub line_ended : Ends line.End → Converts n old new (end_at reader.stage reader.part reader.number)
+  line_ended r = ended n r.taken old new reader.stage reader.number reader.part reader.want r.consumed r.took r.ready r.ends
+
+  pub line_lost : Ends line.LinkFault → Converts n old new ends.LinkFault
+  line_lost r = link_failed n r.taken old new reader.stage reader.number reader.part reader.want r.consumed r.took r.ready r.ends
+
+  pub line_spent : Ends line.Budget → Converts n old new ends.Budget
+  line_spent r = spent n r.taken old new reader.stage reader.number reader.part reader.want r.consumed r.took r.ready r.ends
+
+  pub line_unwritten : Ends line.WriteFault → Converts n old new ends.WriteFault
+  line_unwritten r = absurd (r.written refl)
+
+  pub stop_unwritten : Stops stops.WriteFault → Converts n old new ends.WriteFault
+  stop_unwritten r = write_failed n r.before r.bytes old new reader.number r.consumed r.within r.calm r.stopped
+
+  pub stop_bad : (why : CaptureWhy) → Stops (stops.Bad why) → Converts n old new (ends.Bad reader.number why)
+  stop_bad why r = file_fault n r.before r.bytes old new reader.number r.consumed r.within r.calm why r.stopped
+
+  pub stop_soon : (why : CaptureWhy) → Stops (stops.Bad why) → IsFoundSoon old new (ends.Bad reader.number why)
+  stop_soon why r = found_soon n r.before r.bytes old new reader.number r.consumed r.within r.calm why r.soon r.stopped.front
