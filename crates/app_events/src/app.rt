@@ -1,4 +1,4 @@
-ghost use Rattle.std.specs.Prelude.{◌≡◌, ℕ, ◌≤◌, List, length, take, Bool};
+ghost use Rattle.std.specs.Prelude.{◌≡◌, ℕ, List, length, take, Bool};
 ghost use Rattle.app_events.specs.Part.{Part, Meaning, text_left, HasPart, CanSay};
 ghost use Rattle.app_events.specs.Laws.{IsLawful, StartsAnew};
 

@@ -1,6 +1,6 @@
 ghost use Rattle.std.specs.Prelude.{◌≡◌, None, if◌then◌else◌, nat_lt, option_map};
 ghost use Rattle.dns_message.specs.Names.{behind_name, behind_pointer};
-ghost use Rattle.dns_message.specs.Records.{address_in, answer_of_records, first_record, is_address, plain_record, record_behind};
+ghost use Rattle.dns_message.specs.Records.{address_in, answer_of_records, first_record, plain_record, record_behind};
 
 use crate::answer::Answer;
 use uip_wire::{Addr, get16};

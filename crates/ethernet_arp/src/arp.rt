@@ -1,6 +1,6 @@
 ghost use Rattle.std.specs.List.{position_or_len};
 ghost use Rattle.std.specs.Prelude.{◌≡◌, ◌<◌, ◌++◌, [], ◌∷◌, List, Some, map, option_map};
-ghost use Rattle.ethernet_arp.specs.Learning.{Act, Pair, Ticked, known, taught};
+ghost use Rattle.ethernet_arp.specs.Learning.{Act, Ticked, known, taught};
 ghost use Rattle.ethernet_arp.specs.Table.{Knows, aged, host_of, in_table, is_of, moved_front};
 
 use crate::mac::Mac;

@@ -1,4 +1,4 @@
-ghost use Rattle.std.specs.Prelude.{◌≡◌, ◌≤◌, ◌++◌, [], List, ℕ, length, take};
+ghost use Rattle.std.specs.Prelude.{◌≡◌, ◌≤◌, ◌++◌, [], List, length, take};
 ghost use Rattle.line_medium.specs.Ways.{ShowsBrought, TellsBrought, acts_among};
 ghost use Rattle.ethernet_arp.specs.EtherWay.{ether_way};
 ghost use Rattle.ethernet_arp.specs.Frames.{frame_brings};
@@ -77,7 +77,7 @@ impl EtherLine {
 }
 
 impl Medium for EtherLine {
-    ghost use Rattle.std.specs.Prelude.{◌≡◌, [], List, ℕ};
+    ghost use Rattle.std.specs.Prelude.{◌≡◌, [], List};
     ghost use Rattle.ethernet_arp.specs.EtherWay.{ether_way, open_from};
     ghost use Rattle.ethernet_arp.specs.Frames.{Host};
     ghost use Rattle.ethernet_arp.specs.Learning.{Act as EtherAct};

@@ -1,5 +1,4 @@
 ghost use Rattle.std.specs.Prelude.{◌≡◌, ◌+◌, ◌≤◌, length, option_map};
-ghost use Rattle.uip_wire.specs.Fields.{written};
 ghost use Rattle.ethernet_arp.specs.Frames.{mac_at};
 ghost use Rattle.ethernet_arp.specs.Words.{digit_of, mac_of_text, pair_of};
 

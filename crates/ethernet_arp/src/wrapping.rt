@@ -1,4 +1,4 @@
-ghost use Rattle.std.specs.Prelude.{◌≡◌, ◌≤◌, List, length};
+ghost use Rattle.std.specs.Prelude.{◌≤◌, List, length};
 ghost use Rattle.uip_wire.specs.Addr.{address_at};
 ghost use Rattle.ethernet_arp.specs.Frames.{frame_with, arp_request, wrapped, wrapped_to};
 ghost use Rattle.ethernet_arp.specs.Learning.{Act};

@@ -1,4 +1,4 @@
-ghost use Rattle.std.specs.Prelude.{◌≡◌, ◌<◌, ◌≤◌, Some, length, is_some, option_and_then, option_map, slice_get, IfOk, IfErr, IfSome};
+ghost use Rattle.std.specs.Prelude.{◌≡◌, ◌<◌, Some, length, is_some, option_and_then, option_map, slice_get, IfOk, IfErr, IfSome};
 ghost use Rattle.site_image.specs.Files.{file_named, has_name};
 ghost use Rattle.site_image.specs.Places.{files_in};
 ghost use Rattle.file_tree.specs.Index.{AreWithin, IsOrder, IsSlot, IsIndex, name_of, name_at};

@@ -1,4 +1,4 @@
-ghost use Rattle.std.specs.Prelude.{◌≡◌, ◌<◌, ◌≤◌, ◌+◌, ◌↔◌, [], List, Some, Ok, length, is_some, IfOk, IfSome, IsTrue, option_and_then, option_map, slice_get};
+ghost use Rattle.std.specs.Prelude.{◌≡◌, ◌<◌, ◌≤◌, ◌↔◌, [], List, Some, Ok, length, is_some, IfOk, IfSome, IsTrue, option_and_then, option_map, slice_get};
 ghost use Rattle.site_image.specs.declared.TheConstants.{MOST_FILES};
 ghost use Rattle.site_image.specs.Files.{File, file_named, kind_of, has_name};
 ghost use Rattle.site_image.specs.Grammar.{IsImage};

@@ -10,9 +10,9 @@ ghost use Rattle.site_image.specs.Grammar.{entry, image as spelled, magic};
 ghost use Rattle.site_image.specs.Faults.{refuse, read_image};
 ghost use Rattle.site_image.specs.Places.{files_in};
 ghost use Rattle.file_tree.specs.Answers.{Fails, Gives};
-ghost use Rattle.file_tree.specs.Index.{AreWithin, IsIndex};
+ghost use Rattle.file_tree.specs.Index.{AreWithin};
 ghost use Rattle.file_tree.specs.Site.{AreGood, files_of};
-ghost use Rattle.file_tree.specs.Upgrading.{KindContent, chosen, retyped, upgraded, second_image};
+ghost use Rattle.file_tree.specs.Upgrading.{chosen, upgraded, second_image};
 
 use crate::file_id::FileId;
 use crate::kind_word::KindWord;

@@ -1,7 +1,6 @@
 //! The text of a row of the table of connections.
 
-ghost use Rattle.std.specs.Prelude.{◌≡◌, ℕ, ◌+◌, ◌++◌, ◌≤◌, ◌<◌, ◌^◌, List, decimal, length, take};
-ghost use Rattle.generators.specs.Parts.{HoldsPart};
+ghost use Rattle.std.specs.Prelude.{◌≡◌, ◌+◌, ◌++◌, ◌≤◌, ◌<◌, decimal, length, take};
 ghost use Rattle.generators.specs.Text.{state_name, waiting_mark, row_text};
 
 use crate::numbers::decimal_len;

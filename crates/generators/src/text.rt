@@ -1,6 +1,6 @@
 //! The text of a capture record, from any place of it.
 
-ghost use Rattle.std.specs.Prelude.{◌≡◌, ℕ, ◌+◌, ◌++◌, ◌≤◌, ◌<◌, ◌^◌, List, [], drop, length, take};
+ghost use Rattle.std.specs.Prelude.{◌≡◌, ◌+◌, ◌≤◌, [], drop, length, take};
 ghost use Rattle.generators.specs.Parts.{HoldsPart};
 ghost use Rattle.generators.specs.Text.{capture_text};
 

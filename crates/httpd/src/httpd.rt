@@ -1,6 +1,6 @@
 //! The web server on one connection.
 
-ghost use Rattle.std.specs.Prelude.{◌≡◌, ◌==◌, ℕ, List, [], ◌+◌, ◌++◌, length, min, take};
+ghost use Rattle.std.specs.Prelude.{◌≡◌, ◌==◌, ℕ, [], ◌+◌, ◌++◌, length, min, take};
 ghost use Rattle.app_events.specs.Part.{Part, HasPart, CanSay, text_left};
 ghost use Rattle.file_tree.specs.Site.{SiteContent, files_of};
 ghost use Rattle.generators.specs.Giving.{gives};

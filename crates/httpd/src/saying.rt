@@ -1,6 +1,6 @@
 //! A reply is said by going from piece to piece.
 
-ghost use Rattle.std.specs.Prelude.{◌≡◌, ◌==◌, ◌≤◌, ◌-◌, ◌∷◌, [], ℕ, true, length, take, MatchOption, if◌then◌else◌};
+ghost use Rattle.std.specs.Prelude.{◌≡◌, ◌==◌, ◌≤◌, ◌-◌, length, take, MatchOption, if◌then◌else◌};
 ghost use Rattle.file_tree.specs.Site.{files_of};
 ghost use Rattle.generators.specs.Giving.{gives};
 ghost use Rattle.httpd.specs.Reply.{left_from, reply_by};

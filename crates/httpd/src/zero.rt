@@ -1,6 +1,6 @@
 //! The page of a target, as a node says it at which nothing has happened.
 
-ghost use Rattle.std.specs.Prelude.{◌≡◌, ◌++◌, List, ℕ, codes, length, OnOk, OnErr};
+ghost use Rattle.std.specs.Prelude.{◌≡◌, ◌++◌, List, ℕ, codes, length};
 ghost use Rattle.file_tree.specs.Site.{files_of};
 ghost use Rattle.web_pages.specs.Requests.{wanted};
 ghost use Rattle.web_pages.specs.ZeroPages.{request_for, zero_moment, zero_page, zero_reply};

@@ -1,4 +1,4 @@
-ghost use Rattle.std.specs.Prelude.{◌≡◌, ◌≤◌, MatchResult, OnErr, OnOk, None, Some, drop, length, take};
+ghost use Rattle.std.specs.Prelude.{◌≡◌, MatchResult, OnErr, OnOk, None, Some, length};
 ghost use Rattle.icmp_echo.specs.Echo.{answered, echo_fate, fate_in};
 ghost use Rattle.packet_buffer.specs.Buffer.{datagram_in};
 ghost use Rattle.uip_ipv4.specs.Head.{IsHeadOf};

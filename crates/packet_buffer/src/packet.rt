@@ -1,5 +1,5 @@
 ghost use Rattle.std.specs.Borrow.{sem};
-ghost use Rattle.std.specs.Prelude.{◌≡◌, ◌≤◌, ◌+◌, ◌++◌, length, take, drop, replicate, slice_range, IfOk};
+ghost use Rattle.std.specs.Prelude.{◌≡◌, ◌≤◌, ◌+◌, ◌++◌, length, drop, replicate, slice_range, IfOk};
 ghost use Rattle.packet_buffer.specs.Buffer.{HasSize, datagram_in};
 ghost use Rattle.packet_buffer.specs.Lending.{LendsArea, LendsPart};
 ghost use Rattle.uip_edge.specs.declared.no_memory.NoMemory.{NoMemory};

@@ -1,6 +1,6 @@
 //! The end of a reply.
 
-ghost use Rattle.std.specs.Prelude.{List, []};
+ghost use Rattle.std.specs.Prelude.{[]};
 
 use protothread::Says;
 

@@ -1,8 +1,8 @@
 //! A word of a request line, heard piece by piece.
 
-ghost use Rattle.std.specs.Prelude.{◌≡◌, ◌+◌, ◌++◌, ◌||◌, ◌≤◌, length, nat_lt, position, take};
+ghost use Rattle.std.specs.Prelude.{◌≡◌, ◌+◌, ◌++◌, ◌||◌, length, nat_lt, position, take};
 ghost use Rattle.std.specs.List.{before_first, list_any};
-ghost use Rattle.protosocket.specs.Line.{after, part_taken, fresh, is_query_mark, is_stop, longest_name, name_part, with_word, word_of};
+ghost use Rattle.protosocket.specs.Line.{after, part_taken, fresh, is_query_mark, is_stop, longest_name, with_word, word_of};
 ghost use Rattle.protosocket.specs.Lemmas.Hearing.{takes_front, takes_all, takes_nothing, hears_joined};
 
 use crate::stops::Stops;

@@ -1,6 +1,6 @@
 //! A thread and the child that it waits for.
 
-ghost use Rattle.std.specs.Prelude.{◌≡◌, ℕ, ◌++◌, List};
+ghost use Rattle.std.specs.Prelude.{◌++◌};
 ghost use Rattle.protothread.specs.Child.{ChildFits, child_text};
 
 use crate::both::{advance_both, fill_both};

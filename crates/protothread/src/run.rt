@@ -1,6 +1,6 @@
 //! A run of bytes.
 
-ghost use Rattle.std.specs.Prelude.{◌≡◌, ℕ, ◌≤◌, length, slice_range};
+ghost use Rattle.std.specs.Prelude.{◌≤◌, length, slice_range};
 
 use crate::says::Says;
 

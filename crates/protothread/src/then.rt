@@ -1,6 +1,6 @@
 //! One thread after another.
 
-ghost use Rattle.std.specs.Prelude.{◌≡◌, ℕ, ◌++◌, List};
+ghost use Rattle.std.specs.Prelude.{◌++◌};
 
 use crate::both::{advance_both, fill_both};
 use crate::says::Says;

@@ -1,4 +1,4 @@
-ghost use Rattle.std.specs.Prelude.{◌≡◌, ℕ, ◌+◌, ◌<◌, ◌≤◌, ◌↔◌, ◌∷◌, [], length, nat_lt, IsTrue, IsNone, IfSome, MatchOption};
+ghost use Rattle.std.specs.Prelude.{◌≡◌, ◌+◌, ◌<◌, ◌≤◌, ◌↔◌, ◌∷◌, [], length, nat_lt, IsTrue, IsNone, IfSome, MatchOption};
 ghost use Rattle.script_lang.specs.Directives.{IsPlace, is_directive_mark, before_cr, directive_within};
 ghost use Rattle.script_lang.specs.Pieces.{piece_by, pieces_by, pieces_from, run_end, LiesWithin};
 

@@ -1,4 +1,4 @@
-ghost use Rattle.std.specs.Prelude.{◌≡◌, ℕ, ◌+◌, ◌<◌, ◌≤◌, not, length};
+ghost use Rattle.std.specs.Prelude.{◌≡◌, ◌+◌, ◌<◌, ◌≤◌, not, length};
 ghost use Rattle.script_lang.specs.Places.{is_byte, first_place};
 ghost use Rattle.script_lang.specs.Directives.{is_directive_mark};
 

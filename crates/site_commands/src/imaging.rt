@@ -1,4 +1,4 @@
-ghost use Rattle.std.specs.Prelude.{◌≡◌, List, ℕ, Result, OnOk};
+ghost use Rattle.std.specs.Prelude.{List, ℕ, Result};
 ghost use Rattle.site_image.specs.declared.site_error.SiteError.{SiteError as AnyError};
 ghost use Rattle.file_tree.specs.Answers.{Gives};
 ghost use Rattle.site_commands.specs.Due.{MakesImage, MadeOfFault};

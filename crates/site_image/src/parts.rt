@@ -1,4 +1,4 @@
-ghost use Rattle.std.specs.Prelude.{◌≡◌, ◌+◌, ◌≤◌, ◌^◌, ◌<◌, drop, length, IfOk, IfErr, Some, None};
+ghost use Rattle.std.specs.Prelude.{◌≡◌, ◌+◌, ◌≤◌, ◌<◌, drop, length, IfOk, IfErr, Some, None};
 ghost use Rattle.site_image.specs.Parts.{name_fault, kind_fault, content_fault, byte_length, long_length, text, after_text, kind_given, after_kind, content, after_content};
 ghost use Rattle.site_image.specs.Places.{IsPart};
 ghost use Rattle.site_image.specs.declared.version.Version.TheVariants.{Two};

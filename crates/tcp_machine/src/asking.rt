@@ -1,13 +1,13 @@
 //! Asking the application what it wants, in ESTABLISHED and CLOSE_WAIT with nothing outstanding.
 
-ghost use Rattle.std.specs.Prelude.{◌≡◌, ℕ, ◌≤◌, true, List};
+ghost use Rattle.std.specs.Prelude.{◌≡◌};
 ghost use Rattle.app_events.specs.Part.{Part};
-ghost use Rattle.tcp_machine.specs.Ask.{ask, does_as_wanted, idles, prepared, after_own_fin, peer_has_closed};
-ghost use Rattle.tcp_machine.specs.Connection.{Connection, is_live};
+ghost use Rattle.tcp_machine.specs.Ask.{ask, does_as_wanted, idles, prepared, after_own_fin};
+ghost use Rattle.tcp_machine.specs.Connection.{Connection};
 ghost use Rattle.tcp_machine.specs.Fits.{CanBeAsked, IsAnswer, SameNumbers, SameSockets, StepFits};
 ghost use Rattle.tcp_machine.specs.Sound.{IsSound};
 ghost use Rattle.tcp_machine.specs.Takes.{Takes};
-ghost use Rattle.tcp_machine.specs.Stands.{ConnStands, Meets, is_open};
+ghost use Rattle.tcp_machine.specs.Stands.{ConnStands};
 
 use crate::moves::send;
 use crate::step::Step;

@@ -2,7 +2,7 @@
 
 ghost use Rattle.std.specs.Prelude.{◌≡◌, ◌<◌, ◌≤◌, true, false};
 ghost use Rattle.tcp_machine.specs.Connection.{Connection, is_resting};
-ghost use Rattle.tcp_machine.specs.Fits.{SameNumbers, SameSockets};
+ghost use Rattle.tcp_machine.specs.Fits.{SameNumbers};
 ghost use Rattle.tcp_machine.specs.OnSegment.{rests, takes, in_state, with_window};
 ghost use Rattle.tcp_machine.specs.OnTick.{limit_of};
 ghost use Rattle.tcp_machine.specs.Stands.{IsLike};

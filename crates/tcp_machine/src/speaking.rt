@@ -1,6 +1,6 @@
 //! What the application hears of a segment, in the states in which it may speak.
 
-ghost use Rattle.std.specs.Prelude.{◌≡◌, ℕ, ◌+◌, ◌≤◌, true, List, length};
+ghost use Rattle.std.specs.Prelude.{◌≡◌, true};
 ghost use Rattle.app_events.specs.Part.{Part, HasPart};
 ghost use Rattle.tcp_machine.specs.Connection.{Connection};
 ghost use Rattle.tcp_machine.specs.Fits.{SameSockets};

@@ -1,13 +1,12 @@
 //! The periodic call of a connection.
 
-ghost use Rattle.std.specs.Prelude.{◌≡◌, ℕ, ◌<◌, ◌≤◌, true, false, List};
-ghost use Rattle.app_events.specs.Part.{Meaning};
+ghost use Rattle.std.specs.Prelude.{◌≡◌, ℕ, ◌<◌, true, false, List};
 ghost use Rattle.tcp_machine.specs.Connection.{Connection, is_live, is_resting};
 ghost use Rattle.tcp_machine.specs.Fits.{Rests, SameNumbers, SameSockets, StepFits};
-ghost use Rattle.tcp_machine.specs.OnTick.{limit_of, outstanding, waits_for_ack, rests_on, polls, ticks_established, tick_by, on_tick};
+ghost use Rattle.tcp_machine.specs.OnTick.{limit_of, outstanding, waits_for_ack, rests_on, polls, ticks_established, on_tick};
 ghost use Rattle.tcp_machine.specs.Sound.{HasSoundNumbers, IsSound};
 ghost use Rattle.tcp_machine.specs.Takes.{Takes};
-ghost use Rattle.tcp_machine.specs.Stands.{ConnStands, Meets, MeetsAlone, NumbersStand, is_open};
+ghost use Rattle.tcp_machine.specs.Stands.{MeetsAlone, NumbersStand, is_open};
 
 use crate::segment::leave;
 use crate::step::Step;

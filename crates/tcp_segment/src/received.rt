@@ -1,4 +1,4 @@
-ghost use Rattle.std.specs.Prelude.{◌≡◌, ◌+◌, ◌^◌, ◌<◌, ◌≤◌, IfOk, length};
+ghost use Rattle.std.specs.Prelude.{◌≡◌, ◌+◌, ◌^◌, ◌<◌, IfOk, length};
 ghost use Rattle.tcp_segment.specs.Received.{segment_in, segment_or_fate};
 ghost use Rattle.uip_ipv4.specs.Head.{IsHeadOf};
 

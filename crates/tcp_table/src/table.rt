@@ -1,6 +1,6 @@
 //! The table and its calls.
 
-ghost use Rattle.std.specs.Prelude.{◌≡◌, ℕ, ◌+◌, ◌%◌, ◌^◌, ◌<◌, ◌≤◌, length, IfOk, IfSome, All, position, slice_get, Some};
+ghost use Rattle.std.specs.Prelude.{◌≡◌, ◌+◌, ◌%◌, ◌^◌, ◌<◌, length, IfOk, All, position};
 ghost use Rattle.tcp_table.specs.Connections.{is_at};
 ghost use Rattle.tcp_table.specs.Slots.{slot_to_take};
 
@@ -24,7 +24,7 @@ pub struct Table<A: App> {
 }
 
 impl<A: App> Model for Table<A> {
-    ghost use Rattle.std.specs.Prelude.{◌≡◌, ℕ, length};
+    ghost use Rattle.std.specs.Prelude.{◌≡◌, length};
     ghost use Rattle.tcp_table.specs.Connections.{Connections, IsTable};
 
     ghost Value = { Connections A };

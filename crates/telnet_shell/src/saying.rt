@@ -1,10 +1,10 @@
 //! The texts of commands.
 
-ghost use Rattle.std.specs.Prelude.{◌≡◌, true, ◌+◌, ◌*◌, ◌≤◌, ◌++◌, [], ℕ, List, length, take, drop};
+ghost use Rattle.std.specs.Prelude.{◌≡◌, true, ◌+◌, ◌*◌, ◌≤◌, ◌++◌, [], length, take, drop};
 ghost use Rattle.generators.specs.Text.{capture_text};
 ghost use Rattle.generators.specs.declared.capture.Capture.TheVariants.{Empty};
-ghost use Rattle.telnet_shell.specs.Transcript.{function_of, needs_capture, said_with, transcript};
-ghost use Rattle.telnet_shell.specs.Saying.{IsBehind, IsInFront, Passes, due, front_size, is_past, is_taken, left_said, stops_at};
+ghost use Rattle.telnet_shell.specs.Transcript.{function_of, said_with, transcript};
+ghost use Rattle.telnet_shell.specs.Saying.{IsBehind, IsInFront, Passes, due, front_size, is_past, left_said, stops_at};
 ghost use Rattle.app_events.specs.Part.{Part};
 ghost use Rattle.telnet_shell.specs.declared.TheConstants.{MOST_COMMANDS};
 ghost use Rattle.telnet_shell.specs.declared.saying.TheConstants.{LONGEST_SAID};

@@ -1,6 +1,6 @@
 //! The shell on one connection.
 
-ghost use Rattle.std.specs.Prelude.{◌≡◌, ◌==◌, ◌&&◌, ◌+◌, ℕ, length};
+ghost use Rattle.std.specs.Prelude.{◌≡◌, ◌==◌, ◌&&◌, ℕ, length};
 ghost use Rattle.app_events.specs.Part.{Part};
 ghost use Rattle.telnet_shell.specs.Reading.{is_quit};
 ghost use Rattle.telnet_shell.specs.ShellMeaning.{hear_all, hear_byte};

@@ -1,4 +1,3 @@
-ghost use Rattle.std.specs.Prelude.{◌≡◌, List, ℕ, Option};
 ghost use Rattle.trace.specs.Converting.{Converts, IsFoundSoon};
 ghost use Rattle.uip_edge.specs.Telling.{line_told};
 

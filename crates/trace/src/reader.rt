@@ -1,4 +1,4 @@
-ghost use Rattle.std.specs.Prelude.{◌≡◌, ◌<◌, ◌≤◌, ◌+◌, ◌^◌, ◌++◌, [], List, ℕ, Option, length, IfErr, OnErr, OnOk};
+ghost use Rattle.std.specs.Prelude.{◌≡◌, ◌<◌, ◌≤◌, ◌+◌, ◌^◌, ◌++◌, [], List, ℕ, Option, IfErr, OnErr, OnOk};
 ghost use Rattle.uip_edge.specs.Causes.{HasCause};
 ghost use Rattle.trace.specs.Gathering.{BrokeOff, HasReadTo, IsAtFault, IsFullIn, IsOpenIn, StopBy, StopsAt, end_at};
 ghost use Rattle.trace.specs.declared.reader.Stop.TheVariants.{Bad as BadStop, WriteFault};

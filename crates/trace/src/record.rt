@@ -3,7 +3,7 @@
 ghost use Rattle.std.specs.Prelude.{◌≡◌, ◌≤◌, ◌+◌, ◌++◌, [], length};
 ghost use Rattle.uip_wire.specs.Fields.{long_bytes};
 ghost use Rattle.uip_wire.specs.declared.sizes.TheConstants.{LARGEST_DATAGRAM};
-ghost use Rattle.trace.specs.CaptureText.{capture_header, record_bytes};
+ghost use Rattle.trace.specs.CaptureText.{record_bytes};
 
 use crate::area::Area;
 use uip_wire::LARGEST_DATAGRAM;

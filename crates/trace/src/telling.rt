@@ -1,6 +1,4 @@
-ghost use Rattle.std.specs.Prelude.{◌≡◌, ◌+◌, ◌<◌, ◌++◌, ◌^◌, [], List, ℕ, Some, length};
-ghost use Rattle.std.specs.Io.KnownBytes.{Appends};
-ghost use Rattle.uip_edge.specs.declared.item.Item.{Item};
+ghost use Rattle.std.specs.Prelude.{◌<◌, []};
 ghost use Rattle.trace.specs.CaptureText.{capture_file};
 ghost use Rattle.trace.specs.DumpText.{dump_text};
 ghost use Rattle.trace.specs.Telling.{TellsLine};

@@ -1,4 +1,4 @@
-ghost use Rattle.std.specs.Prelude.{◌≡◌, ◌<◌, ◌≤◌, ◌++◌, length, option_map, true};
+ghost use Rattle.std.specs.Prelude.{◌≡◌, ◌<◌, ◌++◌, length, option_map, true};
 ghost use Rattle.udp_datagram.specs.Udp.{IsWholeUdp, behind_head, carries_udp, udp_data, udp_in, udp_pseudo_header};
 ghost use Rattle.uip_wire.specs.Addr.{address_at};
 ghost use Rattle.uip_wire.specs.Checksum.{checksum_of};

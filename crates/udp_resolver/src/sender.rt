@@ -1,4 +1,4 @@
-ghost use Rattle.std.specs.Prelude.{◌≡◌, ◌≤◌, length, OnOk, [], ◌∷◌};
+ghost use Rattle.std.specs.Prelude.{◌≡◌, length, OnOk};
 ghost use Rattle.uip_edge.specs.Telling.{sink_told};
 ghost use Rattle.uip_edge.specs.Writing.{Writes};
 ghost use Rattle.uip_slip.specs.Text.{slip_text};

@@ -1,4 +1,4 @@
-ghost use Rattle.std.specs.Prelude.{◌≡◌, ◌<◌, ◌≤◌, ◌++◌, ◌↔◌, length, take, min, map, Contains, IsErr, IfOk, OnErr, Ok, Some};
+ghost use Rattle.std.specs.Prelude.{◌≡◌, ◌<◌, ◌≤◌, ◌↔◌, length, take, min, map, Contains, IsErr, IfOk, OnErr, Ok, Some};
 ghost use Rattle.uip_edge.specs.Causes.{HasCause, counted_on};
 ghost use Rattle.uip_edge.specs.Coming.{items_of, CountFits, Consumes, IsAtEnd};
 ghost use Rattle.uip_edge.specs.Memory.{byte_run, given, item_count};

@@ -1,6 +1,6 @@
-ghost use Rattle.std.specs.Prelude.{◌≡◌, ℕ, ◌≤◌, ◌+◌, ◌*◌, length, take, not, true, false, ◌<◌, slice_index, slice_range};
-ghost use Rattle.std.specs.List.{list_all, prefix_len};
-ghost use Rattle.uip_slip.specs.Frames.{IsPlainFront, is_mark, is_plain, meant as meant_of};
+ghost use Rattle.std.specs.Prelude.{◌≡◌, ℕ, ◌≤◌, ◌+◌, ◌*◌, length, not, true, false, ◌<◌, slice_index, slice_range};
+ghost use Rattle.std.specs.List.{prefix_len};
+ghost use Rattle.uip_slip.specs.Frames.{IsPlainFront, is_mark, meant as meant_of};
 
 use std::simd::prelude::*;
 
