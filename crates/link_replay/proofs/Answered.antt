@@ -27,8 +27,8 @@ use Rattle.link_replay.specs.Noting.{gone_pair, is_sent_again, pair_at, sockets_
 use Rattle.link_replay.specs.Stands.{IsLink, LinkStands, SentStands, SideStands}
 use Rattle.link_replay.specs.Telling.{AreTo, IsTo}
 use Rattle.link_replay.specs.State.{Link, link_of}
-use Rattle.link_replay.specs.declared.sent.Sent.{Sent as CodeSent}
-use Rattle.link_replay.specs.declared.side.Side.{Side as CodeSide}
+use Rattle.link_replay.specs.Plain.{Sent as CodeSent}
+use Rattle.link_replay.specs.Plain.{Side as CodeSide}
 use Rattle.link_replay.specs.declared.socket_pair.SocketPair.{SocketPair}
 use Rattle.link_replay.proofs.Pairs.{Partner, partner}
 use Rattle.link_replay.proofs.Places.{sent_stays}
@@ -38,9 +38,9 @@ use Rattle.link_replay.proofs.Staying.{buried_places}
 before : (xs ys : List CodeSide) (i : ℕ) (y : CodeSide) → Matched OnlyEpoch xs ys → slice_get ys i ≡ Some y → Partner (λ (new old : CodeSide). OnlyEpoch old new) xs i y
 before xs ys i y m g = partner (λ (new old : CodeSide). OnlyEpoch old new) ys xs i y record { same_length = sym m.same_length; each = λ j a b p q. m.each j b a q p } g
 
-still_client : (old new : CodeSide) → OnlyEpoch old new → FitsRequest old.client old.request.items → FitsRequest new.client new.request.items
+still_client : (old new : CodeSide) → OnlyEpoch old new → FitsRequest old.client old.request → FitsRequest new.client new.request
 still_client old new e h =
-    subst (λ (z : Client). FitsRequest z new.request.items) (sym e.client) (subst (λ (z : List ℕ). FitsRequest old.client z) (ap (λ v. v.items) (sym e.request)) h)
+    subst (λ (z : Client). FitsRequest z new.request) (sym e.client) (subst (λ (z : List ℕ). FitsRequest old.client z) (sym e.request) h)
 
 -- as many clients as before are all written
 with_same : (sides : Vec CodeSide) (ys : List CodeSide) → length sides.items ≡ length ys → (with_items sides ys).items ≡ ys

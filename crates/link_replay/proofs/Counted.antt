@@ -8,8 +8,8 @@ use Rattle.link_world.specs.World.{World, Side, Sent, is_clean}
 use Rattle.link_replay.proofs.Matching.{matched_head, matched_tail}
 use Rattle.link_replay.specs.Matched.{Matched}
 use Rattle.link_replay.specs.Stands.{SideStands, SentStands}
-use Rattle.link_replay.specs.declared.sent.Sent.{Sent as CodeSent}
-use Rattle.link_replay.specs.declared.side.Side.{Side as CodeSide}
+use Rattle.link_replay.specs.Plain.{Sent as CodeSent}
+use Rattle.link_replay.specs.Plain.{Side as CodeSide}
 use Rattle.link_replay.specs.declared.tally.Tally.{Tally}
 
 pub sum_matched : {X Y : Type 0} (P : X → Y → Type 0) (f : X → ℕ) (g : Y → ℕ) (xs : List X) (ys : List Y) → ((x : X) (y : Y) → P x y → f x ≡ g y) → Matched P xs ys
@@ -35,8 +35,8 @@ kinds_stand kind xs ss m = count_matched SideStands (λ x. kind x.client.state) 
 pub stale_stand : (xs : List CodeSide) (ss : List Side) → Matched SideStands xs ss → count_by (λ side. not (is_none side.first_stale)) xs ≡ count_by (λ side. not (is_clean side)) ss
 stale_stand xs ss m = count_matched SideStands (λ x. not (is_none x.first_stale)) (λ s. not (is_clean s)) xs ss (λ x s st. ap (λ o. not (is_none o)) st.first_stale) m
 
-pub bytes_stand : (xs : List CodeSide) (ss : List Side) → Matched SideStands xs ss → sum_by (λ side. length side.received.items) xs ≡ sum_by (λ side. length side.client.received) ss
-bytes_stand xs ss m = sum_matched SideStands (λ x. length x.received.items) (λ s. length s.client.received) xs ss (λ x s st. ap (λ (c : AbstractClient). length c.received) st.client) m
+pub bytes_stand : (xs : List CodeSide) (ss : List Side) → Matched SideStands xs ss → sum_by (λ side. length side.received) xs ≡ sum_by (λ side. length side.client.received) ss
+bytes_stand xs ss m = sum_matched SideStands (λ x. length x.received) (λ s. length s.client.received) xs ss (λ x s st. ap (λ (c : AbstractClient). length c.received) st.client) m
 
 pub again_stand : (w : World) (xs : List CodeSent) (es : List Sent) → Matched (SentStands w) xs es → count_by (λ e. e.again) xs ≡ count_by (λ e. e.again) es
 again_stand w xs es m = count_matched (SentStands w) (λ x. x.again) (λ e. e.again) xs es (λ x e st. st.again) m

@@ -1,6 +1,5 @@
 -- The opening world: each client stands for the one that is planned, and the plan is one.
 use Rattle.std.specs.List.{All, list_all, list_any}
-use Rattle.std.specs.Global.{Vec}
 use Rattle.std.proofs.Common.{◌≡◌, ℕ, zero, suc, ◌+◌, ◌<◌, ◌≤◌, Bool, true, false, not, ◌&&◌, List, [], ◌∷◌, ◌++◌, length, map, refl, sym, ap, ◌∙◌, subst, arith, Some, None, slice_get, eqb, leb, lit<}
 use Rattle.std.proofs.lemmas.List.{length-map}
 use Rattle.std.proofs.lemmas.Bool.{and_parts, and_from, eq-eqb, leb-true, not-true, or_parts}
@@ -27,9 +26,9 @@ use Rattle.uip_node.proofs.Connections.{get_map}
 use Rattle.link_replay.specs.Matched.{Matched}
 use Rattle.link_replay.specs.Opening.{AreFresh, IsFresh, plan_from, planned, server}
 use Rattle.link_replay.specs.Stands.{IsLink, SentStands, SideStands}
-use Rattle.link_replay.specs.declared.sent.Sent.{Sent as CodeSent}
+use Rattle.link_replay.specs.Plain.{Sent as CodeSent}
 use Rattle.link_replay.specs.State.{Link}
-use Rattle.link_replay.specs.declared.side.Side.{Side as CodeSide}
+use Rattle.link_replay.specs.Plain.{Side as CodeSide}
 
 pub server_is_addr : IsAddr server
 server_is_addr = record {
@@ -38,9 +37,9 @@ server_is_addr = record {
 }
 
 -- one client
-pub fresh : (number : ℕ) (plan : Plan) (setup : Setup) (client : Client) (request received : Vec ℕ) → number ≤ 64 → client_in_range plan ≡ true
+pub fresh : (number : ℕ) (plan : Plan) (setup : Setup) (client : Client) (request received : List ℕ) → number ≤ 64 → client_in_range plan ≡ true
     → setup ≡ (planned number plan).setup → IsAddr plan.addr → plan.port.0 < 65536 → plan.mss < 65536 → All IsByte plan.request
-    → request.items ≡ plan.request → received.items ≡ [] → ((r : List ℕ) → standing client r [] ≡ idle setup r) → ((r : List ℕ) → length r ≤ 4096 → FitsRequest client r)
+    → request ≡ plan.request → received ≡ [] → ((r : List ℕ) → standing client r [] ≡ idle setup r) → ((r : List ℕ) → length r ≤ 4096 → FitsRequest client r)
     → IsFresh number plan (record { client = client; request = request; received = received; epoch = 0; first_stale = None })
 fresh number plan setup client request received few range e addr port mss bytes asked none is_idle fits =
     let parts = and_parts (is_between 1 65535 plan.port.0 && is_between 1 1460 plan.seg) (is_between 1 4096 (length plan.request)) range in
@@ -49,12 +48,12 @@ fresh number plan setup client request received few range e addr port mss bytes 
     let short : length plan.request ≤ 4096 = leb-true (length plan.request) 4096 sizes.1 in
     record {
       stands = record {
-        client = ap (λ (r : List ℕ). standing client r received.items) asked ∙ ap (λ (r : List ℕ). standing client plan.request r) none
+        client = ap (λ (r : List ℕ). standing client r received) asked ∙ ap (λ (r : List ℕ). standing client plan.request r) none
             ∙ is_idle plan.request ∙ ap (λ (s : Setup). idle s plan.request) e;
         epoch = refl;
         first_stale = refl;
       };
-      fits = fits request.items (subst (λ (r : List ℕ). length r ≤ 4096) (sym asked) short);
+      fits = fits request (subst (λ (r : List ℕ). length r ≤ 4096) (sym asked) short);
       at_server = ap (λ c. c.setup.server) (is_idle []) ∙ ap (λ (s : Setup). s.server) e;
       in_range = record {
         addr = addr;

@@ -16,8 +16,8 @@ use Rattle.uip_node.proofs.Connections.{get_set}
 use Rattle.uip_node.proofs.Connections.Written.{here, there}
 use Rattle.link_replay.specs.Stands.{SideStands, SentStands, LinkStands, IsLink}
 use Rattle.link_replay.specs.State.{Link, link_of}
-use Rattle.link_replay.specs.declared.side.Side.{Side as CodeSide}
-use Rattle.link_replay.specs.declared.sent.Sent.{Sent as CodeSent}
+use Rattle.link_replay.specs.Plain.{Side as CodeSide}
+use Rattle.link_replay.specs.Plain.{Sent as CodeSent}
 use Rattle.link_replay.proofs.Pairs.{push, put, turn}
 
 -- the same addresses and ports, or no client on either side
@@ -91,11 +91,11 @@ side_put link w n new s t h g e p = record {
   sent = sent_stays w (with_side w (suc n) t) refl record { each = get_put w.sides n s t g e } link.sent w.sent h.sent;
 }
 
-pub link_put : (addr : Addr) (link : Link) (n : ℕ) (new : CodeSide) → IsLink addr link → FitsRequest new.client new.request.items → new.client.setup.server ≡ addr
+pub link_put : (addr : Addr) (link : Link) (n : ℕ) (new : CodeSide) → IsLink addr link → FitsRequest new.client new.request → new.client.setup.server ≡ addr
     → IsLink addr (record link { sides = set link.sides n new })
 link_put addr link n new h c e = record {
   few = subst (λ k. k ≤ 64) (sym (length-set link.sides n new)) h.few;
-  clients = λ i side g. elim (get_set link.sides n new i side g) [ here q p ↦ subst (λ (z : CodeSide). FitsRequest z.client z.request.items) p c | there q o ↦ h.clients i side o ];
+  clients = λ i side g. elim (get_set link.sides n new i side g) [ here q p ↦ subst (λ (z : CodeSide). FitsRequest z.client z.request) p c | there q o ↦ h.clients i side o ];
   servers = λ i side g. elim (get_set link.sides n new i side g) [ here q p ↦ subst (λ (z : CodeSide). z.client.setup.server ≡ addr) p e | there q o ↦ h.servers i side o ];
   many = h.many;
   sizes = h.sizes;

@@ -20,11 +20,11 @@ use Rattle.link_world.specs.declared.who.Who.TheVariants.{FromClient}
 use Rattle.uip_node.proofs.Connections.{get_set_same, set_same}
 use Rattle.link_replay.specs.Owning.{Stepped}
 use Rattle.uip_wire.specs.declared.addr.Addr.{Addr}
-use Rattle.link_replay.specs.declared.sent.Sent.{Sent as CodeSent}
+use Rattle.link_replay.specs.Plain.{Sent as CodeSent}
 use Rattle.link_replay.specs.Stands.{LinkStands, SideStands, IsLink}
 use Rattle.link_replay.specs.State.{Link, link_of}
 use Rattle.link_replay.specs.Moving.{PostsOfClient}
-use Rattle.link_replay.specs.declared.side.Side.{Side as CodeSide}
+use Rattle.link_replay.specs.Plain.{Side as CodeSide}
 use Rattle.link_replay.proofs.Pairs.{partner}
 use Rattle.link_replay.proofs.Places.{link_put, side_put}
 
@@ -83,7 +83,7 @@ pub record SomeSide (side : CodeSide) : Type 0 where
 
 pub some_side : (side : CodeSide) → SomeSide side
 some_side side = record {
-  plain = record { client = standing side.client side.request.items side.received.items; past = replicate side.epoch (era_of closed); opened = None; first_stale = side.first_stale };
+  plain = record { client = standing side.client side.request side.received; past = replicate side.epoch (era_of closed); opened = None; first_stale = side.first_stale };
   stands = record { client = refl; epoch = sym (length_same side.epoch (era_of closed)); first_stale = refl };
 }
   where
@@ -96,7 +96,7 @@ pub area_is : (new old : List ℕ) (n : ℕ) → length new ≡ length old → n
 area_is new old n e f = ap (λ (xs : List ℕ). take n (new ++ xs)) (drop_all (length new) old (omega (arith, e))) ∙ ap (λ (xs : List ℕ). take n xs) (append_nothing new) ∙ take_all n new (omega (arith, e, f))
 
 -- a client took a step
-pub kept_put : (addr : Addr) (link : Link) (n : ℕ) (old new : CodeSide) → slice_get link.sides n ≡ Some old → FitsRequest new.client new.request.items
+pub kept_put : (addr : Addr) (link : Link) (n : ℕ) (old new : CodeSide) → slice_get link.sides n ≡ Some old → FitsRequest new.client new.request
     → new.client.setup ≡ old.client.setup → IsLink addr link → IsLink addr (record link { sides = set link.sides n new })
 kept_put addr link n old new at fits setup h = link_put addr link n new h fits (ap (λ (x : Setup). x.server) setup ∙ h.servers n old at)
 

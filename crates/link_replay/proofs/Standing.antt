@@ -4,8 +4,8 @@ use Rattle.link_client.specs.Client.{AbstractClient}
 use Rattle.link_world.specs.World.{World, Side, Sent}
 use Rattle.link_world.specs.declared.who.Who.{Who}
 use Rattle.link_replay.specs.Stands.{SideStands, SentStands}
-use Rattle.link_replay.specs.declared.sent.Sent.{Sent as CodeSent}
-use Rattle.link_replay.specs.declared.side.Side.{Side as CodeSide}
+use Rattle.link_replay.specs.Plain.{Sent as CodeSent}
+use Rattle.link_replay.specs.Plain.{Side as CodeSide}
 use Rattle.link_replay.specs.declared.kind.Kind.{Kind}
 use Rattle.text_room.specs.Words.{word_if}
 use Rattle.link_replay.specs.Report.{client_line, counts_line, datagram_line, kind_sent, line_of_datagram, lines_of_client, text_line}
@@ -19,7 +19,7 @@ datagram_stands w number sent e kind st same =
     ∙ ap (λ (again : Bool). datagram_line number e.tick e.who (kind_sent e.content) again) st.again
 
 pub client_stands : (show : Bool) (number : ℕ) (side : CodeSide) (s : Side) → SideStands side s
-    → client_line show number side.client.state (length side.received.items) side.first_stale ++ word_if show (text_line side.received.items)
+    → client_line show number side.client.state (length side.received) side.first_stale ++ word_if show (text_line side.received)
     ≡ lines_of_client show number s
 client_stands show number side s st =
     ap (λ (c : AbstractClient). client_line show number c.state (length c.received) side.first_stale ++ word_if show (text_line c.received)) st.client

@@ -3,6 +3,7 @@ pub mod Owning
 pub mod Reaching
 pub mod Noting
 pub mod Epochs
+pub mod Plain
 pub mod State
 pub mod Stands
 pub mod Telling

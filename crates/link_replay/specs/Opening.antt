@@ -8,7 +8,7 @@ use Rattle.link_schedule.specs.Clients.{Plan}
 use Rattle.link_world.specs.World.{World}
 use Rattle.link_world.specs.History.{Planned, IsPlanned, fresh_side, opening_world}
 use Rattle.link_replay.specs.Stands.{SideStands}
-use Rattle.link_replay.specs.declared.side.Side.{Side as CodeSide}
+use Rattle.link_replay.specs.Plain.{Side as CodeSide}
 
 -- 10.0.0.1
 abbrev pub server : Addr
@@ -40,7 +40,7 @@ opening_for numbers plans = opening_world server numbers (plan_from 1 plans)
 -- a client of the code before its first act
 pub record IsFresh (number : ℕ) (plan : Plan) (side : CodeSide) : Type 0 where
   pub stands : SideStands side (fresh_side (planned number plan))
-  pub fits : FitsRequest side.client side.request.items
+  pub fits : FitsRequest side.client side.request
   pub at_server : side.client.setup.server ≡ server
   pub in_range : IsPlanned (planned number plan)
 

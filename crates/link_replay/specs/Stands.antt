@@ -8,13 +8,13 @@ use Rattle.link_client.specs.Calls.{standing, FitsRequest}
 use Rattle.link_world.specs.World.{World, Side, Sent, epoch}
 use Rattle.link_world.specs.Bytes.{sent_bytes}
 use Rattle.link_replay.specs.Matched.{Matched}
-use Rattle.link_replay.specs.declared.sent.Sent.{Sent as CodeSent}
-use Rattle.link_replay.specs.declared.side.Side.{Side as CodeSide}
+use Rattle.link_replay.specs.Plain.{Sent as CodeSent}
+use Rattle.link_replay.specs.Plain.{Side as CodeSide}
 use Rattle.link_replay.specs.State.{CodeWorld, Link}
 
 -- a client of the code for one over plain data
 pub record SideStands (side : CodeSide) (s : Side) : Type 0 where
-  pub client : standing side.client side.request.items side.received.items ≡ s.client
+  pub client : standing side.client side.request side.received ≡ s.client
   pub epoch : side.epoch ≡ epoch s
   pub first_stale : side.first_stale ≡ s.first_stale
 
@@ -24,7 +24,7 @@ pub record SentStands (w : World) (sent : CodeSent) (e : Sent) : Type 0 where
   pub tick : sent.tick ≡ e.tick
   pub epoch : sent.epoch ≡ e.epoch
   pub again : sent.again ≡ e.again
-  pub bytes : sent.bytes.items ≡ sent_bytes w e
+  pub bytes : sent.bytes ≡ sent_bytes w e
 
 -- clients and datagrams for those of a world
 pub record LinkStands (link : Link) (w : World) : Type 0 where
@@ -35,10 +35,10 @@ pub record LinkStands (link : Link) (w : World) : Type 0 where
 -- largest.
 pub record IsLink (addr : Addr) (link : Link) : Type 0 where
   pub few : length link.sides ≤ 64
-  pub clients : (i : ℕ) (side : CodeSide) → slice_get link.sides i ≡ Some side → FitsRequest side.client side.request.items
+  pub clients : (i : ℕ) (side : CodeSide) → slice_get link.sides i ≡ Some side → FitsRequest side.client side.request
   pub servers : (i : ℕ) (side : CodeSide) → slice_get link.sides i ≡ Some side → side.client.setup.server ≡ addr
   pub many : length link.sent ≤ 65535
-  pub sizes : (i : ℕ) (sent : CodeSent) → slice_get link.sent i ≡ Some sent → length sent.bytes.items ≤ LARGEST_DATAGRAM
+  pub sizes : (i : ℕ) (sent : CodeSent) → slice_get link.sent i ≡ Some sent → length sent.bytes ≤ LARGEST_DATAGRAM
 
 -- What a world keeps: its clients and datagrams are sound at one address, and a client's datagram has room.
 pub record IsKept (both : Link) (area : List ℕ) : Type 0 where

@@ -1,8 +1,7 @@
 -- A world of the code as plain data.
 use Rattle.std.specs.Prelude.{ℕ, Bool, List}
 use Rattle.uip_node.specs.State.{Node}
-use Rattle.link_replay.specs.declared.sent.Sent.{Sent}
-use Rattle.link_replay.specs.declared.side.Side.{Side}
+use Rattle.link_replay.specs.Plain.{Sent, Side}
 
 -- the clients, and every datagram that was sent, both numbered from 1
 pub record Link : Type 0 where

@@ -9,7 +9,7 @@ use link_client::ClientState;
 
 /// The line of a client with its number.
 pub(crate) fn client_line(show: bool, number: usize, side: &Side) -> Line
-    ensures { result ≡ client_text show number side.now.client.state (length side.now.received.items) side.now.first_stale }
+    ensures { result ≡ client_text show number side.now.client.state (length side.now.received) side.now.first_stale }
 {
     let mut line = Line::new();
     line.put(b"client ");

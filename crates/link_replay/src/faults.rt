@@ -40,7 +40,8 @@ fn is_idle(sides: &[Side], number: u8) -> bool
     if place == 0 || place > sides.len() {
         return true;
     }
-    is_idle_client(&sides[place - 1].client)
+    let side = &sides[place - 1];
+    is_idle_client(&side.client)
 }
 
 /// An act of a client that is idle.
@@ -76,7 +77,8 @@ fn no_byte(sent: &[Sent], number: u32, at: u16) -> Option<StepFault>
     if number == 0 || number as usize > sent.len() {
         return Some(StepFault::NoDatagram);
     }
-    if usize::from(at) < sent[number as usize - 1].bytes.len() {
+    let datagram = &sent[number as usize - 1];
+    if usize::from(at) < datagram.bytes.len() {
         None
     } else {
         Some(StepFault::NoByte)

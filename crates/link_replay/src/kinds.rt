@@ -53,7 +53,8 @@ fn address_of(sides: &[Side], number: u8) -> Option<Addr>
     if place == 0 || place > sides.len() {
         return None;
     }
-    Some(addr_of(&sides[place - 1].client))
+    let side = &sides[place - 1];
+    Some(addr_of(&side.client))
 }
 
 /// What these bytes are at an address, if they are a segment there.

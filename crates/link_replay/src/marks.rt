@@ -8,7 +8,7 @@ ghost use Rattle.link_replay.specs.Epochs.{sockets_for};
 ghost use Rattle.link_replay.specs.Noting.{pair_at};
 ghost use Rattle.link_replay.specs.Stands.{IsLink, LinkStands, SideStands};
 ghost use Rattle.link_replay.specs.State.{link_of};
-ghost use Rattle.link_replay.specs.declared.sent.Sent.{Sent as CodeSent};
+ghost use Rattle.link_replay.specs.Plain.{Sent as CodeSent};
 ghost use Rattle.link_replay.specs.Telling.{pair_at_side, sees};
 
 use crate::side::Side;
@@ -61,5 +61,6 @@ pub(crate) fn pair_of(sides: &[Side], client: u8) -> Option<SocketPair>
     if place == 0 || place > sides.len() {
         return None;
     }
-    Some(pair_at(&sides[place - 1].client))
+    let side = &sides[place - 1];
+    Some(pair_at(&side.client))
 }

@@ -24,9 +24,9 @@ pub(crate) enum Own {
 impl Side {
     /// Something that the client does by itself. What it sends stands at the front of the area.
     pub(crate) fn act(&mut self, own: Own, area: &mut [u8]) -> Option<usize>
-        requires fits { FitsRequest self.old.client self.old.request.items }
+        requires fits { FitsRequest self.old.client self.old.request }
         requires room { LARGEST_DATAGRAM ≤ length area.old }
-        ensures fits { FitsRequest self.new.client self.new.request.items }
+        ensures fits { FitsRequest self.new.client self.new.request }
         ensures setup { self.new.client.setup ≡ self.old.client.setup }
         ensures room { length area.new ≡ length area.old }
         ensures step { (s : PlainSide) → SideStands self.old s → Stepped (own_step own s.client) s self.new result area.new }
@@ -47,7 +47,7 @@ impl Side {
 
     /// The client tells a window from now on.
     pub(crate) fn tell_window(&mut self, window: u16)
-        ensures fits { FitsRequest self.old.client self.old.request.items → FitsRequest self.new.client self.new.request.items }
+        ensures fits { FitsRequest self.old.client self.old.request → FitsRequest self.new.client self.new.request }
         ensures setup { self.new.client.setup ≡ self.old.client.setup }
         ensures step { (s : PlainSide) → SideStands self.old s → SideStands self.new (with_client s (tells_window window s.client).client) }
     {
@@ -60,10 +60,10 @@ impl Side {
         datagram: &[u8],
         area: &mut [u8],
     ) -> Result<Option<usize>, NoMemory>
-        requires fits { FitsRequest self.old.client self.old.request.items }
+        requires fits { FitsRequest self.old.client self.old.request }
         requires most { length datagram.now ≤ LARGEST_DATAGRAM }
         requires room { LARGEST_DATAGRAM ≤ length area.old }
-        ensures fits { FitsRequest self.new.client self.new.request.items }
+        ensures fits { FitsRequest self.new.client self.new.request }
         ensures setup { self.new.client.setup ≡ self.old.client.setup }
         ensures room { length area.new ≡ length area.old }
         ensures step { IfOk result (λ sent. (s : PlainSide) → SideStands self.old s

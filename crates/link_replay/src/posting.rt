@@ -35,7 +35,8 @@ fn epoch_at(sides: &[Side], number: u8) -> u32
     if place == 0 || place > sides.len() {
         return 0;
     }
-    sides[place - 1].epoch
+    let side = &sides[place - 1];
+    side.epoch
 }
 
 /// One more datagram. NoMemory also where no number is left for it.

@@ -30,7 +30,8 @@ impl<A: App> WorldOf<A> {
         ensures { (w : PlainWorld) (s : PlainSide) → WorldStands A.App self.now w → numbered w.sides number ≡ Some s
             → standing result.now s.client.request s.client.received ≡ s.client }
     {
-        &self.side(number).client
+        let found = self.side(number);
+        &found.client
     }
 
     /// The bytes of its page that the client with a number took.
@@ -40,7 +41,8 @@ impl<A: App> WorldOf<A> {
         ensures { (w : PlainWorld) (s : PlainSide) → WorldStands A.App self.now w → numbered w.sides number ≡ Some s
             → result.now ≡ s.client.received }
     {
-        self.side(number).received.as_slice()
+        let found = self.side(number);
+        found.received.as_slice()
     }
 
     /// Whether no stale datagram was delivered from or to the client with a number.
@@ -49,7 +51,8 @@ impl<A: App> WorldOf<A> {
         requires most { number ≤ length self.now.link.sides }
         ensures { (w : PlainWorld) (s : PlainSide) → WorldStands A.App self.now w → numbered w.sides number ≡ Some s → result ≡ is_clean s }
     {
-        match self.side(number).first_stale {
+        let found = self.side(number);
+        match found.first_stale {
             None => true,
             Some(_) => false,
         }
@@ -62,7 +65,8 @@ impl<A: App> WorldOf<A> {
         ensures { (w : PlainWorld) (s : PlainSide) → WorldStands A.App self.now w → numbered w.sides number ≡ Some s
             → result ≡ s.first_stale }
     {
-        self.side(number).first_stale
+        let found = self.side(number);
+        found.first_stale
     }
 
     /// Every datagram that was sent, numbered from 1.

@@ -1,4 +1,5 @@
 use link_world::Who;
+use std::marker::Model;
 
 /// A datagram that was sent.
 #[derive(Debug, Drop)]
@@ -12,4 +13,12 @@ pub struct Sent {
     /// The node sent again what was outstanding.
     pub again: bool,
     pub bytes: Vec<u8>,
+}
+
+impl Model for Sent {
+    ghost use Rattle.link_replay.specs.Plain.{Sent};
+
+    ghost Value = { Sent };
+
+    ghost view = { λ sent. record { who = sent.who; tick = sent.tick; epoch = sent.epoch; again = sent.again; bytes = sent.bytes.items } };
 }

@@ -1,4 +1,5 @@
 use link_client::Client;
+use std::marker::Model;
 
 /// A client of a replay, and what is kept of it.
 #[derive(Debug, Drop)]
@@ -11,4 +12,18 @@ pub struct Side {
     pub epoch: u32,
     /// The number of the first stale datagram that was delivered from or to it.
     pub first_stale: Option<u32>,
+}
+
+impl Model for Side {
+    ghost use Rattle.link_replay.specs.Plain.{Side};
+
+    ghost Value = { Side };
+
+    ghost view = { λ side. record {
+      client = side.client;
+      request = side.request.items;
+      received = side.received.items;
+      epoch = side.epoch;
+      first_stale = side.first_stale;
+    } };
 }

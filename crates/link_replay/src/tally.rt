@@ -138,7 +138,7 @@ fn stale(sides: &[Side]) -> usize
 
 /// How many bytes the clients took of their pages together.
 fn bytes_taken(sides: &[Side]) -> u128
-    ensures { result ≡ sum_by (λ side. length side.received.items) sides.now }
+    ensures { result ≡ sum_by (λ side. length side.received) sides.now }
 {
     let mut total: u128 = 0;
     for side in sides.iter() {

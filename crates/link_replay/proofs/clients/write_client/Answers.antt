@@ -1,5 +1,6 @@
 use Rattle.std.proofs.Common.{List, ℕ, length, ap, ◌∙◌}
 use Rattle.std.proofs.lemmas.Result.{err_from_is_err_and}
+use Rattle.link_replay.specs.Plain.{Side as CodeSide}
 use Rattle.text_room.specs.Words.{word_if}
 use Rattle.link_replay.specs.Report.{client_line, text_line}
 use Rattle.link_replay.proofs.Saying.{wrote_by, wrote_stop, wrote_then}
@@ -9,8 +10,8 @@ use Rattle.link_replay.proofs.clients.write_client.Goals as goal
 pub returns-in_err-write_word-clause-wrote : goal.returns-in_err-write_word-clause-wrote
 returns-in_err-write_word-clause-wrote g c = λ s st.
     let side = c.args.side.now in
-    let line = client_line c.args.show c.args.number side.client.state (length side.received.items) side.first_stale in
-    let text = word_if c.args.show (text_line side.received.items) in
+    let line = client_line c.args.show c.args.number side.client.state (length side.received) side.first_stale in
+    let text = word_if c.args.show (text_line side.received) in
     let p = err_from_is_err_and c.from_residual.result c.from_residual.ensures.1 in
     wrote_by _ _ c.from_residual.result _ _ (client_stands c.args.show c.args.number side s st)
     (wrote_stop _ _ line text c.in_err-write_word.field-0.0 p.0 c.from_residual.result p.1
@@ -19,10 +20,10 @@ returns-in_err-write_word-clause-wrote g c = λ s st.
 pub returns-clause-wrote : goal.returns-clause-wrote
 returns-clause-wrote g c = λ s st.
     let side = c.args.side.now in
-    let line = client_line c.args.show c.args.number side.client.state (length side.received.items) side.first_stale in
-    let text = word_if c.args.show (text_line side.received.items) in
+    let line = client_line c.args.show c.args.number side.client.state (length side.received) side.first_stale in
+    let text = word_if c.args.show (text_line side.received) in
     let r = c.write_received.result in
     wrote_by _ _ r _ _ (client_stands c.args.show c.args.number side s st)
     (wrote_then _ _ _ line text c.in_ok-write_word.field-0 r
     (wrote_by _ _ _ c.bytes.result.now line (c.bytes.ensures ∙ c.client_line.ensures) c.in_ok-write_word.ensures.wrote)
-    (wrote_by _ _ r _ text (ap (λ (l : List ℕ). word_if c.args.show (text_line l)) c.deref.ensures.value) c.write_received.ensures.wrote))
+    (wrote_by _ _ r _ text (ap (λ (l : List ℕ). word_if c.args.show (text_line l)) (c.deref.ensures.value ∙ ap (λ (x : CodeSide). x.received) c.side.view_is)) c.write_received.ensures.wrote))

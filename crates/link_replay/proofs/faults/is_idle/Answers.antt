@@ -2,7 +2,7 @@ use Rattle.std.proofs.Common.{◌≡◌, ◌<◌, ◌-◌, ℕ, Some, slice_get,
 use Rattle.link_client.specs.Client.{AbstractClient}
 use Rattle.link_world.specs.Acts.{is_idle, state_at}
 use Rattle.link_replay.specs.Stands.{SideStands}
-use Rattle.link_replay.specs.declared.side.Side.{Side as CodeSide}
+use Rattle.link_replay.specs.Plain.{Side as CodeSide}
 use Rattle.link_replay.proofs.Pairs.{there_is, numbered_at, partner}
 use Rattle.link_replay.proofs.faults.is_idle.Goals as goal
 
@@ -15,6 +15,6 @@ returns c = λ ss m.
     = there_is c.args.sides.now (n - 1) c.index-sides-place.result c.index-sides-place.is (omega arith) in
     let p = partner SideStands c.args.sides.now ss (n - 1) c.index-sides-place.result m at in
     c.is_idle_client.ensures
-    ∙ ap (λ (x : CodeSide). is_idle x.client.state) (sym c.index-sides-place.is)
+    ∙ ap (λ (x : CodeSide). is_idle x.client.state) c.side.view_is
     ∙ ap (λ (k : AbstractClient). is_idle k.state) p.pair.client
     ∙ sym (ap (λ s. is_idle (state_at s)) (numbered_at ss c.args.number above ∙ ap (slice_get ss) same ∙ p.get))

@@ -2,6 +2,7 @@ use Rattle.std.proofs.Common.{◌≡◌, ℕ, suc, ◌-◌, ap, ◌∙◌, subst
 use Rattle.std.specs.Prelude.{option_map, slice_index_or}
 use Rattle.uip_wire.specs.declared.addr.Addr.{Addr}
 use Rattle.link_world.specs.World.{numbered}
+use Rattle.link_replay.specs.Plain.{Side as CodeSide}
 use Rattle.link_replay.proofs.Hearing.{addr_of, address_there}
 use Rattle.link_replay.proofs.kinds.address_of.Goals as goal
 
@@ -10,5 +11,7 @@ returns c = λ ss m.
     let place = c.from-place.result - 1 in
     let same : suc place ≡ c.args.number = omega (arith, c.from-place.ensures, c.if-place-eq0.false) in
     ap (λ (a : Addr). Some a) c.addr_of.ensures
+    ∙ ap (λ (x : CodeSide). Some x.client.setup.addr) c.side.view_is
+    ∙ ap (λ (x : CodeSide). Some x.client.setup.addr) c.index-sides-place.is
     ∙ subst (λ (n : ℕ). Some (slice_index_or c.args.sides.now place c.index-sides-place.result).client.setup.addr ≡ option_map addr_of (numbered ss n)) same
     (address_there c.args.sides.now ss place c.index-sides-place.result m (omega (arith, c.if-place-eq0.false, c.if-place-sides.false)))

@@ -6,7 +6,7 @@ use Rattle.link_replay.specs.Noting.{pair_at}
 use Rattle.link_replay.specs.Stands.{SideStands}
 use Rattle.link_replay.specs.Telling.{pair_at_side}
 use Rattle.link_replay.specs.declared.socket_pair.SocketPair.{SocketPair}
-use Rattle.link_replay.specs.declared.side.Side.{Side as CodeSide}
+use Rattle.link_replay.specs.Plain.{Side as CodeSide}
 use Rattle.link_replay.proofs.Pairs.{there_is, partner}
 use Rattle.link_replay.proofs.marks.pair_of.Goals as goal
 
@@ -18,6 +18,6 @@ returns c = λ ss m.
     let at : slice_get c.args.sides.now n ≡ Some old = there_is c.args.sides.now n old c.index-sides-place.is (omega arith) in
     let p = partner SideStands c.args.sides.now ss n old m at in
     ap (λ (x : SocketPair). Some x) c.pair_at.ensures
-    ∙ ap (λ (x : CodeSide). Some (pair_at (sockets_for x.client.setup))) (sym c.index-sides-place.is)
+    ∙ ap (λ (x : CodeSide). Some (pair_at (sockets_for x.client.setup))) c.side.view_is
     ∙ ap (λ (k : AbstractClient). Some (record { peer = k.setup.addr; peer_port = k.setup.port; own_port = k.setup.server_port })) p.pair.client
     ∙ sym (ap (λ (x : Option Side). pair_at_side x) (ap (numbered ss) is ∙ p.get))

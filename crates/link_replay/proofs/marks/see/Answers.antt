@@ -4,7 +4,7 @@ use Rattle.link_world.specs.World.{Side, marked, numbered, with_side}
 use Rattle.link_replay.specs.Stands.{LinkStands, SideStands}
 use Rattle.link_replay.specs.State.{Link, link_of}
 use Rattle.link_replay.specs.Telling.{sees}
-use Rattle.link_replay.specs.declared.side.Side.{Side as CodeSide}
+use Rattle.link_replay.specs.Plain.{Side as CodeSide}
 use Rattle.link_replay.proofs.Pairs.{there_is, partner}
 use Rattle.link_replay.proofs.Places.{side_put, link_put}
 use Rattle.link_replay.proofs.marks.see.Goals as goal
@@ -30,5 +30,5 @@ returns-clause-kept c = λ addr sent h.
     let link : Link = link_of c.args.sides.now.items sent in
     let old : CodeSide = c.index_mut.result.now in
     let at : slice_get link.sides n ≡ Some old = there_is link.sides n old c.index_mut.ensures.value (omega arith) in
-    link_put addr link n c.see.new.self h (subst (λ (z : CodeSide). FitsRequest z.client z.request.items) (sym c.see.ensures.kept) (h.clients n old at))
+    link_put addr link n c.see.new.self h (subst (λ (z : CodeSide). FitsRequest z.client z.request) (sym c.see.ensures.kept) (h.clients n old at))
     (subst (λ (z : CodeSide). z.client.setup.server ≡ addr) (sym c.see.ensures.kept) (h.servers n old at))

@@ -2,13 +2,13 @@ use Rattle.std.proofs.Common.{◌≡◌, ◌∷◌, [], ◌++◌, sym, refl, rul
 use Rattle.link_world.specs.World.{posts}
 use Rattle.link_replay.specs.Matched.{Matched}
 use Rattle.link_replay.specs.Stands.{SentStands}
-use Rattle.link_replay.specs.declared.sent.Sent.{Sent as CodeSent}
+use Rattle.link_replay.specs.Plain.{Sent as CodeSent}
 use Rattle.link_replay.proofs.Places.{posted}
 use Rattle.link_replay.proofs.posting.post.Goals as goal
 
 pub returns-clause-posted : goal.returns-clause-posted
 returns-clause-posted c = λ w content h t b.
-    let x : CodeSent = record { who = c.args.who; tick = c.args.tick; epoch = c.epoch_of-epoch.result; again = c.args.again; bytes = c.args.bytes } in
+    let x : CodeSent = record { who = c.args.who; tick = c.args.tick; epoch = c.epoch_of-epoch.result; again = c.args.again; bytes = c.args.bytes.items } in
     let items : c.push.new.self.items ≡ c.args.sent.now.items ++ x ∷ [] = search (rules, tests) in
     record {
       sides = h.sides;

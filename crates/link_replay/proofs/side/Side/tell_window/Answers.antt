@@ -3,9 +3,9 @@ use Rattle.link_client.specs.Client.{AbstractClient, tells_window}
 use Rattle.link_replay.proofs.side.Side.tell_window.Goals as goal
 
 pub returns-clause-step : goal.returns-clause-step
-returns-clause-step c = λ s h. record {
-  client = sym (c.set_window.ensures.step c.args.self.now.request.items c.args.self.now.received.items)
+returns-clause-step c = rw (← c.self.view_is) (λ s h. record {
+  client = sym (c.set_window.ensures.step c.self.inside.request.items c.self.inside.received.items)
       ∙ ap (λ (k : AbstractClient). (tells_window c.args.window k).client) h.client;
   epoch = h.epoch;
   first_stale = h.first_stale;
-}
+})

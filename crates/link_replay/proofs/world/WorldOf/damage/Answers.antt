@@ -1,4 +1,4 @@
-use Rattle.std.proofs.Common.{◌≡◌, ◌⊎◌, ℕ, ◌<◌, ◌≤◌, length, List, Option, sym, ap, ◌∙◌, arith, subst, rules, tests}
+use Rattle.std.proofs.Common.{◌≡◌, ◌⊎◌, ℕ, ◌-◌, ◌<◌, ◌≤◌, length, List, Option, Some, slice_get, sym, ap, ◌∙◌, arith, subst, rules, tests}
 use Rattle.std.proofs.lemmas.Grind.{common_steps}
 use Rattle.uip_node.specs.Edge.{event_of}
 use Rattle.uip_node.specs.Events.{Reply}
@@ -9,13 +9,29 @@ use Rattle.link_world.proofs.Doing.{damaged}
 use Rattle.link_world.specs.Bytes.{sent_bytes, changed}
 use Rattle.link_world.specs.World.{World, Sent}
 use Rattle.link_world.specs.declared.who.Who.{Who}
-use Rattle.link_replay.specs.Stands.{WorldStands}
+use Rattle.link_replay.specs.Stands.{SentStands, WorldStands}
+use Rattle.link_replay.specs.Plain.{Sent as CodeSent}
 use Rattle.link_replay.specs.State.{link_of}
 use Rattle.link_replay.specs.Telling.{AnswersTo}
 use Rattle.link_replay.proofs.Damaging.{damage_answers}
+use Rattle.uip_wire.specs.declared.sizes.TheConstants.{LARGEST_DATAGRAM}
+use Rattle.link_replay.proofs.Pairs.{there_is}
 use Rattle.link_replay.proofs.Readable.{sent_there}
 use Rattle.link_replay.proofs.Sending.{area_is, none_numbered}
 use Rattle.link_replay.proofs.world.WorldOf.damage.Goals as goal
+
+pub hand-requires : goal.hand-requires
+hand-requires g c = record {
+  most =
+      let sent : List CodeSent = c.self.inside.sent.items in
+      let n : ℕ = c.args.number - 1 in
+      let at : slice_get sent n ≡ Some c.index-sent.result.now = there_is sent n c.index-sent.result.now c.index-sent.ensures (omega arith) in
+      let items : c.in-Ok.bytes.items ≡ c.as_slice.result.now = search (rules, tests) in
+      let old : c.as_mut_slice.result.now ≡ c.index-sent.result.now.bytes = c.as_mut_slice.ensures.value ∙ items ∙ c.as_slice.ensures.value ∙ ap (λ (x : CodeSent). x.bytes) c.sent.view_is in
+      let whole = area_is c.change.new.bytes c.in-Ok.bytes.items c.in-Ok.bytes.len (c.change.auto.bytes ∙ ap length c.as_mut_slice.ensures.value) (sym c.as_mut_slice.ensures.len ∙ ap length c.as_mut_slice.ensures.value) in
+      let size : length c.as_slice-2.result.now ≡ length c.index-sent.result.now.bytes = ap length (c.as_slice-2.ensures.value ∙ whole) ∙ c.change.auto.bytes ∙ ap length old in
+      subst (λ (k : ℕ). k ≤ LARGEST_DATAGRAM) (sym size) (c.self.invariant.link.1.sizes n c.index-sent.result.now at);
+}
 
 pub returns-then-place-eq0-clause-damaged : goal.returns-then-place-eq0-clause-damaged
 returns-then-place-eq0-clause-damaged g c = λ w h f s.
@@ -32,20 +48,22 @@ returns-clause-damaged g c = λ w h f s.
     let m = a.meaning (a.kept c.args.self.now.node.shared) in
     let p = sent_there (link_of c.self.inside.sides.items c.self.inside.sent.items) w c.args.number c.index-sent.result.now (omega arith) c.index-sent.ensures (omega arith) t.link in
     let e : Sent = p.other in
+    let shown : SentStands w (record { who = c.sent.inside.who; tick = c.sent.inside.tick; epoch = c.sent.inside.epoch; again = c.sent.inside.again; bytes = c.sent.inside.bytes.items }) e
+    = subst (λ (x : CodeSent). SentStands w x e) (sym c.sent.view_is) p.pair in
     let items : c.in-Ok.bytes.items ≡ c.as_slice.result.now = search (rules, tests) in
-    let old : c.as_mut_slice.result.now ≡ sent_bytes w e = c.as_mut_slice.ensures.value ∙ items ∙ c.as_slice.ensures.value ∙ p.pair.bytes in
+    let old : c.as_mut_slice.result.now ≡ sent_bytes w e = c.as_mut_slice.ensures.value ∙ items ∙ c.as_slice.ensures.value ∙ shown.bytes in
     let whole = area_is c.change.new.bytes c.in-Ok.bytes.items c.in-Ok.bytes.len (c.change.auto.bytes ∙ ap length c.as_mut_slice.ensures.value) (sym c.as_mut_slice.ensures.len ∙ ap length c.as_mut_slice.ensures.value) in
     let bytes : c.as_slice-2.result.now ≡ changed (sent_bytes w e) c.args.at c.args.mask
     = c.as_slice-2.ensures.value ∙ whole ∙ c.change.ensures ∙ ap (λ (xs : List ℕ). changed xs c.from.result c.args.mask) old ∙ ap (λ i. changed (sent_bytes w e) i c.args.mask) c.from.ensures in
     let low : 1 ≤ c.args.mask = c.requires.mask in
     let high : c.args.mask < 256 = omega arith in
     let answer : Option Reply = (step m a.served w.node (event_of w.node.addr c.as_slice-2.result.now)).sent in
-    let answers : AnswersTo w c.index-sent.result.now.who answer
-    = subst (λ (who : Who). AnswersTo w who answer) (sym p.pair.who)
+    let answers : AnswersTo w c.sent.inside.who answer
+    = subst (λ (who : Who). AnswersTo w who answer) (sym shown.who)
     (subst (λ (b : List ℕ). AnswersTo w e.who (step m a.served w.node (event_of w.node.addr b)).sent) (sym bytes)
     (damage_answers m a.served w c.args.number c.args.at c.args.mask e h low high f p.there)) in
-    let same : hands_over m a.served w c.as_slice-2.result.now c.index-sent.result.now.who ≡ does m a.served w (Act.Damage c.args.number c.args.at c.args.mask)
-    = ap (λ (b : List ℕ). hands_over m a.served w b c.index-sent.result.now.who) bytes
-    ∙ ap (λ (who : Who). hands_over m a.served w (changed (sent_bytes w e) c.args.at c.args.mask) who) p.pair.who
+    let same : hands_over m a.served w c.as_slice-2.result.now c.sent.inside.who ≡ does m a.served w (Act.Damage c.args.number c.args.at c.args.mask)
+    = ap (λ (b : List ℕ). hands_over m a.served w b c.sent.inside.who) bytes
+    ∙ ap (λ (who : Who). hands_over m a.served w (changed (sent_bytes w e) c.args.at c.args.mask) who) shown.who
     ∙ sym (ap (λ (x : Option Sent). damaged m a.served w c.args.at c.args.mask x) p.there) in
     subst (λ (u : World). WorldStands a c.hand.new.self u) same (c.in_ok-hand.ensures.handed w s answers)

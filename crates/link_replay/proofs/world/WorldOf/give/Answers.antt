@@ -10,10 +10,10 @@ use Rattle.link_world.specs.declared.act.Act.{Act}
 use Rattle.link_world.specs.Bytes.{sent_bytes}
 use Rattle.link_world.specs.World.{World, Sent, delivers, numbered}
 use Rattle.link_world.specs.declared.who.Who.{Who}
-use Rattle.link_replay.specs.Stands.{LinkStands, WorldStands}
+use Rattle.link_replay.specs.Stands.{LinkStands, SentStands, WorldStands}
 use Rattle.link_replay.specs.State.{Link, link_of}
 use Rattle.link_replay.specs.Telling.{AnswersTo, client_told, sees}
-use Rattle.link_replay.specs.declared.sent.Sent.{Sent as CodeSent}
+use Rattle.link_replay.specs.Plain.{Sent as CodeSent}
 use Rattle.link_replay.proofs.Delivered.{answers_seen, hands, seen, speaks_to}
 use Rattle.link_replay.proofs.Pairs.{there_is}
 use Rattle.link_replay.proofs.Readable.{read_at, sent_at, sent_there}
@@ -31,7 +31,7 @@ hand-requires g c = record {
       let n : ℕ = c.args.number - 1 in
       let at : slice_get sent n ≡ Some c.index-sent.result.now = there_is sent n c.index-sent.result.now c.index-sent.ensures (omega arith) in
       let items : c.in-Ok.bytes.items ≡ c.as_slice.result.now = search (rules, tests) in
-      let all : c.as_slice-2.result.now ≡ c.index-sent.result.now.bytes.items = c.as_slice-2.ensures.value ∙ items ∙ c.as_slice.ensures.value in
+      let all : c.as_slice-2.result.now ≡ c.index-sent.result.now.bytes = c.as_slice-2.ensures.value ∙ items ∙ c.as_slice.ensures.value ∙ ap (λ (x : CodeSent). x.bytes) c.sent.view_is in
       subst (λ (xs : List ℕ). length xs ≤ LARGEST_DATAGRAM) (sym all) (c.self.invariant.link.1.sizes n c.index-sent.result.now at);
 }
 
@@ -50,24 +50,26 @@ returns-clause-given g c = rw (← c.self.view_is) (λ w h s.
     let m = a.meaning (a.kept c.self.inside.node.shared) in
     let p = sent_there (link_of c.self.inside.sides.items c.self.inside.sent.items) w c.args.number c.index-sent.result.now (omega arith) c.index-sent.ensures (omega arith) s.link in
     let e : Sent = p.other in
+    let shown : SentStands w (record { who = c.sent.inside.who; tick = c.sent.inside.tick; epoch = c.sent.inside.epoch; again = c.sent.inside.again; bytes = c.sent.inside.bytes.items }) e
+    = subst (λ (x : CodeSent). SentStands w x e) (sym c.sent.view_is) p.pair in
     let items : c.in-Ok.bytes.items ≡ c.as_slice.result.now = search (rules, tests) in
-    let bytes : c.as_slice-2.result.now ≡ sent_bytes w e = c.as_slice-2.ensures.value ∙ items ∙ c.as_slice.ensures.value ∙ p.pair.bytes in
-    let client : c.client_of.result ≡ client_told e.who = c.client_of.ensures ∙ ap client_told p.pair.who in
+    let bytes : c.as_slice-2.result.now ≡ sent_bytes w e = c.as_slice-2.ensures.value ∙ items ∙ c.as_slice.ensures.value ∙ shown.bytes in
+    let client : c.client_of.result ≡ client_told e.who = c.client_of.ensures ∙ ap client_told shown.who in
     let v : World = sees w (client_told e.who) c.args.number e (numbered w.sides (client_told e.who)) in
     let facts = hands m a.served w c.args.number e (speaks_to (link_of c.self.inside.sides.items c.self.inside.sent.items) w s.link s.home) e.who e.content (sent_bytes w e) (read_at m a.served w h (c.args.number - 1) e p.get) (sent_at m a.served w h (c.args.number - 1) e p.get) in
     let sent : List CodeSent = c.self.inside.sent.items in
     let link : Link = link_of c.see.new.sides.items sent in
     let stands : WorldStands a (record { node = c.self.inside.node; link = link; mark = c.self.inside.mark; spent = c.self.inside.spent; area = c.self.inside.area.items }) v
     = seen a _ link w (client_told e.who) c.args.number e (numbered w.sides (client_told e.who)) s
-    (subst (λ k. LinkStands link (sees w k c.args.number e (numbered w.sides k))) client (c.see.ensures.stands w e sent s.link p.pair.epoch)) (c.see.ensures.kept w.node.addr sent s.home) in
+    (subst (λ k. LinkStands link (sees w k c.args.number e (numbered w.sides k))) client (c.see.ensures.stands w e sent s.link shown.epoch)) (c.see.ensures.kept w.node.addr sent s.home) in
     let answer : Option Reply = (step m a.served v.node (event_of v.node.addr c.as_slice-2.result.now)).sent in
-    let answers : AnswersTo v c.index-sent.result.now.who answer
-    = subst (λ (who : Who). AnswersTo v who answer) (sym p.pair.who)
+    let answers : AnswersTo v c.sent.inside.who answer
+    = subst (λ (who : Who). AnswersTo v who answer) (sym shown.who)
     (subst (λ (b : List ℕ). AnswersTo v e.who (step m a.served v.node (event_of v.node.addr b)).sent) (sym bytes)
     (answers_seen m a.served w (client_told e.who) c.args.number e (numbered w.sides (client_told e.who)) e.who (sent_bytes w e) facts.answers)) in
-    let same : hands_over m a.served v c.as_slice-2.result.now c.index-sent.result.now.who ≡ does m a.served w (Act.Give c.args.number)
-    = ap (λ (b : List ℕ). hands_over m a.served v b c.index-sent.result.now.who) bytes
-    ∙ ap (λ (who : Who). hands_over m a.served v (sent_bytes w e) who) p.pair.who
+    let same : hands_over m a.served v c.as_slice-2.result.now c.sent.inside.who ≡ does m a.served w (Act.Give c.args.number)
+    = ap (λ (b : List ℕ). hands_over m a.served v b c.sent.inside.who) bytes
+    ∙ ap (λ (who : Who). hands_over m a.served v (sent_bytes w e) who) shown.who
     ∙ facts.same
     ∙ sym (ap (λ (x : Option Sent). option_map_or (λ d. delivers m a.served w c.args.number d d.who d.content) x w) p.there) in
     subst (λ (u : World). WorldStands a c.hand.new.self u) same (c.in_ok-hand.ensures.handed v stands answers))
