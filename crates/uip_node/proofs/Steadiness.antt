@@ -18,14 +18,7 @@ can_send pages p said e (Send n) h =
     let size : length said ≡ length (pages.text p.heard p.captures) = ap length e in
     (h.0, omega (arith, h.1, size, length-drop p.acked said))
 
--- the length of a page
-abbrev pub IsShort : ℕ → Type 0
-IsShort n = n < 1073741824
-
 module _ (m : Meaning) (pages : Pages) (lawful : IsPaged m pages) where
-  pub short_said : (p : Part) → All IsMoment p.captures → IsShort (length (m.said p))
-  short_said p f = subst (λ (xs : List ℕ). IsShort (length xs)) (sym (lawful.said p)) (lawful.short p.heard p.captures f)
-
   -- the page of more bytes and more captures
   more_said : (p q : Part) (more : List ℕ) (later : List Moment) → q.heard ≡ p.heard ++ more → q.captures ≡ p.captures ++ later → IsPrefixOf (m.said p) (m.said q)
   more_said p q more later h k =

@@ -13,27 +13,6 @@ use Rattle.uip_node.proofs.Fits.{FitConn, FitOut, asked_fits, prepared_captures}
 use Rattle.uip_node.proofs.Told.{IsNear, TextSafe, SafeState, OutTells, OutTold, asked_tells}
 
 module _ (m : Meaning) (steady : IsSteady m) (Low : ℕ → Type 0) (low_text : (p : Part) → All IsMoment p.captures → Low (length (m.said p))) where
-  -- the low numbers are below 2^30
-  abbrev pub Few : Type 0
-  Few = (n : ℕ) → Low n → n < 1073741824
-
-  near_low : Few → (n far : ℕ) → far ≤ 2 → IsNear Low n far → n < 4294967296
-  near_low few n far h near = (let l = few near.at near.low in omega (arith, h, l, near.near))
-
-  text_low : Few → (c : Connection) → All IsMoment c.part.captures → TextSafe m steady Low low_text c → c.acked < 4294967296
-  text_low few c f h = (let l = few (length (m.said c.part)) (low_text c.part f) in omega (arith, h.fits, h.count, l))
-
-  pub off_low : Few → (c : Connection) (st : State) → All IsMoment c.part.captures → SafeState m steady Low low_text c st → c.acked < 4294967296
-  off_low few c Closed f h = absurd h
-  off_low few c SynRcvd f h = omega (arith, h.acked)
-  off_low few c Established f h = text_low few c f h
-  off_low few c CloseWait f h = text_low few c f h.text
-  off_low few c FinWait1 f h = near_low few c.acked 1 (omega arith) h.low
-  off_low few c FinWait2 f h = near_low few c.acked 2 (omega arith) h.low
-  off_low few c Closing f h = near_low few c.acked 1 (omega arith) h.low
-  off_low few c TimeWait f h = near_low few c.acked 2 (omega arith) h.low
-  off_low few c LastAck f h = near_low few c.acked 1 (omega arith) h.low
-
   asks_fit : (o : Outcome) → All IsWord o.numbers → FitConn o.connection → (now : Now) → IsNow now → All IsMoment (m.prepare o.numbers o.connection.part now).captures
   asks_fit o n f now is = prepared_captures m steady o.numbers o.connection.part now n is f.captures
 
