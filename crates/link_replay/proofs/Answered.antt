@@ -27,8 +27,8 @@ use Rattle.link_replay.specs.Noting.{gone_pair, is_sent_again, pair_at, sockets_
 use Rattle.link_replay.specs.Stands.{IsLink, LinkStands, SentStands, SideStands}
 use Rattle.link_replay.specs.Telling.{AreTo, IsTo}
 use Rattle.link_replay.specs.State.{Link, link_of}
-use Rattle.link_replay.specs.Plain.{Sent as CodeSent}
-use Rattle.link_replay.specs.Plain.{Side as CodeSide}
+use Rattle.link_replay.specs.Plain.{CodeSent}
+use Rattle.link_replay.specs.Plain.{CodeSide}
 use Rattle.link_replay.specs.declared.socket_pair.SocketPair.{SocketPair}
 use Rattle.link_replay.proofs.Pairs.{Partner, partner}
 use Rattle.link_replay.proofs.Places.{sent_stays}

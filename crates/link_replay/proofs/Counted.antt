@@ -8,8 +8,8 @@ use Rattle.link_world.specs.World.{World, Side, Sent, is_clean}
 use Rattle.link_replay.proofs.Matching.{matched_head, matched_tail}
 use Rattle.link_replay.specs.Matched.{Matched}
 use Rattle.link_replay.specs.Stands.{SideStands, SentStands}
-use Rattle.link_replay.specs.Plain.{Sent as CodeSent}
-use Rattle.link_replay.specs.Plain.{Side as CodeSide}
+use Rattle.link_replay.specs.Plain.{CodeSent}
+use Rattle.link_replay.specs.Plain.{CodeSide}
 use Rattle.link_replay.specs.declared.tally.Tally.{Tally}
 
 pub sum_matched : {X Y : Type 0} (P : X → Y → Type 0) (f : X → ℕ) (g : Y → ℕ) (xs : List X) (ys : List Y) → ((x : X) (y : Y) → P x y → f x ≡ g y) → Matched P xs ys

@@ -11,7 +11,7 @@ use Rattle.link_replay.specs.Epochs.{IsAtLast, OnlyEpoch, buried, sockets_for}
 use Rattle.link_replay.specs.Matched.{Matched}
 use Rattle.link_replay.specs.Noting.{pair_at, sockets_at}
 use Rattle.link_replay.specs.Stands.{SideStands}
-use Rattle.link_replay.specs.Plain.{Side as CodeSide}
+use Rattle.link_replay.specs.Plain.{CodeSide}
 use Rattle.link_replay.specs.declared.socket_pair.SocketPair.{SocketPair}
 use Rattle.link_replay.proofs.Matching.{matched_cons, matched_head, matched_nil, matched_same, matched_tail}
 

@@ -17,7 +17,7 @@ use Rattle.link_world.specs.declared.who.Who.TheVariants.{FromClient, FromNode}
 use Rattle.link_world.specs.Reading.{IsRead, IsSentBy}
 use Rattle.link_replay.specs.Matched.{Matched}
 use Rattle.link_replay.specs.Stands.{SideStands}
-use Rattle.link_replay.specs.Plain.{Side as CodeSide}
+use Rattle.link_replay.specs.Plain.{CodeSide}
 use Rattle.link_replay.specs.declared.kind.Kind.{Kind}
 use Rattle.link_replay.specs.declared.kind.Kind.TheVariants.{EchoReply}
 use Rattle.link_replay.specs.Report.{kind_sent, segment_kind}

@@ -26,9 +26,9 @@ use Rattle.uip_node.proofs.Connections.{get_map}
 use Rattle.link_replay.specs.Matched.{Matched}
 use Rattle.link_replay.specs.Opening.{AreFresh, IsFresh, plan_from, planned, server}
 use Rattle.link_replay.specs.Stands.{IsLink, SentStands, SideStands}
-use Rattle.link_replay.specs.Plain.{Sent as CodeSent}
+use Rattle.link_replay.specs.Plain.{CodeSent}
 use Rattle.link_replay.specs.State.{Link}
-use Rattle.link_replay.specs.Plain.{Side as CodeSide}
+use Rattle.link_replay.specs.Plain.{CodeSide}
 
 pub server_is_addr : IsAddr server
 server_is_addr = record {

@@ -5,7 +5,7 @@ use Rattle.link_client.specs.declared.client_state.ClientState.{ClientState}
 use Rattle.link_client.specs.declared.client_state.ClientState.TheVariants.{Idle}
 use Rattle.link_world.specs.Acts.{is_idle}
 use Rattle.link_world.specs.World.{Side}
-use Rattle.link_replay.specs.Plain.{Side as CodeSide}
+use Rattle.link_replay.specs.Plain.{CodeSide}
 use Rattle.link_replay.specs.Stands.{SideStands}
 use Rattle.link_replay.specs.Owning.{Stepped}
 

@@ -16,8 +16,8 @@ use Rattle.uip_node.proofs.Connections.{get_set}
 use Rattle.uip_node.proofs.Connections.Written.{here, there}
 use Rattle.link_replay.specs.Stands.{SideStands, SentStands, LinkStands, IsLink}
 use Rattle.link_replay.specs.State.{Link, link_of}
-use Rattle.link_replay.specs.Plain.{Side as CodeSide}
-use Rattle.link_replay.specs.Plain.{Sent as CodeSent}
+use Rattle.link_replay.specs.Plain.{CodeSide}
+use Rattle.link_replay.specs.Plain.{CodeSent}
 use Rattle.link_replay.proofs.Pairs.{push, put, turn}
 
 -- the same addresses and ports, or no client on either side

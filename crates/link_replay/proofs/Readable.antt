@@ -14,7 +14,7 @@ use Rattle.link_world.proofs.SoundWorlds.{SoundWorld}
 use Rattle.link_replay.specs.Reaching.{IsAt}
 use Rattle.link_replay.specs.Stands.{LinkStands, SentStands}
 use Rattle.link_replay.specs.State.{Link}
-use Rattle.link_replay.specs.Plain.{Sent as CodeSent}
+use Rattle.link_replay.specs.Plain.{CodeSent}
 use Rattle.link_replay.proofs.Pairs.{numbered_at, partner, there_is}
 use Rattle.link_replay.proofs.Reaching.{reached_at}
 

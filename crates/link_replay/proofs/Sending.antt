@@ -20,11 +20,11 @@ use Rattle.link_world.specs.declared.who.Who.TheVariants.{FromClient}
 use Rattle.uip_node.proofs.Connections.{get_set_same, set_same}
 use Rattle.link_replay.specs.Owning.{Stepped}
 use Rattle.uip_wire.specs.declared.addr.Addr.{Addr}
-use Rattle.link_replay.specs.Plain.{Sent as CodeSent}
+use Rattle.link_replay.specs.Plain.{CodeSent}
 use Rattle.link_replay.specs.Stands.{LinkStands, SideStands, IsLink}
 use Rattle.link_replay.specs.State.{Link, link_of}
 use Rattle.link_replay.specs.Moving.{PostsOfClient}
-use Rattle.link_replay.specs.Plain.{Side as CodeSide}
+use Rattle.link_replay.specs.Plain.{CodeSide}
 use Rattle.link_replay.proofs.Pairs.{partner}
 use Rattle.link_replay.proofs.Places.{link_put, side_put}
 

@@ -4,8 +4,8 @@ use Rattle.link_client.specs.Client.{AbstractClient}
 use Rattle.link_world.specs.World.{World, Side, Sent}
 use Rattle.link_world.specs.declared.who.Who.{Who}
 use Rattle.link_replay.specs.Stands.{SideStands, SentStands}
-use Rattle.link_replay.specs.Plain.{Sent as CodeSent}
-use Rattle.link_replay.specs.Plain.{Side as CodeSide}
+use Rattle.link_replay.specs.Plain.{CodeSent}
+use Rattle.link_replay.specs.Plain.{CodeSide}
 use Rattle.link_replay.specs.declared.kind.Kind.{Kind}
 use Rattle.text_room.specs.Words.{word_if}
 use Rattle.link_replay.specs.Report.{client_line, counts_line, datagram_line, kind_sent, line_of_datagram, lines_of_client, text_line}

@@ -3,7 +3,7 @@ use Rattle.std.specs.Prelude.{◌≡◌, ◌+◌, true, if◌then◌else◌}
 use Rattle.tcp_machine.specs.Connection.{Sockets, same_sockets}
 use Rattle.link_client.specs.declared.setup.Setup.{Setup}
 use Rattle.link_replay.specs.Noting.{sockets_at}
-use Rattle.link_replay.specs.Plain.{Side}
+use Rattle.link_replay.specs.Plain.{CodeSide as Side}
 use Rattle.link_replay.specs.declared.socket_pair.SocketPair.{SocketPair}
 
 -- the sockets of the server's connection with a client

@@ -23,8 +23,8 @@ use Rattle.link_replay.specs.Reaching.{IsAt}
 use Rattle.link_replay.specs.Stands.{IsLink, LinkStands, SentStands, WorldStands}
 use Rattle.link_replay.specs.Telling.{AreTo, IsTo}
 use Rattle.link_replay.specs.declared.before.Before.{Before}
-use Rattle.link_replay.specs.Plain.{Sent as CodeSent}
-use Rattle.link_replay.specs.Plain.{Side as CodeSide}
+use Rattle.link_replay.specs.Plain.{CodeSent}
+use Rattle.link_replay.specs.Plain.{CodeSide}
 use Rattle.link_replay.specs.declared.socket_pair.SocketPair.{SocketPair}
 use Rattle.link_replay.specs.State.{CodeWorld, Link, link_of}
 

@@ -8,7 +8,7 @@ use Rattle.link_schedule.specs.Clients.{Plan}
 use Rattle.link_world.specs.World.{World}
 use Rattle.link_world.specs.History.{Planned, IsPlanned, fresh_side, opening_world}
 use Rattle.link_replay.specs.Stands.{SideStands}
-use Rattle.link_replay.specs.Plain.{Side as CodeSide}
+use Rattle.link_replay.specs.Plain.{CodeSide}
 
 -- 10.0.0.1
 abbrev pub server : Addr

@@ -5,7 +5,7 @@ use Rattle.link_client.specs.Client.{AbstractClient, ClientStep, client_opens, c
 use Rattle.link_world.specs.World.{Side, with_client}
 use Rattle.link_replay.specs.declared.own.Own.{Own}
 use Rattle.link_replay.specs.declared.own.Own.TheVariants as own
-use Rattle.link_replay.specs.Plain.{Side as CodeSide}
+use Rattle.link_replay.specs.Plain.{CodeSide}
 use Rattle.link_replay.specs.Stands.{SideStands}
 
 abbrev pub own_step : Own → AbstractClient → ClientStep

@@ -3,14 +3,14 @@ use Rattle.std.specs.Prelude.{ℕ, Bool, List, Option}
 use Rattle.link_client.specs.State.{Client}
 use Rattle.link_world.specs.declared.who.Who.{Who}
 
-pub record Side : Type 0 where
+pub record CodeSide : Type 0 where
   pub client : Client
   pub request : List ℕ
   pub received : List ℕ
   pub epoch : ℕ
   pub first_stale : Option ℕ
 
-pub record Sent : Type 0 where
+pub record CodeSent : Type 0 where
   pub who : Who
   pub tick : ℕ
   pub epoch : ℕ

@@ -8,8 +8,8 @@ use Rattle.link_client.specs.Calls.{standing, FitsRequest}
 use Rattle.link_world.specs.World.{World, Side, Sent, epoch}
 use Rattle.link_world.specs.Bytes.{sent_bytes}
 use Rattle.link_replay.specs.Matched.{Matched}
-use Rattle.link_replay.specs.Plain.{Sent as CodeSent}
-use Rattle.link_replay.specs.Plain.{Side as CodeSide}
+use Rattle.link_replay.specs.Plain.{CodeSent}
+use Rattle.link_replay.specs.Plain.{CodeSide}
 use Rattle.link_replay.specs.State.{CodeWorld, Link}
 
 -- a client of the code for one over plain data

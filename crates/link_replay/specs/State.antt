@@ -1,14 +1,14 @@
 -- A world of the code as plain data.
 use Rattle.std.specs.Prelude.{ℕ, Bool, List}
 use Rattle.uip_node.specs.State.{Node}
-use Rattle.link_replay.specs.Plain.{Sent, Side}
+use Rattle.link_replay.specs.Plain.{CodeSent, CodeSide}
 
 -- the clients, and every datagram that was sent, both numbered from 1
 pub record Link : Type 0 where
-  pub sides : List Side
-  pub sent : List Sent
+  pub sides : List CodeSide
+  pub sent : List CodeSent
 
-abbrev pub link_of : List Side → List Sent → Link
+abbrev pub link_of : List CodeSide → List CodeSent → Link
 link_of sides sent = record { sides = sides; sent = sent }
 
 pub record CodeWorld (A S : Type 0) : Type 0 where

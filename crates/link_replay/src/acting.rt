@@ -10,7 +10,7 @@ ghost use Rattle.link_replay.specs.Moving.{PostsOfClient};
 ghost use Rattle.link_replay.specs.Owning.{own_step};
 ghost use Rattle.link_replay.specs.Stands.{IsLink, LinkStands};
 ghost use Rattle.link_replay.specs.State.{link_of};
-ghost use Rattle.link_replay.specs.Plain.{Sent as CodeSent};
+ghost use Rattle.link_replay.specs.Plain.{CodeSent};
 
 use crate::own::Own;
 use crate::posting::post;

@@ -8,7 +8,7 @@ ghost use Rattle.link_replay.specs.Epochs.{sockets_for};
 ghost use Rattle.link_replay.specs.Noting.{pair_at};
 ghost use Rattle.link_replay.specs.Stands.{IsLink, LinkStands, SideStands};
 ghost use Rattle.link_replay.specs.State.{link_of};
-ghost use Rattle.link_replay.specs.Plain.{Sent as CodeSent};
+ghost use Rattle.link_replay.specs.Plain.{CodeSent};
 ghost use Rattle.link_replay.specs.Telling.{pair_at_side, sees};
 
 use crate::side::Side;

@@ -16,9 +16,9 @@ pub struct Sent {
 }
 
 impl Model for Sent {
-    ghost use Rattle.link_replay.specs.Plain.{Sent};
+    ghost use Rattle.link_replay.specs.Plain.{CodeSent};
 
-    ghost Value = { Sent };
+    ghost Value = { CodeSent };
 
     ghost view = { λ sent. record { who = sent.who; tick = sent.tick; epoch = sent.epoch; again = sent.again; bytes = sent.bytes.items } };
 }

@@ -15,9 +15,9 @@ pub struct Side {
 }
 
 impl Model for Side {
-    ghost use Rattle.link_replay.specs.Plain.{Side};
+    ghost use Rattle.link_replay.specs.Plain.{CodeSide};
 
-    ghost Value = { Side };
+    ghost Value = { CodeSide };
 
     ghost view = { λ side. record {
       client = side.client;

@@ -5,7 +5,7 @@ ghost use Rattle.uip_wire.specs.declared.addr.Addr.{Addr as Address};
 ghost use Rattle.link_replay.specs.Moving.{Buries, PostsReply, TellsStep};
 ghost use Rattle.link_replay.specs.Stands.{IsLink};
 ghost use Rattle.link_replay.specs.State.{link_of};
-ghost use Rattle.link_replay.specs.Plain.{Sent as CodeSent};
+ghost use Rattle.link_replay.specs.Plain.{CodeSent};
 
 use crate::before::Before;
 use crate::posting::post;

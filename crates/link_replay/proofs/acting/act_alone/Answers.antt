@@ -2,7 +2,7 @@ use Rattle.std.proofs.Common.{◌≡◌, ℕ, ◌-◌, suc, sym, ap, ◌∙◌, 
 use Rattle.link_world.specs.World.{client_stepped}
 use Rattle.link_replay.specs.Owning.{own_step}
 use Rattle.link_replay.specs.State.{Link, link_of}
-use Rattle.link_replay.specs.Plain.{Side as CodeSide}
+use Rattle.link_replay.specs.Plain.{CodeSide}
 use Rattle.link_replay.proofs.Pairs.{there_is}
 use Rattle.link_replay.proofs.Sending
 use Rattle.link_replay.proofs.acting.act_alone.Goals as goal

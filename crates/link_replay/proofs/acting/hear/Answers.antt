@@ -4,7 +4,7 @@ use Rattle.link_world.specs.Acts.{handed}
 use Rattle.link_world.specs.World.{World}
 use Rattle.link_replay.specs.Stands.{LinkStands}
 use Rattle.link_replay.specs.State.{Link, link_of}
-use Rattle.link_replay.specs.Plain.{Side as CodeSide}
+use Rattle.link_replay.specs.Plain.{CodeSide}
 use Rattle.link_replay.proofs.Pairs.{there_is}
 use Rattle.link_replay.proofs.Sending
 use Rattle.link_replay.proofs.acting.hear.Goals as goal

@@ -1,7 +1,7 @@
 use Rattle.std.proofs.Common.{List, ℕ, length, ap, ◌∙◌}
 use Rattle.std.proofs.lemmas.Result.{err_from_is_err_and}
-use Rattle.link_replay.specs.Plain.{Side as CodeSide}
 use Rattle.text_room.specs.Words.{word_if}
+use Rattle.link_replay.specs.Plain.{CodeSide}
 use Rattle.link_replay.specs.Report.{client_line, text_line}
 use Rattle.link_replay.proofs.Saying.{wrote_by, wrote_stop, wrote_then}
 use Rattle.link_replay.proofs.Standing.{client_stands}

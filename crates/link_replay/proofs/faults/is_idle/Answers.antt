@@ -2,7 +2,7 @@ use Rattle.std.proofs.Common.{◌≡◌, ◌<◌, ◌-◌, ℕ, Some, slice_get,
 use Rattle.link_client.specs.Client.{AbstractClient}
 use Rattle.link_world.specs.Acts.{is_idle, state_at}
 use Rattle.link_replay.specs.Stands.{SideStands}
-use Rattle.link_replay.specs.Plain.{Side as CodeSide}
+use Rattle.link_replay.specs.Plain.{CodeSide}
 use Rattle.link_replay.proofs.Pairs.{there_is, numbered_at, partner}
 use Rattle.link_replay.proofs.faults.is_idle.Goals as goal
 

@@ -6,7 +6,7 @@ use Rattle.link_world.specs.Bytes.{sent_bytes}
 use Rattle.link_world.specs.declared.who.Who.{Who}
 use Rattle.link_world.specs.declared.who.Who.TheVariants.{FromClient, FromNode}
 use Rattle.link_world.specs.Reading.{IsRead, IsSentBy}
-use Rattle.link_replay.specs.Plain.{Sent as CodeSent}
+use Rattle.link_replay.specs.Plain.{CodeSent}
 use Rattle.link_replay.specs.State.{link_of}
 use Rattle.link_replay.proofs.Delivered.{speaks_to}
 use Rattle.link_replay.proofs.Hearing.{client_kind, node_kind, no_client_kind}

@@ -6,7 +6,7 @@ use Rattle.link_replay.specs.Noting.{pair_at}
 use Rattle.link_replay.specs.Stands.{SideStands}
 use Rattle.link_replay.specs.Telling.{pair_at_side}
 use Rattle.link_replay.specs.declared.socket_pair.SocketPair.{SocketPair}
-use Rattle.link_replay.specs.Plain.{Side as CodeSide}
+use Rattle.link_replay.specs.Plain.{CodeSide}
 use Rattle.link_replay.proofs.Pairs.{there_is, partner}
 use Rattle.link_replay.proofs.marks.pair_of.Goals as goal
 

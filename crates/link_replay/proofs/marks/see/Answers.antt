@@ -4,7 +4,7 @@ use Rattle.link_world.specs.World.{Side, marked, numbered, with_side}
 use Rattle.link_replay.specs.Stands.{LinkStands, SideStands}
 use Rattle.link_replay.specs.State.{Link, link_of}
 use Rattle.link_replay.specs.Telling.{sees}
-use Rattle.link_replay.specs.Plain.{Side as CodeSide}
+use Rattle.link_replay.specs.Plain.{CodeSide}
 use Rattle.link_replay.proofs.Pairs.{there_is, partner}
 use Rattle.link_replay.proofs.Places.{side_put, link_put}
 use Rattle.link_replay.proofs.marks.see.Goals as goal

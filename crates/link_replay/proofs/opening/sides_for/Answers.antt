@@ -1,5 +1,5 @@
 use Rattle.std.proofs.Common.{◌≡◌, ◌++◌, ◌+◌, List, [], ◌∷◌, length, rules, tests, sym, ap, ◌∙◌, subst, length-append}
-use Rattle.link_replay.specs.Plain.{Side}
+use Rattle.link_replay.specs.Plain.{CodeSide as Side}
 use Rattle.link_replay.proofs.Opened.{FreshTo, in_range_at, one_more}
 use Rattle.link_replay.proofs.Pairs.{there_is}
 use Rattle.link_replay.proofs.opening.sides_for.Goals as goal

@@ -2,7 +2,7 @@ use Rattle.std.proofs.Common.{◌≡◌, ◌∷◌, [], ◌++◌, sym, refl, rul
 use Rattle.link_world.specs.World.{posts}
 use Rattle.link_replay.specs.Matched.{Matched}
 use Rattle.link_replay.specs.Stands.{SentStands}
-use Rattle.link_replay.specs.Plain.{Sent as CodeSent}
+use Rattle.link_replay.specs.Plain.{CodeSent}
 use Rattle.link_replay.proofs.Places.{posted}
 use Rattle.link_replay.proofs.posting.post.Goals as goal
 

@@ -6,7 +6,7 @@ use Rattle.link_world.specs.World.{buries}
 use Rattle.link_replay.specs.Epochs.{IsAtLast, buried}
 use Rattle.link_replay.specs.Matched.{Matched}
 use Rattle.link_replay.specs.Stands.{SideStands}
-use Rattle.link_replay.specs.Plain.{Side}
+use Rattle.link_replay.specs.Plain.{CodeSide as Side}
 use Rattle.link_replay.proofs.Epochs.{all_buried, all_done, kept_more, last_found}
 use Rattle.link_replay.proofs.sides.bury.Goals as goal
 

@@ -3,7 +3,7 @@ use Rattle.link_replay.specs.Epochs.{OnlyEpoch}
 use Rattle.link_replay.specs.Matched.{Matched}
 use Rattle.link_replay.specs.Stands.{SideStands}
 use Rattle.link_replay.specs.State.{link_of}
-use Rattle.link_replay.specs.Plain.{Side}
+use Rattle.link_replay.specs.Plain.{CodeSide as Side}
 use Rattle.link_replay.proofs.Answered.{link_buried, none_gone, one_gone}
 use Rattle.link_replay.proofs.telling.bury_gone.Goals as goal
 

@@ -3,8 +3,8 @@ use Rattle.link_world.specs.World.{World}
 use Rattle.link_replay.specs.Moving.{PostsReply}
 use Rattle.link_replay.specs.Stands.{LinkStands}
 use Rattle.link_replay.specs.State.{link_of}
-use Rattle.link_replay.specs.Plain.{Sent as CodeSent}
-use Rattle.link_replay.specs.Plain.{Side as CodeSide}
+use Rattle.link_replay.specs.Plain.{CodeSent}
+use Rattle.link_replay.specs.Plain.{CodeSide}
 use Rattle.uip_node.specs.Node.{NodeStep, step}
 use Rattle.link_replay.proofs.Answered.{left_by, loud, quiet}
 use Rattle.link_replay.proofs.Sending.{kept_posted}

@@ -1,6 +1,6 @@
 use Rattle.std.proofs.Common.{sym, ap, ◌∙◌, subst, None}
 use Rattle.link_world.specs.Acts.{is_idle}
-use Rattle.link_replay.specs.Plain.{Side as CodeSide}
+use Rattle.link_replay.specs.Plain.{CodeSide}
 use Rattle.link_replay.specs.Owning.{Stepped, own_step}
 use Rattle.link_replay.specs.declared.own.Own.{Own}
 use Rattle.link_replay.proofs.Owning.{not_opened}

@@ -1,6 +1,6 @@
 use Rattle.std.proofs.Common.{ap, ◌∙◌, sym, ℕ, Option}
 use Rattle.std.specs.Prelude.{is_none}
-use Rattle.link_replay.specs.Plain.{Side as CodeSide}
+use Rattle.link_replay.specs.Plain.{CodeSide}
 use Rattle.link_replay.proofs.world.WorldOf.clean.Goals as goal
 
 pub returns-in-None : goal.returns-in-None

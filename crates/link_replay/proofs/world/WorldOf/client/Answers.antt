@@ -1,7 +1,7 @@
 use Rattle.std.proofs.Common.{sym, ap, ◌∙◌}
 use Rattle.link_client.specs.Calls.{standing}
 use Rattle.link_client.specs.Client.{AbstractClient}
-use Rattle.link_replay.specs.Plain.{Side as CodeSide}
+use Rattle.link_replay.specs.Plain.{CodeSide}
 use Rattle.link_replay.proofs.world.WorldOf.client.Goals as goal
 
 pub returns : goal.returns

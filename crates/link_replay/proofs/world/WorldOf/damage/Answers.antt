@@ -10,7 +10,7 @@ use Rattle.link_world.specs.Bytes.{sent_bytes, changed}
 use Rattle.link_world.specs.World.{World, Sent}
 use Rattle.link_world.specs.declared.who.Who.{Who}
 use Rattle.link_replay.specs.Stands.{SentStands, WorldStands}
-use Rattle.link_replay.specs.Plain.{Sent as CodeSent}
+use Rattle.link_replay.specs.Plain.{CodeSent}
 use Rattle.link_replay.specs.State.{link_of}
 use Rattle.link_replay.specs.Telling.{AnswersTo}
 use Rattle.link_replay.proofs.Damaging.{damage_answers}

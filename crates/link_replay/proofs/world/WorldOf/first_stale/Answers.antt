@@ -1,5 +1,5 @@
 use Rattle.std.proofs.Common.{ap, ◌∙◌}
-use Rattle.link_replay.specs.Plain.{Side as CodeSide}
+use Rattle.link_replay.specs.Plain.{CodeSide}
 use Rattle.link_replay.proofs.world.WorldOf.first_stale.Goals as goal
 
 pub returns : goal.returns

@@ -5,7 +5,7 @@ use Rattle.link_world.specs.World.Content.{OfPing}
 use Rattle.link_world.specs.declared.who.Who.TheVariants.{Pinger}
 use Rattle.link_replay.specs.Stands.{LinkStands}
 use Rattle.link_replay.specs.State.{link_of}
-use Rattle.link_replay.specs.Plain.{Side as CodeSide}
+use Rattle.link_replay.specs.Plain.{CodeSide}
 use Rattle.link_replay.proofs.Handling.{linked, still_linked}
 use Rattle.link_replay.proofs.Sending.{kept_posted}
 use Rattle.link_replay.proofs.world.WorldOf.ping.Goals as goal
