@@ -1,6 +1,5 @@
 //! The web server and the shell on one node: which of them speaks on a connection is told by the port at which it was opened.
 
-
 use crate::shell::Shell;
 use app_events::{App, Ending, Now, Want};
 use httpd::{Httpd, Web};
