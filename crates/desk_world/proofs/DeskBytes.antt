@@ -18,11 +18,7 @@ use Rattle.link_world.proofs.SaidBytes.{SaysBytesWhere}
 use Rattle.telnet_shell.specs.declared.shell.TheConstants.{TELNET_PORT}
 use Rattle.telnet_shell.specs.DeskMeaning.{desk_meaning, meaning_at}
 use Rattle.telnet_shell.specs.ShellMeaning.{shell_meaning}
-use Rattle.telnet_shell.proofs.TalkBytes.{shell_bytes}
-
-by_port : (files : List File) (shell : Bool) → SaysBytes (web_meaning files) → SaysBytes (if shell then shell_meaning else web_meaning files)
-by_port files true w = shell_bytes
-by_port files false w = w
+use Rattle.telnet_shell.proofs.TwoBytes.{desk_bytes}
 
 module _ (site : SiteContent) (loaded : IsLoaded site) (page : HasBytes (pages_of (files_of site))) where
   abbrev files : List File
@@ -31,25 +27,15 @@ module _ (site : SiteContent) (loaded : IsLoaded site) (page : HasBytes (pages_o
   abbrev desk : Meaning
   desk = desk_meaning (files_of site)
 
-  bytes_at : (port : ℕ) → SaysBytes (meaning_at files port)
-  bytes_at port = by_port files (port == TELNET_PORT) (page_bytes (web_meaning files) (pages_of files) (keeps_page_laws site loaded) page)
-
-  desk_bytes : SaysBytes desk
-  desk_bytes = record {
-    said = λ p h k. (bytes_at p.port).said p h k;
-    connected = λ numbers port. (bytes_at port).connected numbers port;
-    newdata = λ numbers p piece h are. (bytes_at p.port).newdata numbers p piece h are;
-    prepare = λ numbers p now h. (bytes_at p.port).prepare numbers p now h;
-    acked = λ numbers p n h. (bytes_at p.port).acked numbers p n h;
-    polled = λ numbers p h. (bytes_at p.port).polled numbers p h;
-  }
+  says_bytes : SaysBytes desk
+  says_bytes = desk_bytes files (page_bytes (web_meaning files) (pages_of files) (keeps_page_laws site loaded) page)
 
   -- so what has to be known of a connection is that it has heard bytes
   pub desk_says : SaysBytesWhere desk HeardBytes
   desk_says = record {
     closed_knows = all_nil IsByte;
     accepted_knows = λ first sockets s. all_nil IsByte;
-    segment_knows = λ at c numbers s are h. asked_bytes desk desk_bytes at (on_segment desk c numbers s) (on_segment_bytes desk desk_bytes c numbers s are h);
-    tick_knows = λ at c numbers h. asked_bytes desk desk_bytes at (on_tick desk c numbers) (on_tick_bytes desk desk_bytes c numbers h);
-    says = λ c f h. desk_bytes.said c.part h f.captures;
+    segment_knows = λ at c numbers s are h. asked_bytes desk says_bytes at (on_segment desk c numbers s) (on_segment_bytes desk says_bytes c numbers s are h);
+    tick_knows = λ at c numbers h. asked_bytes desk says_bytes at (on_tick desk c numbers) (on_tick_bytes desk says_bytes c numbers h);
+    says = λ c f h. says_bytes.said c.part h f.captures;
   }

@@ -1,5 +1,7 @@
 -- What is known of the datagrams of a world of a replay.
-use Rattle.std.proofs.Common.{◌≡◌, ℕ, ◌-◌, ◌<◌, Bool, refl, subst, ◌∙◌, Some, get_or, length, slice_get, List}
+use Rattle.std.proofs.Common.{◌≡◌, ℕ, ◌-◌, ◌<◌, ◌≤◌, Bool, refl, subst, ◌∙◌, Some, get_or, length, slice_get, List}
+use Rattle.uip_wire.specs.declared.addr.Addr.{Addr}
+use Rattle.uip_wire.specs.declared.sizes.TheConstants.{LARGEST_DATAGRAM}
 use Rattle.app_events.specs.Part.{Meaning}
 use Rattle.link_world.specs.Bytes.{bytes_by, sent_bytes}
 use Rattle.link_world.specs.World.{World, Sent, Content, numbered}
@@ -12,7 +14,7 @@ use Rattle.link_world.proofs.Runs.{reached_sound}
 use Rattle.link_world.proofs.Senders.{sent_to_clients}
 use Rattle.link_world.proofs.SoundWorlds.{SoundWorld}
 use Rattle.link_replay.specs.Reaching.{IsAt}
-use Rattle.link_replay.specs.Stands.{LinkStands, SentStands}
+use Rattle.link_replay.specs.Stands.{IsLink, LinkStands, SentStands}
 use Rattle.link_replay.specs.State.{Link}
 use Rattle.link_replay.specs.Plain.{CodeSent}
 use Rattle.link_replay.proofs.Pairs.{numbered_at, partner, there_is}
@@ -64,3 +66,7 @@ pub sent_there : (link : Link) (w : World) (number : ℕ) (code : CodeSent) → 
 sent_there link w number code above read inside h =
     let p = partner (SentStands w) link.sent w.sent (number - 1) code h.sent (there_is link.sent (number - 1) code read inside) in
     record { other = p.other; get = p.get; there = numbered_at w.sent number above ∙ p.get; pair = p.pair }
+
+-- a datagram that was read fits the largest one
+pub sent_fits : (addr : Addr) (link : Link) (i : ℕ) (x : CodeSent) → x ≡ get_or link.sent i x → i < length link.sent → IsLink addr link → length x.bytes ≤ LARGEST_DATAGRAM
+sent_fits addr link i x h l kept = kept.sizes i x (there_is link.sent i x h l)

@@ -95,6 +95,16 @@ some_side side = record {
 pub area_is : (new old : List ℕ) (n : ℕ) → length new ≡ length old → n ≡ length old → take n (new ++ drop (length new) old) ≡ new
 area_is new old n e f = ap (λ (xs : List ℕ). take n (new ++ xs)) (drop_all (length new) old (omega (arith, e))) ∙ ap (λ (xs : List ℕ). take n xs) (append_nothing new) ∙ take_all n new (omega (arith, e, f))
 
+-- what was written over the whole area of a list, as the list has it then
+pub record AreaBack (new old : List ℕ) (n : ℕ) : Type 0 where
+  pub size : length new ≡ length old
+  pub is : take n (new ++ drop (length new) old) ≡ new
+
+pub area_back : (new lent old : List ℕ) (n : ℕ) → length new ≡ length lent → lent ≡ old → length lent ≡ n → AreaBack new old n
+area_back new lent old n room value len =
+    let size : length new ≡ length old = room ∙ ap length value in
+    record { size = size; is = area_is new old n size (sym len ∙ ap length value) }
+
 -- a client took a step
 pub kept_put : (addr : Addr) (link : Link) (n : ℕ) (old new : CodeSide) → slice_get link.sides n ≡ Some old → FitsRequest new.client new.request
     → new.client.setup ≡ old.client.setup → IsLink addr link → IsLink addr (record link { sides = set link.sides n new })

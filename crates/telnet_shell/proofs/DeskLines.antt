@@ -24,12 +24,8 @@ use Rattle.telnet_shell.specs.Talks.{HearsFront, talks}
 use Rattle.telnet_shell.proofs.TalkLaws.{keeps_talk}
 use Rattle.telnet_shell.specs.Lemmas.DeskLaws.{KeepsPort}
 use Rattle.telnet_shell.proofs.DeskSteady.{desk_steady}
-use Rattle.telnet_shell.proofs.TalkBytes.{shell_bytes}
+use Rattle.telnet_shell.proofs.TwoBytes.{desk_bytes}
 use Rattle.telnet_shell.proofs.TwoApplications.{two_applications}
-
-either_bytes_law : (files : List File) (shell : Bool) → SaysBytes (web_meaning files) → SaysBytes (if shell then shell_meaning else web_meaning files)
-either_bytes_law files true w = shell_bytes
-either_bytes_law files false w = w
 
 module _ (site : SiteContent) (loaded : IsLoaded site) (image : All IsByte site.image) where
   abbrev files : List File
@@ -38,20 +34,8 @@ module _ (site : SiteContent) (loaded : IsLoaded site) (image : All IsByte site.
   web_laws : IsPaged (web_meaning files) (pages_of files)
   web_laws = keeps_page_laws site loaded
 
-  bytes_at : (port : ℕ) → SaysBytes (meaning_at files port)
-  bytes_at port =
-      either_bytes_law files (port == TELNET_PORT)
-      (page_bytes (web_meaning files) (pages_of files) web_laws (λ heard captures c. made_of_bytes site image heard captures c))
-
-  desk_bytes : SaysBytes (desk_meaning files)
-  desk_bytes = record {
-    said = λ p h k. (bytes_at p.port).said p h k;
-    connected = λ numbers port. (bytes_at port).connected numbers port;
-    newdata = λ numbers p piece h are. (bytes_at p.port).newdata numbers p piece h are;
-    prepare = λ numbers p now h. (bytes_at p.port).prepare numbers p now h;
-    acked = λ numbers p n h. (bytes_at p.port).acked numbers p n h;
-    polled = λ numbers p h. (bytes_at p.port).polled numbers p h;
-  }
+  says_bytes : SaysBytes (desk_meaning files)
+  says_bytes = desk_bytes files (page_bytes (web_meaning files) (pages_of files) web_laws (λ heard captures c. made_of_bytes site image heard captures c))
 
   -- ---- pages at port 80
 
@@ -191,4 +175,4 @@ module _ (site : SiteContent) (loaded : IsLoaded site) (image : All IsByte site.
   desk_speaks port = by_port port (is_served port) refl
 
 pub speaks_on_lines : DeskSpeaksOnLines
-speaks_on_lines site loaded image = record { steady = desk_steady site loaded; bytes = desk_bytes site loaded image; speaks = desk_speaks site loaded image }
+speaks_on_lines site loaded image = record { steady = desk_steady site loaded; bytes = says_bytes site loaded image; speaks = desk_speaks site loaded image }

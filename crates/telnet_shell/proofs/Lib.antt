@@ -12,3 +12,4 @@ pub mod DeskLines
 pub mod TalkLaws
 pub mod ExactLaws
 pub mod SequenceLaws
+pub mod TwoBytes

@@ -10,13 +10,11 @@ use Rattle.link_replay.proofs.acting.act_alone.Goals as goal
 pub post_front-requires : goal.post_front-requires
 post_front-requires c =
     let s = Sending.some_side c.index_mut.result.now in
-    let area : List ℕ = c.act-len.new.area in
-    let size : length area ≡ length c.args.area.now.items = c.act-len.ensures.room ∙ ap length c.as_mut_slice.ensures.value in
-    let read : c.as_slice-2.result.now ≡ area
-    = c.as_slice-2.ensures.value ∙ Sending.area_is area c.args.area.now.items c.args.area.now.len size (sym c.as_mut_slice.ensures.len ∙ ap length c.as_mut_slice.ensures.value) in
+    let back = Sending.area_back c.act-len.new.area c.as_mut_slice.result.now c.args.area.now.items c.args.area.now.len c.act-len.ensures.room c.as_mut_slice.ensures.value c.as_mut_slice.ensures.len in
+    let read : c.as_slice-2.result.now ≡ c.act-len.new.area = c.as_slice-2.ensures.value ∙ back.is in
     record {
-      area = ap length read ∙ size ∙ c.requires.room;
-      inside = λ n e. subst (λ (xs : List ℕ). n ≤ length xs) (sym read) (Sending.sends_inside s.plain.client.setup _ c.act-len.result n area (c.act-len.ensures.step s.plain s.stands).sent e);
+      area = ap length read ∙ back.size ∙ c.requires.room;
+      inside = λ n e. subst (λ (xs : List ℕ). n ≤ length xs) (sym read) (Sending.sends_inside s.plain.client.setup _ c.act-len.result n c.act-len.new.area (c.act-len.ensures.step s.plain s.stands).sent e);
     }
 
 pub returns-clause-kept : goal.returns-clause-kept
@@ -35,13 +33,13 @@ returns-in_err-post_front-clause-kept c = λ addr h.
 
 pub returns-clause-room : goal.returns-clause-room
 returns-clause-room c =
-    let size : length c.act-len.new.area ≡ length c.args.area.now.items = c.act-len.ensures.room ∙ ap length c.as_mut_slice.ensures.value in
-    ap length (Sending.area_is c.act-len.new.area c.args.area.now.items c.args.area.now.len size (sym c.as_mut_slice.ensures.len ∙ ap length c.as_mut_slice.ensures.value)) ∙ size ∙ c.requires.room
+    let back = Sending.area_back c.act-len.new.area c.as_mut_slice.result.now c.args.area.now.items c.args.area.now.len c.act-len.ensures.room c.as_mut_slice.ensures.value c.as_mut_slice.ensures.len in
+    ap length back.is ∙ back.size ∙ c.requires.room
 
 pub returns-in_err-post_front-clause-room : goal.returns-in_err-post_front-clause-room
 returns-in_err-post_front-clause-room c =
-    let size : length c.act-len.new.area ≡ length c.args.area.now.items = c.act-len.ensures.room ∙ ap length c.as_mut_slice.ensures.value in
-    ap length (Sending.area_is c.act-len.new.area c.args.area.now.items c.args.area.now.len size (sym c.as_mut_slice.ensures.len ∙ ap length c.as_mut_slice.ensures.value)) ∙ size ∙ c.requires.room
+    let back = Sending.area_back c.act-len.new.area c.as_mut_slice.result.now c.args.area.now.items c.args.area.now.len c.act-len.ensures.room c.as_mut_slice.ensures.value c.as_mut_slice.ensures.len in
+    ap length back.is ∙ back.size ∙ c.requires.room
 
 pub returns-clause-acted : goal.returns-clause-acted
 returns-clause-acted c = λ w h t.
@@ -51,9 +49,8 @@ returns-clause-acted c = λ w h t.
     let new : CodeSide = c.act-len.new.self in
     let link : Link = link_of c.args.sides.now.items c.args.sent.now.items in
     let after : Link = link_of (set c.args.sides.now.items n new) c.post_front.new.sent.items in
-    let size : length c.act-len.new.area ≡ length c.args.area.now.items = c.act-len.ensures.room ∙ ap length c.as_mut_slice.ensures.value in
-    let read : c.as_slice-2.result.now ≡ c.act-len.new.area
-    = c.as_slice-2.ensures.value ∙ Sending.area_is c.act-len.new.area c.args.area.now.items c.args.area.now.len size (sym c.as_mut_slice.ensures.len ∙ ap length c.as_mut_slice.ensures.value) in
+    let back = Sending.area_back c.act-len.new.area c.as_mut_slice.result.now c.args.area.now.items c.args.area.now.len c.act-len.ensures.room c.as_mut_slice.ensures.value c.as_mut_slice.ensures.len in
+    let read : c.as_slice-2.result.now ≡ c.act-len.new.area = c.as_slice-2.ensures.value ∙ back.is in
     Sending.done_at link after w c.args.number n old (λ s. client_stepped w c.args.number s (own_step c.args.own s.client)) is h
     (there_is c.args.sides.now.items n old c.index_mut.ensures.value (omega arith))
     (λ s g o. Sending.step_posted link w c.args.number n old new s is h g o c.act-len.ensures.setup (own_step c.args.own s.client) c.act-len.result c.act-len.new.area after c.args.tick

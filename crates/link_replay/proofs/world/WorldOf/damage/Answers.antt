@@ -16,21 +16,19 @@ use Rattle.link_replay.specs.Telling.{AnswersTo}
 use Rattle.link_replay.proofs.Damaging.{damage_answers}
 use Rattle.uip_wire.specs.declared.sizes.TheConstants.{LARGEST_DATAGRAM}
 use Rattle.link_replay.proofs.Pairs.{there_is}
-use Rattle.link_replay.proofs.Readable.{sent_there}
+use Rattle.link_replay.proofs.Readable.{sent_fits, sent_there}
 use Rattle.link_replay.proofs.Sending.{area_is, none_numbered}
 use Rattle.link_replay.proofs.world.WorldOf.damage.Goals as goal
 
 pub hand-requires : goal.hand-requires
 hand-requires g c = record {
   most =
-      let sent : List CodeSent = c.self.inside.sent.items in
-      let n : ℕ = c.args.number - 1 in
-      let at : slice_get sent n ≡ Some c.index-sent.result.now = there_is sent n c.index-sent.result.now c.index-sent.ensures (omega arith) in
+      let fits = sent_fits _ (link_of c.self.inside.sides.items c.self.inside.sent.items) (c.args.number - 1) c.index-sent.result.now c.index-sent.ensures (omega arith) c.self.invariant.link.1 in
       let items : c.in-Ok.bytes.items ≡ c.as_slice.result.now = search (rules, tests) in
       let old : c.as_mut_slice.result.now ≡ c.index-sent.result.now.bytes = c.as_mut_slice.ensures.value ∙ items ∙ c.as_slice.ensures.value ∙ ap (λ (x : CodeSent). x.bytes) c.sent.view_is in
       let whole = area_is c.change.new.bytes c.in-Ok.bytes.items c.in-Ok.bytes.len (c.change.auto.bytes ∙ ap length c.as_mut_slice.ensures.value) (sym c.as_mut_slice.ensures.len ∙ ap length c.as_mut_slice.ensures.value) in
       let size : length c.as_slice-2.result.now ≡ length c.index-sent.result.now.bytes = ap length (c.as_slice-2.ensures.value ∙ whole) ∙ c.change.auto.bytes ∙ ap length old in
-      subst (λ (k : ℕ). k ≤ LARGEST_DATAGRAM) (sym size) (c.self.invariant.link.1.sizes n c.index-sent.result.now at);
+      subst (λ (k : ℕ). k ≤ LARGEST_DATAGRAM) (sym size) fits;
 }
 
 pub returns-then-place-eq0-clause-damaged : goal.returns-then-place-eq0-clause-damaged

@@ -16,7 +16,7 @@ use Rattle.link_replay.specs.Telling.{AnswersTo, client_told, sees}
 use Rattle.link_replay.specs.Plain.{CodeSent}
 use Rattle.link_replay.proofs.Delivered.{answers_seen, hands, seen, speaks_to}
 use Rattle.link_replay.proofs.Pairs.{there_is}
-use Rattle.link_replay.proofs.Readable.{read_at, sent_at, sent_there}
+use Rattle.link_replay.proofs.Readable.{read_at, sent_at, sent_fits, sent_there}
 use Rattle.link_replay.proofs.Handling.{still_linked}
 use Rattle.link_replay.proofs.Sending.{none_numbered}
 use Rattle.link_replay.proofs.world.WorldOf.give.Goals as goal
@@ -27,12 +27,10 @@ invariant_of-self g c = record { link = still_linked _ _ c.self.invariant.link (
 pub hand-requires : goal.hand-requires
 hand-requires g c = record {
   most =
-      let sent : List CodeSent = c.self.inside.sent.items in
-      let n : ℕ = c.args.number - 1 in
-      let at : slice_get sent n ≡ Some c.index-sent.result.now = there_is sent n c.index-sent.result.now c.index-sent.ensures (omega arith) in
+      let fits = sent_fits _ (link_of c.self.inside.sides.items c.self.inside.sent.items) (c.args.number - 1) c.index-sent.result.now c.index-sent.ensures (omega arith) c.self.invariant.link.1 in
       let items : c.in-Ok.bytes.items ≡ c.as_slice.result.now = search (rules, tests) in
       let all : c.as_slice-2.result.now ≡ c.index-sent.result.now.bytes = c.as_slice-2.ensures.value ∙ items ∙ c.as_slice.ensures.value ∙ ap (λ (x : CodeSent). x.bytes) c.sent.view_is in
-      subst (λ (xs : List ℕ). length xs ≤ LARGEST_DATAGRAM) (sym all) (c.self.invariant.link.1.sizes n c.index-sent.result.now at);
+      subst (λ (xs : List ℕ). length xs ≤ LARGEST_DATAGRAM) (sym all) fits;
 }
 
 pub returns-then-place-eq0-clause-given : goal.returns-then-place-eq0-clause-given
