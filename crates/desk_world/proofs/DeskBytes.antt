@@ -1,5 +1,5 @@
 -- What the desk says is bytes, where its pages are and where it hears bytes.
-use Rattle.std.proofs.Common.{ℕ, ◌==◌, Bool, true, false, List, if◌then◌else◌}
+use Rattle.std.proofs.Common.{List}
 use Rattle.app_events.specs.Pages.{IsByte}
 use Rattle.app_events.specs.Part.{Meaning}
 use Rattle.site_image.specs.Files.{File}
@@ -15,9 +15,7 @@ use Rattle.node_laws.specs.Speakers.{SaysBytes}
 use Rattle.node_laws.proofs.EveryTurn.{page_bytes}
 use Rattle.node_laws.proofs.Hearing.{HeardBytes, asked_bytes, on_segment_bytes, on_tick_bytes}
 use Rattle.link_world.proofs.SaidBytes.{SaysBytesWhere}
-use Rattle.telnet_shell.specs.declared.shell.TheConstants.{TELNET_PORT}
-use Rattle.telnet_shell.specs.DeskMeaning.{desk_meaning, meaning_at}
-use Rattle.telnet_shell.specs.ShellMeaning.{shell_meaning}
+use Rattle.telnet_shell.specs.DeskMeaning.{desk_meaning}
 use Rattle.telnet_shell.proofs.TwoBytes.{desk_bytes}
 
 module _ (site : SiteContent) (loaded : IsLoaded site) (page : HasBytes (pages_of (files_of site))) where

@@ -17,7 +17,7 @@ use Rattle.node_laws.specs.Speakers.{HearsPiece, IsPagedAt, IsToldAt, LeavesHear
 use Rattle.node_laws.proofs.EveryTurn.{page_bytes}
 use Rattle.telnet_shell.specs.declared.shell.TheConstants.{TELNET_PORT}
 use Rattle.telnet_shell.specs.DeskLines.{DeskSpeaksOnLines, desk_speech}
-use Rattle.telnet_shell.specs.DeskMeaning.{desk_meaning, meaning_at}
+use Rattle.telnet_shell.specs.DeskMeaning.{desk_meaning}
 use Rattle.telnet_shell.specs.DeskPorts.{DoesAs}
 use Rattle.telnet_shell.specs.ShellMeaning.{is_stopped, shell_meaning, take_capture, talk}
 use Rattle.telnet_shell.specs.Talks.{HearsFront, talks}
