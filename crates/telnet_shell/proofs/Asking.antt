@@ -10,7 +10,7 @@ use Rattle.generators.specs.Captures.{capture_of}
 use Rattle.generators.specs.declared.capture.Capture.{Capture}
 use Rattle.script_lang.specs.declared.function.Function.{Function}
 use Rattle.telnet_shell.specs.declared.command.Command.{Command}
-use Rattle.telnet_shell.specs.declared.shell.Shell.{Shell}
+use Rattle.telnet_shell.specs.State.{Shell}
 use Rattle.telnet_shell.specs.Transcript.{function_of, needs_capture, said_with, transcript}
 use Rattle.telnet_shell.specs.Saying.{IsBehind, IsInFront, Shows, stops_at, is_taken, left_said, due}
 use Rattle.telnet_shell.specs.Lemmas.Speaking.{talk_is, waiting_is, said_some, held_goes}
@@ -105,16 +105,16 @@ not_taken [] capture at p d b i =
     ap (λ (ds : List Command). (p.acked == length (talk p)) && not (length ds == 0)) (waiting_is [] capture at p b i) ∙ no_and (p.acked == length (talk p))
 not_taken (c ∷ cs) capture at p d b i = goes_on_not c cs capture at p b i (due_none (stops_at c capture) (function_of c) d)
 
-pub prepared : (a : Shell) (p : Part) (held : Capture) (numbers : List ℕ) (function : Function) (now : Now) → due a.queue.items a.capture ≡ Some function → held ≡ capture_of function 0 now
+pub prepared : (a : Shell) (p : Part) (held : Capture) (numbers : List ℕ) (function : Function) (now : Now) → due a.queue a.capture ≡ Some function → held ≡ capture_of function 0 now
     → ShellStands a p → ShellStands (record a { capture = held }) (if is_stopped p then take_capture numbers p now else p)
 prepared a p held numbers function now d e s =
-    let t : IsPrepared a.queue.items held a.at p (take_capture numbers p now) = taken a.queue.items a.capture held a.at p numbers function now d e s.behind s.place in
+    let t : IsPrepared a.queue held a.at p (take_capture numbers p now) = taken a.queue a.capture held a.at p numbers function now d e s.behind s.place in
     subst (λ (q : Part). ShellStands (record a { capture = held }) q) (sym (ap (λ (b : Bool). if b then take_capture numbers p now else p) t.stopped))
     (record { polls = s.polls; lost = s.lost; done = s.done; hears = s.hears; behind = t.behind; place = t.place })
 
-pub unprepared : (a : Shell) (p : Part) (numbers : List ℕ) (now : Now) → due a.queue.items a.capture ≡ None → ShellStands a p → ShellStands a (if is_stopped p then take_capture numbers p now else p)
+pub unprepared : (a : Shell) (p : Part) (numbers : List ℕ) (now : Now) → due a.queue a.capture ≡ None → ShellStands a p → ShellStands a (if is_stopped p then take_capture numbers p now else p)
 unprepared a p numbers now d s =
-    subst (λ (q : Part). ShellStands a q) (sym (ap (λ (b : Bool). if b then take_capture numbers p now else p) (not_taken a.queue.items a.capture a.at p d s.behind s.place))) s
+    subst (λ (q : Part). ShellStands a q) (sym (ap (λ (b : Bool). if b then take_capture numbers p now else p) (not_taken a.queue a.capture a.at p d s.behind s.place))) s
 
 -- ---- what is wanted
 
@@ -122,17 +122,17 @@ abbrev pub want_from : Bool → ℕ → Want
 want_from ended left = if ended then Close else if nat_lt 0 left then Send (min 1460 left) else Nothing
 
 pub wanted : (a : Shell) (p : Part) → a.lost ≡ false → (a.polls ≡ 1200 → ⊥) → ShellStands a p
-    → want_from (a.done && (length a.queue.items == 0)) (length (left_said a.queue.items a.capture) - a.at) ≡ shell_want p
+    → want_from (a.done && (length a.queue == 0)) (length (left_said a.queue a.capture) - a.at) ≡ shell_want p
 wanted a p lost polls s =
     let stays : ((p.own == 1) || (p.polls == 1200)) ≡ false =
     ap (λ (b : Bool). b || (p.polls == 1200)) (own_is a p s ∙ lost) ∙ ap (λ (n : ℕ). n == 1200) (sym s.polls) ∙ eq_no a.polls 1200 polls in
-    let ended : talk_has_ended p ≡ (a.done && (length a.queue.items == 0)) =
-    ap (λ (b : Bool). b && is_settled p) (sym s.done) ∙ ap (λ (ds : List Command). a.done && (length ds == 0)) (waiting_is a.queue.items a.capture a.at p s.behind s.place) in
-    let left : left_of_talk p ≡ length (left_said a.queue.items a.capture) - a.at =
-    (let size = talk_size a.queue.items a.capture a.at p s.behind in let at_is = s.behind.acked in omega (arith, size, at_is)) in
+    let ended : talk_has_ended p ≡ (a.done && (length a.queue == 0)) =
+    ap (λ (b : Bool). b && is_settled p) (sym s.done) ∙ ap (λ (ds : List Command). a.done && (length ds == 0)) (waiting_is a.queue a.capture a.at p s.behind s.place) in
+    let left : left_of_talk p ≡ length (left_said a.queue a.capture) - a.at =
+    (let size = talk_size a.queue a.capture a.at p s.behind in let at_is = s.behind.acked in omega (arith, size, at_is)) in
     sym (ap (λ (b : Bool). if b then Abort else want_from (talk_has_ended p) (left_of_talk p)) stays
     ∙ ap (λ (b : Bool). want_from b (left_of_talk p)) ended
-    ∙ ap (λ (n : ℕ). want_from (a.done && (length a.queue.items == 0)) n) left)
+    ∙ ap (λ (n : ℕ). want_from (a.done && (length a.queue == 0)) n) left)
 
 -- ---- a piece
 

@@ -6,7 +6,7 @@ use Rattle.file_tree.specs.Site.{SiteContent, files_of}
 use Rattle.web_pages.specs.WebMeaning.{web_meaning}
 use Rattle.httpd.specs.First.{Httpd}
 use Rattle.httpd.specs.HttpdStands.{HttpdStands}
-use Rattle.telnet_shell.specs.declared.shell.Shell.{Shell}
+use Rattle.telnet_shell.specs.State.{Shell}
 use Rattle.telnet_shell.specs.declared.shell.TheConstants.{TELNET_PORT}
 use Rattle.telnet_shell.specs.declared.desk.Desk.{Desk}
 use Rattle.telnet_shell.specs.declared.desk.Desk.TheVariants as desk

@@ -6,7 +6,7 @@ use Rattle.app_events.specs.Part.{Part, text_left, CanSay, HasPart}
 use Rattle.generators.specs.declared.capture.Capture.{Capture}
 use Rattle.generators.specs.declared.capture.Capture.TheVariants.{Empty}
 use Rattle.telnet_shell.specs.declared.command.Command.{Command}
-use Rattle.telnet_shell.specs.declared.shell.Shell.{Shell}
+use Rattle.telnet_shell.specs.State.{Shell}
 use Rattle.telnet_shell.specs.Transcript.{said_with, transcript}
 use Rattle.telnet_shell.specs.Saying.{IsBehind, IsInFront, left_said, front_size, stops_at}
 use Rattle.telnet_shell.specs.ShellMeaning.{shell_meaning}
@@ -35,18 +35,18 @@ pub size_fits : (q : List Command) (capture : Capture) → front_size q capture 
 size_fits [] capture = omega arith
 size_fits (c ∷ cs) capture = size_by (stops_at c capture) (said_with c capture) (transcript cs [])
 
-pub place_of : {K : Type 0} (a : Shell) (k : K) (n : ℕ) → CanSay {A = Shell} {K = K} (λ j. shell_meaning) (λ b j p. ShellStands b p) a k n → a.at ≤ front_size a.queue.items a.capture
-place_of a k n can = ∥∥₁_elim can le_prop (λ c. place_fits a.queue.items a.capture a.at c.1.place)
+pub place_of : {K : Type 0} (a : Shell) (k : K) (n : ℕ) → CanSay {A = Shell} {K = K} (λ j. shell_meaning) (λ b j p. ShellStands b p) a k n → a.at ≤ front_size a.queue a.capture
+place_of a k n can = ∥∥₁_elim can le_prop (λ c. place_fits a.queue a.capture a.at c.1.place)
 
-pub place_in : {K : Type 0} (a : Shell) (k : K) → HasPart {A = Shell} {K = K} (λ b j p. ShellStands b p) a k → a.at ≤ length (left_said a.queue.items a.capture)
-place_in a k has = ∥∥₁_elim has le_prop (λ c. omega (arith, place_fits a.queue.items a.capture a.at c.1.place, size_fits a.queue.items a.capture))
+pub place_in : {K : Type 0} (a : Shell) (k : K) → HasPart {A = Shell} {K = K} (λ b j p. ShellStands b p) a k → a.at ≤ length (left_said a.queue a.capture)
+place_in a k has = ∥∥₁_elim has le_prop (λ c. omega (arith, place_fits a.queue a.capture a.at c.1.place, size_fits a.queue a.capture))
 
-pub room : {K : Type 0} (a : Shell) (k : K) (n : ℕ) → CanSay {A = Shell} {K = K} (λ j. shell_meaning) (λ b j p. ShellStands b p) a k n → a.at + n ≤ length (left_said a.queue.items a.capture)
+pub room : {K : Type 0} (a : Shell) (k : K) (n : ℕ) → CanSay {A = Shell} {K = K} (λ j. shell_meaning) (λ b j p. ShellStands b p) a k n → a.at + n ≤ length (left_said a.queue a.capture)
 room a k n can =
     let fits = place_of a k n can in
     ∥∥₁_elim can le_prop (λ c.
-    let e : length (text_left shell_meaning c.0) ≡ length (Rattle.std.proofs.Common.drop a.at (left_said a.queue.items a.capture)) = ap (λ (xs : List ℕ). length xs) (left_of_value a c.0 c.1) in
-    omega (arith, c.2, e, length-drop a.at (left_said a.queue.items a.capture), fits, size_fits a.queue.items a.capture))
+    let e : length (text_left shell_meaning c.0) ≡ length (Rattle.std.proofs.Common.drop a.at (left_said a.queue a.capture)) = ap (λ (xs : List ℕ). length xs) (left_of_value a c.0 c.1) in
+    omega (arith, c.2, e, length-drop a.at (left_said a.queue a.capture), fits, size_fits a.queue a.capture))
 
 pub acked_behind : (q : List Command) (capture : Capture) (at n : ℕ) (p : Part) → IsBehind q capture at p → IsBehind q capture (at + n) (record p { acked = p.acked + n; polls = 0 })
 acked_behind q capture at n p b = record {

@@ -1,10 +1,9 @@
 -- A shell hears a byte.
 use Rattle.std.proofs.Common.{◌≡◌, ℕ, ◌+◌, ◌==◌, ◌≤◌, ◌<◌, Bool, true, false, ◌||◌, List, [], ◌∷◌, ◌++◌, length, nat_lt, if◌then◌else◌, refl, sym, ap, subst, ◌∙◌, arith, append-nil, length-append, true≢false}
 use Rattle.std.proofs.lemmas.Bool.{le-ltb, lt-ltb, eqb-true, eqb-false}
-use Rattle.arrayvec.specs.ArrayVec.{ArrayVec}
 use Rattle.app_events.specs.Part.{Part}
 use Rattle.telnet_shell.specs.declared.command.Command.{Command}
-use Rattle.telnet_shell.specs.declared.shell.Shell.{Shell}
+use Rattle.telnet_shell.specs.State.{Shell}
 use Rattle.telnet_shell.specs.Reading.{all_commands, commands_in, commands, tokens, told, awaits_after, line_after, has_quit, is_quit, until_quit}
 use Rattle.telnet_shell.specs.Reading.Awaits.{Text}
 use Rattle.telnet_shell.specs.Hearing.{IsOpen}
@@ -62,16 +61,16 @@ quits heard byte cs e =
     ∙ quit_joins (all_commands heard) cs
 
 -- behind `quit` nothing counts
-pub hear_done : (a : Shell) (p : Part) (byte : ℕ) → a.lost ≡ false → a.done ≡ true → length a.queue.items ≤ 32 → ShellStands a p → ShellStands a (hear_byte p byte)
+pub hear_done : (a : Shell) (p : Part) (byte : ℕ) → a.lost ≡ false → a.done ≡ true → length a.queue ≤ 32 → ShellStands a p → ShellStands a (hear_byte p byte)
 hear_done a p byte lost done room s =
     let over : has_quit (all_commands p.heard) ≡ true = sym s.done ∙ done in
     let cs : List Command = commands (line_after [] (tokens Text p.heard)) (told (awaits_after Text p.heard) byte) in
     let none : commands_in (p.heard ++ byte ∷ []) ≡ commands_in p.heard ++ [] =
     counted p.heard byte (commands (line_after [] (tokens Text p.heard)) (told (awaits_after Text p.heard) byte)) refl
     ∙ ap (λ (b : Bool). commands_in p.heard ++ (if b then [] else until_quit (commands (line_after [] (tokens Text p.heard)) (told (awaits_after Text p.heard) byte)))) over in
-    let both = come a.queue.items [] a.capture a.at p byte none s.behind s.place in
-    let behind : IsBehind a.queue.items a.capture a.at (with_byte p byte) = subst (λ (q : List Command). IsBehind q a.capture a.at (with_byte p byte)) (append-nil a.queue.items) both.0 in
-    subst (λ (q : Part). ShellStands a q) (sym (hears_it a p byte a.queue.items lost s (waiting_is a.queue.items a.capture a.at (with_byte p byte) behind s.place) room)) (record {
+    let both = come a.queue [] a.capture a.at p byte none s.behind s.place in
+    let behind : IsBehind a.queue a.capture a.at (with_byte p byte) = subst (λ (q : List Command). IsBehind q a.capture a.at (with_byte p byte)) (append-nil a.queue) both.0 in
+    subst (λ (q : Part). ShellStands a q) (sym (hears_it a p byte a.queue lost s (waiting_is a.queue a.capture a.at (with_byte p byte) behind s.place) room)) (record {
       polls = s.polls;
       lost = s.lost;
       done = done ∙ sym (quits p.heard byte (commands (line_after [] (tokens Text p.heard)) (told (awaits_after Text p.heard) byte)) refl
@@ -89,18 +88,18 @@ is_open : (a : Shell) → a.lost ≡ false → a.done ≡ false → (a.lost || a
 is_open a lost done = ap (λ (b : Bool). b || a.done) lost ∙ done
 
 -- no command comes
-pub hear_none : (a : Shell) (p : Part) (byte : ℕ) (kept : ArrayVec ℕ) (over : Bool) (iac : List ℕ) → a.lost ≡ false → a.done ≡ false → length a.queue.items ≤ 32
-    → ((heard : List ℕ) → IsOpen a.line.items a.over a.iac heard → IsOpen kept.items over iac (heard ++ byte ∷ []))
-    → ((heard : List ℕ) → IsOpen a.line.items a.over a.iac heard → [] ≡ commands (line_after [] (tokens Text heard)) (told (awaits_after Text heard) byte))
+pub hear_none : (a : Shell) (p : Part) (byte : ℕ) (kept : List ℕ) (over : Bool) (iac : List ℕ) → a.lost ≡ false → a.done ≡ false → length a.queue ≤ 32
+    → ((heard : List ℕ) → IsOpen a.line a.over a.iac heard → IsOpen kept over iac (heard ++ byte ∷ []))
+    → ((heard : List ℕ) → IsOpen a.line a.over a.iac heard → [] ≡ commands (line_after [] (tokens Text heard)) (told (awaits_after Text heard) byte))
     → ShellStands a p → ShellStands (record a { line = kept; over = over; iac = iac }) (hear_byte p byte)
 hear_none a p byte kept over iac lost done room goes brings s =
     let heard = s.hears (is_open a lost done) in
     let going : has_quit (all_commands p.heard) ≡ false = sym s.done ∙ done in
     let none : commands_in (p.heard ++ byte ∷ []) ≡ commands_in p.heard ++ [] =
     counted p.heard byte [] (brings p.heard heard) ∙ ap (λ (b : Bool). commands_in p.heard ++ (if b then [] else [])) going in
-    let both = come a.queue.items [] a.capture a.at p byte none s.behind s.place in
-    let behind : IsBehind a.queue.items a.capture a.at (with_byte p byte) = subst (λ (q : List Command). IsBehind q a.capture a.at (with_byte p byte)) (append-nil a.queue.items) both.0 in
-    subst (λ (q : Part). ShellStands (record a { line = kept; over = over; iac = iac }) q) (sym (hears_it a p byte a.queue.items lost s (waiting_is a.queue.items a.capture a.at (with_byte p byte) behind s.place) room)) (record {
+    let both = come a.queue [] a.capture a.at p byte none s.behind s.place in
+    let behind : IsBehind a.queue a.capture a.at (with_byte p byte) = subst (λ (q : List Command). IsBehind q a.capture a.at (with_byte p byte)) (append-nil a.queue) both.0 in
+    subst (λ (q : Part). ShellStands (record a { line = kept; over = over; iac = iac }) q) (sym (hears_it a p byte a.queue lost s (waiting_is a.queue a.capture a.at (with_byte p byte) behind s.place) room)) (record {
       polls = s.polls;
       lost = s.lost;
       done = done ∙ sym (quits p.heard byte [] (brings p.heard heard) ∙ ap (λ (b : Bool). b || false) going);
@@ -110,20 +109,20 @@ hear_none a p byte kept over iac lost done room goes brings s =
     })
 
 -- a command comes, and the queue is full
-pub hear_full : (a : Shell) (p : Part) (byte : ℕ) (c : Command) (kept : ArrayVec ℕ) (over : Bool) (iac : List ℕ) → a.lost ≡ false → a.done ≡ false
-    → (full : Bool) → full ≡ true → full ≡ (length a.queue.items == 32)
-    → ((heard : List ℕ) → IsOpen a.line.items a.over a.iac heard → c ∷ [] ≡ commands (line_after [] (tokens Text heard)) (told (awaits_after Text heard) byte))
+pub hear_full : (a : Shell) (p : Part) (byte : ℕ) (c : Command) (kept : List ℕ) (over : Bool) (iac : List ℕ) → a.lost ≡ false → a.done ≡ false
+    → (full : Bool) → full ≡ true → full ≡ (length a.queue == 32)
+    → ((heard : List ℕ) → IsOpen a.line a.over a.iac heard → c ∷ [] ≡ commands (line_after [] (tokens Text heard)) (told (awaits_after Text heard) byte))
     → ShellStands a p → ShellStands (record a { line = kept; over = over; iac = iac; lost = true }) (hear_byte p byte)
 hear_full a p byte c kept over iac lost done full is count brings s =
     let heard = s.hears (is_open a lost done) in
     let going : has_quit (all_commands p.heard) ≡ false = sym s.done ∙ done in
     let one : commands_in (p.heard ++ byte ∷ []) ≡ commands_in p.heard ++ until_quit (c ∷ []) =
     counted p.heard byte (c ∷ []) (brings p.heard heard) ∙ ap (λ (b : Bool). commands_in p.heard ++ (if b then [] else until_quit (c ∷ []))) going in
-    let both = come a.queue.items (until_quit (c ∷ [])) a.capture a.at p byte one s.behind s.place in
-    let size : length a.queue.items ≡ 32 = eqb-true (length a.queue.items) 32 (sym count ∙ is) in
+    let both = come a.queue (until_quit (c ∷ [])) a.capture a.at p byte one s.behind s.place in
+    let size : length a.queue ≡ 32 = eqb-true (length a.queue) 32 (sym count ∙ is) in
     subst (λ (q : Part). ShellStands (record a { line = kept; over = over; iac = iac; lost = true }) q)
-    (sym (gives_up a p byte (a.queue.items ++ until_quit (c ∷ [])) lost s (waiting_is (a.queue.items ++ until_quit (c ∷ [])) a.capture a.at (with_byte p byte) both.0 both.1)
-    (omega (arith, size, length-append a.queue.items (until_quit (c ∷ [])))))) (record {
+    (sym (gives_up a p byte (a.queue ++ until_quit (c ∷ [])) lost s (waiting_is (a.queue ++ until_quit (c ∷ [])) a.capture a.at (with_byte p byte) both.0 both.1)
+    (omega (arith, size, length-append a.queue (until_quit (c ∷ [])))))) (record {
       polls = s.polls;
       lost = refl;
       done = s.done;
@@ -133,11 +132,11 @@ hear_full a p byte c kept over iac lost done full is count brings s =
     })
 
 -- a command comes, and there is room
-pub hear_command : (a : Shell) (p : Part) (byte : ℕ) (c : Command) (kept : ArrayVec ℕ) (over : Bool) (iac : List ℕ) (queue : ArrayVec Command) (quit : Bool) → a.lost ≡ false → a.done ≡ false
-    → (full : Bool) → full ≡ false → full ≡ (length a.queue.items == 32) → length a.queue.items ≤ 32
-    → ((heard : List ℕ) → IsOpen a.line.items a.over a.iac heard → IsOpen kept.items over iac (heard ++ byte ∷ []))
-    → ((heard : List ℕ) → IsOpen a.line.items a.over a.iac heard → c ∷ [] ≡ commands (line_after [] (tokens Text heard)) (told (awaits_after Text heard) byte))
-    → queue.items ≡ a.queue.items ++ c ∷ [] → quit ≡ is_quit c
+pub hear_command : (a : Shell) (p : Part) (byte : ℕ) (c : Command) (kept : List ℕ) (over : Bool) (iac : List ℕ) (queue : List Command) (quit : Bool) → a.lost ≡ false → a.done ≡ false
+    → (full : Bool) → full ≡ false → full ≡ (length a.queue == 32) → length a.queue ≤ 32
+    → ((heard : List ℕ) → IsOpen a.line a.over a.iac heard → IsOpen kept over iac (heard ++ byte ∷ []))
+    → ((heard : List ℕ) → IsOpen a.line a.over a.iac heard → c ∷ [] ≡ commands (line_after [] (tokens Text heard)) (told (awaits_after Text heard) byte))
+    → queue ≡ a.queue ++ c ∷ [] → quit ≡ is_quit c
     → ShellStands a p → ShellStands (record a { line = kept; over = over; iac = iac; queue = queue; done = quit }) (hear_byte p byte)
 hear_command a p byte c kept over iac queue quit lost done full is count room goes brings pushed quits_is s =
     let heard = s.hears (is_open a lost done) in
@@ -145,14 +144,14 @@ hear_command a p byte c kept over iac queue quit lost done full is count room go
     let one : commands_in (p.heard ++ byte ∷ []) ≡ commands_in p.heard ++ c ∷ [] =
     counted p.heard byte (c ∷ []) (brings p.heard heard) ∙ ap (λ (b : Bool). commands_in p.heard ++ (if b then [] else until_quit (c ∷ []))) going
     ∙ ap (λ (cs : List Command). commands_in p.heard ++ c ∷ cs) (nothing_more (is_quit c)) in
-    let both = come a.queue.items (c ∷ []) a.capture a.at p byte one s.behind s.place in
-    let behind : IsBehind queue.items a.capture a.at (with_byte p byte) = subst (λ (q : List Command). IsBehind q a.capture a.at (with_byte p byte)) (sym pushed) both.0 in
-    let place : IsInFront queue.items a.capture a.at = subst (λ (q : List Command). IsInFront q a.capture a.at) (sym pushed) both.1 in
-    let size : length queue.items ≤ 32 =
-    (let e : length queue.items ≡ length a.queue.items + 1 = ap (λ (q : List Command). length q) pushed ∙ length-append a.queue.items (c ∷ []) in
-    let d = eqb-false (length a.queue.items) 32 (sym count ∙ is) in omega (arith, e, d, room)) in
+    let both = come a.queue (c ∷ []) a.capture a.at p byte one s.behind s.place in
+    let behind : IsBehind queue a.capture a.at (with_byte p byte) = subst (λ (q : List Command). IsBehind q a.capture a.at (with_byte p byte)) (sym pushed) both.0 in
+    let place : IsInFront queue a.capture a.at = subst (λ (q : List Command). IsInFront q a.capture a.at) (sym pushed) both.1 in
+    let size : length queue ≤ 32 =
+    (let e : length queue ≡ length a.queue + 1 = ap (λ (q : List Command). length q) pushed ∙ length-append a.queue (c ∷ []) in
+    let d = eqb-false (length a.queue) 32 (sym count ∙ is) in omega (arith, e, d, room)) in
     subst (λ (q : Part). ShellStands (record a { line = kept; over = over; iac = iac; queue = queue; done = quit }) q)
-    (sym (hears_it a p byte queue.items lost s (waiting_is queue.items a.capture a.at (with_byte p byte) behind place) size)) (record {
+    (sym (hears_it a p byte queue lost s (waiting_is queue a.capture a.at (with_byte p byte) behind place) size)) (record {
       polls = s.polls;
       lost = s.lost;
       done = quits_is ∙ sym (quits p.heard byte (c ∷ []) (brings p.heard heard) ∙ ap (λ (b : Bool). b || has_quit (c ∷ [])) going ∙ only (is_quit c));

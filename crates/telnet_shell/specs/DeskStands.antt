@@ -7,7 +7,7 @@ use Rattle.web_pages.specs.WebMeaning.{web_meaning}
 use Rattle.httpd.specs.First.{Httpd}
 use Rattle.httpd.specs.HttpdStands.{HttpdStands}
 use Rattle.httpd.specs.Lemmas.SameLeft.{same_left as web_same_left}
-use Rattle.telnet_shell.specs.declared.shell.Shell.{Shell}
+use Rattle.telnet_shell.specs.State.{Shell}
 use Rattle.telnet_shell.specs.declared.shell.TheConstants.{TELNET_PORT}
 use Rattle.telnet_shell.specs.declared.desk.Desk.{Desk}
 use Rattle.telnet_shell.specs.declared.desk.Desk.TheVariants as desk

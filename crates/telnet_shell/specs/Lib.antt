@@ -14,3 +14,4 @@ pub mod Lemmas
 pub mod ConstantValues
 pub mod Exactly
 pub mod Sequences
+pub mod State

@@ -1,7 +1,7 @@
 -- The parts that a shell stands for.
 use Rattle.std.specs.Prelude.{◌≡◌, ℕ, ◌||◌, false, [], if◌then◌else◌}
 use Rattle.app_events.specs.Part.{Part}
-use Rattle.telnet_shell.specs.declared.shell.Shell.{Shell}
+use Rattle.telnet_shell.specs.State.{Shell}
 use Rattle.telnet_shell.specs.Reading.{all_commands, has_quit}
 use Rattle.telnet_shell.specs.Hearing.{IsOpen}
 use Rattle.telnet_shell.specs.Saying.{IsBehind, IsInFront}
@@ -13,6 +13,6 @@ pub record ShellStands (a : Shell) (p : Part) : Type 0 where
   pub polls : a.polls ≡ p.polls
   pub lost : p.own ≡ (if a.lost then 1 else 0)
   pub done : a.done ≡ has_quit (all_commands p.heard)
-  pub hears : (a.lost || a.done) ≡ false → IsOpen a.line.items a.over a.iac p.heard
-  pub behind : IsBehind a.queue.items a.capture a.at p
-  pub place : IsInFront a.queue.items a.capture a.at
+  pub hears : (a.lost || a.done) ≡ false → IsOpen a.line a.over a.iac p.heard
+  pub behind : IsBehind a.queue a.capture a.at p
+  pub place : IsInFront a.queue a.capture a.at

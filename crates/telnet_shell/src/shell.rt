@@ -13,6 +13,7 @@ use app_events::{App, Ending, Now, Want};
 use arrayvec::ArrayVec;
 use generators::{Capture, take};
 use httpd::Web;
+use std::marker::Model;
 use uip_wire::Port;
 use web_pages::LARGEST_SEGMENT;
 
@@ -41,6 +42,24 @@ pub struct Shell {
     pub at: u32,
     /// The ticks with nothing outstanding since the connection last heard or was heard.
     pub polls: u16,
+}
+
+impl Model for Shell {
+    ghost use Rattle.telnet_shell.specs.State.{Shell};
+
+    ghost Value = { Shell };
+
+    ghost view = { λ shell. record {
+      line = shell.line.items;
+      over = shell.over;
+      iac = shell.iac;
+      queue = shell.queue.items;
+      lost = shell.lost;
+      done = shell.done;
+      capture = shell.capture;
+      at = shell.at;
+      polls = shell.polls;
+    } };
 }
 
 /// Whether a command is `quit`.
@@ -96,7 +115,7 @@ impl Shell {
 
     /// Whether all was said and acknowledged, to the end of `quit`.
     fn has_ended(&self) -> bool
-        ensures { result ≡ (self.now.done && (length self.now.queue.items == 0)) }
+        ensures { result ≡ (self.now.done && (length self.now.queue == 0)) }
     {
         self.done && self.queue.is_empty()
     }

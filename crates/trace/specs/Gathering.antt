@@ -70,6 +70,15 @@ pub record IsAtFault (why : CaptureWhy) (start now : Option (List ℕ)) (bytes :
   pub fault : fault_in reading ≡ Some (number, why)
   pub written : Appends start now (lines_of (captured_in reading))
 
+-- a call that writes nothing leaves what was read as it is
+abbrev pub KeepsRead : Reader → Reader → Type 0
+KeepsRead old new = (start now : Option (List ℕ)) (bytes : List ℕ) → HasReadTo start now bytes old → HasReadTo start now bytes new
+
+-- what was read so far has this fault, whatever more comes
+abbrev pub HasFault : Reader → ℕ → CaptureWhy → Type 0
+HasFault old number why =
+    (start now : Option (List ℕ)) (bytes more : List ℕ) → HasReadTo start now bytes old → IsAtFault why start now (bytes ++ more) number
+
 -- why the reading of these bytes stopped
 abbrev pub StopsAt : Stop → Option (List ℕ) → Option (List ℕ) → List ℕ → ℕ → Type 0
 StopsAt stops.WriteFault start now bytes number = BrokeOff start now bytes

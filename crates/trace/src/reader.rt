@@ -1,6 +1,6 @@
 ghost use Rattle.std.specs.Prelude.{◌≡◌, ◌<◌, ◌≤◌, ◌+◌, ◌^◌, ◌++◌, [], List, ℕ, Option, IfErr, OnErr, OnOk};
 ghost use Rattle.uip_edge.specs.Causes.{HasCause};
-ghost use Rattle.trace.specs.Gathering.{BrokeOff, HasReadTo, IsAtFault, IsFullIn, IsOpenIn, StopBy, StopsAt, end_at};
+ghost use Rattle.trace.specs.Gathering.{BrokeOff, HasFault, HasReadTo, IsFullIn, IsOpenIn, KeepsRead, StopBy, StopsAt, end_at};
 ghost use Rattle.trace.specs.declared.reader.Stop.TheVariants.{Bad as BadStop, WriteFault};
 ghost use Rattle.trace.specs.declared.slip_end.SlipEnd.TheVariants.{Bad as BadEnd};
 ghost use Rattle.trace.specs.declared.stage.Stage.TheVariants as stages;
@@ -122,11 +122,8 @@ impl Reader {
         requires stage { self.old.stage ≡ stages.Header }
         ensures open { OnOk result (IsOpenIn self.new) }
         ensures number { self.new.number ≤ self.old.number + 1 }
-        ensures at { OnOk result ((start now : Option (List ℕ)) (bytes : List ℕ) → HasReadTo start now bytes self.old
-            → HasReadTo start now bytes self.new) }
-        ensures fault { IfErr result (λ why. (start now : Option (List ℕ)) (bytes more : List ℕ)
-            → HasReadTo start now bytes self.old
-            → IsAtFault why start now (bytes ++ more) self.new.number) }
+        ensures at { OnOk result (KeepsRead self.old self.new) }
+        ensures fault { IfErr result (HasFault self.old self.new.number) }
     {
         match order_of(self.part.bytes()) {
             None => Err(CaptureWhy::Head),
@@ -144,11 +141,8 @@ impl Reader {
         requires stage { self.old.stage ≡ stages.Head order }
         ensures open { OnOk result (IsOpenIn self.new) }
         ensures number { self.new.number ≤ self.old.number + 1 }
-        ensures at { OnOk result ((start now : Option (List ℕ)) (bytes : List ℕ) → HasReadTo start now bytes self.old
-            → HasReadTo start now bytes self.new) }
-        ensures fault { IfErr result (λ why. (start now : Option (List ℕ)) (bytes more : List ℕ)
-            → HasReadTo start now bytes self.old
-            → IsAtFault why start now (bytes ++ more) self.new.number) }
+        ensures at { OnOk result (KeepsRead self.old self.new) }
+        ensures fault { IfErr result (HasFault self.old self.new.number) }
     {
         let len = field(order, self.part.bytes(), 8) as usize;
         if len > LARGEST_DATAGRAM {

@@ -1,16 +1,19 @@
 use Rattle.telnet_shell.proofs.Opened.{room, acked_behind}
-use Rattle.std.proofs.Common.{refl, ◌+◌}
+use Rattle.std.proofs.Common.{refl, ◌+◌, ◌≤◌, length, sym, subst}
+use Rattle.telnet_shell.specs.State.{Shell}
+use Rattle.telnet_shell.specs.Saying.{left_said}
 use Rattle.telnet_shell.proofs.shell.ShellApp.acked.Goals as goal
 
-pub advance-self-requires : goal.advance-self-requires
-advance-self-requires c = room c.args.self.now c.args._shared.now.site c.args.count c.requires
+pub advance-self-inside-requires : goal.advance-self-inside-requires
+advance-self-inside-requires c =
+    subst (λ (a : Shell). a.at + c.args.count ≤ length (left_said a.queue a.capture)) (sym c.self.view_is) (room c.args.self.now c.args._shared.now.site c.args.count c.requires)
 
 pub returns-clause-part : goal.returns-clause-part
-returns-clause-part c = λ p s. record {
+returns-clause-part c = rw (← c.self.view_is) (λ p s. record {
   polls = refl;
   lost = s.lost;
   done = s.done;
   hears = s.hears;
-  behind = c.advance-self.ensures.behind (record p { acked = p.acked + c.args.count; polls = 0 }) (acked_behind c.args.self.now.queue.items c.args.self.now.capture c.args.self.now.at c.args.count p s.behind);
-  place = c.advance-self.ensures.place;
-}
+  behind = c.advance-self-inside.ensures.behind (record p { acked = p.acked + c.args.count; polls = 0 }) (acked_behind c.self.inside.queue.items c.self.inside.capture c.self.inside.at c.args.count p s.behind);
+  place = c.advance-self-inside.ensures.place;
+})

@@ -1,5 +1,6 @@
 use Rattle.std.proofs.Common.{◌+◌, ◌≤◌, ℕ, List, length, take, drop, sym, ap, subst, ◌∙◌}
 use Rattle.telnet_shell.specs.declared.command.Command.{Command}
+use Rattle.telnet_shell.specs.State.{Shell}
 use Rattle.telnet_shell.specs.Saying.{left_said, front_size}
 use Rattle.telnet_shell.specs.Lemmas.SameLeft.{left_of_value}
 use Rattle.telnet_shell.proofs.Opened.{place_of, room}
@@ -7,13 +8,15 @@ use Rattle.telnet_shell.proofs.shell.ShellApp.fill.Goals as goal
 
 pub fill_left-requires-clause-place : goal.fill_left-requires-clause-place
 fill_left-requires-clause-place c =
-    subst (λ (q : List Command). c.args.self.now.at ≤ front_size q c.args.self.now.capture) (sym c.as_slice.ensures.value) (place_of c.args.self.now c.args._shared.now.site (length c.args.out.now) c.requires)
+    subst (λ (q : List Command). c.self.inside.at ≤ front_size q c.self.inside.capture) (sym c.as_slice.ensures.value)
+    (subst (λ (a : Shell). a.at ≤ front_size a.queue a.capture) (sym c.self.view_is) (place_of c.args.self.now c.args._shared.now.site (length c.args.out.now) c.requires))
 
 pub fill_left-requires-clause-enough : goal.fill_left-requires-clause-enough
 fill_left-requires-clause-enough c =
-    subst (λ (q : List Command). c.args.self.now.at + length c.args.out.now ≤ length (left_said q c.args.self.now.capture)) (sym c.as_slice.ensures.value) (room c.args.self.now c.args._shared.now.site (length c.args.out.now) c.requires)
+    subst (λ (q : List Command). c.self.inside.at + length c.args.out.now ≤ length (left_said q c.self.inside.capture)) (sym c.as_slice.ensures.value)
+    (subst (λ (a : Shell). a.at + length c.args.out.now ≤ length (left_said a.queue a.capture)) (sym c.self.view_is) (room c.args.self.now c.args._shared.now.site (length c.args.out.now) c.requires))
 
 pub returns : goal.returns
-returns c = λ p s.
-    c.fill_left.ensures ∙ ap (λ (q : List Command). take (length c.args.out.now) (drop c.args.self.now.at (left_said q c.args.self.now.capture))) c.as_slice.ensures.value
-    ∙ ap (λ (xs : List ℕ). take (length c.args.out.now) xs) (sym (left_of_value c.args.self.now p s))
+returns c = rw (← c.self.view_is) (λ p s.
+    c.fill_left.ensures ∙ ap (λ (q : List Command). take (length c.args.out.now) (drop c.self.inside.at (left_said q c.self.inside.capture))) c.as_slice.ensures.value
+    ∙ ap (λ (xs : List ℕ). take (length c.args.out.now) xs) (sym (left_of_value _ p s)))
