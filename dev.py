@@ -116,7 +116,8 @@ def layers(crates):
 def check(crates, names, alone):
     for name in [it for it in crates.in_order() if it in names] if alone else crates.above(names):
         started = time.time()
-        for words in (["rt", "fmt"], ["rt", "check"], ["rt", "must-fail"]):
+        for words in (["rt", "fmt"], ["rt", "check"], ["rt", "must-fail", name]):
+            print(f"{name:16} {' '.join(words)} ..", flush=True)
             status = subprocess.run(words, cwd=folder(name), stdout=subprocess.PIPE, stderr=subprocess.STDOUT, text=True)
             if status.returncode:
                 print(status.stdout)
@@ -125,7 +126,7 @@ def check(crates, names, alone):
         os.makedirs(os.path.join(folder(name), "out"), exist_ok=True)
         with open(os.path.join(folder(name), "out", "seconds"), "w", encoding="utf8") as file:
             file.write(f"{seconds:.1f}\n")
-        print(f"{name:16} {seconds:.0f} s, proved, and its edits refused")
+        print(f"{name:16} {seconds:.0f} s, proved, and its edits refused", flush=True)
 
 
 # ---- the documents
