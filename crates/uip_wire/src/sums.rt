@@ -60,6 +60,21 @@ fn wide_sum(bytes: &[u8]) -> u128
     sum + tail_sum(rest)
 }
 
+/// The first four of less than eight bytes as one number, where there are as many, and the rest.
+#[inline(always)]
+fn first_four(bytes: &[u8]) -> (u128, &[u8])
+    requires { length bytes.now < 8 }
+    ensures fits { result.0 ≤ 2 ^ 32 * length bytes.now }
+    ensures rest { length result.1.now < 4 }
+    ensures long { length result.1.now ≤ length bytes.now }
+    ensures same { (before : ℕ) → folded (before + result.0 + swapped_sum result.1.now) ≡ folded (before + swapped_sum bytes.now) }
+{
+    if bytes.len() >= 4 {
+        return (u128::from(LittleEndian::read_u32(bytes)), &bytes[4..]);
+    }
+    (0, bytes)
+}
+
 /// The sum of less than eight bytes: of the first four as one number, and of the rest.
 #[inline(always)]
 fn tail_sum(bytes: &[u8]) -> u128
@@ -67,10 +82,8 @@ fn tail_sum(bytes: &[u8]) -> u128
     ensures fits { result ≤ 2 ^ 61 * length bytes.now }
     ensures same { (before : ℕ) → folded (before + result) ≡ folded (before + swapped_sum bytes.now) }
 {
-    if bytes.len() >= 4 {
-        return u128::from(LittleEndian::read_u32(bytes)) + last_sum(&bytes[4..]);
-    }
-    last_sum(bytes)
+    let (first, rest) = first_four(bytes);
+    first + last_sum(rest)
 }
 
 /// The sum of less than four bytes.
