@@ -228,21 +228,25 @@ static inline unsigned uip_send_all(uip_device *device, uip_done done, unsigned 
 /* Takes all bytes of a line. */
 static inline unsigned uip_hear_all(uip_device *device, const unsigned char *bytes, size_t len,
                                     unsigned char *out, size_t room, uip_sink sink, void *to) {
-    unsigned status = UIP_FINE;
-    for (size_t at = 0; at < len && status == UIP_FINE;) {
-        uip_done done = uip_hear(device, bytes + at, len - at, out, room);
+    uip_done done = {UIP_FINE, 0, 0, 0};
+    size_t at = 0;
+    while (done.status == UIP_FINE && (done.left || at < len)) {
+        done = done.left ? uip_more(device, out, room) : uip_hear(device, bytes + at, len - at, out, room);
         at += done.taken;
-        status = uip_send_all(device, done, out, room, sink, to);
+        if (done.wrote) sink(to, out, done.wrote);
     }
-    return status;
+    return done.status;
 }
 
 /* A tick: the periodic calls of all slots. */
 static inline unsigned uip_tick_all(uip_device *device, unsigned char *out, size_t room, uip_sink sink, void *to) {
-    unsigned status = UIP_FINE;
-    for (size_t slot = 0; slot < UIP_SLOTS && status == UIP_FINE; slot++)
-        status = uip_send_all(device, uip_call(device, slot, out, room), out, room, sink, to);
-    return status;
+    uip_done done = {UIP_FINE, 0, 0, 0};
+    size_t slot = 0;
+    while (done.status == UIP_FINE && (done.left || slot < UIP_SLOTS)) {
+        done = done.left ? uip_more(device, out, room) : uip_call(device, slot++, out, room);
+        if (done.wrote) sink(to, out, done.wrote);
+    }
+    return done.status;
 }
 
 #endif

@@ -69,10 +69,9 @@ void board_interrupt(void) {
     REG(END) = line;
 }
 
-size_t port_waiting(const unsigned char **bytes) {
-    unsigned len = came - gone, behind = RING - gone % RING;
-    *bytes = ring + gone % RING;
-    return len < behind ? len : behind;
+port_bytes port_waiting(void) {
+    unsigned len = came - gone, at = gone % RING;
+    return (port_bytes){ring + at, len < RING - at ? len : RING - at};
 }
 
 void port_taken(size_t len) {
@@ -88,6 +87,11 @@ void port_put(unsigned char byte) {
 #endif
     while (REG(FLAGS) & SEND_FULL) {}
     REG(DATA) = byte;
+}
+
+void port_send(void *to, const unsigned char *bytes, size_t len) {
+    (void)to;
+    for (; len; len--) port_put(*bytes++);
 }
 
 unsigned clock_ticks(void) { return ticks; }

@@ -43,8 +43,8 @@ fi
 # The heap is an array of just the memory that a device with so many files needs; the image stays in flash.
 heap="-DUIP_HEAP_SIZE=UIP_MEMORY($(od -An -j8 -N2 -tu1 "$site" | awk '{ print $1 * 256 + $2 }'))"
 compile() {
-    "$clang" --target=aarch64-none-elf -ffreestanding -fno-builtin -Os -Wall -Wextra -ffunction-sections -fdata-sections \
-        -I"$top/include" -I"$here" -idirafter "$here/fallback" -c "$@" || fail "clang failed"
+    "$clang" --target=aarch64-none-elf -ffreestanding -fno-builtin -Os -fomit-frame-pointer -Wall -Wextra \
+        -ffunction-sections -fdata-sections -I"$top/include" -I"$here" -idirafter "$here/fallback" -c "$@" || fail "clang failed"
 }
 compile "$here/start.S" -o "$out/start.o"
 compile "$here/$main.c" -o "$out/$main.o"

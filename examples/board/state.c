@@ -15,11 +15,6 @@ static unsigned char out[32];
 static unsigned asked_on, asked_off;          // how often the pages of the lamp were asked for
 static unsigned lamp_is_on;
 
-static void send(void *to, const unsigned char *bytes, size_t len) {
-    (void)to;
-    for (size_t at = 0; at < len; at++) port_put(bytes[at]);
-}
-
 static void add(text *value, const char *words) {
     for (; *words && value->len < sizeof value->bytes; words++) value->bytes[value->len++] = *words;
 }
@@ -77,13 +72,12 @@ int main(void) {
     if (status == UIP_FINE) status = give_words(NAME, "Lamp & level of the \"virt\" board");
     if (status == UIP_FINE) status = give_all(0);
     for (unsigned ticks = 0; status == UIP_FINE; board_sleep(ticks)) {
-        const unsigned char *bytes;
-        size_t len = port_waiting(&bytes);
-        status = uip_hear_all(&device, bytes, len, out, sizeof out, send, 0);
-        port_taken(len);
+        port_bytes came = port_waiting();
+        status = uip_hear_all(&device, came.at, came.len, out, sizeof out, port_send, 0);
+        port_taken(came.len);
         if (status != UIP_FINE || ticks == clock_ticks()) continue;
         status = give_all(++ticks);
-        if (status == UIP_FINE) status = uip_tick_all(&device, out, sizeof out, send, 0);
+        if (status == UIP_FINE) status = uip_tick_all(&device, out, sizeof out, port_send, 0);
     }
     return (int)status;
 }
