@@ -1,11 +1,12 @@
 -- What a server does in one turn, told of all bytes that it took before.
 use Rattle.std.specs.List.{All}
-use Rattle.std.specs.Prelude.{◌≡◌, ◌≤◌, ℕ, Bool, List, ◌++◌, Option, length}
+use Rattle.std.specs.Prelude.{◌≡◌, ◌≤◌, ℕ, Bool, List, ◌++◌, Option, length, ⊤}
 use Rattle.uip_wire.specs.declared.addr.Addr.{Addr}
 use Rattle.app_events.specs.Part.{Meaning}
 use Rattle.app_events.specs.declared.app.App.{Ghosts}
 use Rattle.uip_edge.specs.declared.item.Item.{Item}
 use Rattle.uip_edge.specs.declared.serve_end.ServeEnd.{ServeEnd}
+use Rattle.uip_edge.specs.declared.serve_end.ServeEnd.TheVariants as ends
 use Rattle.uip_edge.specs.declared.turn.Turn.{Turn}
 use Rattle.uip_edge.specs.declared.turn.Turn.TheVariants as turns
 use Rattle.uip_edge.specs.Coming.{Consumes, bytes_among}
@@ -69,6 +70,12 @@ abbrev pub WritesOn : {C : Type 0} → Turn ServeEnd → Meaning → (ℕ → Bo
     → (Station C → Type 0) → (Station C → Type 0) → Option (List ℕ) → Option (List ℕ) → Type 0
 WritesOn (turns.Took n) m served w own deeds Before After old new = AllSaid m served w own deeds Before After old new
 WritesOn (turns.Ended end) m served w own deeds Before After old new = SaidBy end m served w own deeds Before After old new
+
+-- this holds where the link ended a turn, by its end or by a failure
+abbrev pub IfLinkEnded : Turn ServeEnd → Type 0 → Type 0
+IfLinkEnded (turns.Ended ends.End) P = P
+IfLinkEnded (turns.Ended ends.LinkFault) P = P
+IfLinkEnded turn P = ⊤
 
 -- a turn, with the medium and the node before and after it
 pub record Turns {A S M : Type 0} (g : Ghosts A S) (h : MediumGhosts M) (k : h.Set) (pace : ℕ) (before : List ℕ) (medium medium' : M)

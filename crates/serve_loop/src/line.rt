@@ -6,7 +6,7 @@ ghost use Rattle.uip_edge.specs.Causes.{HasCause};
 ghost use Rattle.uip_edge.specs.Turns.{TurnFits};
 ghost use Rattle.uip_edge.specs.Writing.{BreaksOff};
 ghost use Rattle.serve_loop.specs.TurnCalls.{BreaksBrought, BreaksBytes, PlaysBrought, PlaysBytes, TakesBytes};
-ghost use Rattle.serve_loop.specs.Turns.{HasTaken, Turns, place};
+ghost use Rattle.serve_loop.specs.Turns.{HasTaken, IfLinkEnded, Turns, place};
 ghost use Rattle.uip_edge.specs.Telling.{line_told};
 
 use crate::node_calls::{take_datagram, tick};
@@ -33,6 +33,7 @@ pub fn take_turn<A: App, M: Medium, L: Link, K: Sink>(
         → Turns A.App M.Medium k pace before medium.old medium.new node.old node.new
         (line_told L.Link K.Sink link.old sink.old)
         (line_told L.Link K.Sink link.new sink.new) pacer.new (length buf.old) result }
+    ensures rests { IfLinkEnded result ((medium.new ≡ medium.old) × (node.new ≡ node.old) × (pacer.new ≡ pacer.old)) }
 {
     match link.next(buf) {
         Err(Failed) => Turn::Ended(ServeEnd::LinkFault),
