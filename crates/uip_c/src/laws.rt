@@ -47,7 +47,7 @@ pub fn line_from_c_is_served()
         → IsOf (λ d. d.left ≡ NothingLeft) new → line_handed all ≡ web_output files own pace items }
 {}
 
-/// The numbers that the definitions name by the code's constants.
+/// The numbers that definitions and contracts name by the code's constants, as the header has them.
 pub fn constant_values()
     ensures { ConstantValues }
 {}

@@ -6,3 +6,4 @@ pub mod Moves
 pub mod Output
 pub mod Sending
 pub mod WebDevices
+pub mod ConstantValues

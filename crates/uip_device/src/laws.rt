@@ -14,6 +14,7 @@ ghost use Rattle.serve_loop.specs.Turns.{IsNode};
 ghost use Rattle.uip_device.specs.declared.device.Device.{Device as AnyDevice};
 ghost use Rattle.uip_device.specs.Devices.{Answered, AnswersAll, FromFresh, IsFreshDevice, datagrams_handed, left_text_of, lefts_of};
 ghost use Rattle.uip_device.specs.Devices.{line_handed, moves_of};
+ghost use Rattle.uip_device.specs.ConstantValues.{ConstantValues};
 ghost use Rattle.uip_device.specs.Keeping.{IsOfBytes, KeepsCalls, KeepsWords};
 ghost use Rattle.uip_device.specs.Moves.{Bring, Writing};
 ghost use Rattle.uip_device.specs.Output.{datagrams_sent, line_sent, node_behind};
@@ -51,4 +52,9 @@ pub fn line_is_served<A: App>()
         (old new : AnyDevice A A.Shared) → IsFreshDevice A.App m numbers own old → Bring pace items (moves_of all)
         → AnswersAll A.App gives all old new → new.left ≡ None
         → line_handed all ≡ output_by slip_way m A.served numbers own pace items }
+{}
+
+/// The number that contracts name by the code's constant.
+pub fn constant_values()
+    ensures { ConstantValues }
 {}

@@ -14,7 +14,7 @@ mod web_device;
 pub use device::{Device, Heard};
 pub use device_web::{DeviceWeb, FlashWeb};
 pub use handing::LARGEST_TEXT;
-pub use laws::{calls_are_told, calls_keep_the_promise, line_is_served};
+pub use laws::{calls_are_told, calls_keep_the_promise, constant_values, line_is_served};
 pub use opening::{OpenFault, open_web};
 pub use value_pages::ValuePages;
 pub use web_device::WebDevice;
