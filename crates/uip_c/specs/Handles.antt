@@ -69,9 +69,10 @@ lefts_in (it ∷ all) a c more = left_text_in more.0 ∷ lefts_in all more.0 c m
 abbrev pub IsTextStatus : ℕ → Type 0
 IsTextStatus status = (status ≡ FINE) ⊎ (status ≡ NO_DEVICE) ⊎ (status ≡ BAD_CALL) ⊎ (status ≡ TEXT_LEFT)
 
--- a call took and wrote nothing, and left the area and the device as they were
+-- a call told its status alone, and left the area and the device as they were
 abbrev pub Refused : UipDone → List ℕ → List ℕ → Option WebDevice → Option WebDevice → Type 0
-Refused done area area' old new = (done.taken ≡ 0) × (done.wrote ≡ 0) × (area' ≡ area) × (new ≡ old)
+Refused done area area' old new =
+    (done ≡ record { status = done.status; left = 0; taken = 0; wrote = 0 }) × (area' ≡ area) × (new ≡ old)
 
 -- there is a device, of which a text is left
 abbrev pub HasText : Option WebDevice → Type 0

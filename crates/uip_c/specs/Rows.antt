@@ -1,5 +1,5 @@
 -- How C is told the row of a connection.
-use Rattle.std.specs.Prelude.{◌≡◌, ℕ, Bool, Option, None, Some, if◌then◌else◌}
+use Rattle.std.specs.Prelude.{◌≡◌, ℕ, Bool, Option, None, Some, if◌then◌else◌, replicate}
 use Rattle.app_events.specs.declared.row.Row.{Row}
 use Rattle.app_events.specs.declared.state.State.{State}
 use Rattle.app_events.specs.declared.state.State.TheVariants.{Closed, SynRcvd, Established, CloseWait, FinWait1, FinWait2}
@@ -27,7 +27,12 @@ pub record IsToldRow (row : Row) (told : UipRow) : Type 0 where
   pub count : told.count ≡ row.count
   pub waiting : told.waiting ≡ (if row.waiting then 1 else 0)
 
+-- no row is told: beside the status all is 0
+abbrev pub IsNoRow : UipRow → Type 0
+IsNoRow told =
+    told ≡ record { status = told.status; state = 0; peer = replicate 4 0; port = 0; tries = 0; count = 0; waiting = 0 }
+
 -- where the slot is CLOSED, only that is told
 abbrev pub TellsRow : Option Row → UipRow → Type 0
-TellsRow None told = told.state ≡ 0
+TellsRow None told = IsNoRow told
 TellsRow (Some row) told = IsToldRow row told

@@ -23,6 +23,7 @@ pub extern "C" fn uip_hear_datagram(
         → HandleAnswers (HearsDatagram datagram.now) device.old.held.device device.new.held.device (take result.wrote out.new) }
     ensures whole { result.status ≡ FINE → result.taken ≡ length datagram.now }
     ensures within { result.wrote ≤ length out.new }
+    ensures left { result.left ≡ 0 }
     ensures no_device { result.status ≡ NO_DEVICE → device.old.held.device ≡ None }
     ensures bad_call { (result.status == BAD_CALL)
         ≡ ((length datagram.now == 0) || nat_lt LARGEST_DATAGRAM (length datagram.now) || nat_lt (length out.old) LARGEST_DATAGRAM) }
@@ -59,6 +60,7 @@ pub extern "C" fn uip_call_datagram(
     ensures fine { result.status ≡ FINE
         → HandleAnswers (CallsByDatagram slot) device.old.held.device device.new.held.device (take result.wrote out.new) }
     ensures within { (result.taken ≡ 0) × (result.wrote ≤ length out.new) }
+    ensures left { result.left ≡ 0 }
     ensures no_device { result.status ≡ NO_DEVICE → device.old.held.device ≡ None }
     ensures bad_call { (result.status == BAD_CALL) ≡ (nat_le 10 slot || nat_lt (length out.old) LARGEST_DATAGRAM) }
     ensures text_left { result.status ≡ TEXT_LEFT → HasText device.old.held.device }

@@ -24,6 +24,7 @@ pub(crate) fn take_out(alloc: Global, device: &mut UipDevice) -> Option<Box<WebD
     ensures taken { option_map (λ b. b.value) result ≡ device.old.held.device }
     ensures sound { IfSome result (λ b. IsSoundWebDevice b.value) }
     ensures none { device.new.held.device ≡ None }
+    ensures shut { device.new.is_open ≡ 0 }
 {
     let UipDevice { is_open, held } = replace(
         device,

@@ -1,6 +1,6 @@
 //! A device is opened and closed.
 
-ghost use Rattle.std.specs.Prelude.{◌≡◌, ◌==◌, ◌⊎◌, true};
+ghost use Rattle.std.specs.Prelude.{◌≡◌, ◌==◌, ◌⊎◌, replicate, true};
 ghost use Rattle.std.specs.Option.{is_some};
 ghost use Rattle.std.specs.declared.option.Option.TheVariants.{None};
 ghost use Rattle.uip_c.specs.Opening.{IsWordOf, OpensFine, TellsFault};
@@ -35,7 +35,7 @@ fn word_of(why: SiteWhy) -> [u8; 8]
 
 /// An answer that tells no fault.
 fn plain(status: u32) -> UipOpened
-    ensures { result.status ≡ status }
+    ensures { result ≡ record { status = status; entry = 0; word = replicate 8 0 } }
 {
     UipOpened {
         status,
@@ -67,6 +67,7 @@ pub extern "C" fn uip_open(
     ensures fine { result.status ≡ FINE → OpensFine image.now own.now device.old.held.device device.new.held.device }
     ensures has_device { (result.status == HAS_DEVICE) ≡ is_some device.old.held.device }
     ensures bad_site { result.status ≡ BAD_SITE → TellsFault image.now result.entry result.word }
+    ensures no_fault { (result.status ≡ BAD_SITE → ⊥) → (result.entry ≡ 0) × (result.word ≡ replicate 8 0) }
     ensures refused { (result.status ≡ FINE → ⊥) → device.new ≡ device.old }
 {
     if device.is_open == 1 {
@@ -91,6 +92,7 @@ pub extern "C" fn uip_close(alloc: Global, device: &mut UipDevice) -> u32
     ensures fine { result ≡ FINE → is_some device.old.held.device ≡ true }
     ensures no_device { result ≡ NO_DEVICE → device.old.held.device ≡ None }
     ensures closed { device.new.held.device ≡ None }
+    ensures shut { device.new.is_open ≡ 0 }
 {
     match take_out(alloc, device) {
         None => NO_DEVICE,

@@ -25,7 +25,7 @@ pub struct UipNumber {
 
 /// No number, for this reason.
 fn unread(status: u32) -> UipNumber
-    ensures { result.status ≡ status }
+    ensures { result ≡ record { status = status; number = 0 } }
 {
     UipNumber { status, number: 0 }
 }
@@ -37,6 +37,7 @@ pub extern "C" fn uip_ticks(alloc: Global, device: &mut UipDevice) -> UipNumber
     ensures fine { result.status ≡ FINE → IsOf (λ d. (files : List File) (own : Address) (n : AbstractNode) → StandsFor files own d n
         → result.number ≡ ticks_of n.past) device.old.held.device }
     ensures no_device { result.status ≡ NO_DEVICE → device.old.held.device ≡ None }
+    ensures unread { (result.status ≡ FINE → ⊥) → result.number ≡ 0 }
     ensures same { device.new.held.device ≡ device.old.held.device }
 {
     let Some(opened) = take_out(alloc, device) else {
@@ -57,6 +58,7 @@ pub extern "C" fn uip_counter(alloc: Global, device: &mut UipDevice, number: usi
     ensures fine { result.status ≡ FINE → IsOf (λ d. (files : List File) (own : Address) (n : AbstractNode) → StandsFor files own d n
         → slice_get (counters n.past) (number - 1) ≡ IsThere result.number) device.old.held.device }
     ensures no_device { result.status ≡ NO_DEVICE → device.old.held.device ≡ None }
+    ensures unread { (result.status ≡ FINE → ⊥) → result.number ≡ 0 }
     ensures bad_call { (result.status == BAD_CALL) ≡ ((number == 0) || nat_lt 20 number) }
     ensures same { device.new.held.device ≡ device.old.held.device }
 {
@@ -81,6 +83,7 @@ pub extern "C" fn uip_is_idle(alloc: Global, device: &mut UipDevice) -> UipNumbe
     ensures fine { result.status ≡ FINE → IsOf (λ d. (files : List File) (own : Address) (n : AbstractNode) → StandsFor files own d n
         → result.number ≡ (if is_node_idle n then 1 else 0)) device.old.held.device }
     ensures no_device { result.status ≡ NO_DEVICE → device.old.held.device ≡ None }
+    ensures unread { (result.status ≡ FINE → ⊥) → result.number ≡ 0 }
     ensures same { device.new.held.device ≡ device.old.held.device }
 {
     let Some(opened) = take_out(alloc, device) else {
@@ -101,6 +104,7 @@ pub extern "C" fn uip_hits(alloc: Global, device: &mut UipDevice, name: &[u8]) -
     ensures fine { result.status ≡ FINE → IsOf (λ d. (files : List File) (own : Address) (n : AbstractNode) → StandsFor files own d n
         → result.number ≡ hits_of files n.numbers name.now) device.old.held.device }
     ensures no_device { result.status ≡ NO_DEVICE → device.old.held.device ≡ None }
+    ensures unread { (result.status ≡ FINE → ⊥) → result.number ≡ 0 }
     ensures same { device.new.held.device ≡ device.old.held.device }
 {
     let Some(opened) = take_out(alloc, device) else {

@@ -8,7 +8,7 @@ ghost use Rattle.uip_node.specs.Node.{AbstractNode};
 ghost use Rattle.uip_device.specs.Devices.{connection_row};
 ghost use Rattle.uip_device.specs.WebDevices.{StandsFor};
 ghost use Rattle.uip_c.specs.Handles.{IsOf};
-ghost use Rattle.uip_c.specs.Rows.{IsToldRow, TellsRow, state_number};
+ghost use Rattle.uip_c.specs.Rows.{IsNoRow, IsToldRow, TellsRow, state_number};
 
 use crate::handle::{UipDevice, put_in, take_out};
 use crate::status::{BAD_CALL, FINE, NO_DEVICE};
@@ -31,7 +31,7 @@ pub struct UipRow {
 
 /// No row, for this reason, or that of a slot that is CLOSED.
 fn no_row(status: u32) -> UipRow
-    ensures { (result.status ≡ status) × (result.state ≡ 0) }
+    ensures { (result.status ≡ status) × IsNoRow result }
 {
     UipRow {
         status,
@@ -97,6 +97,7 @@ pub extern "C" fn uip_connection(alloc: Global, device: &mut UipDevice, slot: us
         → TellsRow (connection_row slot n) result) device.old.held.device }
     ensures no_device { result.status ≡ NO_DEVICE → device.old.held.device ≡ None }
     ensures bad_call { (result.status == BAD_CALL) ≡ nat_le 10 slot }
+    ensures unread { (result.status ≡ FINE → ⊥) → IsNoRow result }
     ensures same { device.new.held.device ≡ device.old.held.device }
 {
     if slot >= 10 {
