@@ -1,6 +1,6 @@
 //! The calls over a serial line.
 
-ghost use Rattle.std.specs.Prelude.{◌≡◌, ◌==◌, ◌||◌, ◌<◌, ◌≤◌, ◌⊎◌, length, nat_le, nat_lt, take, true};
+ghost use Rattle.std.specs.Prelude.{◌≡◌, ◌==◌, ◌||◌, ◌<◌, ◌≤◌, ◌+◌, ◌⊎◌, length, nat_le, nat_lt, take, true};
 ghost use Rattle.std.specs.Option.{is_some};
 ghost use Rattle.std.specs.declared.option.Option.TheVariants.{None};
 ghost use Rattle.uip_device.specs.Calls.{Calls, HandsOn, Hears};
@@ -30,6 +30,7 @@ pub extern "C" fn uip_hear(
     ensures within { (result.taken ≤ length bytes.now) × (result.wrote ≤ length out.new) }
     ensures left { result.status ≡ FINE → IsOf (λ d. result.left ≡ left_flag d.left) device.new.held.device }
     ensures all { result.status ≡ FINE → LARGEST_TEXT ≤ length out.old → result.left ≡ 0 }
+    ensures full { result.status ≡ FINE → (result.left ≡ 0) ⊎ (length out.new ≤ result.wrote + 1) }
     ensures no_device { result.status ≡ NO_DEVICE → device.old.held.device ≡ None }
     ensures bad_call { (result.status == BAD_CALL) ≡ ((length bytes.now == 0) || nat_lt (length out.old) LEAST_ROOM) }
     ensures text_left { result.status ≡ TEXT_LEFT → HasText device.old.held.device }
@@ -69,6 +70,7 @@ pub extern "C" fn uip_call(
     ensures within { (result.taken ≡ 0) × (result.wrote ≤ length out.new) }
     ensures left { result.status ≡ FINE → IsOf (λ d. result.left ≡ left_flag d.left) device.new.held.device }
     ensures all { result.status ≡ FINE → LARGEST_TEXT ≤ length out.old → result.left ≡ 0 }
+    ensures full { result.status ≡ FINE → (result.left ≡ 0) ⊎ (length out.new ≤ result.wrote + 1) }
     ensures no_device { result.status ≡ NO_DEVICE → device.old.held.device ≡ None }
     ensures bad_call { (result.status == BAD_CALL) ≡ (nat_le 10 slot || nat_lt (length out.old) LEAST_ROOM) }
     ensures text_left { result.status ≡ TEXT_LEFT → HasText device.old.held.device }
@@ -102,6 +104,7 @@ pub extern "C" fn uip_more(alloc: Global, device: &mut UipDevice, out: &mut [u8]
     ensures some { result.status ≡ FINE → IsOf (λ d. is_some d.left ≡ true → 0 < result.wrote) device.old.held.device }
     ensures within { (result.taken ≡ 0) × (result.wrote ≤ length out.new) }
     ensures left { result.status ≡ FINE → IsOf (λ d. result.left ≡ left_flag d.left) device.new.held.device }
+    ensures full { result.status ≡ FINE → (result.left ≡ 0) ⊎ (length out.new ≤ result.wrote + 1) }
     ensures no_device { result.status ≡ NO_DEVICE → device.old.held.device ≡ None }
     ensures bad_call { (result.status == BAD_CALL) ≡ nat_lt (length out.old) LEAST_ROOM }
     ensures refused { (result.status ≡ FINE → ⊥)

@@ -1,6 +1,6 @@
 //! A device, and the calls of it.
 
-ghost use Rattle.std.specs.Prelude.{◌≡◌, ◌<◌, ◌≤◌, ◌++◌, ◌∷◌, [], List, ℕ, IfSome, None, length, map, take};
+ghost use Rattle.std.specs.Prelude.{◌≡◌, ◌<◌, ◌≤◌, ◌+◌, ◌++◌, ◌⊎◌, ◌∷◌, [], List, ℕ, IfSome, None, Some, length, map, take};
 ghost use Rattle.packet_buffer.specs.Buffer.{datagram_in};
 ghost use Rattle.uip_edge.specs.declared.item.Item.TheVariants.{Byte};
 ghost use Rattle.uip_slip.specs.Decoding.{WasFed};
@@ -44,6 +44,8 @@ fn answer<A: App>(node: &mut Node<A>, datagram: &[u8], out: &mut [u8]) -> Writte
     ensures fits { result.wrote ≤ length out.new }
     ensures left { IfSome result.left (λ k. k ≤ length (datagram_in node.new.packet)) }
     ensures all { LARGEST_TEXT ≤ length out.old → result.left ≡ None }
+    ensures full { (result.left ≡ None) ⊎ (length out.new ≤ result.wrote + 1) }
+    ensures end { result.left ≡ Some (length (datagram_in node.new.packet)) → result.wrote ≡ length out.new }
     ensures sends { SendsOver A.App (λ own. event_of own datagram.now ∷ []) node.old node.new (λ own replies. text_of own replies
         ≡ take result.wrote out.new ++ text_to_come (datagram_in node.new.packet) result.left) }
 {
@@ -83,6 +85,8 @@ fn take<A: App>(decoder: &mut Decoder, node: &mut Node<A>, bytes: &[u8], out: &m
     ensures fits { result.written.wrote ≤ length out.new }
     ensures left { IfSome result.written.left (λ k. k ≤ length (datagram_in node.new.packet)) }
     ensures all { LARGEST_TEXT ≤ length out.old → result.written.left ≡ None }
+    ensures full { (result.written.left ≡ None) ⊎ (length out.new ≤ result.written.wrote + 1) }
+    ensures end { result.written.left ≡ Some (length (datagram_in node.new.packet)) → result.written.wrote ≡ length out.new }
     ensures fed { (before : List ℕ) → WasFed before decoder.old → WasFed (before ++ take result.count bytes.now) decoder.new }
     ensures sends { (before : List ℕ) → WasFed before decoder.old
         → SendsOver A.App (λ own. events_behind own 0 before (map Byte (take result.count bytes.now))) node.old node.new
@@ -105,7 +109,7 @@ fn take<A: App>(decoder: &mut Decoder, node: &mut Node<A>, bytes: &[u8], out: &m
 }
 
 impl<A: App> Device<A> {
-    ghost use Rattle.std.specs.Prelude.{◌≡◌, ◌<◌, ◌≤◌, IfOk, None, Some, length, slice_get, take};
+    ghost use Rattle.std.specs.Prelude.{◌≡◌, ◌<◌, ◌≤◌, ◌+◌, ◌⊎◌, IfOk, None, Some, length, slice_get, take};
     ghost use Rattle.uip_node.specs.Counters.{counters, ticks_of};
     ghost use Rattle.uip_node.specs.Node.{AbstractNode};
     ghost use Rattle.uip_node.specs.StandsFor.{Stands};
@@ -136,6 +140,8 @@ impl<A: App> Device<A> {
         ensures wrote { result.wrote ≤ length out.new }
         ensures taken { (0 < result.taken) × (result.taken ≤ length bytes.now) }
         ensures all { LARGEST_TEXT ≤ length out.old → self.new.left ≡ None }
+        ensures full { (self.new.left ≡ None) ⊎ (length out.new ≤ result.wrote + 1) }
+        ensures end { self.new.left ≡ Some (length (datagram_in self.new.node.packet)) → result.wrote ≡ length out.new }
         ensures answers { Answers A.App (Hears (take result.taken bytes.now)) self.old self.new (take result.wrote out.new) }
     {
         let taken = take(&mut self.decoder, &mut self.node, bytes, out);
@@ -157,6 +163,8 @@ impl<A: App> Device<A> {
         ensures long { length out.new ≡ length out.old }
         ensures wrote { result ≤ length out.new }
         ensures all { LARGEST_TEXT ≤ length out.old → self.new.left ≡ None }
+        ensures full { (self.new.left ≡ None) ⊎ (length out.new ≤ result + 1) }
+        ensures end { self.new.left ≡ Some (length (datagram_in self.new.node.packet)) → result ≡ length out.new }
         ensures answers { Answers A.App (Calls slot) self.old self.new (take result out.new) }
     {
         let sent = self.node.periodic(slot);
@@ -172,6 +180,8 @@ impl<A: App> Device<A> {
         ensures long { length out.new ≡ length out.old }
         ensures wrote { result ≤ length out.new }
         ensures some { (self.old.left ≡ None → ⊥) → 2 ≤ length out.old → 0 < result }
+        ensures full { (self.new.left ≡ None) ⊎ (length out.new ≤ result + 1) }
+        ensures end { self.new.left ≡ Some (length (datagram_in self.new.node.packet)) → result ≡ length out.new }
         ensures answers { Answers A.App HandsOn self.old self.new (take result out.new) }
     {
         match self.left {

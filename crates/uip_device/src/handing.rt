@@ -1,6 +1,6 @@
 //! The text of a datagram, handed out in pieces.
 
-ghost use Rattle.std.specs.Prelude.{◌≡◌, ◌<◌, ◌≤◌, ◌+◌, ◌*◌, ◌-◌, ◌++◌, [], ◌∷◌, Option, Some, None, IfSome, length, take};
+ghost use Rattle.std.specs.Prelude.{◌≡◌, ◌<◌, ◌≤◌, ◌+◌, ◌*◌, ◌-◌, ◌++◌, ◌⊎◌, [], ◌∷◌, Option, Some, None, IfSome, length, take};
 ghost use Rattle.packet_buffer.specs.Buffer.{datagram_in};
 ghost use Rattle.uip_slip.specs.Text.{escaped};
 ghost use Rattle.uip_wire.specs.declared.addr.Addr.{Addr as Address};
@@ -71,6 +71,8 @@ pub(crate) fn write_on(out: &mut [u8], len: usize, datagram: &[u8], at: usize) -
     ensures left { IfSome result.left (λ k. k ≤ length datagram.now) }
     ensures more { len + 2 ≤ length out.old → len < result.wrote }
     ensures whole { len + 2 * (length datagram.now - at) < length out.old → result.left ≡ None }
+    ensures full { (result.left ≡ None) ⊎ (length out.new ≤ result.wrote + 1) }
+    ensures end { result.left ≡ Some (length datagram.now) → result.wrote ≡ length out.new }
     ensures text { take result.wrote out.new ++ text_to_come datagram.now result.left
         ≡ take len out.old ++ text_to_come datagram.now (Some at) }
 {
@@ -101,6 +103,8 @@ pub(crate) fn hand_on<A: App>(node: &Node<A>, at: usize, out: &mut [u8]) -> Writ
     ensures fits { result.wrote ≤ length out.new }
     ensures left { IfSome result.left (λ k. k ≤ length (datagram_in node.now.packet)) }
     ensures more { 2 ≤ length out.old → 0 < result.wrote }
+    ensures full { (result.left ≡ None) ⊎ (length out.new ≤ result.wrote + 1) }
+    ensures end { result.left ≡ Some (length (datagram_in node.now.packet)) → result.wrote ≡ length out.new }
     ensures text { take result.wrote out.new ++ text_to_come (datagram_in node.now.packet) result.left
         ≡ text_to_come (datagram_in node.now.packet) (Some at) }
 {
@@ -123,6 +127,8 @@ pub(crate) fn write_text<A: App>(node: &Node<A>, sent: Option<usize>, out: &mut 
     ensures fits { result.wrote ≤ length out.new }
     ensures left { IfSome result.left (λ k. k ≤ length (datagram_in node.now.packet)) }
     ensures whole { LARGEST_TEXT ≤ length out.old → result.left ≡ None }
+    ensures full { (result.left ≡ None) ⊎ (length out.new ≤ result.wrote + 1) }
+    ensures end { result.left ≡ Some (length (datagram_in node.now.packet)) → result.wrote ≡ length out.new }
     ensures text { (own : Address) (reply : Option Reply) → IsSent own reply sent node.now.packet
         → take result.wrote out.new ++ text_to_come (datagram_in node.now.packet) result.left ≡ text_for own reply }
 {
