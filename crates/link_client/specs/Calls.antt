@@ -1,6 +1,6 @@
 -- What the calls of a client of the code do: the abstract client that it stands for, what it hears in a datagram, and the
 -- datagram that it sends at the front of an area.
-use Rattle.std.specs.Prelude.{ℕ, ◌≡◌, ◌+◌, ◌≤◌, ◌==◌, ◌&&◌, ◌||◌, not, nat_lt, Bool, true, false, List, ◌++◌, length, take, if◌then◌else◌, Option, Some, None, Result, Ok, Err}
+use Rattle.std.specs.Prelude.{ℕ, ◌≡◌, ◌+◌, ◌≤◌, ◌==◌, ◌&&◌, ◌||◌, not, nat_lt, Bool, true, false, List, ◌++◌, length, take, drop, if◌then◌else◌, Option, Some, None, Result, Ok, Err}
 use Rattle.std.specs.Prelude.{bytes_eq}
 use Rattle.uip_ipv4.specs.Head.{head_or_fate}
 use Rattle.uip_ipv4.specs.declared.fate.IpFate.{IpFate}
@@ -56,6 +56,11 @@ pub record StandsAtFront (bytes : List ℕ) (sent : Option ℕ) (area : List ℕ
 abbrev pub Sends : Setup → Option PlainSegment → Option ℕ → List ℕ → Type 0
 Sends setup None sent area = sent ≡ None
 Sends setup (Some s) sent area = StandsAtFront (datagram_bytes (client_datagram setup s)) sent area
+
+-- behind the datagram that is sent, if one is, the area is as it was
+abbrev pub KeepsBehind : Option ℕ → List ℕ → List ℕ → Type 0
+KeepsBehind None old new = new ≡ old
+KeepsBehind (Some len) old new = drop len new ≡ drop len old
 
 -- a call did this step
 pub record Did (step : ClientStep) (after : AbstractClient) (answer : Option ℕ) (area : List ℕ) : Type 0 where

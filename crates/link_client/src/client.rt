@@ -1,5 +1,5 @@
 ghost use Rattle.std.specs.Prelude.{◌≡◌, ◌+◌, ◌≤◌, ◌++◌, ◌&&◌, ℕ, [], List, Some, is_some, length, slice_range};
-ghost use Rattle.link_client.specs.Calls.{Did, FitsRequest, can_abort, has_more_to_send, has_spoken, client_hears, is_opened, standing, client_hands};
+ghost use Rattle.link_client.specs.Calls.{Did, FitsRequest, KeepsBehind, can_abort, has_more_to_send, has_spoken, client_hears, is_opened, standing, client_hands};
 ghost use Rattle.link_client.specs.Client.{client_aborts, client_again, client_closes, client_opens, idle, tells_window};
 
 use crate::client_state::ClientState;
@@ -81,6 +81,7 @@ impl Client {
         ensures fits { (request : List ℕ) → FitsRequest self.old request → FitsRequest self.new request }
         ensures setup { self.new.setup ≡ self.old.setup }
         ensures room { length area.new ≡ length area.old }
+        ensures behind { KeepsBehind (Some result) area.old area.new }
         ensures step { (request received : List ℕ) → Did (client_opens (standing self.old request received))
             (standing self.new request received) (Some result) area.new }
     {
@@ -96,6 +97,7 @@ impl Client {
         ensures fits { FitsRequest self.new request.now }
         ensures setup { self.new.setup ≡ self.old.setup }
         ensures room { length area.new ≡ length area.old }
+        ensures behind { KeepsBehind result.sent area.old area.new }
         ensures inside { result.fresh_at + result.fresh_len ≤ length datagram.now }
         ensures none { result.fresh_len ≡ 0 → result.fresh_at ≡ 0 }
         ensures step { (received : List ℕ) → Did (client_hands (standing self.old request.now received)
@@ -121,6 +123,7 @@ impl Client {
         ensures fits { FitsRequest self.new request.now }
         ensures setup { self.new.setup ≡ self.old.setup }
         ensures room { length area.new ≡ length area.old }
+        ensures behind { KeepsBehind result area.old area.new }
         ensures answers { is_some result ≡ has_spoken self.old.state }
         ensures step { (received : List ℕ) → Did (client_again (standing self.old request.now received))
             (standing self.new request.now received) result area.new }
@@ -141,6 +144,7 @@ impl Client {
         ensures fits { FitsRequest self.new request.now }
         ensures setup { self.new.setup ≡ self.old.setup }
         ensures room { length area.new ≡ length area.old }
+        ensures behind { KeepsBehind result area.old area.new }
         ensures answers { is_some result ≡ (is_opened self.old.state
             && has_more_to_send (standing (record self.old { state = ClientState.Closing }) request.now [])) }
         ensures step { (received : List ℕ) → Did (client_closes (standing self.old request.now received))
@@ -167,6 +171,7 @@ impl Client {
         ensures fits { (request : List ℕ) → FitsRequest self.old request → FitsRequest self.new request }
         ensures setup { self.new.setup ≡ self.old.setup }
         ensures room { length area.new ≡ length area.old }
+        ensures behind { KeepsBehind result area.old area.new }
         ensures answers { is_some result ≡ can_abort self.old.state }
         ensures step { (request received : List ℕ) → Did (client_aborts (standing self.old request received))
             (standing self.new request received) result area.new }

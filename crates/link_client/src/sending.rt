@@ -1,8 +1,8 @@
 //! The segments that a client sends, written into an area.
 
-ghost use Rattle.std.specs.Prelude.{◌≡◌, ◌+◌, ◌≤◌, [], IsSome, Some, length, slice_range};
+ghost use Rattle.std.specs.Prelude.{◌≡◌, ◌+◌, ◌≤◌, [], IsSome, Some, drop, length, slice_range};
 ghost use Rattle.uip_wire.specs.Numbers.{wrap};
-ghost use Rattle.link_client.specs.Calls.{FitsRequest, Sends, standing};
+ghost use Rattle.link_client.specs.Calls.{FitsRequest, KeepsBehind, Sends, standing};
 ghost use Rattle.link_client.specs.Client.{ack_of, again_by, own_fin, next_own, offered, own_request, own_reset, syn_of};
 
 use crate::client::Client;
@@ -23,7 +23,8 @@ struct Heading {
 /// Copies the text of a segment to its place.
 fn put_text(area: &mut [u8], text: &[u8])
     requires { 40 + length text.now ≤ length area.old }
-    ensures { slice_range area.new 40 (40 + length text.now) ≡ text.now }
+    ensures text { slice_range area.new 40 (40 + length text.now) ≡ text.now }
+    ensures behind { drop (40 + length text.now) area.new ≡ drop (40 + length text.now) area.old }
 {
     area[40..40 + text.len()].copy_from_slice(text);
 }
@@ -50,6 +51,7 @@ impl Client {
               mss = heading.mss;
               text = text.now;
             })) (Some result) area.new }
+        ensures behind { KeepsBehind (Some result) area.old area.new }
     {
         put_text(area, text);
         let out = Out {
@@ -74,6 +76,7 @@ impl Client {
         ensures sent { Sends self.now.setup
             (Some (record { seq = seq.0; ack = self.now.rcv.0; flags = flags; window = self.now.window; mss = None; text = [] }))
             (Some result) area.new }
+        ensures behind { KeepsBehind (Some result) area.old area.new }
     {
         let heading = Heading {
             seq,
@@ -112,6 +115,7 @@ impl Client {
     pub(crate) fn send_syn(&self, area: &mut [u8]) -> usize
         requires room { LARGEST_DATAGRAM ≤ length area.old }
         ensures sent { Sends self.now.setup (Some (syn_of (standing self.now [] []))) (Some result) area.new }
+        ensures behind { KeepsBehind (Some result) area.old area.new }
     {
         let heading = Heading {
             seq: self.setup.iss,
@@ -126,6 +130,7 @@ impl Client {
     pub(crate) fn send_ack(&self, area: &mut [u8]) -> usize
         requires room { LARGEST_DATAGRAM ≤ length area.old }
         ensures sent { Sends self.now.setup (Some (ack_of (standing self.now [] []))) (Some result) area.new }
+        ensures behind { KeepsBehind (Some result) area.old area.new }
     {
         self.send_bare(self.next_own(), ACK, area)
     }
@@ -135,6 +140,7 @@ impl Client {
         requires fits { FitsRequest self.now request.now }
         requires room { LARGEST_DATAGRAM ≤ length area.old }
         ensures sent { Sends self.now.setup (Some (own_request (standing self.now request.now []))) (Some result) area.new }
+        ensures behind { KeepsBehind (Some result) area.old area.new }
     {
         let heading = Heading {
             seq: self.first_unacked(),
@@ -156,6 +162,7 @@ impl Client {
         requires fits { FitsRequest self.now request.now }
         requires room { LARGEST_DATAGRAM ≤ length area.old }
         ensures sent { Sends self.now.setup (again_by ClientState.Opened (standing self.now request.now [])).sent (Some result) area.new }
+        ensures behind { KeepsBehind (Some result) area.old area.new }
     {
         if self.out > 0 {
             return self.send_request(request, area);
@@ -170,6 +177,7 @@ impl Client {
     pub(crate) fn send_fin(&self, area: &mut [u8]) -> usize
         requires room { LARGEST_DATAGRAM ≤ length area.old }
         ensures sent { Sends self.now.setup (Some (own_fin (standing self.now [] []))) (Some result) area.new }
+        ensures behind { KeepsBehind (Some result) area.old area.new }
     {
         self.send_bare(self.after_text(), FIN + ACK, area)
     }
@@ -178,6 +186,7 @@ impl Client {
     pub(crate) fn send_reset(&self, area: &mut [u8]) -> usize
         requires room { LARGEST_DATAGRAM ≤ length area.old }
         ensures sent { Sends self.now.setup (Some (own_reset (standing self.now [] []))) (Some result) area.new }
+        ensures behind { KeepsBehind (Some result) area.old area.new }
     {
         self.send_bare(self.next_own(), RST + ACK, area)
     }

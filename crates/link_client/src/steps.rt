@@ -4,7 +4,7 @@ ghost use Rattle.std.specs.Prelude.{◌≡◌, ◌+◌, ◌≤◌, ◌==◌, ◌
 ghost use Rattle.tcp_segment.specs.Received.{plain_of};
 ghost use Rattle.tcp_machine.specs.Segments.{has_place};
 ghost use Rattle.tcp_machine.specs.Stands.{plain};
-ghost use Rattle.link_client.specs.Calls.{Did, DidAtText, FitsRequest, has_more_to_send, received_with, standing};
+ghost use Rattle.link_client.specs.Calls.{Did, DidAtText, FitsRequest, KeepsBehind, has_more_to_send, received_with, standing};
 ghost use Rattle.link_client.specs.Client.{after_fin, client_takes, fin_out, fin_sent, hears_ack, is_receiving, is_reset_by, may_finish, sends_next, takes_by, takes_in_order, takes_text, has_outstanding};
 
 use crate::client::Client;
@@ -139,6 +139,7 @@ impl Client {
         requires room { LARGEST_DATAGRAM ≤ length area.old }
         ensures fits { FitsRequest self.new request.now }
         ensures setup { self.new.setup ≡ self.old.setup }
+        ensures behind { KeepsBehind result area.old area.new }
         ensures answers { is_some result ≡ (has_more_to_send (standing self.old request.now []) || owed) }
         ensures step { (received : List ℕ) → Did (sends_next owed (standing self.old request.now received))
             (standing self.new request.now received) result area.new }
@@ -212,6 +213,7 @@ impl Client {
         requires room { LARGEST_DATAGRAM ≤ length area.old }
         ensures fits { FitsRequest self.new request.now }
         ensures setup { self.new.setup ≡ self.old.setup }
+        ensures behind { KeepsBehind result.sent area.old area.new }
         ensures step { DidAtText (λ c. takes_in_order c (plain segment.now piece.now)) request.now piece.now result.took_text
             self.old self.new result.sent area.new }
     {
@@ -235,6 +237,7 @@ impl Client {
         requires room { LARGEST_DATAGRAM ≤ length area.old }
         ensures fits { FitsRequest self.new request.now }
         ensures setup { self.new.setup ≡ self.old.setup }
+        ensures behind { KeepsBehind result area.old area.new }
         ensures step { (received text : List ℕ) → Did (takes_by ClientState.Opening (standing self.old request.now received)
             (plain segment.now text)) (standing self.new request.now received) result area.new }
     {
@@ -260,6 +263,7 @@ impl Client {
         requires room { LARGEST_DATAGRAM ≤ length area.old }
         ensures fits { FitsRequest self.new request.now }
         ensures setup { self.new.setup ≡ self.old.setup }
+        ensures behind { KeepsBehind result.sent area.old area.new }
         ensures step { DidAtText (λ c. takes_by self.old.state c (plain segment.now piece.now)) request.now piece.now result.took_text
             self.old self.new result.sent area.new }
     {
@@ -315,6 +319,7 @@ impl Client {
         requires room { LARGEST_DATAGRAM ≤ length area.old }
         ensures fits { FitsRequest self.new request.now }
         ensures setup { self.new.setup ≡ self.old.setup }
+        ensures behind { KeepsBehind result.sent area.old area.new }
         ensures step { DidAtText (λ c. client_takes c (plain segment.now piece.now)) request.now piece.now result.took_text
             self.old self.new result.sent area.new }
     {

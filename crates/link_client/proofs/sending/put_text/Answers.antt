@@ -1,6 +1,7 @@
--- The text stands at its place.
+-- The text stands at its place, and all behind it stays.
 use Rattle.std.proofs.Common.{ℕ, ◌≡◌, ◌+◌, ◌-◌, ◌≤◌, List, ◌++◌, take, drop, length, slice_range, ap, ◌∙◌, arith}
 use Rattle.std.proofs.lemmas.List.{drop_at, length-take-le}
+use Rattle.std.proofs.lemmas.Slice.{drop-put_mid}
 use Rattle.std.proofs.Math.Seq.{take-append_seam}
 use borrow.Rule.Slice.PartMut.{post_of, put_mid}
 use Rattle.link_client.proofs.sending.put_text.Goals as goal
@@ -15,5 +16,14 @@ put area copied text fits same =
     ∙ ap (λ (k : ℕ). take k (text ++ post_of 40 len area)) n
     ∙ take-append_seam text (post_of 40 len area)
 
-pub returns : goal.returns
-returns c = put c.args.area.now c.copy_from_slice.new.self c.args.text.now c.requires c.copy_from_slice.ensures.after
+pub returns-clause-text : goal.returns-clause-text
+returns-clause-text c = put c.args.area.now c.copy_from_slice.new.self c.args.text.now c.requires c.copy_from_slice.ensures.after
+
+kept : (area copied text : List ℕ) → 40 + length text ≤ length area → copied ≡ text
+    → drop (40 + length text) (put_mid 40 (40 + length text - 40) area copied) ≡ drop (40 + length text) area
+kept area copied text fits same =
+    let n : length copied ≡ length text = ap (λ (l : List ℕ). length l) same in
+    drop-put_mid 40 (40 + length text - 40) area copied (40 + length text) (omega arith) (omega (arith, fits)) (omega (arith, n))
+
+pub returns-clause-behind : goal.returns-clause-behind
+returns-clause-behind c = kept c.args.area.now c.copy_from_slice.new.self c.args.text.now c.requires c.copy_from_slice.ensures.after

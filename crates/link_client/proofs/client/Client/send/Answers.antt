@@ -1,0 +1,36 @@
+-- The datagram is put over its text, and behind it the area stays.
+use Rattle.std.proofs.Common.{◌≡◌, ℕ, ◌+◌, ◌-◌, ◌*◌, ◌≤◌, List, ◌++◌, length, drop, IsSome, Option, Some, None, refl, sym, ap, ◌∙◌, arith, length-append, length-drop}
+use Rattle.std.proofs.lemmas.List.{drop-drop, drop_at}
+use Rattle.tcp_segment.specs.Segments.{offset_of}
+use Rattle.link_client.proofs.client.Client.send.Goals as goal
+
+-- what was put in front stays in front
+behind_front : (front area new : List ℕ) (n : ℕ) → n ≤ length area → new ≡ front ++ drop n area → length new ≡ length area → drop n new ≡ drop n area
+behind_front front area new n fits is same =
+    let long : length front ≡ n = omega (arith, fits, same, ap (λ (l : List ℕ). length l) is, length-append front (drop n area), length-drop n area) in
+    ap (drop n) is ∙ drop_at front (drop n area) n long
+
+further : (k m : ℕ) (xs ys : List ℕ) → k ≤ m → drop k xs ≡ drop k ys → drop m xs ≡ drop m ys
+further k m xs ys le same =
+    let n : k + (m - k) ≡ m = omega (arith, le) in
+    ap (λ i. drop i xs) (sym n) ∙ sym (drop-drop (m - k) k xs) ∙ ap (drop (m - k)) same ∙ drop-drop (m - k) k ys ∙ ap (λ i. drop i ys) n
+
+at_least : (option : Option ℕ) (len : ℕ) → 40 + len ≤ 20 + 4 * offset_of option + len
+at_least None len = omega arith
+at_least (Some mss) len = omega arith
+
+at_most : (option : Option ℕ) (len : ℕ) → len ≤ 1460 → (IsSome option → len ≡ 0) → 20 + 4 * offset_of option + len ≤ 1500
+at_most None len short none = omega (arith, short)
+at_most (Some mss) len short none = omega (arith, none refl)
+
+pub returns-clause-behind : goal.returns-clause-behind
+returns-clause-behind c =
+    let len : ℕ = length c.args.text.now in
+    let n : ℕ = 20 + 4 * offset_of c.args.heading.mss + len in
+    let area : List ℕ = c.put_text.new.area in
+    let new : List ℕ = c.put_in.new.area in
+    let fits : n ≤ length area = omega (arith, at_most c.args.heading.mss len c.requires.fits c.requires.no_text, c.requires.room, c.put_text.auto.area) in
+    let kept : drop n new ≡ drop n area = behind_front _ area new n fits c.put_in.ensures.written c.put_in.auto.area in
+    let whole : drop n new ≡ drop n c.args.area.now
+    = kept ∙ further (40 + len) n area c.args.area.now (at_least c.args.heading.mss len) c.put_text.ensures.behind in
+    ap (λ i. drop i new) c.put_in.ensures.length ∙ whole ∙ ap (λ i. drop i c.args.area.now) (sym c.put_in.ensures.length)
