@@ -21,6 +21,7 @@ pub mod Hearing
 pub mod Listing
 pub mod Saying
 pub mod Standing
+pub mod Shown
 pub mod ReportTold
 pub mod WorkedReports
 pub mod Counted

@@ -12,6 +12,7 @@ pub mod Opening
 pub mod Playing
 pub mod Report
 pub mod Writing
+pub mod Shown
 pub mod WorkedReports
 pub mod Kinds
 pub mod Summary

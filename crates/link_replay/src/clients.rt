@@ -1,12 +1,9 @@
 //! The lines of the clients.
 
-ghost use Rattle.std.specs.Prelude.{List};
 ghost use Rattle.uip_edge.specs.Causes.{HasCause};
-ghost use Rattle.link_world.specs.World.{Side as PlainSide};
-ghost use Rattle.link_replay.specs.Matched.{Matched};
-ghost use Rattle.link_replay.specs.Stands.{SideStands};
 ghost use Rattle.text_room.specs.Words.{word_if};
-ghost use Rattle.link_replay.specs.Report.{lines_of_client, numbered_texts, text_line};
+ghost use Rattle.link_replay.specs.Report.{numbered_texts, text_line};
+ghost use Rattle.link_replay.specs.Shown.{side_lines};
 ghost use Rattle.link_replay.specs.Writing.{Wrote};
 
 use crate::client_lines::client_line;
@@ -16,8 +13,7 @@ use uip_edge::{Failed, Sink};
 
 /// Writes the lines of each client.
 pub(crate) fn write_clients<K: Sink>(show: bool, sides: &[Side], sink: &mut K) -> Result<(), Failed>
-    ensures wrote { (ss : List PlainSide) → Matched SideStands sides.now ss
-        → Wrote (K.written sink.old) (K.written sink.new) result (numbered_texts (lines_of_client show) 1 ss) }
+    ensures wrote { Wrote (K.written sink.old) (K.written sink.new) result (numbered_texts (side_lines show) 1 sides.now) }
     ensures cause { HasCause (K.faults sink.old) (K.faults sink.new) result }
 {
     for (place, side) in sides.iter().enumerate() {
@@ -28,8 +24,7 @@ pub(crate) fn write_clients<K: Sink>(show: bool, sides: &[Side], sink: &mut K) -
 
 /// Writes the line of a client with its number, and where all is shown the bytes that it received.
 fn write_client<K: Sink>(show: bool, number: usize, side: &Side, sink: &mut K) -> Result<(), Failed>
-    ensures wrote { (s : PlainSide) → SideStands side.now s
-        → Wrote (K.written sink.old) (K.written sink.new) result (lines_of_client show number s) }
+    ensures wrote { Wrote (K.written sink.old) (K.written sink.new) result (side_lines show number side.now) }
     ensures cause { HasCause (K.faults sink.old) (K.faults sink.new) result }
 {
     write_word(client_line(show, number, side).bytes(), sink)?;

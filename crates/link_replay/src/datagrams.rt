@@ -1,10 +1,12 @@
 //! The lines of the datagrams.
 
+ghost use Rattle.std.specs.Prelude.{OnOk, true};
 ghost use Rattle.uip_edge.specs.Causes.{HasCause};
 ghost use Rattle.link_replay.specs.Moving.{OfDatagram, OfLink};
 ghost use Rattle.text_room.specs.Words.{word_if};
 ghost use Rattle.link_replay.specs.State.{link_of};
 ghost use Rattle.link_replay.specs.Report.{line_of_datagram, numbered_texts};
+ghost use Rattle.link_replay.specs.Shown.{AppendsShown};
 ghost use Rattle.link_replay.specs.Writing.{Wrote};
 
 use crate::datagram_line::datagram_line;
@@ -25,6 +27,7 @@ pub(crate) fn write_shown<K: Sink>(
 ) -> Result<(), Failed>
     ensures wrote { OfLink addr (link_of sides.now sent.now) (λ w. Wrote (K.written sink.old) (K.written sink.new) result
         (word_if show (numbered_texts line_of_datagram 1 w.sent))) }
+    ensures some { OnOk result (AppendsShown show (K.written sink.old) (K.written sink.new)) }
     ensures cause { HasCause (K.faults sink.old) (K.faults sink.new) result }
 {
     if show {
@@ -42,6 +45,7 @@ fn write_datagrams<K: Sink>(
 ) -> Result<(), Failed>
     ensures wrote { OfLink addr (link_of sides.now sent.now) (λ w. Wrote (K.written sink.old) (K.written sink.new) result
         (numbered_texts line_of_datagram 1 w.sent)) }
+    ensures some { OnOk result (AppendsShown true (K.written sink.old) (K.written sink.new)) }
     ensures cause { HasCause (K.faults sink.old) (K.faults sink.new) result }
 {
     for (place, datagram) in sent.iter().enumerate() {
@@ -60,6 +64,7 @@ fn write_datagram<K: Sink>(
 ) -> Result<(), Failed>
     ensures wrote { OfDatagram addr sides.now sent.now
         (λ e. Wrote (K.written sink.old) (K.written sink.new) result (line_of_datagram number e)) }
+    ensures some { OnOk result (AppendsShown true (K.written sink.old) (K.written sink.new)) }
     ensures cause { HasCause (K.faults sink.old) (K.faults sink.new) result }
 {
     let line = datagram_line(number, sent, kind_of(addr, sides, sent));

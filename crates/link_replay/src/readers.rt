@@ -1,6 +1,6 @@
 //! What a world tells of its clients and datagrams.
 
-ghost use Rattle.std.specs.Prelude.{◌≡◌, ◌≤◌, Some, length};
+ghost use Rattle.std.specs.Prelude.{◌≡◌, ◌≤◌, Some, is_none, length, option_map};
 ghost use Rattle.link_client.specs.Calls.{standing};
 ghost use Rattle.link_world.specs.World.{Side as PlainSide, World as PlainWorld, is_clean, numbered};
 ghost use Rattle.uip_node.specs.Counters.{ticks_of};
@@ -17,7 +17,8 @@ impl<A: App> WorldOf<A> {
     pub fn side(&self, number: u8) -> &Side
         requires least { 1 ≤ number }
         requires most { number ≤ length self.now.link.sides }
-        ensures { (w : PlainWorld) (s : PlainSide) → WorldStands A.App self.now w → numbered w.sides number ≡ Some s
+        ensures shows { numbered self.now.link.sides number ≡ Some result.now }
+        ensures stands { (w : PlainWorld) (s : PlainSide) → WorldStands A.App self.now w → numbered w.sides number ≡ Some s
             → SideStands result.now s }
     {
         &self.sides[usize::from(number) - 1]
@@ -27,7 +28,8 @@ impl<A: App> WorldOf<A> {
     pub fn client(&self, number: u8) -> &Client
         requires least { 1 ≤ number }
         requires most { number ≤ length self.now.link.sides }
-        ensures { (w : PlainWorld) (s : PlainSide) → WorldStands A.App self.now w → numbered w.sides number ≡ Some s
+        ensures shows { option_map (λ side. side.client) (numbered self.now.link.sides number) ≡ Some result.now }
+        ensures stands { (w : PlainWorld) (s : PlainSide) → WorldStands A.App self.now w → numbered w.sides number ≡ Some s
             → standing result.now s.client.request s.client.received ≡ s.client }
     {
         let found = self.side(number);
@@ -38,7 +40,8 @@ impl<A: App> WorldOf<A> {
     pub fn received(&self, number: u8) -> &[u8]
         requires least { 1 ≤ number }
         requires most { number ≤ length self.now.link.sides }
-        ensures { (w : PlainWorld) (s : PlainSide) → WorldStands A.App self.now w → numbered w.sides number ≡ Some s
+        ensures shows { option_map (λ side. side.received) (numbered self.now.link.sides number) ≡ Some result.now }
+        ensures stands { (w : PlainWorld) (s : PlainSide) → WorldStands A.App self.now w → numbered w.sides number ≡ Some s
             → result.now ≡ s.client.received }
     {
         let found = self.side(number);
@@ -49,7 +52,8 @@ impl<A: App> WorldOf<A> {
     pub fn clean(&self, number: u8) -> bool
         requires least { 1 ≤ number }
         requires most { number ≤ length self.now.link.sides }
-        ensures { (w : PlainWorld) (s : PlainSide) → WorldStands A.App self.now w → numbered w.sides number ≡ Some s → result ≡ is_clean s }
+        ensures shows { option_map (λ side. is_none side.first_stale) (numbered self.now.link.sides number) ≡ Some result }
+        ensures stands { (w : PlainWorld) (s : PlainSide) → WorldStands A.App self.now w → numbered w.sides number ≡ Some s → result ≡ is_clean s }
     {
         let found = self.side(number);
         match found.first_stale {
@@ -62,7 +66,8 @@ impl<A: App> WorldOf<A> {
     pub fn first_stale(&self, number: u8) -> Option<u32>
         requires least { 1 ≤ number }
         requires most { number ≤ length self.now.link.sides }
-        ensures { (w : PlainWorld) (s : PlainSide) → WorldStands A.App self.now w → numbered w.sides number ≡ Some s
+        ensures shows { option_map (λ side. side.first_stale) (numbered self.now.link.sides number) ≡ Some result }
+        ensures stands { (w : PlainWorld) (s : PlainSide) → WorldStands A.App self.now w → numbered w.sides number ≡ Some s
             → result ≡ s.first_stale }
     {
         let found = self.side(number);
@@ -78,7 +83,8 @@ impl<A: App> WorldOf<A> {
 
     /// The ticks so far, modulo 2^32.
     pub fn ticks(&self) -> u32
-        ensures { (w : PlainWorld) → WorldStands A.App self.now w → result ≡ ticks_of w.node.past }
+        ensures shows { result ≡ self.now.node.counts.ticks }
+        ensures stands { (w : PlainWorld) → WorldStands A.App self.now w → result ≡ ticks_of w.node.past }
     {
         self.node.ticks()
     }

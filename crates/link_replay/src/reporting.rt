@@ -10,6 +10,7 @@ ghost use Rattle.link_world.specs.World.{World as PlainWorld};
 ghost use Rattle.link_replay.specs.Reaching.{IsAt};
 ghost use Rattle.link_replay.specs.Stands.{WorldStands};
 ghost use Rattle.link_replay.specs.Report.{report as report_of};
+ghost use Rattle.link_replay.specs.Shown.{EndsReport, clients_shown};
 ghost use Rattle.link_replay.specs.Writing.{Wrote};
 
 use crate::client_lines::last_line;
@@ -28,6 +29,8 @@ impl<A: App> WorldOf<A> {
             → Appends (K.written sink.old) (K.written sink.new) (report_of show w)) }
         ensures err { OnErr result ((m : Meaning) (served : ℕ → Bool) (w : PlainWorld) → WorldStands A.App self.now w → IsAt m served w
             → AppendsPrefix (K.written sink.old) (K.written sink.new) (report_of show w)) }
+        ensures shows { OnOk result (EndsReport show (K.written sink.old) (K.written sink.new)
+            (clients_shown show self.now.link self.now.node.counts.ticks)) }
         ensures cause { HasCause (K.faults sink.old) (K.faults sink.new) result }
     {
         write_report(self, show, sink)
@@ -38,6 +41,8 @@ impl<A: App> WorldOf<A> {
 fn write_report<A: App, K: Sink>(world: &WorldOf<A>, show: bool, sink: &mut K) -> Result<(), Failed>
     ensures wrote { (m : Meaning) (served : ℕ → Bool) (w : PlainWorld) → WorldStands A.App world.now w → IsAt m served w
         → Wrote (K.written sink.old) (K.written sink.new) result (report_of show w) }
+    ensures shows { OnOk result (EndsReport show (K.written sink.old) (K.written sink.new)
+        (clients_shown show world.now.link world.now.node.counts.ticks)) }
     ensures cause { HasCause (K.faults sink.old) (K.faults sink.new) result }
 {
     let sides = world.sides.as_slice();

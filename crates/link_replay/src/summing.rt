@@ -6,7 +6,9 @@ ghost use Rattle.uip_edge.specs.Causes.{HasCause};
 ghost use Rattle.uip_edge.specs.Writing.{AppendsPrefix};
 ghost use Rattle.link_world.specs.World.{World as PlainWorld};
 ghost use Rattle.link_replay.specs.Stands.{WorldStands};
+ghost use Rattle.link_replay.specs.Shown.{tally_shown};
 ghost use Rattle.link_replay.specs.Summary.{summary_of, tally_line};
+ghost use Rattle.link_replay.specs.Writing.{Wrote};
 
 use crate::line::Line;
 use crate::tally::{Tally, count_up};
@@ -21,6 +23,7 @@ impl<A: App> WorldOf<A> {
             → Appends (K.written sink.old) (K.written sink.new) (summary_of w)) }
         ensures err { OnErr result ((w : PlainWorld) → WorldStands A.App self.now w
             → AppendsPrefix (K.written sink.old) (K.written sink.new) (summary_of w)) }
+        ensures shows { Wrote (K.written sink.old) (K.written sink.new) result (tally_line (tally_shown self.now.link)) }
         ensures cause { HasCause (K.faults sink.old) (K.faults sink.new) result }
     {
         let tally = count_up(self.sides.as_slice(), self.sent.as_slice());

@@ -6,6 +6,7 @@ ghost use Rattle.link_replay.specs.Stands.{LinkStands};
 ghost use Rattle.link_replay.specs.State.{link_of};
 ghost use Rattle.link_client.specs.Calls.{is_opened as open_state};
 ghost use Rattle.link_replay.specs.Kinds.{is_closed as closed_state, is_other as other_state, is_reset as reset_state};
+ghost use Rattle.link_replay.specs.Shown.{tally_shown};
 ghost use Rattle.link_replay.specs.Summary.{tally_of};
 
 use crate::sent::Sent;
@@ -28,7 +29,8 @@ pub struct Tally {
 
 /// The tally of a replay's clients and datagrams.
 pub(crate) fn count_up(sides: &[Side], sent: &[Sent]) -> Tally
-    ensures { (w : PlainWorld) → LinkStands (link_of sides.now sent.now) w → result ≡ tally_of w }
+    ensures shows { result ≡ tally_shown (link_of sides.now sent.now) }
+    ensures stands { (w : PlainWorld) → LinkStands (link_of sides.now sent.now) w → result ≡ tally_of w }
 {
     Tally {
         closed: closed(sides),

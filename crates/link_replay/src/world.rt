@@ -30,7 +30,7 @@ pub struct WorldOf<A: App> {
     pub sent: Vec<Sent>,
     /// The highest number that a round has gone past.
     pub mark: u32,
-    /// An allocation failed in an act: nothing is claimed of the world any more.
+    /// An allocation failed in an act: the world stands for none over plain data any more.
     pub spent: bool,
     /// Where a client writes what it sends.
     pub area: Vec<u8>,

@@ -1,6 +1,7 @@
 use Rattle.std.proofs.Common.{◌≡◌, ◌∙◌}
 use Rattle.link_replay.specs.Report.{datagram_line, line_of_datagram}
 use Rattle.link_replay.proofs.Saying.{wrote_by}
+use Rattle.link_replay.proofs.Shown.{some_shown}
 use Rattle.link_replay.proofs.Standing.{datagram_stands}
 use Rattle.link_replay.proofs.datagrams.write_datagram.Goals as goal
 
@@ -14,3 +15,6 @@ returns-clause-wrote g c = λ w e all same stands home st read by.
     wrote_by _ _ c.write_word.result text (line_of_datagram c.args.number e)
     (datagram_stands w c.args.number sent e kind st (c.kind_of.ensures w e all same stands home st read by))
     (wrote_by _ _ c.write_word.result c.bytes.result.now text line c.write_word.ensures.wrote)
+
+pub returns-clause-some : goal.returns-clause-some
+returns-clause-some g c = some_shown _ _ c.bytes.result.now c.write_word.result c.write_word.ensures.wrote

@@ -5,6 +5,7 @@ use Rattle.link_replay.specs.Stands.{SentStands}
 use Rattle.link_replay.proofs.Readable.{read_at, sent_at}
 use Rattle.link_replay.specs.Report.{line_of_datagram}
 use Rattle.link_replay.proofs.Listing.{texts_end, texts_more, texts_stop}
+use Rattle.link_replay.proofs.Shown.{more_shown, not_done}
 use Rattle.link_replay.proofs.datagrams.write_datagrams.Goals as goal
 
 pub returns-in_err-write_datagram-clause-wrote : goal.returns-in_err-write_datagram-clause-wrote
@@ -29,6 +30,7 @@ loop-place-preserved g c =
           texts_more (SentStands w) xs w.sent line_of_datagram matched place c.index-sent-place.result _ _ _ c.in_ok-write_datagram.field-0 at
           (c.loop-place.invariant.saying m served w same stands home reached)
           (λ e here st. c.in_ok-write_datagram.ensures.wrote w e c.args.sent.now same stands home st (read_at m served w reached place e here) (sent_at m served w reached place e here)));
+      some = more_shown _ _ _ c.loop-place.invariant.some c.in_ok-write_datagram.ensures.some;
       same = c.in_ok-write_datagram.ensures.cause.same ∙ c.loop-place.invariant.same;
     }
 
@@ -38,3 +40,11 @@ returns-clause-wrote g c = λ m served w same stands home reached.
     let matched = stands.sent in
     texts_end (SentStands w) xs w.sent line_of_datagram matched c.loop-place.place _ _ tt c.loop-place-test.false
     (c.loop-place.invariant.saying m served w same stands home reached)
+
+pub returns-in_err-write_datagram-clause-some : goal.returns-in_err-write_datagram-clause-some
+returns-in_err-write_datagram-clause-some g c =
+    let p = err_from_is_err_and c.from_residual.result c.from_residual.ensures.1 in
+    not_done c.from_residual.result p.0 _ p.1
+
+pub returns-clause-some : goal.returns-clause-some
+returns-clause-some g c = c.loop-place.invariant.some

@@ -1,8 +1,14 @@
-use Rattle.std.proofs.Common.{ap, ◌∙◌}
+use Rattle.std.proofs.Common.{ℕ, List, Option, Some, sym, ap, ◌∙◌}
+use Rattle.std.specs.Prelude.{option_map}
 use Rattle.link_client.specs.Client.{AbstractClient}
 use Rattle.link_replay.specs.Plain.{CodeSide}
 use Rattle.link_replay.proofs.world.WorldOf.received.Goals as goal
 
-pub returns : goal.returns
-returns g c = λ w s h e.
-    c.as_slice.ensures.value ∙ ap (λ (x : CodeSide). x.received) c.found.view_is ∙ ap (λ (k : AbstractClient). k.received) (c.side-found.ensures w s h e).client
+pub returns-clause-shows : goal.returns-clause-shows
+returns-clause-shows g c =
+    ap (λ (o : Option CodeSide). option_map (λ side. side.received) o) c.side-found.ensures.shows
+    ∙ ap (λ (l : List ℕ). Some l) (sym (c.as_slice.ensures.value ∙ ap (λ (x : CodeSide). x.received) c.found.view_is))
+
+pub returns-clause-stands : goal.returns-clause-stands
+returns-clause-stands g c = λ w s h e.
+    c.as_slice.ensures.value ∙ ap (λ (x : CodeSide). x.received) c.found.view_is ∙ ap (λ (k : AbstractClient). k.received) (c.side-found.ensures.stands w s h e).client
