@@ -1,5 +1,5 @@
 -- The line is that of the world's clients and datagrams.
-use Rattle.std.proofs.Common.{◌≡◌, ℕ, List, ap, ◌∙◌}
+use Rattle.std.proofs.Common.{◌≡◌, List, ap, ◌∙◌}
 use Rattle.link_replay.specs.Plain.{CodeSent, CodeSide}
 use Rattle.link_replay.specs.Shown.{tally_shown}
 use Rattle.link_replay.specs.State.{link_of}
