@@ -1,5 +1,5 @@
 -- What is left to be handed out of a datagram's text.
-use Rattle.std.specs.Prelude.{ℕ, List, [], ◌∷◌, ◌++◌, drop, Option, None, Some}
+use Rattle.std.specs.Prelude.{◌≡◌, ◌≤◌, ◌+◌, ◌⊎◌, ℕ, List, [], ◌∷◌, ◌++◌, drop, length, Option, None, Some}
 use Rattle.uip_slip.specs.Text.{escaped}
 
 -- the bytes that are left, escaped, and the END behind them
@@ -10,3 +10,8 @@ rest_text rest = escaped rest ++ 192 ∷ []
 abbrev pub text_to_come : List ℕ → Option ℕ → List ℕ
 text_to_come datagram None = []
 text_to_come datagram (Some at) = rest_text (drop at datagram)
+
+-- A datagram's text was handed out as far as there was room: it is left only where at most one more byte would fit, since an escaped
+-- byte wants two, and its END alone only where none would.
+abbrev pub FillsRoom : List ℕ → Option ℕ → ℕ → ℕ → Type 0
+FillsRoom datagram left wrote room = ((left ≡ None) ⊎ (room ≤ wrote + 1)) × (left ≡ Some (length datagram) → wrote ≡ room)

@@ -8,7 +8,7 @@ ghost use Rattle.uip_node.specs.Edge.{event_of};
 ghost use Rattle.serve_loop.specs.LineEvents.{events_behind};
 ghost use Rattle.serve_loop.specs.Texts.{text_of};
 ghost use Rattle.uip_device.specs.Devices.{row_in};
-ghost use Rattle.uip_device.specs.Handing.{text_to_come};
+ghost use Rattle.uip_device.specs.Handing.{FillsRoom, text_to_come};
 ghost use Rattle.uip_device.specs.Sending.{SendsOver};
 
 use crate::datagrams::copy_sent;
@@ -44,8 +44,7 @@ fn answer<A: App>(node: &mut Node<A>, datagram: &[u8], out: &mut [u8]) -> Writte
     ensures fits { result.wrote ≤ length out.new }
     ensures left { IfSome result.left (λ k. k ≤ length (datagram_in node.new.packet)) }
     ensures all { LARGEST_TEXT ≤ length out.old → result.left ≡ None }
-    ensures full { (result.left ≡ None) ⊎ (length out.new ≤ result.wrote + 1) }
-    ensures end { result.left ≡ Some (length (datagram_in node.new.packet)) → result.wrote ≡ length out.new }
+    ensures full { FillsRoom (datagram_in node.new.packet) result.left result.wrote (length out.new) }
     ensures sends { SendsOver A.App (λ own. event_of own datagram.now ∷ []) node.old node.new (λ own replies. text_of own replies
         ≡ take result.wrote out.new ++ text_to_come (datagram_in node.new.packet) result.left) }
 {
@@ -85,8 +84,7 @@ fn take<A: App>(decoder: &mut Decoder, node: &mut Node<A>, bytes: &[u8], out: &m
     ensures fits { result.written.wrote ≤ length out.new }
     ensures left { IfSome result.written.left (λ k. k ≤ length (datagram_in node.new.packet)) }
     ensures all { LARGEST_TEXT ≤ length out.old → result.written.left ≡ None }
-    ensures full { (result.written.left ≡ None) ⊎ (length out.new ≤ result.written.wrote + 1) }
-    ensures end { result.written.left ≡ Some (length (datagram_in node.new.packet)) → result.written.wrote ≡ length out.new }
+    ensures full { FillsRoom (datagram_in node.new.packet) result.written.left result.written.wrote (length out.new) }
     ensures fed { (before : List ℕ) → WasFed before decoder.old → WasFed (before ++ take result.count bytes.now) decoder.new }
     ensures sends { (before : List ℕ) → WasFed before decoder.old
         → SendsOver A.App (λ own. events_behind own 0 before (map Byte (take result.count bytes.now))) node.old node.new
@@ -140,8 +138,7 @@ impl<A: App> Device<A> {
         ensures wrote { result.wrote ≤ length out.new }
         ensures taken { (0 < result.taken) × (result.taken ≤ length bytes.now) }
         ensures all { LARGEST_TEXT ≤ length out.old → self.new.left ≡ None }
-        ensures full { (self.new.left ≡ None) ⊎ (length out.new ≤ result.wrote + 1) }
-        ensures end { self.new.left ≡ Some (length (datagram_in self.new.node.packet)) → result.wrote ≡ length out.new }
+        ensures full { FillsRoom (datagram_in self.new.node.packet) self.new.left result.wrote (length out.new) }
         ensures answers { Answers A.App (Hears (take result.taken bytes.now)) self.old self.new (take result.wrote out.new) }
     {
         let taken = take(&mut self.decoder, &mut self.node, bytes, out);
@@ -163,8 +160,7 @@ impl<A: App> Device<A> {
         ensures long { length out.new ≡ length out.old }
         ensures wrote { result ≤ length out.new }
         ensures all { LARGEST_TEXT ≤ length out.old → self.new.left ≡ None }
-        ensures full { (self.new.left ≡ None) ⊎ (length out.new ≤ result + 1) }
-        ensures end { self.new.left ≡ Some (length (datagram_in self.new.node.packet)) → result ≡ length out.new }
+        ensures full { FillsRoom (datagram_in self.new.node.packet) self.new.left result (length out.new) }
         ensures answers { Answers A.App (Calls slot) self.old self.new (take result out.new) }
     {
         let sent = self.node.periodic(slot);
@@ -180,8 +176,7 @@ impl<A: App> Device<A> {
         ensures long { length out.new ≡ length out.old }
         ensures wrote { result ≤ length out.new }
         ensures some { (self.old.left ≡ None → ⊥) → 2 ≤ length out.old → 0 < result }
-        ensures full { (self.new.left ≡ None) ⊎ (length out.new ≤ result + 1) }
-        ensures end { self.new.left ≡ Some (length (datagram_in self.new.node.packet)) → result ≡ length out.new }
+        ensures full { FillsRoom (datagram_in self.new.node.packet) self.new.left result (length out.new) }
         ensures answers { Answers A.App HandsOn self.old self.new (take result out.new) }
     {
         match self.left {

@@ -7,7 +7,7 @@ ghost use Rattle.uip_wire.specs.declared.addr.Addr.{Addr as Address};
 ghost use Rattle.uip_node.specs.Events.{Reply};
 ghost use Rattle.uip_node.specs.Spoken.{IsSent};
 ghost use Rattle.serve_loop.specs.Texts.{text_for};
-ghost use Rattle.uip_device.specs.Handing.{text_to_come};
+ghost use Rattle.uip_device.specs.Handing.{FillsRoom, text_to_come};
 
 use app_events::App;
 use uip_node::Node;
@@ -71,8 +71,7 @@ pub(crate) fn write_on(out: &mut [u8], len: usize, datagram: &[u8], at: usize) -
     ensures left { IfSome result.left (λ k. k ≤ length datagram.now) }
     ensures more { len + 2 ≤ length out.old → len < result.wrote }
     ensures whole { len + 2 * (length datagram.now - at) < length out.old → result.left ≡ None }
-    ensures full { (result.left ≡ None) ⊎ (length out.new ≤ result.wrote + 1) }
-    ensures end { result.left ≡ Some (length datagram.now) → result.wrote ≡ length out.new }
+    ensures full { FillsRoom datagram.now result.left result.wrote (length out.new) }
     ensures text { take result.wrote out.new ++ text_to_come datagram.now result.left
         ≡ take len out.old ++ text_to_come datagram.now (Some at) }
 {
@@ -103,8 +102,7 @@ pub(crate) fn hand_on<A: App>(node: &Node<A>, at: usize, out: &mut [u8]) -> Writ
     ensures fits { result.wrote ≤ length out.new }
     ensures left { IfSome result.left (λ k. k ≤ length (datagram_in node.now.packet)) }
     ensures more { 2 ≤ length out.old → 0 < result.wrote }
-    ensures full { (result.left ≡ None) ⊎ (length out.new ≤ result.wrote + 1) }
-    ensures end { result.left ≡ Some (length (datagram_in node.now.packet)) → result.wrote ≡ length out.new }
+    ensures full { FillsRoom (datagram_in node.now.packet) result.left result.wrote (length out.new) }
     ensures text { take result.wrote out.new ++ text_to_come (datagram_in node.now.packet) result.left
         ≡ text_to_come (datagram_in node.now.packet) (Some at) }
 {
@@ -127,8 +125,7 @@ pub(crate) fn write_text<A: App>(node: &Node<A>, sent: Option<usize>, out: &mut 
     ensures fits { result.wrote ≤ length out.new }
     ensures left { IfSome result.left (λ k. k ≤ length (datagram_in node.now.packet)) }
     ensures whole { LARGEST_TEXT ≤ length out.old → result.left ≡ None }
-    ensures full { (result.left ≡ None) ⊎ (length out.new ≤ result.wrote + 1) }
-    ensures end { result.left ≡ Some (length (datagram_in node.now.packet)) → result.wrote ≡ length out.new }
+    ensures full { FillsRoom (datagram_in node.now.packet) result.left result.wrote (length out.new) }
     ensures text { (own : Address) (reply : Option Reply) → IsSent own reply sent node.now.packet
         → take result.wrote out.new ++ text_to_come (datagram_in node.now.packet) result.left ≡ text_for own reply }
 {
