@@ -23,7 +23,8 @@
  *   - The image with which a device is open stays where it is, as it is, until uip_close: each call may read it, and nothing writes it.
  *   - The program has memcpy, memmove and memset, and a heap: rattle_alloc, rattle_realloc, rattle_dealloc (below).
  *   - There is enough stack. How much is measured and not proved: see README.md.
- * Whatever else is wrong is told by the status, and then nothing was done: the device, `out` and the counts are as they were.
+ * Whatever else is wrong is told by the status, and then nothing was done: the device, `out` and the counts are as they were, and all
+ * that the call tells beside the status is 0.
  *
  * The language is C90 or later, or C++; the inline functions at the end want C99 or C++. The target has 64 bits: x86-64 of level
  * v2 or later (it has SSE4.2), or aarch64 with its SIMD registers turned on and memory that allows unaligned accesses. The
@@ -99,11 +100,14 @@ typedef struct { unsigned is_open; void *at; } uip_device;
 
 /*
  * What uip_open came to. Of a bad image it tells the first fault: the word that `uipd check` has for it, with a 0 behind it, and
- * the number of the entry that has it, from 1; 0 stands for the whole image.
+ * the number of the entry that has it, from 1; 0 stands for the whole image. With any other status entry and word are 0.
  */
 typedef struct { unsigned status; unsigned entry; char word[8]; } uip_opened;
 
-/* What a call did: how many bytes it took, how many it wrote to the front of `out`, and whether (1) or not (0) a text is left. */
+/*
+ * What a call did: how many bytes it took, how many it wrote to the front of `out`, and whether (1) or not (0) a text is left: only
+ * where at most one byte of room is left behind what was written, since some bytes go out as two.
+ */
 typedef struct { unsigned status, left; size_t taken, wrote; } uip_done;
 
 /* A number that was read. */
@@ -111,7 +115,7 @@ typedef struct { unsigned status; unsigned number; } uip_number;
 
 /*
  * A connection, as a row of the pages has it: its state; its peer; how often what is outstanding was sent again; the ticks left until
- * the timer acts; and whether (1) or not (0) something is outstanding. Of a slot that is CLOSED the state alone means something.
+ * the timer acts; and whether (1) or not (0) something is outstanding. Of a slot that is CLOSED all of these are 0.
  */
 typedef struct { unsigned status, state; unsigned char peer[4]; unsigned port, tries, count, waiting; } uip_row;
 
