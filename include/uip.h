@@ -24,7 +24,7 @@
  *   - The program has memcpy, memmove and memset, and a heap: rattle_alloc, rattle_realloc, rattle_dealloc (below).
  *   - There is enough stack. How much is measured and not proved: see README.md.
  * Whatever else is wrong is told by the status, and then nothing was done: the device, `out` and the counts are as they were, and all
- * that the call tells beside the status is 0.
+ * that the call tells beside the status is 0, but that uip_open tells what is wrong with a bad image.
  *
  * The language is C90 or later, or C++; the inline functions at the end want C99 or C++. The target has 64 bits: x86-64 of level
  * v2 or later (it has SSE4.2), or aarch64 with its SIMD registers turned on and memory that allows unaligned accesses. The
