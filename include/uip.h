@@ -127,9 +127,10 @@ typedef struct { unsigned status, state; unsigned char peer[4]; unsigned port, t
 uip_opened uip_open(uip_device *device, const unsigned char *image, size_t len, const unsigned char own[4]);
 
 /*
- * Takes a front of the bytes that came over the serial line, at least one, and writes what the node sends for them, at most one
- * datagram with its SLIP framing, as far as there is room. Call it again with the bytes that it did not take. What a call that was
- * fine left in `out` behind the bytes that it wrote, inside the room, means nothing; behind the room nothing is written.
+ * Takes the bytes that came over the serial line, up to an END that completes a frame or all of them, and writes what the node
+ * sends for them, at most one datagram with its SLIP framing, as far as there is room. Call it again with the bytes that it did not
+ * take. What a call that was fine left in `out` behind the bytes that it wrote, inside the room, means nothing; behind the room
+ * nothing is written.
  */
 uip_done uip_hear(uip_device *device, const unsigned char *bytes, size_t len, unsigned char *out, size_t room);
 

@@ -16,7 +16,8 @@ use Rattle.tcp_machine.specs.OnTick.{grows_older, by_beat, on_tick}
 use Rattle.tcp_machine.specs.declared.step.Step.{Step}
 use Rattle.link_world.specs.Nodes.{HasTextNumbers}
 use Rattle.uip_node.proofs.Basics.{choose}
-use Rattle.uip_node.proofs.Cases.{asked_by, by_open, by_own_fin, is_ask, is_open, no_ask_again, on_tick_by, open_live}
+use Rattle.tcp_machine.specs.Stands.{is_open}
+use Rattle.uip_node.proofs.Cases.{asked_by, by_open, by_own_fin, is_ask, no_ask_again, on_tick_by, open_live}
 use Rattle.uip_node.proofs.Handed.{Heard, hears_is}
 
 -- the numbers, by the state

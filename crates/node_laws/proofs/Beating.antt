@@ -22,7 +22,8 @@ use Rattle.tcp_machine.specs.declared.step.Step.{Step}
 use Rattle.uip_node.specs.Laws.{Alike}
 use Rattle.uip_node.specs.Steady.{IsSteady}
 use Rattle.uip_node.proofs.Basics.{choose, cut_length, ltb-yes, zero_or_more}
-use Rattle.uip_node.proofs.Cases.{asked_by, fin_lives, is_ask, is_open, open_live, on_tick_by}
+use Rattle.tcp_machine.specs.Stands.{is_open}
+use Rattle.uip_node.proofs.Cases.{asked_by, fin_lives, is_ask, open_live, on_tick_by}
 use Rattle.uip_node.proofs.Told.{SafeState, OutTells, due}
 use Rattle.node_laws.specs.Promise.{size_of}
 

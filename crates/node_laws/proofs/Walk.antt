@@ -18,7 +18,8 @@ use Rattle.tcp_machine.specs.OnSegment.{accepted, hears, is_out_of_order, is_ack
 use Rattle.tcp_machine.specs.OnTick.{grows_older, by_beat, on_tick}
 use Rattle.tcp_machine.specs.declared.step.Step.{Step}
 use Rattle.uip_node.proofs.Basics.{choose, both_ways, append_nothing, ltb-zero, and_false, eqb-eq, not-false, prefix_length, prefix_refl}
-use Rattle.uip_node.proofs.Cases.{asked_by, by_open, is_ask, is_open, no_ask_again, on_tick_by, open_live}
+use Rattle.tcp_machine.specs.Stands.{is_open}
+use Rattle.uip_node.proofs.Cases.{asked_by, by_open, is_ask, no_ask_again, on_tick_by, open_live}
 use Rattle.uip_node.proofs.Moves.{segment_moves, tick_moves}
 use Rattle.uip_node.specs.Steady.{IsSteady}
 use Rattle.node_laws.specs.Promise.{Speech}

@@ -14,7 +14,8 @@ use Rattle.tcp_machine.specs.OnSegment.{is_out_of_order, is_acked, rests, has_te
 use Rattle.tcp_machine.specs.OnTick.{outstanding, by_beat, on_tick}
 use Rattle.tcp_machine.specs.declared.step.Step.{Step}
 use Rattle.uip_node.proofs.Basics.{choose, eqb-eq}
-use Rattle.uip_node.proofs.Cases.{asked_by, by_own_fin, is_ask, is_open, on_tick_by}
+use Rattle.tcp_machine.specs.Stands.{is_open}
+use Rattle.uip_node.proofs.Cases.{asked_by, by_own_fin, is_ask, on_tick_by}
 
 -- ---- the first text
 

@@ -24,7 +24,8 @@ use Rattle.uip_node.specs.Laws.{serving, IsEvent, Alike}
 use Rattle.uip_node.specs.Node.{AbstractNode, opening, step}
 use Rattle.uip_node.specs.Steady.{IsSteady}
 use Rattle.uip_node.proofs.Basics.{both_ways, and_true, eqb-eq, ltb-yes, not-true, only_some}
-use Rattle.uip_node.proofs.Cases.{is_open}
+use Rattle.tcp_machine.specs.Stands.{is_open}
+use Rattle.uip_node.proofs.Cases.{}
 use Rattle.uip_node.proofs.Fits.{FitConn, on_segment_fits, on_tick_fits}
 use Rattle.uip_node.proofs.Stepped.{stepped_tells}
 use Rattle.uip_node.proofs.Told.{SafeState, StepTells, OutTells, due, segment_tells, tick_tells}

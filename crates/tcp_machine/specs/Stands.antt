@@ -7,7 +7,7 @@ use Rattle.app_events.specs.declared.app.App.{Ghosts}
 use Rattle.app_events.specs.declared.state.State.{State}
 use Rattle.app_events.specs.declared.state.State.TheVariants.{Established, CloseWait}
 use Rattle.tcp_table.specs.declared.conn.Conn.{Conn}
-use Rattle.tcp_segment.specs.Segments.{PlainSegment}
+use Rattle.tcp_segment.specs.Segments.{PlainSegment, plain_segment}
 use Rattle.tcp_segment.specs.declared.segment.Segment.{Segment}
 use Rattle.tcp_machine.specs.Connection.{Connection, is_live, is_resting, snd_nxt, rcv_nxt}
 use Rattle.tcp_machine.specs.Ask.{Outcome}
@@ -50,7 +50,7 @@ pub record ConnStands {A S : Type 0} (g : Ghosts A S) (k : g.Kept) (c : Conn A) 
 
 -- a segment with its text, as a plain record
 abbrev pub plain : Segment → List ℕ → PlainSegment
-plain seg text = record { seq = seg.seq.0; ack = seg.ack.0; flags = seg.flags; window = seg.window; mss = seg.mss; text = text }
+plain seg text = plain_segment seg.seq.0 seg.ack.0 seg.flags seg.window seg.mss text
 
 -- what a step of the code leaves and asks is what the definition says
 pub record Meets {A S : Type 0} (g : Ghosts A S) (k : g.Kept) (c : Conn A) (numbers : List ℕ) (step : Step) (o : Outcome) : Type 0 where

@@ -1,9 +1,10 @@
 //! The calls over a serial line.
 
-ghost use Rattle.std.specs.Prelude.{◌≡◌, ◌==◌, ◌||◌, ◌<◌, ◌≤◌, ◌+◌, ◌⊎◌, length, nat_le, nat_lt, take, true};
+ghost use Rattle.std.specs.Prelude.{◌≡◌, ◌==◌, ◌||◌, ◌<◌, ◌≤◌, ◌⊎◌, length, nat_le, nat_lt, take, true};
 ghost use Rattle.std.specs.Option.{is_some};
 ghost use Rattle.std.specs.declared.option.Option.TheVariants.{None};
-ghost use Rattle.uip_device.specs.Calls.{Calls, HandsOn, Hears};
+ghost use Rattle.uip_device.specs.Calls.{Calls, HandsOn, Hears, StopsAtEnd};
+ghost use Rattle.uip_device.specs.Devices.{HasFilled};
 ghost use Rattle.uip_c.specs.Handles.{HandleAnswers, HasText, IsOf, IsTextStatus, Refused, left_flag};
 
 use crate::handle::{UipDevice, put_in, take_idle, take_out};
@@ -14,8 +15,8 @@ use uip_device::LARGEST_TEXT;
 /// The least room for a text: with less, a byte that is escaped would never fit.
 pub const LEAST_ROOM: usize = 2;
 
-/// Takes a front of the bytes that came over the line, at least one, and hands out the text of what is sent, at most one
-/// datagram, as far as there is room. The bytes that are left are for the next call.
+/// Takes the bytes that came over the line, up to an END that completes a frame or all of them, and hands out the text of what is
+/// sent, at most one datagram, as far as there is room. The bytes that are left are for the next call.
 #[unsafe(no_mangle)]
 pub extern "C" fn uip_hear(
     alloc: Global,
@@ -27,10 +28,11 @@ pub extern "C" fn uip_hear(
     ensures fine { result.status ≡ FINE
         → HandleAnswers (Hears (take result.taken bytes.now)) device.old.held.device device.new.held.device (take result.wrote out.new) }
     ensures some { result.status ≡ FINE → 0 < result.taken }
+    ensures stops { result.status ≡ FINE → StopsAtEnd bytes.now result.taken }
     ensures within { (result.taken ≤ length bytes.now) × (result.wrote ≤ length out.new) }
     ensures left { result.status ≡ FINE → IsOf (λ d. result.left ≡ left_flag d.left) device.new.held.device }
     ensures all { result.status ≡ FINE → LARGEST_TEXT ≤ length out.old → result.left ≡ 0 }
-    ensures full { result.status ≡ FINE → (result.left ≡ 0) ⊎ (length out.new ≤ result.wrote + 1) }
+    ensures full { result.status ≡ FINE → IsOf (λ d. HasFilled d result.wrote (length out.new)) device.new.held.device }
     ensures no_device { result.status ≡ NO_DEVICE → device.old.held.device ≡ None }
     ensures bad_call { (result.status == BAD_CALL) ≡ ((length bytes.now == 0) || nat_lt (length out.old) LEAST_ROOM) }
     ensures text_left { result.status ≡ TEXT_LEFT → HasText device.old.held.device }
@@ -70,7 +72,7 @@ pub extern "C" fn uip_call(
     ensures within { (result.taken ≡ 0) × (result.wrote ≤ length out.new) }
     ensures left { result.status ≡ FINE → IsOf (λ d. result.left ≡ left_flag d.left) device.new.held.device }
     ensures all { result.status ≡ FINE → LARGEST_TEXT ≤ length out.old → result.left ≡ 0 }
-    ensures full { result.status ≡ FINE → (result.left ≡ 0) ⊎ (length out.new ≤ result.wrote + 1) }
+    ensures full { result.status ≡ FINE → IsOf (λ d. HasFilled d result.wrote (length out.new)) device.new.held.device }
     ensures no_device { result.status ≡ NO_DEVICE → device.old.held.device ≡ None }
     ensures bad_call { (result.status == BAD_CALL) ≡ (nat_le 10 slot || nat_lt (length out.old) LEAST_ROOM) }
     ensures text_left { result.status ≡ TEXT_LEFT → HasText device.old.held.device }
@@ -104,7 +106,7 @@ pub extern "C" fn uip_more(alloc: Global, device: &mut UipDevice, out: &mut [u8]
     ensures some { result.status ≡ FINE → IsOf (λ d. is_some d.left ≡ true → 0 < result.wrote) device.old.held.device }
     ensures within { (result.taken ≡ 0) × (result.wrote ≤ length out.new) }
     ensures left { result.status ≡ FINE → IsOf (λ d. result.left ≡ left_flag d.left) device.new.held.device }
-    ensures full { result.status ≡ FINE → (result.left ≡ 0) ⊎ (length out.new ≤ result.wrote + 1) }
+    ensures full { result.status ≡ FINE → IsOf (λ d. HasFilled d result.wrote (length out.new)) device.new.held.device }
     ensures no_device { result.status ≡ NO_DEVICE → device.old.held.device ≡ None }
     ensures bad_call { (result.status == BAD_CALL) ≡ nat_lt (length out.old) LEAST_ROOM }
     ensures refused { (result.status ≡ FINE → ⊥)

@@ -1,5 +1,5 @@
 -- What a caller does to a device, and what that brings to its node.
-use Rattle.std.specs.Prelude.{ℕ, Bool, true, false, ◌+◌, List, [], ◌∷◌, ◌++◌, map, if◌then◌else◌}
+use Rattle.std.specs.Prelude.{◌≡◌, ◌⊎◌, ℕ, Bool, true, false, ◌+◌, ◌-◌, List, [], ◌∷◌, ◌++◌, length, map, slice_index, if◌then◌else◌}
 use Rattle.uip_wire.specs.declared.addr.Addr.{Addr}
 use Rattle.uip_edge.specs.declared.item.Item.{Item}
 use Rattle.uip_edge.specs.declared.item.Item.TheVariants.{Byte, Quiet}
@@ -29,6 +29,10 @@ is_by_datagram _ = false
 abbrev pub bytes_of_call : Call → List ℕ
 bytes_of_call (Hears bytes) = bytes
 bytes_of_call _ = []
+
+-- so many bytes of a line were taken: all of them, or up to an END
+abbrev pub StopsAtEnd : List ℕ → ℕ → Type 0
+StopsAtEnd bytes taken = (taken ≡ length bytes) ⊎ (slice_index bytes (taken - 1) ≡ 192)
 
 -- What a call brings to the node at the address `own`, behind the bytes that were heard before: the frames that its bytes
 -- complete, its datagram, or the periodic call of its slot. What is handed on brings nothing.

@@ -12,7 +12,7 @@ use Rattle.uip_slip.specs.Decoding.{WasFed}
 use Rattle.serve_loop.specs.Turns.{IsNode}
 use Rattle.uip_device.specs.Calls.{Call, bytes_of_call, events_by, is_by_datagram}
 use Rattle.uip_device.specs.Moves.{Move, Makes, Gives, Writing, goes_by_datagram, with_numbers}
-use Rattle.uip_device.specs.Handing.{text_to_come}
+use Rattle.uip_device.specs.Handing.{FillsRoom, text_to_come}
 use Rattle.uip_device.specs.Sending.{HandsOut, SendsOver}
 use Rattle.uip_device.specs.declared.device.Device.{Device}
 
@@ -23,6 +23,10 @@ pub record IsSoundDevice {A S : Type 0} (g : Ghosts A S) (d : Device A S) : Type
 -- the text that is left to be handed out
 abbrev pub left_text_of : {A S : Type 0} → Device A S → List ℕ
 left_text_of d = text_to_come (datagram_in d.node.packet) d.left
+
+-- what it handed out filled the room, where a text is left
+abbrev pub HasFilled : {A S : Type 0} → Device A S → ℕ → ℕ → Type 0
+HasFilled d wrote room = FillsRoom (datagram_in d.node.packet) d.left wrote room
 
 -- the device was fed these bytes
 abbrev pub HasHeard : {A S : Type 0} → List ℕ → Device A S → Type 0

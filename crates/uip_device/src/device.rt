@@ -1,12 +1,13 @@
 //! A device, and the calls of it.
 
-ghost use Rattle.std.specs.Prelude.{◌≡◌, ◌<◌, ◌≤◌, ◌+◌, ◌++◌, ◌⊎◌, ◌∷◌, [], List, ℕ, IfSome, None, Some, length, map, take};
+ghost use Rattle.std.specs.Prelude.{◌≡◌, ◌<◌, ◌≤◌, ◌++◌, ◌∷◌, [], List, ℕ, IfSome, None, Some, length, map, take};
 ghost use Rattle.packet_buffer.specs.Buffer.{datagram_in};
 ghost use Rattle.uip_edge.specs.declared.item.Item.TheVariants.{Byte};
 ghost use Rattle.uip_slip.specs.Decoding.{WasFed};
 ghost use Rattle.uip_node.specs.Edge.{event_of};
 ghost use Rattle.serve_loop.specs.LineEvents.{events_behind};
 ghost use Rattle.serve_loop.specs.Texts.{text_of};
+ghost use Rattle.uip_device.specs.Calls.{StopsAtEnd};
 ghost use Rattle.uip_device.specs.Devices.{row_in};
 ghost use Rattle.uip_device.specs.Handing.{FillsRoom, text_to_come};
 ghost use Rattle.uip_device.specs.Sending.{SendsOver};
@@ -75,11 +76,12 @@ struct Taken {
     written: Written,
 }
 
-/// Takes a front of the bytes, of which the last alone may complete a frame, and writes the text of the answer.
+/// Takes the bytes up to an END that completes a frame, or all of them, and writes the text of the answer.
 fn take<A: App>(decoder: &mut Decoder, node: &mut Node<A>, bytes: &[u8], out: &mut [u8]) -> Taken
     requires some { 0 < length bytes.now }
     requires room { 0 < length out.old }
     ensures taken { (0 < result.count) × (result.count ≤ length bytes.now) }
+    ensures stops { StopsAtEnd bytes.now result.count }
     ensures long { length out.new ≡ length out.old }
     ensures fits { result.written.wrote ≤ length out.new }
     ensures left { IfSome result.written.left (λ k. k ≤ length (datagram_in node.new.packet)) }
@@ -107,12 +109,12 @@ fn take<A: App>(decoder: &mut Decoder, node: &mut Node<A>, bytes: &[u8], out: &m
 }
 
 impl<A: App> Device<A> {
-    ghost use Rattle.std.specs.Prelude.{◌≡◌, ◌<◌, ◌≤◌, ◌+◌, ◌⊎◌, IfOk, None, Some, length, slice_get, take};
+    ghost use Rattle.std.specs.Prelude.{◌≡◌, ◌<◌, ◌≤◌, IfOk, None, Some, length, slice_get, take};
     ghost use Rattle.uip_node.specs.Counters.{counters, ticks_of};
     ghost use Rattle.uip_node.specs.Node.{AbstractNode};
     ghost use Rattle.uip_node.specs.StandsFor.{Stands};
     ghost use Rattle.uip_device.specs.Calls.{Calls, CallsByDatagram, HandsOn, Hears, HearsDatagram};
-    ghost use Rattle.uip_device.specs.Devices.{Answers, IsFreshDevice, IsSoundDevice, connection_row, is_node_idle};
+    ghost use Rattle.uip_device.specs.Devices.{Answers, HasFilled, IsFreshDevice, IsSoundDevice, connection_row, is_node_idle};
 
     /// A device at an address whose application's connections share a value. After this no call of it takes memory.
     pub fn new(alloc: Global, own: Addr, shared: A::Shared) -> Result<Device<A>, NoMemory>
@@ -126,8 +128,8 @@ impl<A: App> Device<A> {
         })
     }
 
-    /// Takes a front of the bytes that came over the line, of which the last alone may complete a frame, and hands out the text
-    /// of the answer, if one is sent, as far as there is room. Nothing is left of a text before.
+    /// Takes the bytes that came over the line, up to an END that completes a frame or all of them, and hands out the text of the
+    /// answer, if one is sent, as far as there is room. Nothing is left of a text before.
     pub fn hear(&mut self, bytes: &[u8], out: &mut [u8]) -> Heard
         requires some { 0 < length bytes.now }
         requires room { 0 < length out.old }
@@ -137,8 +139,9 @@ impl<A: App> Device<A> {
         ensures long { length out.new ≡ length out.old }
         ensures wrote { result.wrote ≤ length out.new }
         ensures taken { (0 < result.taken) × (result.taken ≤ length bytes.now) }
+        ensures stops { StopsAtEnd bytes.now result.taken }
         ensures all { LARGEST_TEXT ≤ length out.old → self.new.left ≡ None }
-        ensures full { FillsRoom (datagram_in self.new.node.packet) self.new.left result.wrote (length out.new) }
+        ensures full { HasFilled self.new result.wrote (length out.new) }
         ensures answers { Answers A.App (Hears (take result.taken bytes.now)) self.old self.new (take result.wrote out.new) }
     {
         let taken = take(&mut self.decoder, &mut self.node, bytes, out);
@@ -160,7 +163,7 @@ impl<A: App> Device<A> {
         ensures long { length out.new ≡ length out.old }
         ensures wrote { result ≤ length out.new }
         ensures all { LARGEST_TEXT ≤ length out.old → self.new.left ≡ None }
-        ensures full { FillsRoom (datagram_in self.new.node.packet) self.new.left result (length out.new) }
+        ensures full { HasFilled self.new result (length out.new) }
         ensures answers { Answers A.App (Calls slot) self.old self.new (take result out.new) }
     {
         let sent = self.node.periodic(slot);
@@ -176,7 +179,7 @@ impl<A: App> Device<A> {
         ensures long { length out.new ≡ length out.old }
         ensures wrote { result ≤ length out.new }
         ensures some { (self.old.left ≡ None → ⊥) → 2 ≤ length out.old → 0 < result }
-        ensures full { FillsRoom (datagram_in self.new.node.packet) self.new.left result (length out.new) }
+        ensures full { HasFilled self.new result (length out.new) }
         ensures answers { Answers A.App HandsOn self.old self.new (take result out.new) }
     {
         match self.left {

@@ -11,16 +11,12 @@ use Rattle.app_events.specs.declared.want.Want.{Want}
 use Rattle.app_events.specs.declared.want.Want.TheVariants.{Nothing, Send, Close, Abort}
 use Rattle.tcp_machine.specs.Connection.{Connection, is_live, is_resting}
 use Rattle.tcp_machine.specs.Ask.{Outcome, after_own_fin, leaves, closes, peer_has_closed, idles, does_as_wanted, ask, asked_for, asked}
+use Rattle.tcp_machine.specs.Stands.{is_open}
 use Rattle.tcp_machine.specs.OnTick.{limit_of, grows_older, outstanding, by_beat, rests_on, polls, ticks_established, tick_by, on_tick}
 use Rattle.tcp_machine.specs.declared.step.Step.{Step}
 use Rattle.uip_node.proofs.Basics.{choose, ltb-zero}
 
 -- ---- the states in which the application is asked
-
-abbrev pub is_open : State → Bool
-is_open Established = true
-is_open CloseWait = true
-is_open _ = false
 
 pub by_open : (P : State → Type 0) → P Established → P CloseWait → (st : State) → is_open st ≡ true → P st
 by_open P e w Established o = e

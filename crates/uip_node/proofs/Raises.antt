@@ -5,7 +5,7 @@ use Rattle.std.proofs.lemmas.Bool.{agree_below_at, eqb-true}
 use Rattle.std.proofs.lemmas.List.{get_or-map}
 use Rattle.std.proofs.Math.Nat.{mod-add-mod}
 use Rattle.uip_wire.specs.Numbers.{wrap}
-use Rattle.uip_node.specs.Raising.{marks, raise, twenty}
+use Rattle.uip_node.specs.Raising.{marks, raise, counter_places}
 use Rattle.uip_node.specs.Counters.{counters, raises, times}
 use Rattle.uip_node.specs.Events.{Past}
 
@@ -43,9 +43,9 @@ counters_more p past = counts_more (range_with_len 0 20) p past
 
 -- the twenty places in their order
 abbrev in_order : ℕ → Bool
-in_order k = get_or twenty k 0 == k
+in_order k = get_or counter_places k 0 == k
 
 pub marks_at : (a b c k : ℕ) → k < 20 → get_or (marks a b c) k false ≡ ((k == a) || (k == b) || (k == c))
 marks_at a b c k h =
-    let at : get_or twenty k 0 ≡ k = eqb-true (get_or twenty k 0) k (agree_below_at in_order (λ _. true) 20 k refl h) in
-    get_or-map (λ (n : ℕ). (n == a) || (n == b) || (n == c)) twenty k 0 false h ∙ ap (λ (n : ℕ). (n == a) || (n == b) || (n == c)) at
+    let at : get_or counter_places k 0 ≡ k = eqb-true (get_or counter_places k 0) k (agree_below_at in_order (λ _. true) 20 k refl h) in
+    get_or-map (λ (n : ℕ). (n == a) || (n == b) || (n == c)) counter_places k 0 false h ∙ ap (λ (n : ℕ). (n == a) || (n == b) || (n == c)) at

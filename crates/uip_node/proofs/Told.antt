@@ -24,7 +24,8 @@ use Rattle.tcp_machine.specs.declared.step.Step.{Step}
 use Rattle.uip_node.specs.Laws.{Alike}
 use Rattle.uip_node.specs.Steady.{IsSteady}
 use Rattle.uip_node.proofs.Basics.{choose, append_nothing, only_some, ltb-zero, ltb-lt, ltb-yes, part_grows, cut_part, cut_length, IsPart, prefix_length}
-use Rattle.uip_node.proofs.Cases.{by_open, by_own_fin, fin_lives, is_open, open_live}
+use Rattle.tcp_machine.specs.Stands.{is_open}
+use Rattle.uip_node.proofs.Cases.{by_open, by_own_fin, fin_lives, open_live}
 
 -- what is outstanding in a state
 abbrev pub due : Meaning → State → Connection → PlainSegment

@@ -8,9 +8,10 @@ raise [] ns = ns
 raise (b ∷ bs) [] = []
 raise (b ∷ bs) (n ∷ ns) = (if b then wrap (n + 1) else n) ∷ raise bs ns
 
-abbrev pub twenty : List ℕ
-twenty = 0 ∷ 1 ∷ 2 ∷ 3 ∷ 4 ∷ 5 ∷ 6 ∷ 7 ∷ 8 ∷ 9 ∷ 10 ∷ 11 ∷ 12 ∷ 13 ∷ 14 ∷ 15 ∷ 16 ∷ 17 ∷ 18 ∷ 19 ∷ []
+-- the places of the counters
+abbrev pub counter_places : List ℕ
+counter_places = 0 ∷ 1 ∷ 2 ∷ 3 ∷ 4 ∷ 5 ∷ 6 ∷ 7 ∷ 8 ∷ 9 ∷ 10 ∷ 11 ∷ 12 ∷ 13 ∷ 14 ∷ 15 ∷ 16 ∷ 17 ∷ 18 ∷ 19 ∷ []
 
--- of twenty, those at three places; a place past the end marks none
+-- three of the places; one past the end marks none
 abbrev pub marks : ℕ → ℕ → ℕ → List Bool
-marks a b c = map (λ k. (k == a) || (k == b) || (k == c)) twenty
+marks a b c = map (λ k. (k == a) || (k == b) || (k == c)) counter_places

@@ -1,13 +1,13 @@
 -- What a decoder knows after one more byte, or a run of them.
 use Rattle.std.proofs.Common.{◌≡◌, ℕ, ◌+◌, ◌≤◌, ◌<◌, Bool, true, false, cond, eqb, nat_lt, List, [], ◌∷◌, ◌++◌, take, length, get_or, refl, sym, ap, subst, ◌-◌, ◌∙◌, append-nil, append_assoc, arith, length-take, length-append, length-drop, drop, min, ◌||◌}
 use Rattle.std.specs.List.{list_all}
-use Rattle.std.proofs.lemmas.List.{take_all, take-append-le, take-take, length-take-le, take_more}
+use Rattle.std.proofs.lemmas.List.{get_or-drop, get_or-take, take_all, take-append-le, take-take, length-take-le, take_more}
 use Rattle.std.proofs.Math.Seq.{take-add, take-append-add}
 use Rattle.std.proofs.lemmas.Bool.{ltb-false, ltb-true, le-ltb, lt-ltb, le-leb, lt-leb}
 use Rattle.uip_slip.specs.Frames.{Frame, meant, unescaped, frame_of, open_part, frames, Datagram, Overlong, is_plain}
 use Rattle.uip_slip.specs.declared.fed.Fed.{Fed}
 use Rattle.uip_slip.specs.declared.fed.Fed.TheVariants as fed
-use Rattle.uip_slip.specs.Decoding.{State, WasFed, waits_after, open_bytes, told_by}
+use Rattle.uip_slip.specs.Decoding.{EndsFrame, State, WasFed, waits_after, open_bytes, told_by}
 use Rattle.uip_slip.specs.Steps.{reopened, pushed, taken, joined_parts, Closes}
 use Rattle.uip_slip.proofs.PartLaws.{frames-end, open_part-end, frames-plain, open_part-plain, parts-byte}
 use Rattle.uip_slip.proofs.PlainLaws.{adds, unescaped-push, waits_after-push, parts-plain, plain_joined}
@@ -230,6 +230,15 @@ fed_on before bytes n k s t told so_far step =
     let at = front_and_more before bytes n k in
     let both = step (before ++ take n bytes) so_far.0 in
     (subst (λ l. WasFed l t) at both.0, ap frames (sym at) ∙ both.1 ∙ ap (λ l. l ++ told) so_far.1)
+
+-- the last byte of a piece stands there in the whole
+pub ends_on : (bytes : List ℕ) (n k : ℕ) (fed : Fed) → 0 < k → k ≤ length (take (length bytes - n) (drop n bytes))
+    → EndsFrame fed (get_or (take (length bytes - n) (drop n bytes)) (k - 1) 0) → EndsFrame fed (get_or bytes (n + k - 1) 0)
+ends_on bytes n k fed some within e =
+    let inside : k - 1 < length bytes - n = omega (arith, some, within, length-take (length bytes - n) (drop n bytes)) in
+    let at : n + (k - 1) ≡ n + k - 1 = omega (arith, some) in
+    subst (λ b. EndsFrame fed b)
+    (get_or-take (length bytes - n) (drop n bytes) (k - 1) 0 inside ∙ get_or-drop n bytes (k - 1) 0 ∙ ap (λ i. get_or bytes i 0) at) e
 
 pub take_first : (bytes : List ℕ) → 0 < length bytes → take 1 bytes ≡ get_or bytes 0 0 ∷ []
 take_first [] h = absurd (omega arith)

@@ -1,5 +1,5 @@
 -- What a decoder knows of the bytes that it was fed, and what its answers say.
-use Rattle.std.specs.Prelude.{◌≡◌, ◌<◌, ◌≤◌, ℕ, ◌==◌, nat_lt, if◌then◌else◌, List, [], ◌∷◌, ◌++◌, take, length, Bool, true, false}
+use Rattle.std.specs.Prelude.{◌≡◌, ◌<◌, ◌≤◌, ℕ, ◌-◌, ◌==◌, nat_lt, if◌then◌else◌, List, [], ◌∷◌, ◌++◌, take, length, slice_index, Bool, true, false, ⊤}
 use Rattle.uip_wire.specs.declared.sizes.TheConstants.{LARGEST_DATAGRAM}
 use Rattle.uip_slip.specs.Frames.{Frame, Datagram, Overlong, frames, unescaped, open_part}
 use Rattle.uip_slip.specs.declared.fed.Fed.{Fed}
@@ -42,10 +42,17 @@ Leaves (fed.Datagram n) s = (s.told ≡ true) × (n ≡ length s.bytes) × (0 < 
 Leaves fed.More s = s.told ≡ false
 Leaves fed.Overlong s = s.told ≡ false
 
--- A front of these bytes was fed, one at least: it is as if each of them was, and the frames that they complete are told.
+-- the byte that completes a frame is an END
+abbrev pub EndsFrame : Fed → ℕ → Type 0
+EndsFrame fed.More byte = ⊤
+EndsFrame (fed.Datagram n) byte = byte ≡ 192
+EndsFrame fed.Overlong byte = byte ≡ 192
+
+-- A front of these bytes was fed, one at least: it is as if each of them was, and the frame that the last of them completes is told.
 pub record FeedsFront (old : State) (bytes : List ℕ) (run : FedRun) (new : State) : Type 0 where
   pub some : 0 < run.count
   pub within : run.count ≤ length bytes
   pub frames : (before : List ℕ) → WasFed before old → WasFed (before ++ take run.count bytes) new
       × (frames (before ++ take run.count bytes) ≡ frames before ++ told_by run.fed new)
   pub leaves : Leaves run.fed new
+  pub end : EndsFrame run.fed (slice_index bytes (run.count - 1))

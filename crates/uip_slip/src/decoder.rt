@@ -53,7 +53,8 @@ fn still_dense(dense: usize, count: usize, last: u8) -> usize {
 }
 
 impl Decoder {
-    ghost use Rattle.uip_slip.specs.Decoding.{FeedsFront, Leaves, WasFed, told_by};
+    ghost use Rattle.uip_slip.specs.Decoding.{EndsFrame, FeedsFront, Leaves, WasFed, told_by};
+    ghost use Rattle.uip_slip.specs.declared.fed.Fed.TheVariants.{More};
     ghost use Rattle.uip_slip.specs.Steps.{reopened, taken, pushed, joined_parts, Closes};
 
     /// A decoder that was fed nothing.
@@ -76,6 +77,7 @@ impl Decoder {
         ensures frames { (bytes : List ℕ) → WasFed bytes self.old → WasFed (bytes ++ byte ∷ []) self.new
             × (frames (bytes ++ byte ∷ []) ≡ frames bytes ++ told_by result self.new) }
         ensures leaves { Leaves result self.new }
+        ensures end { EndsFrame result byte }
     {
         self.reopen();
         if byte == END {
@@ -89,7 +91,8 @@ impl Decoder {
     /// END and ESC is copied as a whole.
     pub fn feed_run(&mut self, bytes: &[u8]) -> FedRun
         requires { 0 < length bytes.now }
-        ensures { FeedsFront self.old bytes.now result self.new }
+        ensures front { FeedsFront self.old bytes.now result self.new }
+        ensures whole { result.fed ≡ More → result.count ≡ length bytes.now }
     {
         if bytes[0] != END {
             return self.feed_parts(bytes);
@@ -109,7 +112,8 @@ impl Decoder {
     /// The same, part by part.
     fn feed_parts(&mut self, bytes: &[u8]) -> FedRun
         requires { 0 < length bytes.now }
-        ensures { FeedsFront self.old bytes.now result self.new }
+        ensures front { FeedsFront self.old bytes.now result self.new }
+        ensures whole { result.fed ≡ More → result.count ≡ length bytes.now }
     {
         let mut count = 0;
         let mut dense = 0;

@@ -1,4 +1,4 @@
-use Rattle.std.proofs.Common.{◌≡◌, ◌++◌, [], ◌∷◌, map, refl, take}
+use Rattle.std.proofs.Common.{◌≡◌, ◌++◌, [], ◌∷◌, inl, inr, map, refl, take}
 use Rattle.uip_edge.specs.declared.item.Item.TheVariants.{Byte}
 use Rattle.packet_buffer.specs.Buffer.{datagram_in}
 use Rattle.uip_slip.specs.Frames.{Datagram, Overlong}
@@ -11,9 +11,18 @@ use Rattle.uip_device.proofs.FrameLaws.{told_events}
 use Rattle.uip_device.proofs.SendLaws.{sends_by, sends_none, sends_overlong}
 use Rattle.uip_device.proofs.device.take.Goals as goal
 
+pub returns-in-More-clause-stops : goal.returns-in-More-clause-stops
+returns-in-More-clause-stops g c = inl (c.feed_run-run.ensures.whole c.in-More.is)
+
+pub returns-in-Overlong-clause-stops : goal.returns-in-Overlong-clause-stops
+returns-in-Overlong-clause-stops g c = inr (rw c.in-Overlong.is at c.feed_run-run.ensures.front.end)
+
+pub returns-in-Datagram-clause-stops : goal.returns-in-Datagram-clause-stops
+returns-in-Datagram-clause-stops g c = inr (rw c.in-Datagram.is at c.feed_run-run.ensures.front.end)
+
 pub returns-in-More-clause-sends : goal.returns-in-More-clause-sends
 returns-in-More-clause-sends g c = λ before fed.
-    let told = rw c.in-More.is at c.feed_run-run.ensures.frames in
+    let told = rw c.in-More.is at c.feed_run-run.ensures.front.frames in
     let bytes = take c.feed_run-run.result.count c.args.bytes.now in
     rw c.nothing-written.ensures (
     sends_none g.A.App (λ own. events_behind own 0 before (map Byte bytes)) c.args.node.now (λ own replies. text_of own replies ≡ [])
@@ -21,7 +30,7 @@ returns-in-More-clause-sends g c = λ before fed.
 
 pub returns-in-Overlong-clause-sends : goal.returns-in-Overlong-clause-sends
 returns-in-Overlong-clause-sends g c = λ before fed.
-    let told = rw c.in-Overlong.is at c.feed_run-run.ensures.frames in
+    let told = rw c.in-Overlong.is at c.feed_run-run.ensures.front.frames in
     let bytes = take c.feed_run-run.result.count c.args.bytes.now in
     let new = c.count_overlong.new.self in
     rw c.nothing-written-in-Overlong.ensures (
@@ -31,7 +40,7 @@ returns-in-Overlong-clause-sends g c = λ before fed.
 
 pub returns-in-Datagram-clause-sends : goal.returns-in-Datagram-clause-sends
 returns-in-Datagram-clause-sends g c = λ before fed.
-    let told = rw c.in-Datagram.is at c.feed_run-run.ensures.frames in
+    let told = rw c.in-Datagram.is at c.feed_run-run.ensures.front.frames in
     let bytes = take c.feed_run-run.result.count c.args.bytes.now in
     let shown = c.feed_run-run.new.self.bytes in
     let new = c.answer-written.new.node in

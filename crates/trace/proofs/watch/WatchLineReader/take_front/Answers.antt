@@ -10,7 +10,7 @@ returns-in_err-write_area-clause-stopped g c =
     let self = c.args.self.now in
     if_err _ (broke_watch self c.args.bytes.now (g.K.Sink.written c.args.sink.now) (g.K.Sink.faults c.args.sink.now) (sink_told g.K.Sink c.write_area.new.sink)
     (front_broke self.decoder c.feed_run-run.new.self self.frames self.silences c.feed_run-run.result.count c.args.bytes.now
-    (told_by c.feed_run-run.result.fed c.feed_run-run.new.self) c.feed_run-run.ensures.frames self.form _ _ _
+    (told_by c.feed_run-run.result.fed c.feed_run-run.new.self) c.feed_run-run.ensures.front.frames self.form _ _ _
     (ap (λ w. w.area) c.put_frame.ensures) c.in_err-write_area.ensures.broke) c.in_err-write_area.ensures.cause.failed)
 
 pub returns-clause-took : goal.returns-clause-took
@@ -20,8 +20,8 @@ returns-clause-took g c = λ k before h.
     let bytes = take c.feed_run-run.result.count c.args.bytes.now in
     record {
       form = ap (λ w. w.form) c.put_frame.ensures ∙ h.form;
-      seen = rw c.put_frame.ensures (front_seen self.decoder c.feed_run-run.new.self self.frames self.silences bytes told c.feed_run-run.ensures.frames before h.seen);
+      seen = rw c.put_frame.ensures (front_seen self.decoder c.feed_run-run.new.self self.frames self.silences bytes told c.feed_run-run.ensures.front.frames before h.seen);
       written = wrote_on k before _ _ self h (map Byte bytes) _
-          (front_text self.decoder c.feed_run-run.new.self self.frames self.silences bytes told c.feed_run-run.ensures.frames self.form before h.seen
+          (front_text self.decoder c.feed_run-run.new.self self.frames self.silences bytes told c.feed_run-run.ensures.front.frames self.form before h.seen
           ∙ sym (ap (λ w. w.area) c.put_frame.ensures)) c.in_ok-write_area.ensures.whole;
     }

@@ -1,5 +1,5 @@
 use Rattle.std.proofs.Common.{◌∙◌, append-nil, arith, rules}
-use Rattle.uip_slip.proofs.DecoderLaws.{fed_on, fed_run}
+use Rattle.uip_slip.proofs.DecoderLaws.{ends_on, fed_on, fed_run}
 use Rattle.uip_slip.specs.Frames.{frames}
 use Rattle.uip_slip.proofs.decoder.Decoder.feed_front.Goals as goal
 
@@ -13,6 +13,7 @@ returns-then-count-bytes c =
           fed_run before c.args.bytes.now c.join_plain-count.result c.args.self.now c.reopen.new.self c.join_plain-count.new.self
           c.reopen.ensures run.plain run.waiting run.joined f;
       leaves = search rules;
+      end = search rules;
     }
 
 pub returns : goal.returns
@@ -29,4 +30,5 @@ returns c =
           fed_on before c.args.bytes.now n c.feed_mark-mark.result.count c.join_plain-count.new.self c.feed_mark-mark.new.self _
           (one.0, one.1 ∙ append-nil (frames before)) mark.frames;
       leaves = mark.leaves;
+      end = ends_on c.args.bytes.now n c.feed_mark-mark.result.count c.feed_mark-mark.result.fed mark.some mark.within mark.end;
     }

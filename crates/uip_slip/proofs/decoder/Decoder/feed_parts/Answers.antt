@@ -1,17 +1,19 @@
 use Rattle.std.proofs.Common.{◌∙◌, ◌++◌, ◌-◌, ap, append-nil, arith, drop, length, length-drop, length-take, rules, subst}
-use Rattle.uip_slip.proofs.DecoderLaws.{fed_on}
+use Rattle.uip_slip.proofs.DecoderLaws.{ends_on, fed_on}
 use Rattle.uip_slip.specs.Decoding.{Leaves, told_by}
 use Rattle.uip_slip.specs.Frames.{frames}
 use Rattle.uip_slip.proofs.decoder.Decoder.feed_parts.Goals as goal
 
-pub returns-in_default : goal.returns-in_default
-returns-in_default c = record {
+pub returns-in_default-clause-front : goal.returns-in_default-clause-front
+returns-in_default-clause-front c = record {
   some = search rules;
   within = search rules;
   frames = λ before f.
       fed_on before c.args.bytes.now c.loop-count.count c.feed_part-front.result.count c.loop-count.self c.feed_part-front.new.self _
       (c.loop-count.invariant.frames before f) c.feed_part-front.ensures.frames;
   leaves = search rules;
+  end = ends_on c.args.bytes.now c.loop-count.count c.feed_part-front.result.count c.feed_part-front.result.fed c.feed_part-front.ensures.some
+      c.feed_part-front.ensures.within c.feed_part-front.ensures.end;
 }
 
 pub loop-count-preserved : goal.loop-count-preserved
