@@ -1,5 +1,5 @@
 -- Lists that agree place by place, element by element.
-use Rattle.std.proofs.Common.{◌≡◌, ℕ, zero, suc, List, [], ◌∷◌, Some, subst, refl, arith}
+use Rattle.std.proofs.Common.{◌≡◌, ℕ, zero, suc, List, [], ◌∷◌, Some, map, subst, refl, ap, ◌∙◌, arith}
 use Rattle.std.specs.Prelude.{slice_get}
 use Rattle.link_replay.specs.Matched.{Matched}
 
@@ -27,3 +27,18 @@ matched_tail P x y xs ys h = record { same_length = (let e = h.same_length in om
 pub matched_same : {X : Type 0} (P : X → X → Type 0) (xs : List X) → ((x : X) → P x x) → Matched P xs xs
 matched_same P [] h = matched_nil P
 matched_same P (x ∷ xs) h = matched_cons P x x xs xs (h x) (matched_same P xs h)
+
+-- a list, and what a function makes of it
+pub matched_image : {X Y : Type 0} (f : X → Y) (xs : List X) → Matched (λ x y. f x ≡ y) xs (map f xs)
+matched_image {X} {Y} f [] = matched_nil (λ (x : X) (y : Y). f x ≡ y)
+matched_image {X} {Y} f (x ∷ xs) = matched_cons (λ (x : X) (y : Y). f x ≡ y) x (f x) xs (map f xs) refl (matched_image f xs)
+
+-- two functions that make the same of what agrees
+pub same_images : {X Y Z : Type 0} (P : X → Y → Type 0) (f : X → Z) (g : Y → Z) (xs : List X) (ys : List Y) → ((x : X) (y : Y) → P x y → f x ≡ g y) → Matched P xs ys
+    → map f xs ≡ map g ys
+same_images P f g [] [] same m = refl
+same_images P f g [] (y ∷ ys) same m = absurd (let e = m.same_length in omega arith)
+same_images P f g (x ∷ xs) [] same m = absurd (let e = m.same_length in omega arith)
+same_images {X} {Y} {Z} P f g (x ∷ xs) (y ∷ ys) same m =
+    ap (λ (z : Z). z ∷ map f xs) (same x y (matched_head P x y xs ys m))
+    ∙ ap (λ (zs : List Z). g y ∷ zs) (same_images P f g xs ys same (matched_tail P x y xs ys m))

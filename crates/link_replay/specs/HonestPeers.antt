@@ -1,6 +1,6 @@
 -- An honest peer of the web server, whatever other peers do meanwhile.
 use Rattle.std.specs.List.{All}
-use Rattle.std.specs.Prelude.{◌≡◌, ◌≢◌, ◌<◌, ℕ, Bool, List}
+use Rattle.std.specs.Prelude.{◌≢◌, ◌<◌, ℕ, Bool, List}
 use Rattle.uip_wire.specs.declared.addr.Addr.{Addr}
 use Rattle.app_events.specs.Pages.{IsAddr, IsWord}
 use Rattle.tcp_machine.specs.Connection.{Sockets}

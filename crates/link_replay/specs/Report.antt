@@ -1,6 +1,6 @@
 -- The text of a report.
 use Rattle.std.specs.Option.{option_map_or}
-use Rattle.std.specs.Prelude.{ℕ, ◌+◌, Bool, List, [], ◌∷◌, ◌++◌, length, Option, codes, decimal}
+use Rattle.std.specs.Prelude.{ℕ, ◌+◌, Bool, List, [], ◌∷◌, ◌++◌, length, map, Option, codes, decimal}
 use Rattle.hex.specs.Hex.{encode_lower}
 use Rattle.text_room.specs.Words.{word_if}
 use Rattle.tcp_segment.specs.Segments.{PlainSegment, flag_letters}
@@ -57,10 +57,20 @@ state_word Reset = codes "reset"
 abbrev pub clean_words : Bool → Option ℕ → List ℕ
 clean_words show first = option_map_or (λ number. codes "stale" ++ word_if show (codes " " ++ decimal number)) first (codes "clean")
 
-abbrev pub client_line : Bool → ℕ → ClientState → ℕ → Option ℕ → List ℕ
-client_line show number state len first_stale =
-    codes "client " ++ decimal number ++ codes " " ++ state_word state ++ codes " " ++ decimal len ++ codes " "
-    ++ clean_words show first_stale ++ codes "\n"
+-- what a report and a summary show of a client
+pub record ShownSide : Type 0 where
+  pub state : ClientState
+  pub received : List ℕ
+  pub first_stale : Option ℕ
+
+abbrev pub side_shown : Side → ShownSide
+side_shown side = record { state = side.client.state; received = side.client.received; first_stale = side.first_stale }
+
+-- number, state, how many bytes of its page it received, and whether it is clean
+abbrev pub client_line : Bool → ℕ → ShownSide → List ℕ
+client_line show number side =
+    codes "client " ++ decimal number ++ codes " " ++ state_word side.state ++ codes " " ++ decimal (length side.received) ++ codes " "
+    ++ clean_words show side.first_stale ++ codes "\n"
 
 -- bytes as pairs of digits
 abbrev pub digits_or_dash : List ℕ → List ℕ
@@ -70,26 +80,25 @@ digits_or_dash (byte ∷ bytes) = encode_lower (byte ∷ bytes)
 abbrev pub text_line : List ℕ → List ℕ
 text_line bytes = codes "text " ++ digits_or_dash bytes ++ codes "\n"
 
--- number, state, how many bytes of its page it received, and whether it is clean; where all is shown, these bytes stand on a line of
--- their own
-abbrev pub lines_of_client : Bool → ℕ → Side → List ℕ
-lines_of_client show number side =
-    client_line show number side.client.state (length side.client.received) side.first_stale
-    ++ word_if show (text_line side.client.received)
-
-abbrev pub counts_line : ℕ → ℕ → List ℕ
-counts_line ticks datagrams = codes "ticks " ++ decimal ticks ++ codes " datagrams " ++ decimal datagrams ++ codes "\n"
+-- the line of a client; where all is shown, the bytes that it received stand on a line of their own
+abbrev pub lines_of_client : Bool → ℕ → ShownSide → List ℕ
+lines_of_client show number side = client_line show number side ++ word_if show (text_line side.received)
 
 -- how many ticks there were, and how many datagrams
-abbrev pub last_line : World → List ℕ
-last_line w = counts_line (ticks_of w.node.past) (length w.sent)
+abbrev pub counts_line : ℕ → ℕ → List ℕ
+counts_line ticks datagrams = codes "ticks " ++ decimal ticks ++ codes " datagrams " ++ decimal datagrams ++ codes "\n"
 
 -- the text of each element, numbered from here on
 abbrev pub numbered_texts : {X : Type 0} → (ℕ → X → List ℕ) → ℕ → List X → List ℕ
 numbered_texts text number [] = []
 numbered_texts text number (x ∷ xs) = text number x ++ numbered_texts text (number + 1) xs
 
--- the datagrams where all is shown, the clients, and how much happened
+-- the clients, and how much happened
+abbrev pub end_of_report : Bool → List ShownSide → ℕ → ℕ → List ℕ
+end_of_report show sides ticks datagrams = numbered_texts (lines_of_client show) 1 sides ++ counts_line ticks datagrams
+
+-- the datagrams where all is shown, and then the end
 abbrev pub report : Bool → World → List ℕ
 report show w =
-    word_if show (numbered_texts line_of_datagram 1 w.sent) ++ numbered_texts (lines_of_client show) 1 w.sides ++ last_line w
+    word_if show (numbered_texts line_of_datagram 1 w.sent)
+    ++ end_of_report show (map side_shown w.sides) (ticks_of w.node.past) (length w.sent)

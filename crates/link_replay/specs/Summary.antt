@@ -1,26 +1,23 @@
 -- The summary of a replay in one line.
-use Rattle.std.specs.Prelude.{ℕ, Bool, List, ◌++◌, length, not, count_by, sum_by, codes, decimal}
+use Rattle.std.specs.Prelude.{ℕ, Bool, List, ◌++◌, length, map, not, is_none, count_by, sum_by, codes, decimal}
 use Rattle.link_client.specs.Calls.{is_opened}
-use Rattle.link_client.specs.declared.client_state.ClientState.{ClientState}
-use Rattle.link_world.specs.World.{World, is_clean}
+use Rattle.link_world.specs.World.{World}
 use Rattle.link_replay.specs.Kinds.{is_closed, is_reset, is_other}
+use Rattle.link_replay.specs.Report.{ShownSide, side_shown}
 use Rattle.link_replay.specs.declared.tally.Tally.{Tally}
 
--- how many clients have a state of this kind
-abbrev pub clients_that : (ClientState → Bool) → World → ℕ
-clients_that kind w = count_by (λ side. kind side.client.state) w.sides
-
--- the clients by their states, those that are not clean, the bytes of all pages, the datagrams, and those that were sent again
-abbrev pub tally_of : World → Tally
-tally_of w = record {
-  closed = clients_that is_closed w;
-  opened = clients_that is_opened w;
-  reset = clients_that is_reset w;
-  other = clients_that is_other w;
-  stale = count_by (λ side. not (is_clean side)) w.sides;
-  bytes = sum_by (λ side. length side.client.received) w.sides;
-  datagrams = length w.sent;
-  again = count_by (λ e. e.again) w.sent;
+-- Of clients, and of whether each datagram was sent again: the clients by their states, those that are not clean, the bytes of all
+-- pages, the datagrams, and those that were sent again.
+abbrev pub tally_of : List ShownSide → List Bool → Tally
+tally_of sides again = record {
+  closed = count_by (λ side. is_closed side.state) sides;
+  opened = count_by (λ side. is_opened side.state) sides;
+  reset = count_by (λ side. is_reset side.state) sides;
+  other = count_by (λ side. is_other side.state) sides;
+  stale = count_by (λ side. not (is_none side.first_stale)) sides;
+  bytes = sum_by (λ side. length side.received) sides;
+  datagrams = length again;
+  again = count_by (λ it. it) again;
 }
 
 abbrev pub tally_line : Tally → List ℕ
@@ -30,4 +27,4 @@ tally_line t =
     ++ codes " datagrams " ++ decimal t.datagrams ++ codes " again " ++ decimal t.again ++ codes "\n"
 
 abbrev pub summary_of : World → List ℕ
-summary_of w = tally_line (tally_of w)
+summary_of w = tally_line (tally_of (map side_shown w.sides) (map (λ e. e.again) w.sent))

@@ -2,6 +2,7 @@
 
 ghost use Rattle.std.specs.Prelude.{◌≡◌, ◌+◌, ◌≤◌, ◌++◌, length};
 ghost use Rattle.link_replay.specs.Report.{clean_words, client_line as client_text, counts_line, state_word as word_of};
+ghost use Rattle.link_replay.specs.Shown.{code_side_shown};
 
 use crate::line::Line;
 use crate::side::Side;
@@ -9,7 +10,7 @@ use link_client::ClientState;
 
 /// The line of a client with its number.
 pub(crate) fn client_line(show: bool, number: usize, side: &Side) -> Line
-    ensures { result ≡ client_text show number side.now.client.state (length side.now.received) side.now.first_stale }
+    ensures { result ≡ client_text show number (code_side_shown side.now) }
 {
     let mut line = Line::new();
     line.put(b"client ");

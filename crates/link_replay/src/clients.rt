@@ -1,9 +1,10 @@
 //! The lines of the clients.
 
+ghost use Rattle.std.specs.Prelude.{map};
 ghost use Rattle.uip_edge.specs.Causes.{HasCause};
 ghost use Rattle.text_room.specs.Words.{word_if};
-ghost use Rattle.link_replay.specs.Report.{numbered_texts, text_line};
-ghost use Rattle.link_replay.specs.Shown.{side_lines};
+ghost use Rattle.link_replay.specs.Report.{lines_of_client, numbered_texts, text_line};
+ghost use Rattle.link_replay.specs.Shown.{code_side_shown};
 ghost use Rattle.link_replay.specs.Writing.{Wrote};
 
 use crate::client_lines::client_line;
@@ -13,7 +14,8 @@ use uip_edge::{Failed, Sink};
 
 /// Writes the lines of each client.
 pub(crate) fn write_clients<K: Sink>(show: bool, sides: &[Side], sink: &mut K) -> Result<(), Failed>
-    ensures wrote { Wrote (K.written sink.old) (K.written sink.new) result (numbered_texts (side_lines show) 1 sides.now) }
+    ensures wrote { Wrote (K.written sink.old) (K.written sink.new) result
+        (numbered_texts (lines_of_client show) 1 (map code_side_shown sides.now)) }
     ensures cause { HasCause (K.faults sink.old) (K.faults sink.new) result }
 {
     for (place, side) in sides.iter().enumerate() {
@@ -24,7 +26,7 @@ pub(crate) fn write_clients<K: Sink>(show: bool, sides: &[Side], sink: &mut K) -
 
 /// Writes the line of a client with its number, and where all is shown the bytes that it received.
 fn write_client<K: Sink>(show: bool, number: usize, side: &Side, sink: &mut K) -> Result<(), Failed>
-    ensures wrote { Wrote (K.written sink.old) (K.written sink.new) result (side_lines show number side.now) }
+    ensures wrote { Wrote (K.written sink.old) (K.written sink.new) result (lines_of_client show number (code_side_shown side.now)) }
     ensures cause { HasCause (K.faults sink.old) (K.faults sink.new) result }
 {
     write_word(client_line(show, number, side).bytes(), sink)?;

@@ -56,10 +56,7 @@ impl<A: App> WorldOf<A> {
         ensures stands { (w : PlainWorld) (s : PlainSide) → WorldStands A.App self.now w → numbered w.sides number ≡ Some s → result ≡ is_clean s }
     {
         let found = self.side(number);
-        match found.first_stale {
-            None => true,
-            Some(_) => false,
-        }
+        found.first_stale.is_none()
     }
 
     /// The number of the first stale datagram that was delivered from or to the client with a number.

@@ -1,7 +1,7 @@
 //! The report of a replay: what became of each client, and where it is asked for, each datagram that was sent. It is written to a
 //! sink line by line, and no call is given an allocator.
 
-ghost use Rattle.std.specs.Prelude.{ℕ, Bool, OnErr, OnOk};
+ghost use Rattle.std.specs.Prelude.{ℕ, Bool, OnErr, OnOk, length, map};
 ghost use Rattle.std.specs.Io.KnownBytes.{Appends};
 ghost use Rattle.app_events.specs.Part.{Meaning};
 ghost use Rattle.uip_edge.specs.Causes.{HasCause};
@@ -9,8 +9,8 @@ ghost use Rattle.uip_edge.specs.Writing.{AppendsPrefix};
 ghost use Rattle.link_world.specs.World.{World as PlainWorld};
 ghost use Rattle.link_replay.specs.Reaching.{IsAt};
 ghost use Rattle.link_replay.specs.Stands.{WorldStands};
-ghost use Rattle.link_replay.specs.Report.{report as report_of};
-ghost use Rattle.link_replay.specs.Shown.{EndsReport, clients_shown};
+ghost use Rattle.link_replay.specs.Report.{end_of_report, report as report_of};
+ghost use Rattle.link_replay.specs.Shown.{EndsReport, code_side_shown};
 ghost use Rattle.link_replay.specs.Writing.{Wrote};
 
 use crate::client_lines::last_line;
@@ -30,7 +30,7 @@ impl<A: App> WorldOf<A> {
         ensures err { OnErr result ((m : Meaning) (served : ℕ → Bool) (w : PlainWorld) → WorldStands A.App self.now w → IsAt m served w
             → AppendsPrefix (K.written sink.old) (K.written sink.new) (report_of show w)) }
         ensures shows { OnOk result (EndsReport show (K.written sink.old) (K.written sink.new)
-            (clients_shown show self.now.link self.now.node.counts.ticks)) }
+            (end_of_report show (map code_side_shown self.now.link.sides) self.now.node.counts.ticks (length self.now.link.sent))) }
         ensures cause { HasCause (K.faults sink.old) (K.faults sink.new) result }
     {
         write_report(self, show, sink)
@@ -42,7 +42,7 @@ fn write_report<A: App, K: Sink>(world: &WorldOf<A>, show: bool, sink: &mut K) -
     ensures wrote { (m : Meaning) (served : ℕ → Bool) (w : PlainWorld) → WorldStands A.App world.now w → IsAt m served w
         → Wrote (K.written sink.old) (K.written sink.new) result (report_of show w) }
     ensures shows { OnOk result (EndsReport show (K.written sink.old) (K.written sink.new)
-        (clients_shown show world.now.link world.now.node.counts.ticks)) }
+        (end_of_report show (map code_side_shown world.now.link.sides) world.now.node.counts.ticks (length world.now.link.sent))) }
     ensures cause { HasCause (K.faults sink.old) (K.faults sink.new) result }
 {
     let sides = world.sides.as_slice();

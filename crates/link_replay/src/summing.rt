@@ -1,13 +1,13 @@
 //! What a replay came to, in one line.
 
-ghost use Rattle.std.specs.Prelude.{◌≡◌, OnErr, OnOk};
+ghost use Rattle.std.specs.Prelude.{◌≡◌, OnErr, OnOk, map};
 ghost use Rattle.std.specs.Io.KnownBytes.{Appends};
 ghost use Rattle.uip_edge.specs.Causes.{HasCause};
 ghost use Rattle.uip_edge.specs.Writing.{AppendsPrefix};
 ghost use Rattle.link_world.specs.World.{World as PlainWorld};
 ghost use Rattle.link_replay.specs.Stands.{WorldStands};
-ghost use Rattle.link_replay.specs.Shown.{tally_shown};
-ghost use Rattle.link_replay.specs.Summary.{summary_of, tally_line};
+ghost use Rattle.link_replay.specs.Shown.{code_side_shown};
+ghost use Rattle.link_replay.specs.Summary.{summary_of, tally_line, tally_of};
 ghost use Rattle.link_replay.specs.Writing.{Wrote};
 
 use crate::line::Line;
@@ -23,7 +23,8 @@ impl<A: App> WorldOf<A> {
             → Appends (K.written sink.old) (K.written sink.new) (summary_of w)) }
         ensures err { OnErr result ((w : PlainWorld) → WorldStands A.App self.now w
             → AppendsPrefix (K.written sink.old) (K.written sink.new) (summary_of w)) }
-        ensures shows { Wrote (K.written sink.old) (K.written sink.new) result (tally_line (tally_shown self.now.link)) }
+        ensures shows { Wrote (K.written sink.old) (K.written sink.new) result
+            (tally_line (tally_of (map code_side_shown self.now.link.sides) (map (λ e. e.again) self.now.link.sent))) }
         ensures cause { HasCause (K.faults sink.old) (K.faults sink.new) result }
     {
         let tally = count_up(self.sides.as_slice(), self.sent.as_slice());

@@ -1,12 +1,9 @@
 //! What became of a replay's clients and datagrams, in numbers.
 
-ghost use Rattle.std.specs.Prelude.{◌≡◌, count_by, is_none, length, not, sum_by};
-ghost use Rattle.link_world.specs.World.{World as PlainWorld};
-ghost use Rattle.link_replay.specs.Stands.{LinkStands};
-ghost use Rattle.link_replay.specs.State.{link_of};
+ghost use Rattle.std.specs.Prelude.{◌≡◌, count_by, is_none, length, map, not, sum_by};
 ghost use Rattle.link_client.specs.Calls.{is_opened as open_state};
 ghost use Rattle.link_replay.specs.Kinds.{is_closed as closed_state, is_other as other_state, is_reset as reset_state};
-ghost use Rattle.link_replay.specs.Shown.{tally_shown};
+ghost use Rattle.link_replay.specs.Shown.{code_side_shown};
 ghost use Rattle.link_replay.specs.Summary.{tally_of};
 
 use crate::sent::Sent;
@@ -29,8 +26,7 @@ pub struct Tally {
 
 /// The tally of a replay's clients and datagrams.
 pub(crate) fn count_up(sides: &[Side], sent: &[Sent]) -> Tally
-    ensures shows { result ≡ tally_shown (link_of sides.now sent.now) }
-    ensures stands { (w : PlainWorld) → LinkStands (link_of sides.now sent.now) w → result ≡ tally_of w }
+    ensures { result ≡ tally_of (map code_side_shown sides.now) (map (λ e. e.again) sent.now) }
 {
     Tally {
         closed: closed(sides),

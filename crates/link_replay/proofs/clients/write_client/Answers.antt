@@ -1,15 +1,16 @@
-use Rattle.std.proofs.Common.{List, ℕ, length, ap, ◌∙◌}
+use Rattle.std.proofs.Common.{List, ℕ, ap, ◌∙◌}
 use Rattle.std.proofs.lemmas.Result.{err_from_is_err_and}
 use Rattle.text_room.specs.Words.{word_if}
 use Rattle.link_replay.specs.Plain.{CodeSide}
 use Rattle.link_replay.specs.Report.{client_line, text_line}
+use Rattle.link_replay.specs.Shown.{code_side_shown}
 use Rattle.link_replay.proofs.Saying.{wrote_by, wrote_stop, wrote_then}
 use Rattle.link_replay.proofs.clients.write_client.Goals as goal
 
 pub returns-in_err-write_word-clause-wrote : goal.returns-in_err-write_word-clause-wrote
 returns-in_err-write_word-clause-wrote g c =
     let side = c.args.side.now in
-    let line = client_line c.args.show c.args.number side.client.state (length side.received) side.first_stale in
+    let line = client_line c.args.show c.args.number (code_side_shown side) in
     let text = word_if c.args.show (text_line side.received) in
     let p = err_from_is_err_and c.from_residual.result c.from_residual.ensures.1 in
     wrote_stop _ _ line text c.in_err-write_word.field-0.0 p.0 c.from_residual.result p.1
@@ -18,7 +19,7 @@ returns-in_err-write_word-clause-wrote g c =
 pub returns-clause-wrote : goal.returns-clause-wrote
 returns-clause-wrote g c =
     let side = c.args.side.now in
-    let line = client_line c.args.show c.args.number side.client.state (length side.received) side.first_stale in
+    let line = client_line c.args.show c.args.number (code_side_shown side) in
     let text = word_if c.args.show (text_line side.received) in
     let r = c.write_received.result in
     wrote_then _ _ _ line text c.in_ok-write_word.field-0 r

@@ -1,37 +1,41 @@
-use Rattle.std.proofs.Common.{◌≡◌, ◌+◌, length, refl, ◌∙◌}
+use Rattle.std.proofs.Common.{◌≡◌, ◌+◌, length, map, refl, ◌∙◌}
 use Rattle.std.proofs.lemmas.Option.{slice_get_read}
 use Rattle.std.proofs.lemmas.Result.{err_from_is_err_and}
 use Rattle.link_replay.specs.Plain.{CodeSide}
-use Rattle.link_replay.specs.Shown.{side_lines}
+use Rattle.link_replay.specs.Report.{ShownSide, lines_of_client}
+use Rattle.link_replay.specs.Shown.{code_side_shown}
 use Rattle.link_replay.proofs.Listing.{texts_end, texts_more, texts_stop}
-use Rattle.link_replay.proofs.Matching.{matched_same}
-use Rattle.link_replay.proofs.Shown.{line_of_same}
+use Rattle.link_replay.proofs.Matching.{matched_image}
+use Rattle.link_replay.proofs.Shown.{lines_told}
 use Rattle.link_replay.proofs.clients.write_clients.Goals as goal
 
 pub returns-in_err-write_client-clause-wrote : goal.returns-in_err-write_client-clause-wrote
 returns-in_err-write_client-clause-wrote g c =
     let xs = c.args.sides.now in
+    let P : CodeSide → ShownSide → Type 0 = λ x y. code_side_shown x ≡ y in
     let place = c.loop-place.place in
     let p = err_from_is_err_and c.from_residual.result c.from_residual.ensures.1 in
     let at = slice_get_read xs (length xs) place c.index-sides-place.result refl c.loop-place-test.true c.index-sides-place.is in
-    let m = matched_same (λ (x y : CodeSide). x ≡ y) xs (λ x. refl) in
-    texts_stop (λ (x y : CodeSide). x ≡ y) xs xs (side_lines c.args.show) m place c.index-sides-place.result _ _ _ c.in_err-write_client.field-0.0 p.0 c.from_residual.result p.1 at
-    c.loop-place.invariant.saying (λ y here same. line_of_same c.args.show (place + 1) _ y _ _ _ same c.in_err-write_client.ensures.wrote)
+    let m = matched_image code_side_shown xs in
+    texts_stop P xs (map code_side_shown xs) (lines_of_client c.args.show) m place c.index-sides-place.result _ _ _ c.in_err-write_client.field-0.0 p.0 c.from_residual.result p.1 at
+    c.loop-place.invariant.saying (λ y here same. lines_told c.args.show (place + 1) c.index-sides-place.result y _ _ _ same c.in_err-write_client.ensures.wrote)
 
 pub loop-place-preserved : goal.loop-place-preserved
 loop-place-preserved g c =
     let xs = c.args.sides.now in
+    let P : CodeSide → ShownSide → Type 0 = λ x y. code_side_shown x ≡ y in
     let place = c.loop-place.place in
     let at = slice_get_read xs (length xs) place c.index-sides-place.result refl c.loop-place-test.true c.index-sides-place.is in
-    let m = matched_same (λ (x y : CodeSide). x ≡ y) xs (λ x. refl) in
+    let m = matched_image code_side_shown xs in
     record {
-      saying = texts_more (λ (x y : CodeSide). x ≡ y) xs xs (side_lines c.args.show) m place c.index-sides-place.result _ _ _ c.in_ok-write_client.field-0 at
-          c.loop-place.invariant.saying (λ y here same. line_of_same c.args.show (place + 1) _ y _ _ _ same c.in_ok-write_client.ensures.wrote);
+      saying = texts_more P xs (map code_side_shown xs) (lines_of_client c.args.show) m place c.index-sides-place.result _ _ _ c.in_ok-write_client.field-0 at
+          c.loop-place.invariant.saying (λ y here same. lines_told c.args.show (place + 1) c.index-sides-place.result y _ _ _ same c.in_ok-write_client.ensures.wrote);
       same = c.in_ok-write_client.ensures.cause.same ∙ c.loop-place.invariant.same;
     }
 
 pub returns-clause-wrote : goal.returns-clause-wrote
 returns-clause-wrote g c =
     let xs = c.args.sides.now in
-    texts_end (λ (x y : CodeSide). x ≡ y) xs xs (side_lines c.args.show) (matched_same (λ (x y : CodeSide). x ≡ y) xs (λ x. refl)) c.loop-place.place _ _ tt c.loop-place-test.false
+    let P : CodeSide → ShownSide → Type 0 = λ x y. code_side_shown x ≡ y in
+    texts_end P xs (map code_side_shown xs) (lines_of_client c.args.show) (matched_image code_side_shown xs) c.loop-place.place _ _ tt c.loop-place-test.false
     c.loop-place.invariant.saying

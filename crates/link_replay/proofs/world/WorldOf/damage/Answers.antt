@@ -1,4 +1,4 @@
-use Rattle.std.proofs.Common.{◌≡◌, ◌⊎◌, ℕ, ◌-◌, ◌<◌, ◌≤◌, length, List, Option, Some, slice_get, sym, ap, ◌∙◌, arith, subst, rules, tests}
+use Rattle.std.proofs.Common.{◌≡◌, ◌⊎◌, ℕ, ◌-◌, ◌<◌, ◌≤◌, length, List, Option, sym, ap, ◌∙◌, arith, subst, rules, tests}
 use Rattle.std.proofs.lemmas.Grind.{common_steps}
 use Rattle.uip_node.specs.Edge.{event_of}
 use Rattle.uip_node.specs.Events.{Reply}
@@ -15,7 +15,6 @@ use Rattle.link_replay.specs.State.{link_of}
 use Rattle.link_replay.specs.Telling.{AnswersTo}
 use Rattle.link_replay.proofs.Damaging.{damage_answers}
 use Rattle.uip_wire.specs.declared.sizes.TheConstants.{LARGEST_DATAGRAM}
-use Rattle.link_replay.proofs.Pairs.{there_is}
 use Rattle.link_replay.proofs.Readable.{sent_fits, sent_there}
 use Rattle.link_replay.proofs.Sending.{area_is, none_numbered}
 use Rattle.link_replay.proofs.world.WorldOf.damage.Goals as goal

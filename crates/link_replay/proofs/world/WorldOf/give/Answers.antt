@@ -1,4 +1,4 @@
-use Rattle.std.proofs.Common.{◌≡◌, ◌⊎◌, ℕ, ◌-◌, ◌<◌, ◌≤◌, List, Option, Some, length, slice_get, sym, ap, ◌∙◌, arith, subst, rules, tests}
+use Rattle.std.proofs.Common.{◌≡◌, ◌⊎◌, ℕ, ◌-◌, ◌<◌, ◌≤◌, List, Option, length, sym, ap, ◌∙◌, arith, subst, rules, tests}
 use Rattle.std.proofs.lemmas.Grind.{common_steps}
 use Rattle.uip_wire.specs.declared.sizes.TheConstants.{LARGEST_DATAGRAM}
 use Rattle.uip_node.specs.Edge.{event_of}
@@ -15,7 +15,6 @@ use Rattle.link_replay.specs.State.{Link, link_of}
 use Rattle.link_replay.specs.Telling.{AnswersTo, client_told, sees}
 use Rattle.link_replay.specs.Plain.{CodeSent}
 use Rattle.link_replay.proofs.Delivered.{answers_seen, hands, seen, speaks_to}
-use Rattle.link_replay.proofs.Pairs.{there_is}
 use Rattle.link_replay.proofs.Readable.{read_at, sent_at, sent_fits, sent_there}
 use Rattle.link_replay.proofs.Handling.{still_linked}
 use Rattle.link_replay.proofs.Sending.{none_numbered}

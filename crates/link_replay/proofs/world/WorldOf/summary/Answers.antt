@@ -1,22 +1,40 @@
 -- The line is that of the world's clients and datagrams.
-use Rattle.std.proofs.Common.{◌≡◌, List, ap, ◌∙◌}
+use Rattle.std.proofs.Common.{◌≡◌, List, map, ap, subst, ◌∙◌}
+use Rattle.std.proofs.lemmas.Result.{on_err_weaker, on_ok_weaker}
+use Rattle.std.specs.Io.KnownBytes.{Appends}
+use Rattle.uip_edge.specs.Writing.{AppendsPrefix}
 use Rattle.link_replay.specs.Plain.{CodeSent, CodeSide}
-use Rattle.link_replay.specs.Shown.{tally_shown}
-use Rattle.link_replay.specs.State.{link_of}
-use Rattle.link_replay.specs.Summary.{tally_line}
+use Rattle.link_replay.specs.Shown.{code_side_shown}
+use Rattle.link_replay.specs.Summary.{tally_line, tally_of}
 use Rattle.link_replay.specs.declared.tally.Tally.{Tally}
 use Rattle.link_replay.proofs.Saying.{wrote_by}
+use Rattle.link_replay.proofs.Shown.{tally_told}
 use Rattle.link_replay.proofs.world.WorldOf.summary.Goals as goal
 
 pub returns-clause-shows : goal.returns-clause-shows
 returns-clause-shows g c = rw (← c.self.view_is) (
+    let shown : List CodeSide → List CodeSent → Tally = λ sides sent. tally_of (map code_side_shown sides) (map (λ e. e.again) sent) in
     let sides : List CodeSide = c.self.inside.sides.items in
     let sent : List CodeSent = c.self.inside.sent.items in
     let tally : Tally = c.count_up-tally.result in
     let made : c.bytes.result.now ≡ tally_line tally = ◌∙◌ {b = c.line_of-line.result} {c = tally_line tally} c.bytes.ensures c.line_of-line.ensures in
-    let same : tally ≡ tally_shown (link_of sides sent)
-    = c.count_up-tally.ensures.shows
-    ∙ ap (λ (xs : List CodeSide). tally_shown (link_of xs c.as_slice-2.result.now)) c.as_slice.ensures.value
-    ∙ ap (λ (ys : List CodeSent). tally_shown (link_of sides ys)) c.as_slice-2.ensures.value in
-    wrote_by _ _ c.write_whole.result c.bytes.result.now (tally_line (tally_shown (link_of sides sent))) (made ∙ ap (λ (t : Tally). tally_line t) same)
+    let same : tally ≡ shown sides sent
+    = c.count_up-tally.ensures
+    ∙ ap (λ (xs : List CodeSide). shown xs c.as_slice-2.result.now) c.as_slice.ensures.value
+    ∙ ap (λ (ys : List CodeSent). shown sides ys) c.as_slice-2.ensures.value in
+    wrote_by _ _ c.write_whole.result c.bytes.result.now (tally_line (shown sides sent)) (made ∙ ap (λ (t : Tally). tally_line t) same)
     (record { whole = c.write_whole.ensures.whole; front = c.write_whole.ensures.front }))
+
+pub returns-clause-ok : goal.returns-clause-ok
+returns-clause-ok g c =
+    on_ok_weaker c.write_whole.result
+    (λ wrote w stands. subst (λ (t : Tally). Appends (g.K.Sink.written c.args.sink.now) (g.K.Sink.written c.write_whole.new.self) (tally_line t))
+    (tally_told c.args.self.now.link w stands.link) wrote)
+    (returns-clause-shows g c).whole
+
+pub returns-clause-err : goal.returns-clause-err
+returns-clause-err g c =
+    on_err_weaker c.write_whole.result
+    (λ wrote w stands. subst (λ (t : Tally). AppendsPrefix (g.K.Sink.written c.args.sink.now) (g.K.Sink.written c.write_whole.new.self) (tally_line t))
+    (tally_told c.args.self.now.link w stands.link) wrote)
+    (returns-clause-shows g c).front
