@@ -4,7 +4,7 @@ ghost use Rattle.std.specs.Prelude.{◌≡◌, ◌≢◌, ◌<◌, length, IfOk,
 ghost use Rattle.uip_edge.specs.Causes.{HasCause};
 ghost use Rattle.uip_edge.specs.Coming.{items_of, CountFits, Consumes, IsAtEnd};
 ghost use Rattle.uip_edge.specs.declared.got.Got.TheVariants.{End, Quiet};
-ghost use Rattle.uipd.specs.Telling.{IsGot, items_left};
+ghost use Rattle.uipd.specs.Telling.{GivesRead, IsGot, items_left};
 
 use crate::run_told::run_told;
 use crate::status::Status;
@@ -25,6 +25,7 @@ pub struct ReaderLink<R: Read> {
 
 impl<R: Read> ReaderLink<R> {
     pub fn new(inner: R, tty: bool) -> ReaderLink<R>
+        ensures inner { result.inner ≡ inner }
         ensures tty { result.tty ≡ tty }
         ensures faults { result.faults ≡ 0 }
     {
@@ -65,6 +66,9 @@ impl<R: Read> Link for ReaderLink<R> {
         ensures silence { self.old.tty ≡ true → IfOk result (λ got. got ≢ End) }
         ensures no_silence { self.old.tty ≡ false → IfOk result (λ got. got ≢ Quiet) }
         ensures kept { self.new.tty ≡ self.old.tty }
+
+        // With `tty` too it gives what the reader lost.
+        ensures reads { GivesRead (R.remaining self.old.inner) (R.remaining self.new.inner) result buf.new }
     {
         let got = got_of(self.inner.read(buf), self.tty);
         if got.is_err() {
@@ -83,6 +87,7 @@ pub struct WriterSink<W: Write> {
 
 impl<W: Write> WriterSink<W> {
     pub fn new(inner: W) -> WriterSink<W>
+        ensures inner { result.inner ≡ inner }
         ensures faults { result.faults ≡ 0 }
     {
         WriterSink { inner, faults: 0 }
