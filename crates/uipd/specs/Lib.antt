@@ -1,5 +1,6 @@
 pub mod Allowed
 pub mod Completeness
+pub mod FileReading
 pub mod Help
 pub mod Output
 pub mod ResolveWords

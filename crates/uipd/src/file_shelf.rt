@@ -1,6 +1,8 @@
 //! The files of the system as a shelf.
 
-ghost use Rattle.std.specs.Prelude.{◌≡◌, ◌≤◌, ◌+◌, ◌-◌, ◌^◌, min, length, None, IfSome, IsSomeAnd};
+ghost use Rattle.std.specs.Prelude.{◌≡◌, ◌<◌, ◌≤◌, ◌+◌, ◌-◌, ◌^◌, min, length, None, IfOk, IfSome, IsSomeAnd};
+ghost use Rattle.uip_edge.specs.Shelving.{HasShelfCause};
+ghost use Rattle.uipd.specs.FileReading.{Passes, ReadsOn};
 
 use arrayvec::ArrayVec;
 use std::fs;
@@ -49,7 +51,14 @@ impl<'a, R: Files> Shelf for FileShelf<'a, R> {
 
     ghost faults = { λ shelf. shelf.faults };
 
-    fn read(&mut self, name: &[u8], at: u64, buf: &mut [u8]) -> Result<usize, Failed> {
+    fn read(&mut self, name: &[u8], at: u64, buf: &mut [u8]) -> Result<usize, Failed>
+        requires { 0 < length buf.old }
+        ensures within { IfOk result (λ n. n ≤ length buf.new) }
+        ensures cause { HasShelfCause self.old.faults self.new.faults None name.now result }
+
+        // What it reads is what a file at the place lost, where an open file tells what it has left.
+        ensures bytes { IfOk result (λ n. ReadsOn R.File.remaining self.old.last self.new.last name.now at n buf.new) }
+    {
         match read_on(self.rt, &mut self.last, name, at, buf) {
             Some(count) => Ok(count),
             None => {
@@ -71,6 +80,7 @@ fn read_on<R: Files>(
     ensures within { IfSome result (λ count. count ≤ length buf.new) }
     ensures place { IfSome result
         (λ count. IsSomeAnd last.new (λ file. (file.name.items ≡ name.now) × (file.at ≡ min (at + count) (2 ^ 64 - 1)))) }
+    ensures bytes { IfSome result (λ count. ReadsOn R.File.remaining last.old last.new name.now at count buf.new) }
 {
     let mut open = match last.take() {
         Some(open) if open.at == at && open.name.as_slice() == name => open,
@@ -84,7 +94,8 @@ fn read_on<R: Files>(
 
 /// Opens a file and reads up to the place.
 fn open_at<R: Files>(rt: &R, name: &[u8], at: u64) -> Option<OpenFile<R::File>>
-    ensures { IfSome result (λ file. (file.name.items ≡ name.now) × (file.at ≡ at)) }
+    ensures place { IfSome result (λ file. (file.name.items ≡ name.now) × (file.at ≡ at)) }
+    ensures passed { IfSome result (λ file. (opened : R.File) × Passes (R.File.remaining opened) (R.File.remaining file.file) at) }
 {
     let mut kept = ArrayVec::new();
     kept.try_extend_from_slice(name).ok()?;
@@ -99,7 +110,9 @@ fn open_at<R: Files>(rt: &R, name: &[u8], at: u64) -> Option<OpenFile<R::File>>
 }
 
 /// Reads so many bytes and drops them, as far as there are any.
-fn pass<F: Read>(file: &mut F, bytes: u64) -> Option<()> {
+fn pass<F: Read>(file: &mut F, bytes: u64) -> Option<()>
+    ensures { IfSome result (λ _. Passes (F.remaining file.old) (F.remaining file.new) bytes) }
+{
     let mut block = [0; BLOCK];
     let mut left = bytes;
     while left > 0 {
