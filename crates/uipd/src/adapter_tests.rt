@@ -27,6 +27,36 @@ impl Read for Failing {
     }
 }
 
+/// A reader that gives nothing at its first call, fails at its second, and then gives a byte at each.
+#[derive(Drop)]
+struct Halting {
+    calls: u8,
+}
+
+impl Read for Halting {
+    fn read(&mut self, buf: &mut [u8]) -> io::Result<usize> {
+        self.calls = self.calls.saturating_add(1);
+        if self.calls == 1 || buf.is_empty() {
+            return Ok(0);
+        }
+        if self.calls == 2 {
+            return Err(io::Error::from(io::ErrorKind::TimedOut));
+        }
+        buf[0] = 7;
+        Ok(1)
+    }
+}
+
+#[test]
+fn no_silence_and_no_failure_is_passed_over(rt: HostRuntime) -> Result<(), Fail> {
+    let mut buf = [0; 4];
+    let mut link = ReaderLink::new(Halting { calls: 0 }, true);
+    assert!(rt; matches!(link.next(&mut buf), Ok(Got::Quiet)));
+    assert!(rt; link.next(&mut buf).is_err());
+    assert!(rt; matches!(link.next(&mut buf), Ok(Got::Bytes(1))));
+    Ok(())
+}
+
 #[test]
 fn a_terminal_falls_silent_and_a_file_ends(rt: HostRuntime) -> Result<(), Fail> {
     let mut buf = [0; 4];
