@@ -49,6 +49,9 @@ const QUIT_TAKEN: &str =
 const FIN_SAID: &str =
     "45000028 00030000 400666CB 0A000001 0A000002 00170401 00000009 000003F1 501105B4 8E0B0000";
 
+// What is said to `help`.
+const HELPED: &[u8] = b"help stats conns ticks quit\r\n> ";
+
 // The headers of a datagram with 33 lines `help` LF, such a line, and the RST that they are answered with.
 const HELPS_HEAD: &str =
     "450000CD 00010000 40066628 0A000002 0A000001 04010017 000003E9 00000001 50182000 49020000";
@@ -59,8 +62,6 @@ const RESET: &str =
     "45000028 00020000 400666CC 0A000001 0A000002 00170401 00000001 0000048E 50140000 93270000";
 
 const CLIENT: Addr = Addr([10, 0, 0, 2]);
-
-const HELPED: &[u8] = b"help stats conns ticks quit\r\n> ";
 
 /// The site without files, for a server.
 fn empty_web(alloc: Global) -> Result<Web, Fail> {
