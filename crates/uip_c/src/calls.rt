@@ -4,7 +4,7 @@ ghost use Rattle.std.specs.Prelude.{◌≡◌, ◌==◌, ◌||◌, ◌<◌, ◌�
 ghost use Rattle.std.specs.Option.{is_some};
 ghost use Rattle.std.specs.declared.option.Option.TheVariants.{None};
 ghost use Rattle.uip_device.specs.Calls.{Calls, HandsOn, Hears, StopsAtEnd};
-ghost use Rattle.uip_device.specs.Devices.{HasFilled};
+ghost use Rattle.uip_device.specs.Devices.{CompleteOne, HasFilled};
 ghost use Rattle.uip_c.specs.Handles.{HandleAnswers, HasText, IsOf, IsTextStatus, Refused, left_flag};
 
 use crate::handle::{UipDevice, put_in, take_idle, take_out};
@@ -15,8 +15,8 @@ use uip_device::LARGEST_TEXT;
 /// The least room for a text: with less, a byte that is escaped would never fit.
 pub const LEAST_ROOM: usize = 2;
 
-/// Takes the bytes that came over the line, up to an END that completes a frame or all of them, and hands out the text of what is
-/// sent, at most one datagram, as far as there is room. The bytes that are left are for the next call.
+/// Takes the bytes that came over the line, all of them or those up to an END, of which one frame at most is complete, and hands out
+/// the text of what is sent for it, as far as there is room. The bytes that are left are for the next call.
 #[unsafe(no_mangle)]
 pub extern "C" fn uip_hear(
     alloc: Global,
@@ -29,6 +29,7 @@ pub extern "C" fn uip_hear(
         → HandleAnswers (Hears (take result.taken bytes.now)) device.old.held.device device.new.held.device (take result.wrote out.new) }
     ensures some { result.status ≡ FINE → 0 < result.taken }
     ensures stops { result.status ≡ FINE → StopsAtEnd bytes.now result.taken }
+    ensures one { result.status ≡ FINE → IsOf (λ d. CompleteOne (take result.taken bytes.now) d) device.old.held.device }
     ensures within { (result.taken ≤ length bytes.now) × (result.wrote ≤ length out.new) }
     ensures left { result.status ≡ FINE → IsOf (λ d. result.left ≡ left_flag d.left) device.new.held.device }
     ensures all { result.status ≡ FINE → LARGEST_TEXT ≤ length out.old → result.left ≡ 0 }

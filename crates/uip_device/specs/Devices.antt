@@ -1,5 +1,5 @@
 -- A device, and what it hands out at each call.
-use Rattle.std.specs.Prelude.{◌≡◌, ◌≤◌, ◌==◌, ℕ, Bool, List, [], ◌∷◌, ◌++◌, Option, None, Some, IfSome, if◌then◌else◌, length, map}
+use Rattle.std.specs.Prelude.{◌≡◌, ◌≤◌, ◌==◌, ◌+◌, ℕ, Bool, List, [], ◌∷◌, ◌++◌, Option, None, Some, IfSome, if◌then◌else◌, length, map}
 use Rattle.std.specs.List.{flat_map}
 use Rattle.app_events.specs.Part.{Meaning}
 use Rattle.app_events.specs.declared.app.App.{Ghosts}
@@ -9,6 +9,7 @@ use Rattle.tcp_machine.specs.Connection.{rows_from}
 use Rattle.uip_node.specs.Node.{AbstractNode, opening}
 use Rattle.uip_wire.specs.declared.addr.Addr.{Addr}
 use Rattle.uip_slip.specs.Decoding.{WasFed}
+use Rattle.uip_slip.specs.Frames.{frames}
 use Rattle.serve_loop.specs.Turns.{IsNode}
 use Rattle.uip_device.specs.Calls.{Call, bytes_of_call, events_by, is_by_datagram}
 use Rattle.uip_device.specs.Moves.{Move, Makes, Gives, Writing, goes_by_datagram, with_numbers}
@@ -31,6 +32,10 @@ HasFilled d wrote room = FillsRoom (datagram_in d.node.packet) d.left wrote room
 -- the device was fed these bytes
 abbrev pub HasHeard : {A S : Type 0} → List ℕ → Device A S → Type 0
 HasHeard bytes d = WasFed bytes d.decoder
+
+-- these bytes complete one frame at most, behind whatever was heard before
+abbrev pub CompleteOne : {A S : Type 0} → List ℕ → Device A S → Type 0
+CompleteOne bytes d = (before : List ℕ) → HasHeard before d → length (frames (before ++ bytes)) ≤ length (frames before) + 1
 
 -- A device at the address `own` that heard nothing and of which nothing was asked: its node stands for the opening one, with an
 -- application of this meaning.

@@ -1,9 +1,10 @@
 //! A device, and the calls of it.
 
-ghost use Rattle.std.specs.Prelude.{◌≡◌, ◌<◌, ◌≤◌, ◌++◌, ◌∷◌, [], List, ℕ, IfSome, None, Some, length, map, take};
+ghost use Rattle.std.specs.Prelude.{◌≡◌, ◌<◌, ◌≤◌, ◌+◌, ◌++◌, ◌∷◌, [], List, ℕ, IfSome, None, Some, length, map, take};
 ghost use Rattle.packet_buffer.specs.Buffer.{datagram_in};
 ghost use Rattle.uip_edge.specs.declared.item.Item.TheVariants.{Byte};
 ghost use Rattle.uip_slip.specs.Decoding.{WasFed};
+ghost use Rattle.uip_slip.specs.Frames.{frames};
 ghost use Rattle.uip_node.specs.Edge.{event_of};
 ghost use Rattle.serve_loop.specs.LineEvents.{events_behind};
 ghost use Rattle.serve_loop.specs.Texts.{text_of};
@@ -76,12 +77,14 @@ struct Taken {
     written: Written,
 }
 
-/// Takes the bytes up to an END that completes a frame, or all of them, and writes the text of the answer.
+/// Takes all bytes, or those up to an END, of which one frame at most is complete, and writes the text of the answer.
 fn take<A: App>(decoder: &mut Decoder, node: &mut Node<A>, bytes: &[u8], out: &mut [u8]) -> Taken
     requires some { 0 < length bytes.now }
     requires room { 0 < length out.old }
     ensures taken { (0 < result.count) × (result.count ≤ length bytes.now) }
     ensures stops { StopsAtEnd bytes.now result.count }
+    ensures one { (before : List ℕ) → WasFed before decoder.old
+        → length (frames (before ++ take result.count bytes.now)) ≤ length (frames before) + 1 }
     ensures long { length out.new ≡ length out.old }
     ensures fits { result.written.wrote ≤ length out.new }
     ensures left { IfSome result.written.left (λ k. k ≤ length (datagram_in node.new.packet)) }
@@ -114,7 +117,7 @@ impl<A: App> Device<A> {
     ghost use Rattle.uip_node.specs.Node.{AbstractNode};
     ghost use Rattle.uip_node.specs.StandsFor.{Stands};
     ghost use Rattle.uip_device.specs.Calls.{Calls, CallsByDatagram, HandsOn, Hears, HearsDatagram};
-    ghost use Rattle.uip_device.specs.Devices.{Answers, HasFilled, IsFreshDevice, IsSoundDevice, connection_row, is_node_idle};
+    ghost use Rattle.uip_device.specs.Devices.{Answers, CompleteOne, HasFilled, IsFreshDevice, IsSoundDevice, connection_row, is_node_idle};
 
     /// A device at an address whose application's connections share a value. After this no call of it takes memory.
     pub fn new(alloc: Global, own: Addr, shared: A::Shared) -> Result<Device<A>, NoMemory>
@@ -128,8 +131,8 @@ impl<A: App> Device<A> {
         })
     }
 
-    /// Takes the bytes that came over the line, up to an END that completes a frame or all of them, and hands out the text of the
-    /// answer, if one is sent, as far as there is room. Nothing is left of a text before.
+    /// Takes the bytes that came over the line, all of them or those up to an END, of which one frame at most is complete, and hands
+    /// out the text of the answer, if one is sent, as far as there is room. Nothing is left of a text before.
     pub fn hear(&mut self, bytes: &[u8], out: &mut [u8]) -> Heard
         requires some { 0 < length bytes.now }
         requires room { 0 < length out.old }
@@ -140,6 +143,7 @@ impl<A: App> Device<A> {
         ensures wrote { result.wrote ≤ length out.new }
         ensures taken { (0 < result.taken) × (result.taken ≤ length bytes.now) }
         ensures stops { StopsAtEnd bytes.now result.taken }
+        ensures one { CompleteOne (take result.taken bytes.now) self.old }
         ensures all { LARGEST_TEXT ≤ length out.old → self.new.left ≡ None }
         ensures full { HasFilled self.new result.wrote (length out.new) }
         ensures answers { Answers A.App (Hears (take result.taken bytes.now)) self.old self.new (take result.wrote out.new) }

@@ -9,7 +9,8 @@ pub record Passes (old new : Option (List ℕ)) (n : ℕ) : Type 0 where
   pub consumed : Consumes old new dropped
   pub all : (length dropped ≡ n) ⊎ ((length dropped ≤ n) × IsAtEnd new)
 
--- a file at the place: the one that was kept, if it has the name and stands there, or one that was opened and read up to there
+-- a file at the place: the one that was kept, if it has the name and stands there, or one of which all before the place was read,
+-- at 0 any
 abbrev pub StandsAt : {F : Type 0} → (F → Option (List ℕ)) → Option (OpenFile F) → List ℕ → ℕ → F → Type 0
 StandsAt {F} left last name at file =
     IsSomeAnd last (λ held. (held.name.items ≡ name) × (held.at ≡ at) × (held.file ≡ file))

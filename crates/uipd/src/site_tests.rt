@@ -321,6 +321,7 @@ fn reads_files_of_the_system(rt: HostRuntime) -> Result<(), Fail> {
     assert!(rt; read_at(&mut shelf, name, 4, Some(b"le o")));
     assert!(rt; read_at(&mut shelf, name, 12, Some(b"tes")));
     assert!(rt; read_at(&mut shelf, name, 1, Some(b" fil")));
+    assert!(rt; read_at(&mut shelf, name, 0, Some(b"a fi")));
     assert!(rt; read_at(&mut shelf, name, 15, Some(b"")));
     assert!(rt; read_at(&mut shelf, name, 400, Some(b"")));
     assert!(rt; read_at(&mut shelf, b"uipd-no-such-file", 0, None));

@@ -1,7 +1,7 @@
-use Rattle.std.proofs.Common.{◌≡◌, ◌++◌, [], ◌∷◌, inl, inr, map, refl, take}
+use Rattle.std.proofs.Common.{◌≡◌, ◌++◌, [], ◌∷◌, ap, arith, inl, inr, List, length, length-append, map, refl, take}
 use Rattle.uip_edge.specs.declared.item.Item.TheVariants.{Byte}
 use Rattle.packet_buffer.specs.Buffer.{datagram_in}
-use Rattle.uip_slip.specs.Frames.{Datagram, Overlong}
+use Rattle.uip_slip.specs.Frames.{Datagram, Frame, Overlong, frames}
 use Rattle.uip_node.specs.Edge.{event_of}
 use Rattle.uip_node.specs.Events.Event.{Overlong as OverlongFrame}
 use Rattle.serve_loop.specs.LineEvents.{events_behind}
@@ -19,6 +19,21 @@ returns-in-Overlong-clause-stops g c = inr (rw c.in-Overlong.is at c.feed_run-ru
 
 pub returns-in-Datagram-clause-stops : goal.returns-in-Datagram-clause-stops
 returns-in-Datagram-clause-stops g c = inr (rw c.in-Datagram.is at c.feed_run-run.ensures.front.end)
+
+pub returns-in-More-clause-one : goal.returns-in-More-clause-one
+returns-in-More-clause-one g c = λ before fed.
+    let told = rw c.in-More.is at c.feed_run-run.ensures.front.frames in
+    omega (arith, ap (λ (l : List Frame). length l) (told before fed).1, length-append (frames before) [])
+
+pub returns-in-Overlong-clause-one : goal.returns-in-Overlong-clause-one
+returns-in-Overlong-clause-one g c = λ before fed.
+    let told = rw c.in-Overlong.is at c.feed_run-run.ensures.front.frames in
+    omega (arith, ap (λ (l : List Frame). length l) (told before fed).1, length-append (frames before) (Overlong ∷ []))
+
+pub returns-in-Datagram-clause-one : goal.returns-in-Datagram-clause-one
+returns-in-Datagram-clause-one g c = λ before fed.
+    let told = rw c.in-Datagram.is at c.feed_run-run.ensures.front.frames in
+    omega (arith, ap (λ (l : List Frame). length l) (told before fed).1, length-append (frames before) (Datagram c.feed_run-run.new.self.bytes ∷ []))
 
 pub returns-in-More-clause-sends : goal.returns-in-More-clause-sends
 returns-in-More-clause-sends g c = λ before fed.
