@@ -127,10 +127,10 @@ typedef struct { unsigned status, state; unsigned char peer[4]; unsigned port, t
 uip_opened uip_open(uip_device *device, const unsigned char *image, size_t len, const unsigned char own[4]);
 
 /*
- * Takes the bytes that came over the serial line, up to an END that completes a frame or all of them, and writes what the node
- * sends for them, at most one datagram with its SLIP framing, as far as there is room. Call it again with the bytes that it did not
- * take. What a call that was fine left in `out` behind the bytes that it wrote, inside the room, means nothing; behind the room
- * nothing is written.
+ * Takes the bytes that came over the serial line, all of them or those up to an END, of which one frame at most is complete, and
+ * writes what the node sends for it, at most one datagram with its SLIP framing, as far as there is room. Call it again with the
+ * bytes that it did not take. What a call that was fine left in `out` behind the bytes that it wrote, inside the room, means
+ * nothing; behind the room nothing is written.
  */
 uip_done uip_hear(uip_device *device, const unsigned char *bytes, size_t len, unsigned char *out, size_t room);
 
@@ -142,8 +142,8 @@ uip_done uip_call(uip_device *device, size_t slot, unsigned char *out, size_t ro
 
 /*
  * Writes what is left of a text, as far as there is room, and nothing where none is left. While `left` of the last call is 1 no
- * other call but this one, uip_value, uip_close and those that read a number does anything: the text is in the one packet that the
- * node has.
+ * other call but this one, uip_value, uip_close and those that only read does anything: the text is in the one packet that the node
+ * has.
  */
 uip_done uip_more(uip_device *device, unsigned char *out, size_t room);
 
